@@ -239,6 +239,77 @@ def half_reverse(rows, row, columns):
     return looks
 
 
+def things_at(path):
+    """What stands at a path: the mode and the bytes of a file, the text of a link, the mode of a folder and what lies in it."""
+    mode = os.lstat(path).st_mode
+    if stat.S_ISLNK(mode):
+        return os.readlink(path)
+    if stat.S_ISDIR(mode):
+        return stat.S_IMODE(mode), {name: things_at(os.path.join(path, name)) for name in os.listdir(path)}
+    return facts(path) if stat.S_ISREG(mode) else "special"
+
+
+def check_copied_folders(program, base, check):
+    """Folders and links are copied by keys, with all that lies in them and nothing that a link leads to."""
+    source, target, ways = (os.path.join(base, f"{what} of folders") for what in ("source", "target", "ways"))
+    top = os.path.join(source, "top")
+    wide, shut = os.path.join(top, "漢字 é"), os.path.join(top, "shut")
+    own = [source, target, ways]  # which somebody who isn't root couldn't remove as they stand
+    for folder in (wide, shut, target, ways):
+        os.makedirs(folder)
+    for path, size, mode in [((top, "x"), 65537, 0o640), ((wide, "表"), 5, 0o444), ((wide, "none"), 0, 0o600), ((shut, "in"), 2, 0o644)]:
+        make_file(os.path.join(*path), size, mode)
+    os.symlink("../x", os.path.join(wide, "up"))
+    os.symlink(base, os.path.join(top, "way"))
+    for folder, mode in [(wide, 0o1750), (shut, 0o077 if os.geteuid() == 0 else 0o500), (top, 0o555)]:
+        os.chmod(folder, mode)
+    before = things_at(top)
+    status, told, same = run(program, [source, target], [DOWN, F5, ESCAPE, F5, ENTER, ESCAPE, F10])
+    asks, shut_box = told.screens[2:4]
+    check("F5 on a folder asks for the mask, and each box can be shut", status == 0 and same and asks.rows() == with_box(told.screens[1].rows(), ["Source mask", "*"]) and shut_box.rows() == told.screens[1].rows() and os.listdir(target) == [])
+    status, _, same = run(program, [source, target], COPY + [F10])
+    check("a folder is copied with all that lies in it", status == 0 and same and os.listdir(target) == ["top"] and things_at(os.path.join(target, "top")) == before)
+    check("and stays as it was", things_at(source)[1] == {"top": before})
+    for words, keys in [(b"inside itself", [source, top]), (b"already there", [source, target]), (b"same file", [source, source])]:
+        status, told, _ = run(program, keys, COPY + [ENTER, F10, F10])
+        check(f"a folder is not copied: {words.decode()}", status == 0 and words in told and things_at(top) == before and os.listdir(target) == ["top"])
+    status, told, _ = run(program, [source, target], [F5, ENTER, DOWN, F5, EMPTY + b"*", ENTER, EMPTY + b"../ways of folders/\\0.\\0", ENTER, F10])
+    check("on `..` nothing is selected, and a mask names the copy of a folder", status == 0 and b"nothing selected" in told and things_at(ways)[1] == {"top.top": before})
+
+    for name, text in [("l", "nowhere"), ("w", top)]:
+        source, target = (os.path.join(base, f"{side} of {name}") for side in ("source", "target"))
+        os.mkdir(source)
+        os.mkdir(target)
+        os.symlink(text, os.path.join(source, name))
+        status, _, same = run(program, [source, target], COPY + [F10])
+        check(f"a link that says {text} is copied as a link", status == 0 and same and things_at(source)[1] == things_at(target)[1] == {name: text})
+
+    source = os.path.join(base, "source of pipes")
+    os.makedirs(os.path.join(source, "top", "inner"))
+    for path in ("top/b", "top/inner/d", "top/z"):
+        make_file(os.path.join(source, path), 3, 0o640)
+    for path in ("c", "top/c", "top/inner/e"):
+        os.mkfifo(os.path.join(source, path))
+    os.chmod(os.path.join(source, "top"), 0o550)
+    file = facts(os.path.join(source, "top", "b"))
+    inner = {"inner": (0o755, {"d": file})}
+    whole, begun = (0o550, {"b": file, "z": file, **inner}), (0o750, {"b": file})
+    for keys, left in [([b"s", b"s"], whole), ([b"a"], whole), ([b"r", b"s", b"b"], (0o750, {"b": file, **inner})), ([b"b"], begun), ([ESCAPE], begun)]:
+        target = os.path.join(base, "target of pipes")
+        os.mkdir(target)
+        status, told, same = run(program, [source, target], COPY + keys + [F10])
+        what = " ".join("Escape" if key == ESCAPE else key.decode() for key in keys)
+        check(f"a pipe in a copied folder is asked about, and {what} is done", status == 0 and same and b"special file" in told and things_at(target)[1] == {"top": left})
+        os.chmod(os.path.join(target, "top"), 0o700)
+        shutil.rmtree(target)
+    os.mkdir(target)
+    status, told, _ = run(program, [source, target], [END, F5, F10])
+    check("F5 on a pipe does nothing", status == 0 and told.screens[2].rows() == told.screens[1].rows() and os.listdir(target) == [])
+    for folder in own + [os.path.join(base, "source of pipes")]:
+        for path, _, _ in os.walk(folder):
+            os.chmod(path, 0o700)
+
+
 def check_frames(program, base, check):
     """What stands on the screen, at three sizes of a terminal, started without words in a folder."""
     folder = os.path.join(base, "f")
@@ -840,6 +911,27 @@ def check_kept_folder(program, base, check):
     check("what is skipped stays, with the folders around it", status == 0 and same and os.listdir(top) == ["m"] and os.listdir(shut) == ["x"])
 
 
+def check_unread_folder(program, base, check):
+    """A folder that may not be read is asked about where one around it is copied; where it is skipped, all else is copied."""
+    user, program = for_somebody(program, base)
+    source, target = (os.path.join(base, f"{side} of an unread one") for side in ("source", "target"))
+    top, shut = os.path.join(source, "top"), os.path.join(source, "top", "shut")
+    os.makedirs(shut)
+    os.mkdir(target)
+    files = [os.path.join(*path) for path in ((top, "a"), (shut, "x"), (top, "z"))]
+    for path in files:
+        make_file(path, 5, 0o640)
+    os.chmod(shut, 0o300)
+    if user is not None:
+        for path in (source, target, top, shut, *files):
+            os.chown(path, user, user)
+    status, told, same = run(program, [source, target], COPY + [b"s", F10], user=user)
+    os.chmod(shut, 0o700)
+    file = facts(files[0])
+    check("a folder in a copied one that may not be read is asked about", b"permission denied" in told and os.fsencode(shut) in told)
+    check("where it is skipped all else is copied", status == 0 and same and things_at(target)[1] == {"top": (0o755, {"a": file, "z": file})})
+
+
 def check_part_left(program, base, check):
     """A part that can't be removed is told; a message is closed by Enter, not by F10."""
     user, program = for_somebody(program, base)
@@ -956,6 +1048,7 @@ def main():
         check_folders(program, base, check)
         check_kept_folder(program, base, check)
         check_copies(program, base, check)
+        check_copied_folders(program, base, check)
         check_frames(program, base, check)
         check_viewer(program, base, check)
         check_find(program, base, check)
@@ -969,6 +1062,7 @@ def main():
         check_closed_folder(program, base, check)
         check_long_path(program, base, check)
         check_dirty_folder(program, base, check)
+        check_unread_folder(program, base, check)
         check_part_left(program, base, check)
         check_list_of_jobs(program, base, check)
         check_set_id_bits(program, base, check)

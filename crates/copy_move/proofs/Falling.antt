@@ -17,10 +17,12 @@ use Rattle.file_copy.specs.LastSteps.{GoesDown, Winds, last_steps}
 use Rattle.copy_move.specs.declared.making.MakingStage.{MakingStage}
 use Rattle.copy_move.specs.declared.making.MakingStage.TheVariants as making
 use Rattle.copy_move.specs.declared.work.Work.{Work}
-use Rattle.copy_move.specs.declared.work.Work.TheVariants.{Copy, Delete, Make, SetMode}
+use Rattle.copy_move.specs.declared.work.Work.TheVariants.{Copy, CopyTree, Delete, Make, SetMode}
 use Rattle.copy_move.specs.Makings.{Making}
 use Rattle.copy_move.specs.Makings as makings
-use Rattle.copy_move.specs.Jobs.{course_after}
+use Rattle.copy_move.specs.Jobs.{IsGoing, course_after}
+use Rattle.subtree_copy.specs.Ranks as tree
+use Rattle.subtree_copy.proofs.Answered.{waiting_law}
 use Rattle.job_reports.specs.Reports.{ends}
 use Rattle.copy_move.specs.Ranks.{copy_rank, last_making_steps, last_rank, last_setting_steps, making_rank, rank_on, setting_rank, skip_rank, work_rank}
 use Rattle.mode_setting.specs.declared.setting.Stage.{Stage as SettingStage}
@@ -113,11 +115,19 @@ setting_tried_low setting.Sync = omega arith
 setting_tried_low setting.Done = omega arith
 
 -- a job in trouble has fewer steps left than one that goes on
-pub trouble_falls : (work : Work) → last_rank work < work_rank work
-trouble_falls (Copy c) = let few = few_last c.stage c.folder in let more = more_left c.stage c.folder in omega (arith, few, more)
-trouble_falls (Delete d) = omega arith
-trouble_falls (Make m) = tried_low m.stage
-trouble_falls (SetMode s) = setting_tried_low s.stage
+above : (low high : ℕ) → low < high → low + 1 < high + 2
+above low high less = omega (arith, less)
+
+-- with the end
+one_above : (low high : ℕ) → low < high → low + 1 < high + 1
+one_above low high less = omega (arith, less)
+
+pub trouble_falls : (work : Work) → IsGoing work → last_rank work < work_rank work
+trouble_falls (CopyTree c) g = above (tree.last_rank c.at) (tree.rank c.at) (waiting_law c g.can)
+trouble_falls (Copy c) g = let few = few_last c.stage c.folder in let more = more_left c.stage c.folder in omega (arith, few, more)
+trouble_falls (Delete d) g = omega arith
+trouble_falls (Make m) g = tried_low m.stage
+trouble_falls (SetMode s) g = setting_tried_low s.stage
 
 pub making_falls : (old new : Making) (did : Did) → makings.Tells old did new → ends did ≡ false → rank_on (course_after did) (Make new) < work_rank (Make old)
 making_falls old new (Made path) (at, path_is, is) h =
@@ -190,11 +200,12 @@ setting_low setting.Give = omega arith
 setting_low setting.Sync = omega arith
 setting_low setting.Done = omega arith
 
-pub waiting_falls : (work : Work) → last_rank work < skip_rank work
-waiting_falls (Copy c) = let few = few_last c.stage c.folder in omega (arith, few)
-waiting_falls (Delete d) = omega arith
-waiting_falls (SetMode s) = setting_low s.stage
-waiting_falls (Make m) = by m.stage
+pub waiting_falls : (work : Work) → IsGoing work → last_rank work < skip_rank work
+waiting_falls (CopyTree c) g = one_above (tree.last_rank c.at) (tree.rank c.at) (waiting_law c g.can)
+waiting_falls (Copy c) g = let few = few_last c.stage c.folder in omega (arith, few)
+waiting_falls (Delete d) g = omega arith
+waiting_falls (SetMode s) g = setting_low s.stage
+waiting_falls (Make m) g = by m.stage
   where
     by : (stage : MakingStage) → last_making_steps stage < 10
     by making.Make = omega arith

@@ -10,7 +10,7 @@ use Rattle.tree_trait.specs.Change.{CallLog, current}
 use Rattle.tree_trait.specs.Answers.{IfKnown}
 use Rattle.tree_trait.proofs.Visible.{same_path-self}
 use Rattle.job_reports.specs.declared.report.Cause.{Cause}
-use Rattle.job_reports.specs.declared.report.Cause.TheVariants.{Memory, Tree}
+use Rattle.job_reports.specs.declared.report.Cause.TheVariants.{Tree}
 use Rattle.job_reports.specs.declared.report.Ending.{Ending}
 use Rattle.job_reports.specs.declared.report.Ending.TheVariants.{Finished, Aborted, Killed, NoMemory}
 use Rattle.job_reports.specs.declared.report.Did.{Did}
@@ -27,20 +27,21 @@ use Rattle.job_reports.specs.Paths.{folder_of, without}
 use Rattle.file_copy.specs.Copying as copying
 use Rattle.file_copy.specs.CopySteps.{StepsOn as CopyStepsOn}
 use Rattle.file_copy.specs.LastSteps.{Winds, WindsOn}
+use Rattle.file_copy.specs.LastSteps as last
 use Rattle.job_reports.specs.Stops.{out_of_memory_at, cause_of}
 use Rattle.tree_deletion.specs.Folders.{is_one_of, joined}
 use Rattle.tree_deletion.specs.Standing.{at_barrier as deletion_barrier}
 use Rattle.copy_move.specs.declared.work.Work.{Work}
-use Rattle.copy_move.specs.declared.work.Work.TheVariants.{Copy, Delete, Make, SetMode}
+use Rattle.copy_move.specs.declared.work.Work.TheVariants.{Copy, CopyTree, Delete, Make, SetMode}
 use Rattle.copy_move.specs.declared.run.Course.{Course}
-use Rattle.copy_move.specs.declared.run.Course.TheVariants.{GoesOn, InTrouble, OwedSyncFailed, Skips, Ends}
+use Rattle.copy_move.specs.declared.run.Course.TheVariants.{GoesOn, InTrouble, Skips, Ends}
 use Rattle.copy_move.specs.Deletions.{Deleting, left_in}
 use Rattle.copy_move.specs.Deletions as deletions
 use Rattle.copy_move.specs.DeletionSteps.{DeletionSkips, DeletionStep, LastDeletionStep, after_try, is_decided}
-use Rattle.copy_move.specs.Jobs.{Running, CallsOn, PassesOver, TellsOn, course_after, is_fresh}
+use Rattle.copy_move.specs.Jobs.{Running, CallsOn, PassesOver, TellsOn, course_after, is_fresh, unreported_skip}
 use Rattle.copy_move.specs.Ranks.{copy_rank, rank_at, rank_on, tries_left}
 use Rattle.copy_move.specs.Settling.{NoneOwed, with_change}
-use Rattle.copy_move.specs.Steps.{LastWalks, LeavesDirty, OwnStep, OwedSyncStep, SkipSteps, SkipWalks, Walks, WalksOn, WindingStep, WorkSkips, WorkSteps, WorkWindsUp, step_made}
+use Rattle.copy_move.specs.Steps.{LeavesDirty, OwnStep, OwedSyncStep, SkipSteps, SkipWalks, Walks, WalksOn, WindingStep, WorkSkips, WorkSteps, WorkWindsUp, step_made}
 use Rattle.job_reports.proofs.Runs.{risen_before}
 use Rattle.copy_move.specs.Faults.{MeetsFault}
 use Rattle.copy_move.proofs.DeletionRuns.{fewer, met_by, one_fewer}
@@ -190,9 +191,9 @@ same_log log now contents known is =
     omega (arith, lengths)
 
 -- there was no memory for the first change of a copy: no call was made
-pub no_first : (unclaimed : Route → Type 0) (c : Copying) (did : Did) (calls : ℕ) (dirty dirty_after : List Route) (contents : Option CallLog) (f : ℕ) → copying.is_fresh c.stage c.folder ≡ true → did ≡ Troubled (out_of_memory_at false) → calls ≡ 0
+pub no_first : (unclaimed : Route → Type 0) (c : Copying) (did : Did) (calls : ℕ) (dirty dirty_after : List Route) (contents : Option CallLog) (f : ℕ) → last.left_at c.stage ≡ None → copying.is_fresh c.stage c.folder ≡ true → did ≡ Troubled (out_of_memory_at false) → calls ≡ 0
     → dirty_after ≡ dirty → WorkSteps unclaimed (Copy c) (Copy c) did calls dirty dirty_after contents contents f f
-no_first unclaimed c did calls dirty dirty_after contents f fresh is count same =
+no_first unclaimed c did calls dirty dirty_after contents f left fresh is count same =
     subst (λ d. WorkSteps unclaimed (Copy c) (Copy c) d calls dirty dirty_after contents contents f f) (sym is)
     (subst (λ n. WorkSteps unclaimed (Copy c) (Copy c) (Troubled (out_of_memory_at false)) n dirty dirty_after contents contents f f) (sym count) (record {
       tells = tells c.stage c.folder refl fresh;
@@ -204,7 +205,7 @@ no_first unclaimed c did calls dirty dirty_after contents f fresh is count same 
       unknown = λ h. h;
       later = omega arith;
       fault = λ h. absurd cc;
-      falls = λ going. let low = trouble_falls (Copy c) in let count = ap length same in omega (arith, low, count);
+      falls = λ going. let low = trouble_falls (Copy c) left in let count = ap length same in omega (arith, low, count);
     }))
   where
     unchanged : (b : Bool) → dirty ≡ with_change b b (folder_of c.target) dirty
@@ -320,20 +321,20 @@ deletion_winds_up ending d new did calls left dirty dirty_after before after f0 
 }
 
 -- a skip
-pub copy_skips : (cause : Cause) (c new : Copying) (did : Did) → Rattle.file_copy.specs.CopySteps.Skips cause c did new → WorkSkips cause (Copy c) did (Copy new)
-copy_skips cause c new did (inl (did_is, new_is)) = record {
+pub copy_skips : (cause : Cause) (c new : Copying) (did : Did) → Rattle.file_copy.specs.CopySteps.Skips cause c did new → last.left_at c.stage ≡ None → copying.at_barrier c.stage ≡ false → WorkSkips cause (Copy c) did (Copy new)
+copy_skips cause c new did (inl (did_is, new_is)) left apart = record {
   walks = tt;
   skips = inl (c.source, did_is, (refl, new_is));
   falls = subst (λ d. rank_on (course_after d) (Copy new) < 10) (sym did_is) (subst (λ (n : Copying). copy_rank n.stage n.folder < 10) (sym new_is) (passing_falls c.stage c.folder));
 }
-copy_skips cause c new did (inr (did_is, new_is)) = record {
+copy_skips cause c new did (inr (did_is, new_is)) left apart = record {
   walks = tt;
-  skips = inr (did_is, ap Copy new_is);
-  falls = subst (λ d. rank_on (course_after d) (Copy new) < 10) (sym did_is) (subst (λ (n : Copying). rank_on (InTrouble Memory) (Copy n) < 10) (sym new_is) (waiting_falls (Copy c)));
+  skips = inr (did_is ∙ ap (λ b. Troubled (out_of_memory_at b)) apart, ap Copy new_is);
+  falls = subst (λ d. rank_on (course_after d) (Copy new) < 10) (sym did_is) (subst (λ (n : Copying). rank_on (InTrouble unreported_skip) (Copy n) < 10) (sym new_is) (waiting_falls (Copy c) left));
 }
 
-pub deletion_skips : (cause : Cause) (d new : Deleting) (did : Did) → DeletionSkips cause d did new → WorkSkips cause (Delete d) did (Delete new)
-deletion_skips cause d new did s = by s.skips
+pub deletion_skips : (cause : Cause) (d new : Deleting) (did : Did) → DeletionSkips cause d did new → deletion_barrier d.stage ≡ false → WorkSkips cause (Delete d) did (Delete new)
+deletion_skips cause d new did s apart = by s.skips
   where
     by : ((path : Route) × (did ≡ Skipped path cause) × deletions.IsAtStage d (Rattle.tree_deletion.specs.Standing.after_item d.path path d.stage) new) ⊎ ((did ≡ Troubled (out_of_memory_at (deletion_barrier d.stage))) × (new ≡ d)) → WorkSkips cause (Delete d) did (Delete new)
     by (inl (path, did_is, a)) = record {
@@ -343,7 +344,7 @@ deletion_skips cause d new did s = by s.skips
     }
     by (inr (did_is, new_is)) = record {
       walks = s.passes;
-      skips = inr (did_is, ap Delete new_is);
+      skips = inr (did_is ∙ ap (λ b. Troubled (out_of_memory_at b)) apart, ap Delete new_is);
       falls = subst (λ x. rank_on (course_after x) (Delete new) < rank_on (Skips cause) (Delete d)) (sym did_is) (omega arith);
     }
 
@@ -376,7 +377,7 @@ module _ (unclaimed : Route → Type 0) (did : Did) (calls : ℕ) (dirty dirty_a
             (ap (λ n. let r : Running = record { id = n; work = work; course = course } in r) number ∙ ap (λ c. let r : Running = record job { work = work; course = c } in r) course_is);
         settled = λ now fresh. settled fresh;
         leaves = subst (λ c. LeavesDirty c job.work did work dirty dirty_after before after) (sym goes) s.leaves;
-        walks = subst (λ c. WalksOn c job.work work did calls dirty dirty_after before after f0 f1) (sym goes) s.walks;
+        walks = subst (λ c. WalksOn unclaimed c job.work work did calls dirty dirty_after before after f0 f1) (sym goes) s.walks;
         winds = λ ending ends. absurd (ends_not ending (sym ends ∙ goes));
         falls = λ going. subst (λ c. rank_at dirty_after c work < rank_at dirty job.course job.work) (sym course_is) (subst (λ c. rank_at dirty_after (course_after did) work < rank_at dirty c job.work) (sym goes) (s.falls going));
       }
@@ -388,7 +389,7 @@ module _ (unclaimed : Route → Type 0) (did : Did) (calls : ℕ) (dirty dirty_a
     settled = λ goes fresh. absurd (ends_not ending (sym ends ∙ goes));
     leaves = subst (λ c. LeavesDirty c job.work did new.work dirty dirty_after before after) (sym ends)
         (record { refusal = w.left; folder = w.winds.folder; own = w.winds.own; dirty_is = w.winds.dirty_is; tried = w.winds.synced });
-    walks = subst (λ c. WalksOn c job.work new.work did calls dirty dirty_after before after f0 f1) (sym ends) (w.left, w.winds.walks);
+    walks = subst (λ c. WalksOn unclaimed c job.work new.work did calls dirty dirty_after before after f0 f1) (sym ends) (w.left, w.winds.walks);
     winds = λ how is. subst (λ e. WindingStep e (step_made job new did calls dirty dirty_after before after f0 f1)) (same_ending ending how (sym ends ∙ is)) w;
     falls = λ going.
         subst (λ c. rank_at dirty_after c new.work < rank_at dirty job.course job.work) (sym (ap (λ (r : Running). r.course) w.new_is ∙ ends))
@@ -413,7 +414,7 @@ module _ (unclaimed : Route → Type 0) (contents : Option CallLog) (dirty : Lis
         };
         settled = λ goes fresh. absurd (skips_not cause (sym skips ∙ goes));
         leaves = subst (λ c. LeavesDirty c job.work did new.work dirty dirty contents contents) (sym skips) refl;
-        walks = subst (λ c. WalksOn c job.work new.work did calls dirty dirty contents contents f f) (sym skips)
+        walks = subst (λ c. WalksOn unclaimed c job.work new.work did calls dirty dirty contents contents f f) (sym skips)
             (subst (λ (r : Running). SkipWalks cause job.work did r.work) (sym s.new_is) (let k = s.skips in k.walks));
         winds = λ ending ends. absurd (skips_no_end cause ending (sym skips ∙ ends));
         falls = λ going.
@@ -423,12 +424,12 @@ module _ (unclaimed : Route → Type 0) (contents : Option CallLog) (dirty : Lis
             subst (λ (r : Running). rank_at dirty r.course r.work < rank_at dirty job.course job.work) (sym s.new_is) (subst (λ c. rank_at dirty (course_after did) s.work < rank_at dirty c job.work) (sym skips) less);
       }
 
-      by : ((path : Route) × (did ≡ Skipped path cause) × PassesOver job.work path s.work) ⊎ ((did ≡ Troubled (out_of_memory_at (Rattle.copy_move.specs.Jobs.at_barrier job.work))) × (s.work ≡ job.work)) → OwnStep unclaimed (step_made job new did calls dirty dirty contents contents f f)
+      by : ((path : Route) × (did ≡ Skipped path cause) × PassesOver job.work path s.work) ⊎ ((did ≡ Troubled (out_of_memory_at false)) × (s.work ≡ job.work)) → OwnStep unclaimed (step_made job new did calls dirty dirty contents contents f f)
       by (inl (path, did_is, passes)) =
           built (inl (path, s.work, did_is, passes, s.new_is ∙ ap (λ d. let r : Running = record job { work = s.work; course = course_after d } in r) did_is))
           (λ fault. subst (λ d. MeetsFault (Skips cause) d → ⊥) (sym did_is) (λ h. h) fault)
       by (inr (did_is, same)) =
-          built (inr (did_is, s.new_is ∙ (ap (λ w. let r : Running = record job { work = w; course = course_after did } in r) same ∙ ap (λ d. let r : Running = record job { course = course_after d } in r) did_is)))
+          built (inr (s.apart, did_is, s.new_is ∙ (ap (λ w. let r : Running = record job { work = w; course = course_after did } in r) same ∙ ap (λ d. let r : Running = record job { course = course_after d } in r) did_is)))
           (λ fault. subst (λ d. MeetsFault (Skips cause) d → ⊥) (sym did_is) (λ h. absurd cc) fault)
 
 -- a last step of the work
@@ -439,14 +440,21 @@ winding_step ending id old work course job did calls left dirty dirty_after befo
     subst (λ j. WindingStep ending (step_made j (record { id = id; work = work; course = course }) did calls dirty dirty_after before after f0 f1)) is record { left = left; winds = winds; new_is = refl }
 
 -- a step after looks at the tree, which may have met faults
-walks_later : (old new : Work) (did : Did) (calls : ℕ) (dirty dirty_after : List Route) (before after : Option CallLog) (f0 f1 f2 : ℕ) → f0 ≤ f1 → Walks old new did calls dirty dirty_after before after f1 f2 → Walks old new did calls dirty dirty_after before after f0 f2
-walks_later (Copy c) new did calls dirty dirty_after before after f0 f1 f2 later w = tt
-walks_later (Make m) new did calls dirty dirty_after before after f0 f1 f2 later w = tt
-walks_later (SetMode s) new did calls dirty dirty_after before after f0 f1 f2 later w = tt
-walks_later (Delete d) (Copy new) did calls dirty dirty_after before after f0 f1 f2 later w = absurd w
-walks_later (Delete d) (Make new) did calls dirty dirty_after before after f0 f1 f2 later w = absurd w
-walks_later (Delete d) (SetMode new) did calls dirty dirty_after before after f0 f1 f2 later w = absurd w
-walks_later (Delete d) (Delete new) did calls dirty dirty_after before after f0 f1 f2 later (inl (worked, mid, spare, spare_after, s, passed)) = inl (
+walks_later : (unclaimed : Route → Type 0) (old new : Work) (did : Did) (calls : ℕ) (dirty dirty_after : List Route) (before after : Option CallLog) (f0 f1 f2 : ℕ) → f0 ≤ f1 → Walks unclaimed old new did calls dirty dirty_after before after f1 f2 → Walks unclaimed old new did calls dirty dirty_after before after f0 f2
+walks_later unclaimed (Copy c) new did calls dirty dirty_after before after f0 f1 f2 later w = tt
+walks_later unclaimed (Make m) new did calls dirty dirty_after before after f0 f1 f2 later w = tt
+walks_later unclaimed (SetMode s) new did calls dirty dirty_after before after f0 f1 f2 later w = tt
+walks_later unclaimed (Delete d) (Copy new) did calls dirty dirty_after before after f0 f1 f2 later w = absurd w
+walks_later unclaimed (Delete d) (Make new) did calls dirty dirty_after before after f0 f1 f2 later w = absurd w
+walks_later unclaimed (Delete d) (SetMode new) did calls dirty dirty_after before after f0 f1 f2 later w = absurd w
+walks_later unclaimed (CopyTree c) (Copy new) did calls dirty dirty_after before after f0 f1 f2 later w = absurd w
+walks_later unclaimed (CopyTree c) (Delete new) did calls dirty dirty_after before after f0 f1 f2 later w = absurd w
+walks_later unclaimed (CopyTree c) (Make new) did calls dirty dirty_after before after f0 f1 f2 later w = absurd w
+walks_later unclaimed (CopyTree c) (SetMode new) did calls dirty dirty_after before after f0 f1 f2 later w = absurd w
+walks_later unclaimed (CopyTree c) (CopyTree new) did calls dirty dirty_after before after f0 f1 f2 later w =
+    record { free = w.free; allows = w.allows; since = w.since; later = let more = w.later in omega (arith, later, more); steps = w.steps }
+walks_later unclaimed (Delete d) (CopyTree new) did calls dirty dirty_after before after f0 f1 f2 later w = absurd w
+walks_later unclaimed (Delete d) (Delete new) did calls dirty dirty_after before after f0 f1 f2 later (inl (worked, mid, spare, spare_after, s, passed)) = inl (
   worked,
   mid,
   spare,
@@ -470,7 +478,7 @@ walks_later (Delete d) (Delete new) did calls dirty dirty_after before after f0 
   },
   passed,
 )
-walks_later (Delete d) (Delete new) did calls dirty dirty_after before after f0 f1 f2 later (inr (spare, s, same)) = inr (
+walks_later unclaimed (Delete d) (Delete new) did calls dirty dirty_after before after f0 f1 f2 later (inr (spare, s, same)) = inr (
   spare,
   record {
     syncs = s.syncs;
@@ -483,62 +491,10 @@ walks_later (Delete d) (Delete new) did calls dirty dirty_after before after f0 
   same,
 )
 
-last_walks_later : (ending : Ending) (old new : Work) (did : Did) (calls : ℕ) (left : Option TreeError) (dirty dirty_after : List Route) (before after : Option CallLog) (f0 f1 f2 : ℕ) → f0 ≤ f1
-    → LastWalks ending old new did calls left dirty dirty_after before after f1 f2 → LastWalks ending old new did calls left dirty dirty_after before after f0 f2
-last_walks_later ending (Copy c) new did calls left dirty dirty_after before after f0 f1 f2 later w = tt
-last_walks_later ending (Make m) new did calls left dirty dirty_after before after f0 f1 f2 later w = tt
-last_walks_later ending (SetMode s) new did calls left dirty dirty_after before after f0 f1 f2 later w = tt
-last_walks_later ending (Delete d) (Copy new) did calls left dirty dirty_after before after f0 f1 f2 later w = absurd w
-last_walks_later ending (Delete d) (Make new) did calls left dirty dirty_after before after f0 f1 f2 later w = absurd w
-last_walks_later ending (Delete d) (SetMode new) did calls left dirty dirty_after before after f0 f1 f2 later w = absurd w
-last_walks_later ending (Delete d) (Delete new) did calls left dirty dirty_after before after f0 f1 f2 later ((spare, s), same) = (
-  (
-    spare,
-    record {
-      tries = s.tries;
-      counted = s.counted;
-      few = s.few;
-      unknown = s.unknown;
-      later = let more = s.later in omega (arith, later, more);
-      fault = λ h. risen_before f0 f1 f2 later (s.fault h);
-    },
-  ),
-  same,
-)
-
-on_later : (course : Course) (old new : Work) (did : Did) (calls : ℕ) (dirty dirty_after : List Route) (before after : Option CallLog) (f0 f1 f2 : ℕ) → f0 ≤ f1
-    → WalksOn course old new did calls dirty dirty_after before after f1 f2 → WalksOn course old new did calls dirty dirty_after before after f0 f2
-on_later GoesOn old new did calls dirty dirty_after before after f0 f1 f2 later w = walks_later old new did calls dirty dirty_after before after f0 f1 f2 later w
-on_later (InTrouble cause) old new did calls dirty dirty_after before after f0 f1 f2 later w = absurd w
-on_later (OwedSyncFailed cause) old new did calls dirty dirty_after before after f0 f1 f2 later w = absurd w
-on_later (Skips cause) old new did calls dirty dirty_after before after f0 f1 f2 later w = w
-on_later (Ends ending) old new did calls dirty dirty_after before after f0 f1 f2 later (left, w) = (left, last_walks_later ending old new did calls left dirty dirty_after before after f0 f1 f2 later w)
-
-winding_later : (ending : Ending) (job new : Running) (did : Did) (calls : ℕ) (dirty dirty_after : List Route) (before after : Option CallLog) (f0 f1 f2 : ℕ) → f0 ≤ f1
-    → WindingStep ending (step_made job new did calls dirty dirty_after before after f1 f2) → WindingStep ending (step_made job new did calls dirty dirty_after before after f0 f2)
-winding_later ending job new did calls dirty dirty_after before after f0 f1 f2 later w = record {
-  left = w.left;
-  winds = record {
-    tells = w.winds.tells;
-    walks = last_walks_later ending job.work new.work did calls w.left dirty dirty_after before after f0 f1 f2 later w.winds.walks;
-    called = w.winds.called;
-    folder = w.winds.folder;
-    own = w.winds.own;
-    dirty_is = w.winds.dirty_is;
-    synced = w.winds.synced;
-    counted = w.winds.counted;
-    few = w.winds.few;
-    unknown = w.winds.unknown;
-    later = let more = w.winds.later in omega (arith, later, more);
-    fault = λ h. risen_before f0 f1 f2 later (w.winds.fault h);
-    falls = w.winds.falls;
-  };
-  new_is = w.new_is;
-}
-
-pub own_later : (unclaimed : Route → Type 0) (job new : Running) (did : Did) (calls : ℕ) (dirty dirty_after : List Route) (first before after : Option CallLog) (f0 f1 f2 : ℕ) → before ≡ first → f0 ≤ f1
+-- a step of a job that goes on, after such looks
+pub own_later : (unclaimed : Route → Type 0) (job new : Running) (did : Did) (calls : ℕ) (dirty dirty_after : List Route) (first before after : Option CallLog) (f0 f1 f2 : ℕ) → job.course ≡ GoesOn → before ≡ first → f0 ≤ f1
     → OwnStep unclaimed (step_made job new did calls dirty dirty_after before after f1 f2) → OwnStep unclaimed (step_made job new did calls dirty dirty_after first after f0 f2)
-own_later unclaimed job new did calls dirty dirty_after first before after f0 f1 f2 same later o = subst (λ b. OwnStep unclaimed (step_made job new did calls dirty dirty_after b after f0 f2)) same record {
+own_later unclaimed job new did calls dirty dirty_after first before after f0 f1 f2 goes same later o = subst (λ b. OwnStep unclaimed (step_made job new did calls dirty dirty_after b after f0 f2)) same record {
   own = record {
     tells = o.own.tells;
     called = o.own.called;
@@ -550,8 +506,9 @@ own_later unclaimed job new did calls dirty dirty_after first before after f0 f1
   };
   settled = o.settled;
   leaves = o.leaves;
-  walks = on_later job.course job.work new.work did calls dirty dirty_after before after f0 f1 f2 later o.walks;
-  winds = λ ending ends. winding_later ending job new did calls dirty dirty_after before after f0 f1 f2 later (o.winds ending ends);
+  walks = subst (λ c. WalksOn unclaimed c job.work new.work did calls dirty dirty_after before after f0 f2) (sym goes)
+      (walks_later unclaimed job.work new.work did calls dirty dirty_after before after f0 f1 f2 later (subst (λ c. WalksOn unclaimed c job.work new.work did calls dirty dirty_after before after f1 f2) goes o.walks));
+  winds = λ ending ends. absurd (ends_not ending (sym ends ∙ goes));
   falls = o.falls;
 }
 
@@ -562,6 +519,7 @@ settling_later job new did calls dirty dirty_after first before after f0 f1 f2 s
   fresh = s.fresh;
   path = s.path;
   owed = s.owed;
+  waits = s.waits;
   synced = s.synced;
   counted = s.counted;
   few = s.few;

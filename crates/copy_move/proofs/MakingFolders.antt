@@ -7,7 +7,6 @@ use Rattle.tree_trait.specs.declared.calls.TreeError.TheVariants as refused
 use Rattle.tree_trait.specs.Change.{CallLog}
 use Rattle.tree_trait.proofs.Visible.{same_path-self}
 use Rattle.job_reports.specs.declared.report.Cause.{Cause}
-use Rattle.job_reports.specs.declared.report.Cause.TheVariants.{Memory}
 use Rattle.job_reports.specs.declared.report.Ending.{Ending}
 use Rattle.job_reports.specs.declared.report.Ending.TheVariants.{Finished, Aborted, Killed, NoMemory}
 use Rattle.job_reports.specs.declared.report.Did.{Did}
@@ -19,9 +18,9 @@ use Rattle.copy_move.specs.declared.making.MakingStage.TheVariants as making
 use Rattle.copy_move.specs.declared.work.Work.TheVariants.{Make}
 use Rattle.copy_move.specs.declared.run.Course.TheVariants.{GoesOn, InTrouble}
 use Rattle.copy_move.specs.DeletionSteps.{after_try}
-use Rattle.copy_move.specs.Makings.{Making, MakingCalls, Tells, Winds, is_dirty, is_fresh}
+use Rattle.copy_move.specs.Makings.{Making, MakingCalls, Tells, Winds, at_barrier, is_dirty, is_fresh}
 use Rattle.copy_move.specs.MakingSteps.{LastMakingStep, MakingSkips, MakingStep}
-use Rattle.copy_move.specs.Jobs.{course_after}
+use Rattle.copy_move.specs.Jobs.{course_after, unreported_skip}
 use Rattle.copy_move.specs.Ranks.{making_rank, rank_on, tries_left}
 use Rattle.copy_move.specs.Settling.{with_change}
 use Rattle.copy_move.specs.Steps.{WorkSkips, WorkSteps, WorkWindsUp}
@@ -160,14 +159,14 @@ making_winds_up ending m new did calls left dirty dirty_after before after f0 f1
 }
 
 -- a skip
-pub making_skips : (cause : Cause) (m new : Making) (did : Did) → MakingSkips cause m did new → WorkSkips cause (Make m) did (Make new)
-making_skips cause m new did (inl (did_is, new_is)) = record {
+pub making_skips : (cause : Cause) (m new : Making) (did : Did) → MakingSkips cause m did new → at_barrier m.stage ≡ false → WorkSkips cause (Make m) did (Make new)
+making_skips cause m new did (inl (did_is, new_is)) apart = record {
   walks = tt;
   skips = inl (m.path, did_is, (refl, new_is));
   falls = subst (λ d. rank_on (course_after d) (Make new) < 10) (sym did_is) (subst (λ (n : Making). making_rank n.stage < 10) (sym new_is) (unmade_falls m.stage));
 }
-making_skips cause m new did (inr (did_is, new_is)) = record {
+making_skips cause m new did (inr (did_is, new_is)) apart = record {
   walks = tt;
-  skips = inr (did_is, ap Make new_is);
-  falls = subst (λ d. rank_on (course_after d) (Make new) < 10) (sym did_is) (subst (λ (n : Making). rank_on (InTrouble Memory) (Make n) < 10) (sym new_is) (waiting_falls (Make m)));
+  skips = inr (did_is ∙ ap (λ b. Troubled (out_of_memory_at b)) apart, ap Make new_is);
+  falls = subst (λ d. rank_on (course_after d) (Make new) < 10) (sym did_is) (subst (λ (n : Making). rank_on (InTrouble unreported_skip) (Make n) < 10) (sym new_is) (waiting_falls (Make m) tt));
 }

@@ -21,7 +21,7 @@ use Rattle.mode_setting.specs.SettingSteps.{SettingStops, Skips, StepsOn, SyncTr
 use Rattle.copy_move.specs.declared.work.Work.TheVariants.{SetMode}
 use Rattle.copy_move.specs.declared.run.Course.TheVariants.{GoesOn, InTrouble}
 use Rattle.copy_move.specs.DeletionSteps.{after_try}
-use Rattle.copy_move.specs.Jobs.{course_after}
+use Rattle.copy_move.specs.Jobs.{course_after, unreported_skip}
 use Rattle.copy_move.specs.ModeSettings.{LastSettingCalls, SettingLeaves}
 use Rattle.copy_move.specs.ModeSettings as modes
 use Rattle.copy_move.specs.Ranks.{last_rank, last_setting_steps, rank_on, setting_rank, tries_left, work_rank}
@@ -201,14 +201,14 @@ module _ (ending : Ending) (s new : Setting) (last : LastStepResult) (dirty dirt
       subst WindsUp (sym last_is) (ends_at_once clean is same faults (leaves ∙ ap (λ (l : LastStepResult). after_try l.did l.left s.path dirty) last_is))
 
 -- a skip
-pub setting_skips : (cause : Cause) (s new : Setting) (did : Did) → Skips cause s did new → WorkSkips cause (SetMode s) did (SetMode new)
-setting_skips cause s new did (inl (did_is, new_is)) = record {
+pub setting_skips : (cause : Cause) (s new : Setting) (did : Did) → Skips cause s did new → at_barrier s.stage ≡ false → WorkSkips cause (SetMode s) did (SetMode new)
+setting_skips cause s new did (inl (did_is, new_is)) apart = record {
   walks = tt;
   skips = inl (s.path, did_is, (refl, new_is));
   falls = subst (λ d. rank_on (course_after d) (SetMode new) < 10) (sym did_is) (subst (λ (n : Setting). setting_rank n.stage < 10) (sym new_is) (unset_falls s.stage));
 }
-setting_skips cause s new did (inr (did_is, new_is)) = record {
+setting_skips cause s new did (inr (did_is, new_is)) apart = record {
   walks = tt;
-  skips = inr (did_is, ap SetMode new_is);
-  falls = subst (λ d. rank_on (course_after d) (SetMode new) < 10) (sym did_is) (subst (λ (n : Setting). rank_on (InTrouble Memory) (SetMode n) < 10) (sym new_is) (waiting_falls (SetMode s)));
+  skips = inr (did_is ∙ ap (λ b. Troubled (out_of_memory_at b)) apart, ap SetMode new_is);
+  falls = subst (λ d. rank_on (course_after d) (SetMode new) < 10) (sym did_is) (subst (λ (n : Setting). rank_on (InTrouble unreported_skip) (SetMode n) < 10) (sym new_is) (waiting_falls (SetMode s) tt));
 }

@@ -15,14 +15,16 @@ use Rattle.job_reports.specs.Stops.{out_of_memory_at}
 use Rattle.job_reports.proofs.Runs.{no_more}
 use Rattle.mode_setting.specs.SettingSteps.{SyncRan, sync_of}
 use Rattle.copy_move.specs.declared.run.Course.TheVariants.{GoesOn, OwedSyncFailed}
-use Rattle.copy_move.specs.Jobs.{Running, is_fresh}
+use Rattle.copy_move.specs.Jobs.{IsGoing, Running, is_fresh}
 use Rattle.copy_move.specs.Steps.{OwedSyncStep, SyncsOwed, step_made}
-use Rattle.copy_move.proofs.StillTelling.{StillTells, performs_tells, sync_stop_tells}
+use Rattle.subtree_copy.proofs.StillTelling.{performs_tells}
+use Rattle.copy_move.proofs.Falling.{trouble_falls}
+use Rattle.copy_move.proofs.StillTelling.{StillTells, sync_stop_tells}
 
 one_done : (log : CallLog) (call : Call) (after : Option CallLog) → AllDone log (call ∷ []) after → Performs {A = Unit {0}} log call (Ok tt) after
 one_done log call after (mid, performs, is) = subst (λ a. Performs {A = Unit {0}} log call (Ok tt) a) (sym is) performs
 
-module _ (path : Route) (dirty dirty_after : List Route) (job : Running) (goes : job.course ≡ GoesOn) (fresh : is_fresh job.work ≡ true) (owed : Among dirty path) (before after : Option CallLog) (f0 f1 : ℕ) where
+module _ (path : Route) (dirty dirty_after : List Route) (job : Running) (goes : job.course ≡ GoesOn) (fresh : is_fresh job.work ≡ true) (owed : Among dirty path) (going : IsGoing job.work) (before after : Option CallLog) (f0 f1 : ℕ) where
   abbrev Syncs : Running → Did → ℕ → Type 0
   Syncs new did calls = OwedSyncStep (step_made job new did calls dirty dirty_after before after f0 f1)
 
@@ -33,6 +35,7 @@ module _ (path : Route) (dirty dirty_after : List Route) (job : Running) (goes :
     fresh = fresh;
     path = path;
     owed = owed;
+    waits = trouble_falls job.work going;
     synced = inl (record { did_is = refl; new_is = refl; dirty_is = after_is; called = λ log known. one_done log (sync_of (current log) path) after (ran.known log known) });
     counted = ran.counted;
     few = ran.few;
@@ -48,6 +51,7 @@ module _ (path : Route) (dirty dirty_after : List Route) (job : Running) (goes :
     fresh = fresh;
     path = path;
     owed = owed;
+    waits = trouble_falls job.work going;
     synced = inr (record { trouble = stop.trouble; did_is = refl; barred = ran.barrier; new_is = new_is; dirty_is = after_is; called = ran.known });
     counted = ran.counted;
     few = ran.few;
@@ -64,6 +68,7 @@ module _ (path : Route) (dirty dirty_after : List Route) (job : Running) (goes :
     fresh = fresh;
     path = path;
     owed = owed;
+    waits = trouble_falls job.work going;
     synced = inr (record { trouble = out_of_memory_at true; did_is = refl; barred = refl; new_is = new_is; dirty_is = after_is; called = λ log known. inr (refl, (0, omega arith, same ∙ known)) });
     counted = λ log known now has. subst (λ n. HasMore log n now) (sym count) (no_more log now (sym known ∙ (sym same ∙ has)));
     few = omega (arith, count);

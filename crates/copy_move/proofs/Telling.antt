@@ -5,7 +5,6 @@ use Rattle.std.specs.Option.{option_map}
 use Rattle.mc_text.specs.Routes.{Route, parent_of}
 use Rattle.std.proofs.lemmas.Bool.{false≢true}
 use Rattle.job_reports.specs.declared.report.Cause.{Cause}
-use Rattle.job_reports.specs.declared.report.Cause.TheVariants.{Memory}
 use Rattle.job_reports.specs.declared.report.Trouble.{Trouble}
 use Rattle.job_reports.specs.declared.report.Ending.{Ending}
 use Rattle.job_reports.specs.declared.report.Ending.TheVariants.{Finished, Aborted, Killed, NoMemory}
@@ -26,7 +25,7 @@ use Rattle.job_reports.specs.declared.job.Job.TheVariants as plan
 use Rattle.job_reports.specs.declared.answer.Answer.{Answer}
 use Rattle.job_reports.specs.declared.answer.Answer.TheVariants.{Retry, Skip, SkipAll, Abort}
 use Rattle.copy_move.specs.declared.work.Work.{Work}
-use Rattle.copy_move.specs.declared.work.Work.TheVariants.{Copy, Delete, Make, SetMode}
+use Rattle.copy_move.specs.declared.work.Work.TheVariants.{Copy, CopyTree, Delete, Make, SetMode}
 use Rattle.copy_move.specs.declared.run.Course.{Course}
 use Rattle.copy_move.specs.declared.run.Course.TheVariants.{GoesOn, InTrouble, OwedSyncFailed, Skips, Ends}
 use Rattle.subtree_walk.specs.Places.{unopened}
@@ -48,8 +47,19 @@ use Rattle.mode_setting.specs.declared.setting.Stage.{Stage as SettingStage}
 use Rattle.mode_setting.specs.declared.setting.Stage.TheVariants as setting
 use Rattle.mode_setting.specs.Settings.{Setting}
 use Rattle.mode_setting.specs.Settings as settings
-use Rattle.copy_move.specs.Jobs.{Running, JobTells, TellsOn, WorkTells, WorkWinds, answered, answered_on, at_barrier, copies, course_after, deletes, first_work, is_fresh, makes, sets, PassesOver, taken_anew, with_skips}
+use Rattle.copy_move.specs.Jobs.{Running, JobTells, TellsOn, WorkTells, WorkWinds, answered, answered_on, copies, copies_tree, course_after, deletes, first_work, halt_of, is_fresh, makes, sets, PassesOver, taken_anew, unreported_skip, with_skips}
 use Rattle.job_reports.specs.Reports.{ends}
+use Rattle.job_answers.specs.declared.skips.Skips.{Skips as Kinds}
+use Rattle.job_reports.specs.declared.job.Pair.{Pair}
+use Rattle.tree_copy.specs.declared.copy.Stage.{Stage as TreeStage}
+use Rattle.tree_copy.specs.declared.copy.Stage.TheVariants as tree_stage
+use Rattle.tree_copy.specs.Standing.{after_report, is_fresh as is_tree_fresh}
+use Rattle.subtree_copy.specs.Reporting.{IsWound}
+use Rattle.subtree_copy.specs.Standing as tree
+use Rattle.subtree_copy.specs.Standing.{SubtreeCopying}
+use Rattle.subtree_copy.specs.Told.{IsAfter, part_after}
+use Rattle.subtree_copy.proofs.Tellings.{told_law}
+use Rattle.copy_move.specs.TreeCopies as trees
 use Rattle.copy_move.specs.Told.{after_step, course_told, if_closed, running, skipped, stage_told, synced, told, work_told}
 
 -- a job, by its parts
@@ -74,32 +84,54 @@ skipped_stage_told at.Decided = refl
 abbrev told_at : Deleting → DeletionStage → Work
 told_at d stage = Delete (record { path = d.path; stage = stage; depth = Top; place = unopened; tried = 0; skips = d.skips })
 
-told_same : (d new : Deleting) → new.path ≡ d.path → new.skips ≡ d.skips → told_at d new.stage ≡ work_told (Delete new)
-told_same d new path_is skips_is =
+told_same : (id : ℕ) (d new : Deleting) → new.path ≡ d.path → new.skips ≡ d.skips → told_at d new.stage ≡ work_told id (Delete new)
+told_same id d new path_is skips_is =
     ap (λ p. Delete (record { path = p; stage = new.stage; depth = Top; place = unopened; tried = 0; skips = d.skips })) (sym path_is)
     ∙ ap (λ k. Delete (record { path = new.path; stage = new.stage; depth = Top; place = unopened; tried = 0; skips = k })) (sym skips_is)
 
-stage_is_told : (d new : Deleting) (stage : DeletionStage) → IsAtStage d stage new → told_at d stage ≡ work_told (Delete new)
-stage_is_told d new stage at =
-    ap (told_at d) (sym at.stage_is) ∙ told_same d new at.path_is at.skips_is
+stage_is_told : (id : ℕ) (d new : Deleting) (stage : DeletionStage) → IsAtStage d stage new → told_at d stage ≡ work_told id (Delete new)
+stage_is_told id d new stage at =
+    ap (told_at d) (sym at.stage_is) ∙ told_same id d new at.path_is at.skips_is
 
-skipped_told : (work new : Work) (path : Route) → PassesOver work path new → skipped path (work_told work) ≡ work_told new
-skipped_told (Copy c) (Copy new) path (path_is, new_is) = ap (λ stage. Copy (record c { stage = stage })) (skipped_stage_told c.stage) ∙ ap (λ n. work_told (Copy n)) (sym new_is)
-skipped_told (Copy c) (Delete new) path h = absurd h
-skipped_told (Copy c) (Make new) path h = absurd h
-skipped_told (Delete d) (Copy new) path h = absurd h
-skipped_told (Delete d) (Delete new) path at = stage_is_told d new (after_item d.path path d.stage) at
-skipped_told (Delete d) (Make new) path h = absurd h
-skipped_told (Make m) (Copy new) path h = absurd h
-skipped_told (Make m) (Delete new) path h = absurd h
-skipped_told (Make m) (Make new) path (path_is, new_is) = ap Make (sym new_is)
-skipped_told (Copy c) (SetMode new) path h = absurd h
-skipped_told (Delete d) (SetMode new) path h = absurd h
-skipped_told (Make m) (SetMode new) path h = absurd h
-skipped_told (SetMode s) (Copy new) path h = absurd h
-skipped_told (SetMode s) (Delete new) path h = absurd h
-skipped_told (SetMode s) (Make new) path h = absurd h
-skipped_told (SetMode s) (SetMode new) path (path_is, new_is) = ap SetMode (sym new_is)
+-- the copy of a thing with all that lies in it is told by its parts
+told_is : (id : ℕ) (c new : SubtreeCopying) (stage : TreeStage) (part : Option Route) → new.top ≡ c.top → new.at.stage ≡ stage → tree.part_of new.at.item ≡ part → new.skips ≡ c.skips
+    → CopyTree (trees.told_at id c.top stage part c.skips) ≡ work_told id (CopyTree new)
+told_is id c new stage part top_is stage_is part_is skips_is =
+    ap (λ t. CopyTree (trees.told_at id t stage part c.skips)) (sym top_is)
+    ∙ (ap (λ s. CopyTree (trees.told_at id new.top s part c.skips)) (sym stage_is)
+    ∙ (ap (λ p. CopyTree (trees.told_at id new.top new.at.stage p c.skips)) (sym part_is)
+    ∙ ap (λ k. CopyTree (trees.told_at id new.top new.at.stage (tree.part_of new.at.item) k)) (sym skips_is)))
+
+-- where a report changes nothing of that
+told_so : (id : ℕ) (c new : SubtreeCopying) (did : Did) → IsAfter did c new → part_after did (tree.part_of c.at.item) ≡ tree.part_of c.at.item → after_report did c.at.stage ≡ c.at.stage → work_told id (CopyTree c) ≡ work_told id (CopyTree new)
+told_so id c new did a part stage = told_is id c new c.at.stage (tree.part_of c.at.item) a.top (a.stage ∙ stage) (a.part ∙ part) a.skips
+
+skipped_told : (id : ℕ) (work new : Work) (path : Route) → PassesOver work path new → skipped path (work_told id work) ≡ work_told id new
+skipped_told id (CopyTree c) (CopyTree new) path (cause, a) = told_so id c new (Skipped path cause) a refl refl
+skipped_told id (CopyTree c) (Copy new) path h = absurd h
+skipped_told id (CopyTree c) (Delete new) path h = absurd h
+skipped_told id (CopyTree c) (Make new) path h = absurd h
+skipped_told id (CopyTree c) (SetMode new) path h = absurd h
+skipped_told id (Copy c) (CopyTree new) path h = absurd h
+skipped_told id (Delete d) (CopyTree new) path h = absurd h
+skipped_told id (Make m) (CopyTree new) path h = absurd h
+skipped_told id (SetMode s) (CopyTree new) path h = absurd h
+skipped_told id (Copy c) (Copy new) path (path_is, new_is) = ap (λ stage. Copy (record c { stage = stage })) (skipped_stage_told c.stage) ∙ ap (λ n. work_told id (Copy n)) (sym new_is)
+skipped_told id (Copy c) (Delete new) path h = absurd h
+skipped_told id (Copy c) (Make new) path h = absurd h
+skipped_told id (Delete d) (Copy new) path h = absurd h
+skipped_told id (Delete d) (Delete new) path at = stage_is_told id d new (after_item d.path path d.stage) at
+skipped_told id (Delete d) (Make new) path h = absurd h
+skipped_told id (Make m) (Copy new) path h = absurd h
+skipped_told id (Make m) (Delete new) path h = absurd h
+skipped_told id (Make m) (Make new) path (path_is, new_is) = ap Make (sym new_is)
+skipped_told id (Copy c) (SetMode new) path h = absurd h
+skipped_told id (Delete d) (SetMode new) path h = absurd h
+skipped_told id (Make m) (SetMode new) path h = absurd h
+skipped_told id (SetMode s) (Copy new) path h = absurd h
+skipped_told id (SetMode s) (Delete new) path h = absurd h
+skipped_told id (SetMode s) (Make new) path h = absurd h
+skipped_told id (SetMode s) (SetMode new) path (path_is, new_is) = ap SetMode (sym new_is)
 
 anew_stage_told : (stage : Stage) → copying.taken_anew (stage_told stage) ≡ stage_told (copying.taken_anew stage)
 anew_stage_told (at.Fill part facts done) = refl
@@ -108,11 +140,19 @@ anew_stage_told (at.Clean part follows) = refl
 anew_stage_told (at.Left part) = refl
 anew_stage_told at.Decided = refl
 
-anew_told : (work : Work) → taken_anew (work_told work) ≡ work_told (taken_anew work)
-anew_told (Copy c) = ap (λ stage. Copy (record c { stage = stage })) (anew_stage_told c.stage)
-anew_told (Delete d) = refl
-anew_told (Make m) = refl
-anew_told (SetMode s) = refl
+retries_told : (id : ℕ) (top : Pair) (stage : TreeStage) (part : Option Route) (skips : Kinds) → tree.retries (trees.told_at id top stage part skips) ≡ trees.told_at id top stage part skips
+retries_told id top stage None skips = refl
+retries_told id top stage (Some part) skips = refl
+
+anew_told : (id : ℕ) (work : Work) → taken_anew (work_told id work) ≡ work_told id (taken_anew work)
+anew_told id (CopyTree c) =
+    let law = told_law in
+    let k = law.retry c in
+    ap CopyTree (retries_told id c.top c.at.stage (tree.part_of c.at.item) c.skips) ∙ told_is id c (tree.retries c) c.at.stage (tree.part_of c.at.item) refl k.stage k.part refl
+anew_told id (Copy c) = ap (λ stage. Copy (record c { stage = stage })) (anew_stage_told c.stage)
+anew_told id (Delete d) = refl
+anew_told id (Make m) = refl
+anew_told id (SetMode s) = refl
 
 -- before the first change no trouble of the work is at a barrier
 copy_bars : (stage : Stage) (folder : FolderState) (barrier : Bool) → barrier ≡ copying.at_barrier stage → (copying.is_fresh stage folder && barrier) ≡ false
@@ -154,28 +194,27 @@ fresh_stage_told (at.Clean part follows) folder = refl
 fresh_stage_told (at.Left part) folder = refl
 fresh_stage_told at.Decided folder = refl
 
-pub fresh_told : (work : Work) → is_fresh (work_told work) ≡ is_fresh work
-fresh_told (Copy c) = fresh_stage_told c.stage c.folder
-fresh_told (Delete d) = refl
-fresh_told (Make m) = refl
-fresh_told (SetMode s) = refl
+pub fresh_told : (id : ℕ) (work : Work) → is_fresh (work_told id work) ≡ is_fresh work
+fresh_told id (CopyTree c) = refl
+fresh_told id (Copy c) = fresh_stage_told c.stage c.folder
+fresh_told id (Delete d) = refl
+fresh_told id (Make m) = refl
+fresh_told id (SetMode s) = refl
 
 -- then the job is in trouble, as its history tells it
-in_trouble : (work : Work) (trouble : Trouble) → (is_fresh work && trouble.barrier) ≡ false → course_told (work_told work) trouble ≡ InTrouble trouble.cause
-in_trouble work trouble h = ap (λ b. if b && trouble.barrier then OwedSyncFailed trouble.cause else InTrouble trouble.cause) (fresh_told work)
-    ∙ ap (λ b. if b then OwedSyncFailed trouble.cause else InTrouble trouble.cause) h
+in_trouble : (id : ℕ) (work : Work) (trouble : Trouble) → (is_fresh work && trouble.barrier) ≡ false → course_told (work_told id work) trouble ≡ InTrouble (halt_of trouble)
+in_trouble id work trouble h = ap (λ b. if b && trouble.barrier then OwedSyncFailed trouble.cause else InTrouble (halt_of trouble)) (fresh_told id work)
+    ∙ ap (λ b. if b then OwedSyncFailed trouble.cause else InTrouble (halt_of trouble)) h
 
-pub making_in_trouble : (m : Making) (trouble : Trouble) → makings.IsTroubleAt m.stage m.path trouble → course_told (Make m) trouble ≡ InTrouble trouble.cause
-making_in_trouble m trouble h = in_trouble (Make m) trouble (making_bars m.stage trouble.barrier (making_trouble_bars m.stage m.path trouble h))
+pub making_in_trouble : (m : Making) (trouble : Trouble) → makings.IsTroubleAt m.stage m.path trouble → course_told (Make m) trouble ≡ InTrouble (halt_of trouble)
+making_in_trouble m trouble h = in_trouble 0 (Make m) trouble (making_bars m.stage trouble.barrier (making_trouble_bars m.stage m.path trouble h))
 
-skip_bars : (work : Work) → (is_fresh work && at_barrier work) ≡ false
-skip_bars (Copy c) = copy_bars c.stage c.folder (copying.at_barrier c.stage) refl
-skip_bars (Delete d) = deletion_bars d.stage (standing.at_barrier d.stage) refl
-skip_bars (Make m) = making_bars m.stage (makings.at_barrier m.stage) refl
-skip_bars (SetMode s) = setting_bars s.stage (settings.at_barrier s.stage) refl
+and_none : (b : Bool) → (b && false) ≡ false
+and_none true = refl
+and_none false = refl
 
-pub skip_in_trouble : (work : Work) → course_told (work_told work) (out_of_memory_at (at_barrier work)) ≡ InTrouble Memory
-skip_in_trouble work = in_trouble work (out_of_memory_at (at_barrier work)) (skip_bars work)
+pub skip_in_trouble : (id : ℕ) (work : Work) → course_told (work_told id work) (out_of_memory_at false) ≡ InTrouble unreported_skip
+skip_in_trouble id work = in_trouble id work (out_of_memory_at false) (and_none (is_fresh work))
 
 cleaned_told : (id : ℕ) (c : Copying) (part : Route) (follows : Next) → after_step (Cleaned part) (told (job_of id (Copy (record c { stage = at.Clean part follows })) GoesOn))
     ≡ Some (told (job_of id (Copy (record c { stage = after_clean follows })) GoesOn))
@@ -192,7 +231,7 @@ copy_told id old new (Placed path) (part, facts, from, target, is) h = rw is ref
 copy_told id old new (Cleaned part) (follows, from, is) h = rw is (rw from (cleaned_told id old part follows))
 copy_told id old new Barrier (from, dirty, is) h = rw is (rw from refl)
 copy_told id old new (Troubled trouble) (barrier, is) h =
-    rw is (ap (λ course. Some (job_of id (work_told (Copy old)) course)) (in_trouble (Copy old) trouble (copy_bars old.stage old.folder trouble.barrier barrier)))
+    rw is (ap (λ course. Some (job_of id (work_told id (Copy old)) course)) (in_trouble id (Copy old) trouble (copy_bars old.stage old.folder trouble.barrier barrier)))
 copy_told id old new (Ended Finished part) t h = absurd cc
 copy_told id old new (Ended Aborted part) t h = absurd t
 copy_told id old new (Ended Killed part) t h = absurd t
@@ -205,12 +244,12 @@ copy_told id old new (Skipped path cause) t h = absurd t
 -- a deletion that goes on
 deletion_told : (id : ℕ) (old new : Deleting) (did : Did) → deletions.Tells old did new → ends did ≡ false
     → after_step did (told (job_of id (Delete old) GoesOn)) ≡ Some (told (job_of id (Delete new) (course_after did)))
-deletion_told id old new (Removed path) (going, within, at) h = ap (λ w. Some (job_of id w GoesOn)) (stage_is_told old new (after_item old.path path deletion.Going) at)
-deletion_told id old new (Kept path) (going, at) h = ap (λ w. Some (job_of id w GoesOn)) (stage_is_told old new (after_item old.path path old.stage) at)
-deletion_told id old new Barrier (from, at) h = ap (λ w. Some (job_of id w GoesOn)) (stage_is_told old new old.stage at)
+deletion_told id old new (Removed path) (going, within, at) h = ap (λ w. Some (job_of id w GoesOn)) (stage_is_told id old new (after_item old.path path deletion.Going) at)
+deletion_told id old new (Kept path) (going, at) h = ap (λ w. Some (job_of id w GoesOn)) (stage_is_told id old new (after_item old.path path old.stage) at)
+deletion_told id old new Barrier (from, at) h = ap (λ w. Some (job_of id w GoesOn)) (stage_is_told id old new old.stage at)
 deletion_told id old new (Troubled trouble) (barrier, at) h =
-    ap (λ course. Some (job_of id (work_told (Delete old)) course)) (in_trouble (Delete old) trouble (deletion_bars old.stage trouble.barrier barrier))
-    ∙ ap (λ w. Some (job_of id w (InTrouble trouble.cause))) (stage_is_told old new old.stage at)
+    ap (λ course. Some (job_of id (work_told id (Delete old)) course)) (in_trouble id (Delete old) trouble (deletion_bars old.stage trouble.barrier barrier))
+    ∙ ap (λ w. Some (job_of id w (InTrouble (halt_of trouble)))) (stage_is_told id old new old.stage at)
 deletion_told id old new (Ended Finished part) t h = absurd cc
 deletion_told id old new (Ended Aborted part) t h = absurd t
 deletion_told id old new (Ended Killed part) t h = absurd t
@@ -220,7 +259,7 @@ deletion_told id old new (Chunk count) t h = absurd t
 deletion_told id old new (Set path) t h = absurd t
 deletion_told id old new (Placed path) t h = absurd t
 deletion_told id old new (Made made) t h = absurd t
-deletion_told id old new (Skipped path cause) (going, passes, at) h = ap (λ w. Some (job_of id w GoesOn)) (stage_is_told old new (after_item old.path path old.stage) at)
+deletion_told id old new (Skipped path cause) (going, passes, at) h = ap (λ w. Some (job_of id w GoesOn)) (stage_is_told id old new (after_item old.path path old.stage) at)
 deletion_told id old new (Cleaned part) t h = absurd t
 
 -- a making that goes on
@@ -248,7 +287,7 @@ setting_told : (id : ℕ) (old new : Setting) (did : Did) → settings.Tells old
 setting_told id old new (Set path) (from, path_is, is) h = rw is refl
 setting_told id old new Barrier (from, is) h = rw is (ap (λ stage. Some (job_of id (SetMode (record old { stage = modes.after_sync stage })) GoesOn)) from)
 setting_told id old new (Troubled trouble) (barrier, is) h =
-    rw is (ap (λ course. Some (job_of id (SetMode old) course)) (in_trouble (SetMode old) trouble (setting_bars old.stage trouble.barrier barrier)))
+    rw is (ap (λ course. Some (job_of id (SetMode old) course)) (in_trouble id (SetMode old) trouble (setting_bars old.stage trouble.barrier barrier)))
 setting_told id old new (Ended ending part) t h = absurd cc
 setting_told id old new (Began part) t h = absurd t
 setting_told id old new (Chunk count) t h = absurd t
@@ -258,6 +297,47 @@ setting_told id old new (Made path) t h = absurd t
 setting_told id old new (Kept path) t h = absurd t
 setting_told id old new (Skipped path cause) t h = absurd t
 setting_told id old new (Cleaned part) t h = absurd t
+
+-- the copy of a thing with all that lies in it, step by step
+bars_apart : (fresh barrier : Bool) → (fresh ≡ true → barrier ≡ false) → (fresh && barrier) ≡ false
+bars_apart true barrier h = h refl
+bars_apart false barrier h = refl
+
+begun_before : (stage : TreeStage) → (is_tree_fresh stage ≡ true → ⊥) → stage ≡ tree_stage.Going
+begun_before tree_stage.Begin h = absurd (h refl)
+begun_before tree_stage.Going h = refl
+
+tree_told : (id : ℕ) (old new : SubtreeCopying) (did : Did) → trees.Tells old did new → ends did ≡ false
+    → after_step did (told (job_of id (CopyTree old) GoesOn)) ≡ Some (told (job_of id (CopyTree new) (course_after did)))
+tree_told id old new (Began part) t h = (let a = t.after in ap (λ w. Some (job_of id w GoesOn)) (told_is id old new tree_stage.Going (Some part) a.top a.stage a.part a.skips))
+tree_told id old new (Placed path) t h = (let a = t.after in ap (λ w. Some (job_of id w GoesOn)) (told_is id old new tree_stage.Going None a.top a.stage a.part a.skips))
+tree_told id old new (Cleaned part) t h = (let a = t.after in ap (λ w. Some (job_of id w GoesOn)) (told_is id old new tree_stage.Going None a.top a.stage a.part a.skips))
+tree_told id old new (Made path) t h = (let a = t.after in ap (λ w. Some (job_of id w GoesOn)) (told_is id old new tree_stage.Going (tree.part_of old.at.item) a.top a.stage a.part a.skips))
+tree_told id old new (Set path) t h = (let a = t.after in ap (λ w. Some (job_of id w GoesOn)) (told_is id old new tree_stage.Going (tree.part_of old.at.item) a.top a.stage a.part a.skips))
+tree_told id old new (Chunk count) t h = ap (λ w. Some (job_of id w GoesOn)) (told_so id old new (Chunk count) t.after refl (sym (begun_before old.at.stage t.first)))
+tree_told id old new Barrier t h = ap (λ w. Some (job_of id w GoesOn)) (told_so id old new Barrier t.after refl (sym (begun_before old.at.stage t.first)))
+tree_told id old new (Skipped path cause) t h = ap (λ w. Some (job_of id w GoesOn)) (told_so id old new (Skipped path cause) t.after refl refl)
+tree_told id old new (Troubled trouble) t h =
+    ap (λ course. Some (job_of id (work_told id (CopyTree old)) course)) (in_trouble id (CopyTree old) trouble (bars_apart (is_tree_fresh old.at.stage) trouble.barrier (t.apart trouble refl)))
+    ∙ ap (λ w. Some (job_of id w (InTrouble (halt_of trouble)))) (told_so id old new (Troubled trouble) t.after refl refl)
+tree_told id old new (Removed path) t h = absurd t.may
+tree_told id old new (Kept path) t h = absurd t.may
+tree_told id old new (Ended ending part) t h = absurd cc
+
+tree_winds : (id : ℕ) (ending : Ending) (old new : SubtreeCopying) (did : Did) → IsWound ending old did new → ends did ≡ false
+    → after_step did (told (job_of id (CopyTree old) (Ends ending))) ≡ Some (told (job_of id (CopyTree new) (Ends ending)))
+tree_winds id ending old new (Cleaned part) w h = ap (λ x. Some (job_of id x (Ends ending))) (told_is id old new old.at.stage None w.top w.stage w.part w.skips)
+tree_winds id ending old new Barrier w h = ap (λ x. Some (job_of id x (Ends ending))) (told_is id old new old.at.stage (tree.part_of old.at.item) w.top w.stage w.part w.skips)
+tree_winds id ending old new (Ended how part) w h = absurd cc
+tree_winds id ending old new (Began part) w h = absurd w.may
+tree_winds id ending old new (Chunk count) w h = absurd w.may
+tree_winds id ending old new (Set path) w h = absurd w.may
+tree_winds id ending old new (Placed path) w h = absurd w.may
+tree_winds id ending old new (Removed path) w h = absurd w.may
+tree_winds id ending old new (Made path) w h = absurd w.may
+tree_winds id ending old new (Kept path) w h = absurd w.may
+tree_winds id ending old new (Skipped path cause) w h = absurd w.may
+tree_winds id ending old new (Troubled trouble) w h = absurd w.may
 
 -- the last steps
 copy_winds : (id : ℕ) (ending : Ending) (old new : Copying) (did : Did) → Winds ending old did new → ends did ≡ false
@@ -277,7 +357,7 @@ copy_winds id ending old new (Troubled trouble) t h = absurd t
 
 deletion_winds : (id : ℕ) (ending : Ending) (old new : Deleting) (did : Did) → deletions.Winds ending old did new → ends did ≡ false
     → after_step did (told (job_of id (Delete old) (Ends ending))) ≡ Some (told (job_of id (Delete new) (Ends ending)))
-deletion_winds id ending old new Barrier (path_is, stage_is, skips_is) h = ap (λ w. Some (job_of id w (Ends ending))) (ap (told_at old) (sym stage_is) ∙ told_same old new path_is skips_is)
+deletion_winds id ending old new Barrier (path_is, stage_is, skips_is) h = ap (λ w. Some (job_of id w (Ends ending))) (ap (told_at old) (sym stage_is) ∙ told_same id old new path_is skips_is)
 deletion_winds id ending old new (Ended how part) t h = absurd cc
 deletion_winds id ending old new (Began part) t h = absurd t
 deletion_winds id ending old new (Chunk count) t h = absurd t
@@ -322,6 +402,15 @@ setting_winds id ending old new (Troubled trouble) t h = absurd t
 
 goes_told : (id : ℕ) (old new : Work) (did : Did) → WorkTells old did new → ends did ≡ false
     → after_step did (told (job_of id old GoesOn)) ≡ Some (told (job_of id new (course_after did)))
+goes_told id (CopyTree c) (CopyTree new) did t h = tree_told id c new did t h
+goes_told id (CopyTree c) (Copy new) did t h = absurd t
+goes_told id (CopyTree c) (Delete new) did t h = absurd t
+goes_told id (CopyTree c) (Make new) did t h = absurd t
+goes_told id (CopyTree c) (SetMode new) did t h = absurd t
+goes_told id (Copy c) (CopyTree new) did t h = absurd t
+goes_told id (Delete d) (CopyTree new) did t h = absurd t
+goes_told id (Make m) (CopyTree new) did t h = absurd t
+goes_told id (SetMode s) (CopyTree new) did t h = absurd t
 goes_told id (Copy c) (Copy new) did t h = copy_told id c new did t h
 goes_told id (Copy c) (Delete new) did t h = absurd t
 goes_told id (Copy c) (Make new) did t h = absurd t
@@ -341,6 +430,15 @@ goes_told id (SetMode s) (SetMode new) did t h = setting_told id s new did t h
 
 winds_told : (id : ℕ) (ending : Ending) (old new : Work) (did : Did) → WorkWinds ending old did new → ends did ≡ false
     → after_step did (told (job_of id old (Ends ending))) ≡ Some (told (job_of id new (Ends ending)))
+winds_told id ending (CopyTree c) (CopyTree new) did t h = tree_winds id ending c new did t h
+winds_told id ending (CopyTree c) (Copy new) did t h = absurd t
+winds_told id ending (CopyTree c) (Delete new) did t h = absurd t
+winds_told id ending (CopyTree c) (Make new) did t h = absurd t
+winds_told id ending (CopyTree c) (SetMode new) did t h = absurd t
+winds_told id ending (Copy c) (CopyTree new) did t h = absurd t
+winds_told id ending (Delete d) (CopyTree new) did t h = absurd t
+winds_told id ending (Make m) (CopyTree new) did t h = absurd t
+winds_told id ending (SetMode s) (CopyTree new) did t h = absurd t
 winds_told id ending (Copy c) (Copy new) did t h = copy_winds id ending c new did t h
 winds_told id ending (Copy c) (Delete new) did t h = absurd t
 winds_told id ending (Copy c) (Make new) did t h = absurd t
@@ -361,10 +459,10 @@ winds_told id ending (SetMode s) (SetMode new) did t h = setting_winds id ending
 told_on : (course : Course) (id : ℕ) (work : Work) (new : Running) (did : Did) → TellsOn course (job_of id work course) did new → ends did ≡ false
     → after_step did (told (job_of id work course)) ≡ Some (told new)
 told_on GoesOn id work new did (after, tells, is) h = rw is (goes_told id work after did tells h)
-told_on (InTrouble cause) id work new did t h = absurd t
+told_on (InTrouble halt) id work new did t h = absurd t
 told_on (OwedSyncFailed cause) id work new did t h = absurd t
-told_on (Skips cause) id work new did (inl (path, after, did_is, passes, new_is)) h = rw (did_is, new_is) (ap (λ w. Some (job_of id w GoesOn)) (skipped_told work after path passes))
-told_on (Skips cause) id work new did (inr waits) h = rw (waits.0, waits.1) (ap (λ course. Some (job_of id (work_told work) course)) (skip_in_trouble work))
+told_on (Skips cause) id work new did (inl (path, after, did_is, passes, new_is)) h = rw (did_is, new_is) (ap (λ w. Some (job_of id w GoesOn)) (skipped_told id work after path passes))
+told_on (Skips cause) id work new did (inr (apart, did_is, new_is)) h = rw (did_is, new_is) (ap (λ course. Some (job_of id (work_told id work) course)) (skip_in_trouble id work))
 told_on (Ends ending) id work new did (after, tells, is) h = rw is (winds_told id ending work after did tells h)
 
 -- what a history tells of a job follows its steps
@@ -386,22 +484,23 @@ step_told job new Barrier t = sym (told_follows job new Barrier t refl)
 step_told job new (Troubled trouble) t = sym (told_follows job new (Troubled trouble) t refl)
 step_told job new (Ended ending part) t = refl
 
-skips_told : (cause : Cause) (work : Work) → work_told (with_skips cause work) ≡ with_skips cause (work_told work)
-skips_told cause (Copy c) = refl
-skips_told cause (Delete d) = refl
-skips_told cause (Make m) = refl
-skips_told cause (SetMode s) = refl
+skips_told : (id : ℕ) (cause : Cause) (work : Work) → work_told id (with_skips cause work) ≡ with_skips cause (work_told id work)
+skips_told id cause (CopyTree c) = refl
+skips_told id cause (Copy c) = refl
+skips_told id cause (Delete d) = refl
+skips_told id cause (Make m) = refl
+skips_told id cause (SetMode s) = refl
 
 -- an answer, and the beginning of a job, are told whole
 pub answered_told : (answer : Answer) (job : Running) → told (answered answer job) ≡ answered answer (told job)
 answered_told answer job = answers job.course answer
   where
     answers : (course : Course) (answer : Answer) → told (answered_on course answer (job_of job.id job.work course)) ≡ answered_on course answer (told (job_of job.id job.work course))
-    answers (InTrouble cause) Retry = ap (λ w. job_of job.id w GoesOn) (sym (anew_told job.work))
-    answers (InTrouble cause) Skip = refl
-    answers (InTrouble cause) SkipAll = ap (λ w. job_of job.id w (Skips cause)) (skips_told cause job.work)
-    answers (InTrouble cause) Abort = refl
-    answers (OwedSyncFailed cause) Retry = ap (λ w. job_of job.id w GoesOn) (sym (anew_told job.work))
+    answers (InTrouble halt) Retry = ap (λ w. job_of job.id w GoesOn) (sym (anew_told job.id job.work))
+    answers (InTrouble halt) Skip = refl
+    answers (InTrouble halt) SkipAll = ap (λ w. job_of job.id w (Skips halt.cause)) (skips_told job.id halt.cause job.work)
+    answers (InTrouble halt) Abort = refl
+    answers (OwedSyncFailed cause) Retry = ap (λ w. job_of job.id w GoesOn) (sym (anew_told job.id job.work))
     answers (OwedSyncFailed cause) Skip = refl
     answers (OwedSyncFailed cause) SkipAll = refl
     answers (OwedSyncFailed cause) Abort = refl
@@ -409,7 +508,7 @@ answered_told answer job = answers job.course answer
     answers (Skips cause) answer = refl
     answers (Ends ending) answer = refl
 
-began_if : (id : ℕ) (b : Bool) (work : Work) → work_told work ≡ work → option_map told (option_map (running id) (if b then Some work else None)) ≡ option_map (running id) (if b then Some work else None)
+began_if : (id : ℕ) (b : Bool) (work : Work) → work_told id work ≡ work → option_map told (option_map (running id) (if b then Some work else None)) ≡ option_map (running id) (if b then Some work else None)
 began_if id true work same = ap (λ w. Some (running id w)) same
 began_if id false work same = refl
 
@@ -420,6 +519,9 @@ began_told id (plan.Delete (path ∷ more ∷ paths)) = refl
 began_told id (plan.Copy []) = refl
 began_told id (plan.Copy (pair ∷ [])) = began_if id (is_some (parent_of pair.source) && is_some (parent_of pair.target)) (copies id pair.source pair.target) refl
 began_told id (plan.Copy (pair ∷ more ∷ pairs)) = refl
+began_told id (plan.CopyTree []) = refl
+began_told id (plan.CopyTree (pair ∷ [])) = began_if id (is_some (parent_of pair.source) && is_some (parent_of pair.target)) (copies_tree id pair) refl
+began_told id (plan.CopyTree (pair ∷ more ∷ pairs)) = refl
 began_told id (plan.MakeFolder path) = began_if id (is_some (parent_of path)) (makes thing.Folder path) refl
 began_told id (plan.MakeLink path text) = began_if id (is_some (parent_of path) && is_link_text text) (makes (thing.Link text) path) refl
 began_told id (plan.SetMode [] mode) = refl
@@ -427,13 +529,13 @@ began_told id (plan.SetMode (path ∷ []) mode) = began_if id (is_some (parent_o
 began_told id (plan.SetMode (path ∷ more ∷ paths) mode) = refl
 
 -- the sync of what an ended job left dirty comes before the first change, and leaves the work as it is
-synced_copy : (c : Copying) (stage : Stage) (folder : FolderState) → copying.is_fresh stage folder ≡ true → synced (work_told (Copy (record c { stage = stage; folder = folder }))) ≡ work_told (Copy (record c { stage = stage; folder = folder }))
-synced_copy c at.Begin Synced h = refl
-synced_copy c at.Begin Dirty h = absurd (false≢true h)
-synced_copy c (at.Fill part facts done) folder h = absurd (false≢true h)
-synced_copy c (at.Clean part follows) folder h = absurd (false≢true h)
-synced_copy c (at.Left part) folder h = absurd (false≢true h)
-synced_copy c at.Decided folder h = absurd (false≢true h)
+synced_copy : (id : ℕ) (c : Copying) (stage : Stage) (folder : FolderState) → copying.is_fresh stage folder ≡ true → synced (work_told id (Copy (record c { stage = stage; folder = folder }))) ≡ work_told id (Copy (record c { stage = stage; folder = folder }))
+synced_copy id c at.Begin Synced h = refl
+synced_copy id c at.Begin Dirty h = absurd (false≢true h)
+synced_copy id c (at.Fill part facts done) folder h = absurd (false≢true h)
+synced_copy id c (at.Clean part follows) folder h = absurd (false≢true h)
+synced_copy id c (at.Left part) folder h = absurd (false≢true h)
+synced_copy id c at.Decided folder h = absurd (false≢true h)
 
 synced_making : (m : Making) (stage : MakingStage) → makings.is_fresh stage ≡ true → synced (Make (record m { stage = stage })) ≡ Make (record m { stage = stage })
 synced_making m making.Make h = refl
@@ -446,24 +548,25 @@ synced_setting s setting.Give h = refl
 synced_setting s setting.Sync h = absurd (false≢true h)
 synced_setting s setting.Done h = absurd (false≢true h)
 
-fresh_synced : (work : Work) → is_fresh work ≡ true → synced (work_told work) ≡ work_told work
-fresh_synced (Copy c) h = synced_copy c c.stage c.folder h
-fresh_synced (Delete d) h = refl
-fresh_synced (Make m) h = synced_making m m.stage h
-fresh_synced (SetMode s) h = synced_setting s s.stage h
+fresh_synced : (id : ℕ) (work : Work) → is_fresh work ≡ true → synced (work_told id work) ≡ work_told id work
+fresh_synced id (CopyTree c) h = refl
+fresh_synced id (Copy c) h = synced_copy id c c.stage c.folder h
+fresh_synced id (Delete d) h = refl
+fresh_synced id (Make m) h = synced_making m m.stage h
+fresh_synced id (SetMode s) h = synced_setting s s.stage h
 
-fresh_unsettled : (work : Work) (trouble : Trouble) → is_fresh work ≡ true → trouble.barrier ≡ true → course_told (work_told work) trouble ≡ OwedSyncFailed trouble.cause
-fresh_unsettled work trouble fresh barrier =
-    ap (λ b. if b && trouble.barrier then OwedSyncFailed trouble.cause else InTrouble trouble.cause) (fresh_told work ∙ fresh)
-    ∙ ap (λ b. if b then OwedSyncFailed trouble.cause else InTrouble trouble.cause) barrier
+fresh_unsettled : (id : ℕ) (work : Work) (trouble : Trouble) → is_fresh work ≡ true → trouble.barrier ≡ true → course_told (work_told id work) trouble ≡ OwedSyncFailed trouble.cause
+fresh_unsettled id work trouble fresh barrier =
+    ap (λ b. if b && trouble.barrier then OwedSyncFailed trouble.cause else InTrouble (halt_of trouble)) (fresh_told id work ∙ fresh)
+    ∙ ap (λ b. if b then OwedSyncFailed trouble.cause else InTrouble (halt_of trouble)) barrier
 
 -- what is told of a job follows the sync of what an ended job left dirty, or its trouble
 pub sync_told : (job : Running) (did : Did) (after : Option Running) → is_fresh job.work ≡ true
     → ((did ≡ Barrier) × (after ≡ Some job)) ⊎ ((trouble : Trouble) × (did ≡ Troubled trouble) × (trouble.barrier ≡ true) × (after ≡ Some (record job { course = OwedSyncFailed trouble.cause })))
     → option_map told after ≡ after_step did (told job)
-sync_told job did after fresh (inl h) = rw (h.0, h.1) (ap (λ w. Some (job_of job.id w job.course)) (sym (fresh_synced job.work fresh)))
+sync_told job did after fresh (inl h) = rw (h.0, h.1) (ap (λ w. Some (job_of job.id w job.course)) (sym (fresh_synced job.id job.work fresh)))
 sync_told job did after fresh (inr (trouble, did_is, barred, after_is)) =
-    rw (did_is, after_is) (ap (λ course. Some (job_of job.id (work_told job.work) course)) (sym (fresh_unsettled job.work trouble fresh barred)))
+    rw (did_is, after_is) (ap (λ course. Some (job_of job.id (work_told job.id job.work) course)) (sym (fresh_unsettled job.id job.work trouble fresh barred)))
 
 pub closed_told : (closed : Bool) (job : Option Running) → option_map told (if_closed closed job) ≡ if_closed closed (option_map told job)
 closed_told true None = refl

@@ -9,12 +9,13 @@ use Rattle.tree_trait.specs.Answers.{IfKnown, HasRisen}
 use Rattle.job_reports.specs.declared.report.Cause.{Cause}
 use Rattle.job_reports.specs.declared.report.Ending.{Ending}
 use Rattle.job_reports.specs.declared.report.Did.{Did}
-use Rattle.job_reports.specs.declared.report.Did.TheVariants.{Barrier, Skipped, Troubled}
+use Rattle.job_reports.specs.declared.report.Did.TheVariants.{Skipped, Troubled}
 use Rattle.job_reports.specs.CallRuns.{HasMore}
-use Rattle.job_reports.specs.Paths.{folder_of, without}
+use Rattle.job_reports.specs.Paths.{folder_of}
 use Rattle.job_reports.specs.Reports.{ends}
 use Rattle.job_reports.specs.Stops.{out_of_memory_at}
 use Rattle.tree_deletion.specs.Folders.{is_of}
+use Rattle.tree_deletion.specs.Folders as folders
 use Rattle.tree_deletion.specs.Standing.{after_item, at_barrier}
 use Rattle.tree_deletion.specs.Steps.{IsProgress, LastSteps, Skips as MachineSkips, SyncSteps, WorkSteps}
 use Rattle.tree_deletion.specs.declared.deletion.Deletion.{Deletion}
@@ -74,9 +75,7 @@ pub record DeletionStep (old new : Deleting) (did : Did) (calls : ℕ) (dirty di
 
 -- the dirty folders once this one was tried
 abbrev pub after_try : Did → Option TreeError → Route → List Route → List Route
-after_try Barrier None folder dirty = without folder dirty
-after_try Barrier (Some e) folder dirty = dirty
-after_try did left folder dirty = dirty
+after_try did left folder dirty = folders.after_try did left folder dirty
 
 -- A last step, likewise: it is one of the machine. It tells the refusal of a sync that was tried in vain, a fault only where the count has risen. The folder that is
 -- tried is the deletion's own, and then fewer are left to be tried.

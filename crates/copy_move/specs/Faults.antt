@@ -11,7 +11,7 @@ use Rattle.copy_move.specs.declared.run.Course.TheVariants.{GoesOn, InTrouble, O
 -- a job that goes on passes over something in the step that meets a fault; one that was told to skip it met that before
 abbrev pub PassesFault : Course → Cause → Type 0
 PassesFault GoesOn cause = cause ≡ Tree refused.Fault
-PassesFault (InTrouble why) cause = ⊥
+PassesFault (InTrouble halt) cause = ⊥
 PassesFault (OwedSyncFailed why) cause = ⊥
 PassesFault (Skips why) cause = ⊥
 PassesFault (Ends ending) cause = ⊥

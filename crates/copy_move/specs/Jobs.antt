@@ -4,8 +4,8 @@ use Rattle.std.specs.Prelude.{◌≡◌, ◌⊎◌, ℕ, ⊤, Bool, true, false,
 use Rattle.mc_text.specs.Routes.{Route, parent_of}
 use Rattle.tree_trait.specs.Change.{CallLog}
 use Rattle.job_reports.specs.declared.report.Cause.{Cause}
-use Rattle.job_reports.specs.declared.report.Cause.TheVariants.{Memory}
 use Rattle.job_answers.specs.Skipping.{kind_in, with_kind}
+use Rattle.job_reports.specs.declared.report.Trouble.{Trouble}
 use Rattle.job_reports.specs.declared.report.Ending.{Ending}
 use Rattle.job_reports.specs.declared.report.Ending.TheVariants.{Aborted}
 use Rattle.job_reports.specs.declared.report.Did.{Did}
@@ -27,7 +27,8 @@ use Rattle.copy_move.specs.declared.making.MakingStage.TheVariants as making
 use Rattle.copy_move.specs.declared.new_thing.NewThing.{NewThing}
 use Rattle.copy_move.specs.declared.new_thing.NewThing.TheVariants as thing
 use Rattle.copy_move.specs.declared.work.Work.{Work}
-use Rattle.copy_move.specs.declared.work.Work.TheVariants.{Copy, Delete, Make, SetMode}
+use Rattle.copy_move.specs.declared.work.Work.TheVariants.{Copy, CopyTree, Delete, Make, SetMode}
+use Rattle.copy_move.specs.declared.run.Halt.{Halt}
 use Rattle.copy_move.specs.declared.run.Course.{Course}
 use Rattle.copy_move.specs.declared.run.Course.TheVariants.{GoesOn, InTrouble, OwedSyncFailed, Skips, Ends}
 use Rattle.tree_deletion.specs.Standing.{after_item}
@@ -39,6 +40,13 @@ use Rattle.copy_move.specs.Makings as makings
 use Rattle.copy_move.specs.NewThings.{making_kind}
 use Rattle.copy_move.specs.ModeSettings.{LastSettingCalls}
 use Rattle.copy_move.specs.ModeSettings as modes
+use Rattle.copy_move.specs.TreeCopies as trees
+use Rattle.job_reports.specs.declared.job.Pair.{Pair}
+use Rattle.subtree_copy.specs.LastCalls.{LastCalls as LastTreeCalls}
+use Rattle.subtree_copy.specs.Reporting.{IsWound}
+use Rattle.subtree_copy.specs.Standing.{retries, started as tree_started}
+use Rattle.subtree_copy.specs.Standing as tree
+use Rattle.tree_copy.specs.Standing as tree_copy
 use Rattle.mode_setting.specs.declared.setting.Stage.TheVariants.{Give}
 use Rattle.mode_setting.specs.Settings.{setting}
 use Rattle.mode_setting.specs.Settings as settings
@@ -53,6 +61,10 @@ pub record Running : Type 0 where
 -- the copy of a file, just begun
 abbrev pub copies : ℕ → Route → Route → Work
 copies id source target = Copy (begun id source target)
+
+-- the copy of a thing with all that lies in it, just begun
+abbrev pub copies_tree : ℕ → Pair → Work
+copies_tree id pair = CopyTree (tree_started id pair)
 
 -- the deletion of a thing with all that lies in it, just begun
 abbrev pub deletes : Route → Work
@@ -76,6 +88,9 @@ first_work id (plan.Copy []) = None
 first_work id (plan.Copy (pair ∷ [])) =
     if is_some (parent_of pair.source) && is_some (parent_of pair.target) then Some (copies id pair.source pair.target) else None
 first_work id (plan.Copy (pair ∷ more ∷ pairs)) = None
+first_work id (plan.CopyTree []) = None
+first_work id (plan.CopyTree (pair ∷ [])) = if is_some (parent_of pair.source) && is_some (parent_of pair.target) then Some (copies_tree id pair) else None
+first_work id (plan.CopyTree (pair ∷ more ∷ pairs)) = None
 first_work id (plan.MakeFolder path) = if is_some (parent_of path) then Some (makes thing.Folder path) else None
 first_work id (plan.MakeLink path text) = if is_some (parent_of path) && is_link_text text then Some (makes (thing.Link text) path) else None
 first_work id (plan.SetMode [] mode) = None
@@ -85,12 +100,14 @@ first_work id (plan.SetMode (path ∷ more ∷ paths) mode) = None
 -- what the work does, and to what
 abbrev pub kind_of : Work → JobKind
 kind_of (Copy c) = kind.Copy
+kind_of (CopyTree c) = kind.Copy
 kind_of (Delete d) = kind.Delete
 kind_of (Make m) = making_kind m.thing
 kind_of (SetMode s) = kind.SetMode
 
 abbrev pub path_of : Work → Route
 path_of (Copy c) = c.source
+path_of (CopyTree c) = c.top.source
 path_of (Delete d) = d.path
 path_of (Make m) = m.path
 path_of (SetMode s) = s.path
@@ -98,6 +115,7 @@ path_of (SetMode s) = s.path
 -- the next call is at a barrier, where nothing can be skipped
 abbrev pub at_barrier : Work → Bool
 at_barrier (Copy c) = copying.at_barrier c.stage
+at_barrier (CopyTree c) = tree.at_barrier c.at
 at_barrier (Delete d) = standing.at_barrier d.stage
 at_barrier (Make m) = makings.at_barrier m.stage
 at_barrier (SetMode s) = settings.at_barrier s.stage
@@ -105,6 +123,7 @@ at_barrier (SetMode s) = settings.at_barrier s.stage
 -- the work of a job that has changed nothing yet
 abbrev pub is_fresh : Work → Bool
 is_fresh (Copy c) = copying.is_fresh c.stage c.folder
+is_fresh (CopyTree c) = tree_copy.is_fresh c.at.stage
 is_fresh (Delete d) = standing.is_fresh d.stage
 is_fresh (Make m) = makings.is_fresh m.stage
 is_fresh (SetMode s) = settings.is_fresh s.stage
@@ -113,14 +132,15 @@ is_fresh (SetMode s) = settings.is_fresh s.stage
 abbrev pub is_barred : Course → Work → Bool
 is_barred (OwedSyncFailed cause) work = true
 is_barred GoesOn work = at_barrier work
-is_barred (InTrouble cause) work = at_barrier work
+is_barred (InTrouble halt) work = halt.barrier
 is_barred (Skips cause) work = at_barrier work
 is_barred (Ends ending) work = at_barrier work
 
--- the work once what stands at this path was left as it is: the file that is copied, something that is deleted, the thing that
+-- the work once what stands at this path was left as it is: the file that is copied, something of what is copied whole, or that is deleted, the thing that
 -- is not made, or the one that keeps its mode
 abbrev pub PassesOver : Work → Route → Work → Type 0
 PassesOver (Copy c) path (Copy new) = (path ≡ c.source) × (new ≡ record c { stage = copying.skipped c.stage })
+PassesOver (CopyTree c) path (CopyTree new) = trees.Passes c path new
 PassesOver (Delete d) path (Delete new) = IsAtStage d (after_item d.path path d.stage) new
 PassesOver (Make m) path (Make new) = (path ≡ m.path) × (new ≡ record m { stage = makings.skipped m.stage })
 PassesOver (SetMode s) path (SetMode new) = (path ≡ s.path) × (new ≡ record s { stage = settings.skipped s.stage })
@@ -129,14 +149,16 @@ PassesOver old path new = ⊥
 -- the work taken up once more after a trouble; a deletion, a making and the setting of a mode try their call again
 abbrev pub taken_anew : Work → Work
 taken_anew (Copy c) = Copy (record c { stage = copying.taken_anew c.stage })
+taken_anew (CopyTree c) = CopyTree (retries c)
 taken_anew (Delete d) = Delete d
 taken_anew (Make m) = Make m
 taken_anew (SetMode s) = SetMode s
 
--- The work once troubles of this kind are passed over without a question. One that copies or makes one thing, or sets its mode, comes to
+-- The work once troubles of this kind are passed over without a question. One that copies one file, or makes one thing, or sets its mode, comes to
 -- no later one.
 abbrev pub with_skips : Cause → Work → Work
 with_skips cause (Copy c) = Copy c
+with_skips cause (CopyTree c) = CopyTree (record c { skips = with_kind (kind_in cause) c.skips })
 with_skips cause (Delete d) = Delete (record d { skips = with_kind (kind_in cause) d.skips })
 with_skips cause (Make m) = Make m
 with_skips cause (SetMode s) = SetMode s
@@ -144,6 +166,7 @@ with_skips cause (SetMode s) = SetMode s
 -- the part that stands
 abbrev pub part_of : Work → Option Route
 part_of (Copy c) = copying.part_at c.stage
+part_of (CopyTree c) = tree.part_of c.at.item
 part_of (Delete d) = None
 part_of (Make m) = None
 part_of (SetMode s) = None
@@ -151,21 +174,23 @@ part_of (SetMode s) = None
 -- work that goes on: no part of it was left in last steps
 abbrev pub IsGoing : Work → Type 0
 IsGoing (Copy c) = last.left_at c.stage ≡ None
+IsGoing (CopyTree c) = trees.IsGoing c
 IsGoing (Delete d) = ⊤
 IsGoing (Make m) = ⊤
 IsGoing (SetMode s) = ⊤
 
--- only a job that makes its last steps leaves a part
+-- Only a job that makes its last steps leaves a part, and nothing is skipped at a barrier.
 abbrev pub IsSound : Course → Work → Type 0
 IsSound GoesOn work = IsGoing work
-IsSound (InTrouble cause) work = IsGoing work
+IsSound (InTrouble halt) work = IsGoing work × (halt.barrier ≡ at_barrier work)
 IsSound (OwedSyncFailed cause) work = IsGoing work
-IsSound (Skips cause) work = IsGoing work
+IsSound (Skips cause) work = IsGoing work × (at_barrier work ≡ false)
 IsSound (Ends ending) work = ⊤
 
 -- what a step of the work may report that goes on, and where the work stands then
 abbrev pub WorkTells : Work → Did → Work → Type 0
 WorkTells (Copy c) did (Copy new) = copying.Tells c did new
+WorkTells (CopyTree c) did (CopyTree new) = trees.Tells c did new
 WorkTells (Delete d) did (Delete new) = deletions.Tells d did new
 WorkTells (Make m) did (Make new) = makings.Tells m did new
 WorkTells (SetMode s) did (SetMode new) = settings.Tells s did new
@@ -174,14 +199,23 @@ WorkTells old did new = ⊥
 -- the same of a last step
 abbrev pub WorkWinds : Ending → Work → Did → Work → Type 0
 WorkWinds ending (Copy c) did (Copy new) = last.Winds ending c did new
+WorkWinds ending (CopyTree c) did (CopyTree new) = IsWound ending c did new
 WorkWinds ending (Delete d) did (Delete new) = deletions.Winds ending d did new
 WorkWinds ending (Make m) did (Make new) = makings.Winds ending m did new
 WorkWinds ending (SetMode s) did (SetMode new) = modes.Winds ending s did new
 WorkWinds ending old did new = ⊥
 
+-- why a job waits, as its trouble says it
+abbrev pub halt_of : Trouble → Halt
+halt_of trouble = record { cause = trouble.cause; barrier = trouble.barrier }
+
+-- there was no memory to report a skip
+abbrev pub unreported_skip : Halt
+unreported_skip = halt_of (out_of_memory_at false)
+
 -- a job whose call was refused waits for an answer, else it goes on
 abbrev pub course_after : Did → Course
-course_after (Troubled trouble) = InTrouble trouble.cause
+course_after (Troubled trouble) = InTrouble (halt_of trouble)
 course_after (Began part) = GoesOn
 course_after (Chunk count) = GoesOn
 course_after (Set path) = GoesOn
@@ -195,14 +229,14 @@ course_after Barrier = GoesOn
 course_after (Ended ending part) = GoesOn
 
 -- What a step may report of a job that goes so, and what the job is then. What is to be skipped is reported with the
--- cause of its trouble, or there is no memory for the report.
+-- cause of its trouble, or there is no memory for the report; it doesn't stand at a barrier.
 abbrev pub TellsOn : Course → Running → Did → Running → Type 0
 TellsOn GoesOn job did new = (work : Work) × WorkTells job.work did work × (new ≡ record job { work = work; course = course_after did })
-TellsOn (InTrouble cause) job did new = ⊥
+TellsOn (InTrouble halt) job did new = ⊥
 TellsOn (OwedSyncFailed cause) job did new = ⊥
 TellsOn (Skips cause) job did new =
     ((path : Route) × (work : Work) × (did ≡ Skipped path cause) × PassesOver job.work path work × (new ≡ record job { work = work; course = GoesOn }))
-    ⊎ ((did ≡ Troubled (out_of_memory_at (at_barrier job.work))) × (new ≡ record job { course = InTrouble Memory }))
+    ⊎ ((at_barrier job.work ≡ false) × (did ≡ Troubled (out_of_memory_at false)) × (new ≡ record job { course = InTrouble unreported_skip }))
 TellsOn (Ends ending) job did new = (work : Work) × WorkWinds ending job.work did work × (new ≡ record job { work = work })
 
 abbrev pub JobTells : Running → Did → Running → Type 0
@@ -214,6 +248,12 @@ WorkCalls unclaimed (Copy c) did (Copy new) log after = CopyCalls unclaimed c di
 WorkCalls unclaimed (Copy c) did (Delete new) log after = ⊥
 WorkCalls unclaimed (Copy c) did (Make new) log after = ⊥
 WorkCalls unclaimed (Copy c) did (SetMode new) log after = ⊥
+WorkCalls unclaimed (Copy c) did (CopyTree new) log after = ⊥
+WorkCalls unclaimed (CopyTree c) did (CopyTree new) log after = trees.Calls unclaimed c did new log after
+WorkCalls unclaimed (CopyTree c) did (Copy new) log after = ⊥
+WorkCalls unclaimed (CopyTree c) did (Delete new) log after = ⊥
+WorkCalls unclaimed (CopyTree c) did (Make new) log after = ⊥
+WorkCalls unclaimed (CopyTree c) did (SetMode new) log after = ⊥
 WorkCalls unclaimed (Delete d) did new log after = DeletionCalls did log after
 WorkCalls unclaimed (Make m) did new log after = MakingCalls m did log after
 WorkCalls unclaimed (SetMode s) did new log after = SettingCalls s did log after
@@ -221,6 +261,7 @@ WorkCalls unclaimed (SetMode s) did new log after = SettingCalls s did log after
 -- the same of a last step
 abbrev pub WorkLastCalls : Work → Did → CallLog → Option CallLog → Type 0
 WorkLastCalls (Copy c) did log after = last.WindCalls c did log after
+WorkLastCalls (CopyTree c) did log after = LastTreeCalls (tree.part_of c.at.item) did log after
 WorkLastCalls (Delete d) did log after = LastCalls did log after
 WorkLastCalls (Make m) did log after = LastMakingCalls m did log after
 WorkLastCalls (SetMode s) did log after = LastSettingCalls s did log after
@@ -228,7 +269,7 @@ WorkLastCalls (SetMode s) did log after = LastSettingCalls s did log after
 -- What a step of a job says of the tree's calls. The report of a skip makes none.
 abbrev pub CallsOn : (Route → Type 0) → Course → Running → Did → Running → CallLog → Option CallLog → Type 0
 CallsOn unclaimed GoesOn job did new log after = WorkCalls unclaimed job.work did new.work log after
-CallsOn unclaimed (InTrouble cause) job did new log after = ⊥
+CallsOn unclaimed (InTrouble halt) job did new log after = ⊥
 CallsOn unclaimed (OwedSyncFailed cause) job did new log after = ⊥
 CallsOn unclaimed (Skips cause) job did new log after = after ≡ Some log
 CallsOn unclaimed (Ends ending) job did new log after = WorkLastCalls job.work did log after
@@ -238,10 +279,10 @@ JobCalls unclaimed job did new log after = CallsOn unclaimed job.course job did 
 
 -- an answer to a trouble, as it makes a job go on
 abbrev pub answered_on : Course → Answer → Running → Running
-answered_on (InTrouble cause) Retry job = record job { work = taken_anew job.work; course = GoesOn }
-answered_on (InTrouble cause) Skip job = record job { course = Skips cause }
-answered_on (InTrouble cause) SkipAll job = record job { work = with_skips cause job.work; course = Skips cause }
-answered_on (InTrouble cause) Abort job = record job { course = Ends Aborted }
+answered_on (InTrouble halt) Retry job = record job { work = taken_anew job.work; course = GoesOn }
+answered_on (InTrouble halt) Skip job = record job { course = Skips halt.cause }
+answered_on (InTrouble halt) SkipAll job = record job { work = with_skips halt.cause job.work; course = Skips halt.cause }
+answered_on (InTrouble halt) Abort job = record job { course = Ends Aborted }
 answered_on (OwedSyncFailed cause) Retry job = record job { work = taken_anew job.work; course = GoesOn }
 answered_on (OwedSyncFailed cause) Skip job = job
 answered_on (OwedSyncFailed cause) SkipAll job = job
@@ -255,7 +296,7 @@ answered answer job = answered_on job.course answer job
 
 -- a job waits for an answer
 abbrev pub waits_on : Course → Bool
-waits_on (InTrouble cause) = true
+waits_on (InTrouble halt) = true
 waits_on (OwedSyncFailed cause) = true
 waits_on GoesOn = false
 waits_on (Skips cause) = false
@@ -269,7 +310,7 @@ pub record MayAnswer (job : Running) (answer : Answer) : Type 0 where
 -- a job is ordered to end so; one that makes its last steps already ends as it was ordered first
 abbrev pub ended_course : Ending → Course → Course
 ended_course ending GoesOn = Ends ending
-ended_course ending (InTrouble cause) = Ends ending
+ended_course ending (InTrouble halt) = Ends ending
 ended_course ending (OwedSyncFailed cause) = Ends ending
 ended_course ending (Skips cause) = Ends ending
 ended_course ending (Ends first) = Ends first
@@ -277,7 +318,7 @@ ended_course ending (Ends first) = Ends first
 -- a job that waits for an answer is aborted when the session closes, and one that would wait later too
 abbrev pub closed_course : Course → Course
 closed_course GoesOn = GoesOn
-closed_course (InTrouble cause) = Ends Aborted
+closed_course (InTrouble halt) = Ends Aborted
 closed_course (OwedSyncFailed cause) = Ends Aborted
 closed_course (Skips cause) = Skips cause
 closed_course (Ends ending) = Ends ending

@@ -10,3 +10,4 @@ pub mod Ranks
 pub mod Settling
 pub mod Steps
 pub mod Told
+pub mod TreeCopies

@@ -11,10 +11,11 @@ use Rattle.copy_move.specs.declared.making.MakingStage.{MakingStage}
 use Rattle.copy_move.specs.declared.making.MakingStage.TheVariants as making
 use Rattle.copy_move.specs.Deletions.{Deleting, left_in}
 use Rattle.copy_move.specs.declared.work.Work.{Work}
-use Rattle.copy_move.specs.declared.work.Work.TheVariants.{Copy, Delete, Make, SetMode}
+use Rattle.copy_move.specs.declared.work.Work.TheVariants.{Copy, CopyTree, Delete, Make, SetMode}
 use Rattle.copy_move.specs.declared.run.Course.{Course}
 use Rattle.copy_move.specs.declared.run.Course.TheVariants.{GoesOn, InTrouble, OwedSyncFailed, Skips, Ends}
 use Rattle.copy_move.specs.Jobs.{Running}
+use Rattle.subtree_copy.specs.Ranks as tree
 use Rattle.mode_setting.specs.declared.setting.Stage.{Stage as SettingStage}
 use Rattle.mode_setting.specs.declared.setting.Stage.TheVariants as setting
 
@@ -59,14 +60,17 @@ last_setting_steps setting.Give = 1
 last_setting_steps setting.Sync = 2
 last_setting_steps setting.Done = 1
 
+-- of a job that copies something whole those of its copy, and the end; a trouble may leave it as many last steps as it had steps, so there is one more
 abbrev pub work_rank : Work → ℕ
 work_rank (Copy c) = copy_rank c.stage c.folder
+work_rank (CopyTree c) = tree.rank c.at + 2
 work_rank (Delete d) = deletion_rank d
 work_rank (Make m) = making_rank m.stage
 work_rank (SetMode s) = setting_rank s.stage
 
 abbrev pub last_rank : Work → ℕ
 last_rank (Copy c) = last_steps c.stage c.folder
+last_rank (CopyTree c) = tree.last_rank c.at + 1
 last_rank (Delete d) = 1
 last_rank (Make m) = last_making_steps m.stage
 last_rank (SetMode s) = last_setting_steps s.stage
@@ -74,6 +78,7 @@ last_rank (SetMode s) = last_setting_steps s.stage
 -- where something is to be skipped
 abbrev pub skip_rank : Work → ℕ
 skip_rank (Copy c) = 10
+skip_rank (CopyTree c) = tree.rank c.at + 1
 skip_rank (Delete d) = deletion_rank d + 1
 skip_rank (Make m) = 10
 skip_rank (SetMode s) = 10
@@ -81,7 +86,7 @@ skip_rank (SetMode s) = 10
 -- a job that waits counts as one that is aborted
 abbrev pub rank_on : Course → Work → ℕ
 rank_on GoesOn work = work_rank work
-rank_on (InTrouble cause) work = last_rank work
+rank_on (InTrouble halt) work = last_rank work
 rank_on (OwedSyncFailed cause) work = last_rank work
 rank_on (Skips cause) work = skip_rank work
 rank_on (Ends ending) work = last_rank work
@@ -90,10 +95,11 @@ rank_on (Ends ending) work = last_rank work
 abbrev pub tries_left : Course → Work → List Route → ℕ
 tries_left (Ends ending) (Delete d) dirty = length dirty - d.tried
 tries_left (Ends ending) (Copy c) dirty = length dirty
+tries_left (Ends ending) (CopyTree c) dirty = length dirty
 tries_left (Ends ending) (Make m) dirty = length dirty
 tries_left (Ends ending) (SetMode s) dirty = length dirty
 tries_left GoesOn work dirty = length dirty
-tries_left (InTrouble cause) work dirty = length dirty
+tries_left (InTrouble halt) work dirty = length dirty
 tries_left (OwedSyncFailed cause) work dirty = length dirty
 tries_left (Skips cause) work dirty = length dirty
 

@@ -16,15 +16,17 @@ use Rattle.job_reports.specs.declared.report.Did.TheVariants.{Barrier, Skipped, 
 use Rattle.job_reports.specs.Stops.{out_of_memory_at}
 use Rattle.copy_move.specs.declared.work.Work.{Work}
 use Rattle.copy_move.specs.declared.run.Course.{Course}
-use Rattle.copy_move.specs.declared.work.Work.TheVariants.{Copy, Delete, Make, SetMode}
+use Rattle.copy_move.specs.declared.work.Work.TheVariants.{Copy, CopyTree, Delete, Make, SetMode}
 use Rattle.copy_move.specs.declared.run.Course.TheVariants.{GoesOn, InTrouble, OwedSyncFailed, Skips, Ends}
 use Rattle.copy_move.specs.Faults.{MeetsFault}
 use Rattle.copy_move.specs.DeletionSteps.{Goes, Passes, TriesNext, after_try}
 use Rattle.copy_move.specs.Jobs.{Running, JobTells, JobCalls, PassesOver, WorkTells, WorkCalls, WorkWinds, WorkLastCalls, at_barrier, course_after, is_fresh}
 use Rattle.copy_move.specs.Settling.{NoneOwed, TellsFolder, WorkLeaves, is_own}
 use Rattle.job_reports.specs.Paths.{without}
-use Rattle.copy_move.specs.Ranks.{rank_at, rank_on, rank_with}
+use Rattle.copy_move.specs.Ranks.{last_rank, rank_at, rank_on, rank_with, work_rank}
 use Rattle.mode_setting.specs.SettingSteps.{SyncStops, sync_of}
+use Rattle.subtree_copy.specs.SubtreeSteps.{LastSubtreeStep, SubtreeSkips}
+use Rattle.copy_move.specs.TreeCopies as trees
 
 -- A step of a job: what it reports is allowed, the job is then as it says, it made the calls of the tree that it says, at
 -- most three of which change the tree, and it reports a fault, or passes something over for one, only where the tree's count has risen.
@@ -50,7 +52,7 @@ pub record LastLeaves (old : Work) (did : Did) (dirty dirty_after : List Route) 
 -- a mode; it leaves them with its sync. In last steps it leaves them only where the one try of its sync wasn't refused.
 abbrev pub LeavesDirty : Course → Work → Did → Work → List Route → List Route → Option CallLog → Option CallLog → Type 0
 LeavesDirty GoesOn old did new dirty dirty_after before after = WorkLeaves old did new dirty dirty_after before after
-LeavesDirty (InTrouble cause) old did new dirty dirty_after before after = ⊥
+LeavesDirty (InTrouble halt) old did new dirty dirty_after before after = ⊥
 LeavesDirty (OwedSyncFailed cause) old did new dirty dirty_after before after = ⊥
 LeavesDirty (Skips cause) old did new dirty dirty_after before after = dirty_after ≡ dirty
 LeavesDirty (Ends ending) old did new dirty dirty_after before after = LastLeaves old did dirty dirty_after before after
@@ -73,25 +75,33 @@ abbrev pub step_made : Running → Running → Did → ℕ → List Route → Li
 step_made old new did calls dirty dirty_after before after faults faults_after =
     record { old = old; new = new; did = did; calls = calls; dirty = dirty; dirty_after = dirty_after; before = before; after = after; faults = faults; faults_after = faults_after }
 
--- what the machine of a deletion does in a step of the work
-abbrev pub Walks : Work → Work → Did → ℕ → List Route → List Route → Option CallLog → Option CallLog → ℕ → ℕ → Type 0
-Walks (Copy c) new did calls dirty dirty_after before after faults faults_after = ⊤
-Walks (Make m) new did calls dirty dirty_after before after faults faults_after = ⊤
-Walks (SetMode s) new did calls dirty dirty_after before after faults faults_after = ⊤
-Walks (Delete d) (Delete new) did calls dirty dirty_after before after faults faults_after = Goes d new did calls dirty dirty_after before after faults faults_after
-Walks (Delete d) new did calls dirty dirty_after before after faults faults_after = ⊥
+-- what the machine of a deletion, or of the copy of what lies in something, does in a step of the work
+abbrev pub Walks : (Route → Type 0) → Work → Work → Did → ℕ → List Route → List Route → Option CallLog → Option CallLog → ℕ → ℕ → Type 0
+Walks unclaimed (Copy c) new did calls dirty dirty_after before after faults faults_after = ⊤
+Walks unclaimed (Make m) new did calls dirty dirty_after before after faults faults_after = ⊤
+Walks unclaimed (SetMode s) new did calls dirty dirty_after before after faults faults_after = ⊤
+Walks unclaimed (CopyTree c) (CopyTree new) did calls dirty dirty_after before after faults faults_after =
+    trees.Goes unclaimed c new did calls dirty dirty_after before after faults faults_after
+Walks unclaimed (CopyTree c) new did calls dirty dirty_after before after faults faults_after = ⊥
+Walks unclaimed (Delete d) (Delete new) did calls dirty dirty_after before after faults faults_after = Goes d new did calls dirty dirty_after before after faults faults_after
+Walks unclaimed (Delete d) new did calls dirty dirty_after before after faults faults_after = ⊥
 
 -- what it does where something is passed over
 abbrev pub SkipWalks : Cause → Work → Did → Work → Type 0
 SkipWalks cause (Copy c) did new = ⊤
 SkipWalks cause (Make m) did new = ⊤
 SkipWalks cause (SetMode s) did new = ⊤
+SkipWalks cause (CopyTree c) did (CopyTree new) = SubtreeSkips cause c did new
+SkipWalks cause (CopyTree c) did new = ⊥
 SkipWalks cause (Delete d) did (Delete new) = Passes cause d did new
 SkipWalks cause (Delete d) did new = ⊥
 
 -- what it does in a last step
 abbrev pub LastWalks : Ending → Work → Work → Did → ℕ → Option TreeError → List Route → List Route → Option CallLog → Option CallLog → ℕ → ℕ → Type 0
 LastWalks ending (Copy c) new did calls left dirty dirty_after before after faults faults_after = ⊤
+LastWalks ending (CopyTree c) (CopyTree new) did calls left dirty dirty_after before after faults faults_after =
+    LastSubtreeStep ending c new (record { did = did; calls = calls; left = left }) dirty dirty_after before after faults faults_after
+LastWalks ending (CopyTree c) new did calls left dirty dirty_after before after faults faults_after = ⊥
 LastWalks ending (Delete d) (Delete new) did calls left dirty dirty_after before after faults faults_after =
     TriesNext ending d new did calls left dirty dirty_after before after faults faults_after
 LastWalks ending (Delete d) new did calls left dirty dirty_after before after faults faults_after = ⊥
@@ -99,18 +109,18 @@ LastWalks ending (Make m) new did calls left dirty dirty_after before after faul
 LastWalks ending (SetMode s) new did calls left dirty dirty_after before after faults faults_after = ⊤
 
 -- what it does in a step of a job that goes so
-abbrev pub WalksOn : Course → Work → Work → Did → ℕ → List Route → List Route → Option CallLog → Option CallLog → ℕ → ℕ → Type 0
-WalksOn GoesOn old new did calls dirty dirty_after before after faults faults_after = Walks old new did calls dirty dirty_after before after faults faults_after
-WalksOn (InTrouble cause) old new did calls dirty dirty_after before after faults faults_after = ⊥
-WalksOn (OwedSyncFailed cause) old new did calls dirty dirty_after before after faults faults_after = ⊥
-WalksOn (Skips cause) old new did calls dirty dirty_after before after faults faults_after = SkipWalks cause old did new
-WalksOn (Ends ending) old new did calls dirty dirty_after before after faults faults_after =
+abbrev pub WalksOn : (Route → Type 0) → Course → Work → Work → Did → ℕ → List Route → List Route → Option CallLog → Option CallLog → ℕ → ℕ → Type 0
+WalksOn unclaimed GoesOn old new did calls dirty dirty_after before after faults faults_after = Walks unclaimed old new did calls dirty dirty_after before after faults faults_after
+WalksOn unclaimed (InTrouble halt) old new did calls dirty dirty_after before after faults faults_after = ⊥
+WalksOn unclaimed (OwedSyncFailed cause) old new did calls dirty dirty_after before after faults faults_after = ⊥
+WalksOn unclaimed (Skips cause) old new did calls dirty dirty_after before after faults faults_after = SkipWalks cause old did new
+WalksOn unclaimed (Ends ending) old new did calls dirty dirty_after before after faults faults_after =
     (left : Option TreeError) × LastWalks ending old new did calls left dirty dirty_after before after faults faults_after
 
 -- A piece of work, likewise. Fewer steps are left then, and at most three where it is refused.
 pub record WorkSteps (unclaimed : Route → Type 0) (old new : Work) (did : Did) (calls : ℕ) (dirty dirty_after : List Route) (before after : Option CallLog) (faults faults_after : ℕ) : Type 0 where
   pub tells : WorkTells old did new
-  pub walks : Walks old new did calls dirty dirty_after before after faults faults_after
+  pub walks : Walks unclaimed old new did calls dirty dirty_after before after faults faults_after
   pub called : IfKnown before (λ log. WorkCalls unclaimed old did new log after)
   pub leaves : WorkLeaves old did new dirty dirty_after before after
   pub counted : IfKnown before (λ log. IfKnown after (HasMore log calls))
@@ -137,15 +147,16 @@ pub record WorkWindsUp (ending : Ending) (old new : Work) (did : Did) (calls : �
   pub fault : left ≡ Some Fault → HasRisen faults faults_after
   pub falls : ends did ≡ false → rank_at dirty_after (Ends ending) new < rank_at dirty (Ends ending) old
 
--- A skip reports what was left, or that there is no memory for the report, and then it changes nothing. Fewer steps are left then.
+-- A skip, which is never at a barrier, reports what was left, or that there is no memory for the report, and then it changes nothing. Fewer steps are left then.
 pub record WorkSkips (cause : Cause) (old : Work) (did : Did) (new : Work) : Type 0 where
   pub walks : SkipWalks cause old did new
-  pub skips : ((path : Route) × (did ≡ Skipped path cause) × PassesOver old path new) ⊎ ((did ≡ Troubled (out_of_memory_at (at_barrier old))) × (new ≡ old))
+  pub skips : ((path : Route) × (did ≡ Skipped path cause) × PassesOver old path new) ⊎ ((did ≡ Troubled (out_of_memory_at false)) × (new ≡ old))
   pub falls : rank_on (course_after did) new < rank_on (Skips cause) old
 
 -- the step of a job that passes over something: it makes no call
 pub record SkipSteps (cause : Cause) (old new : Running) (did : Did) (calls : ℕ) : Type 0 where
   pub work : Work
+  pub apart : at_barrier old.work ≡ false
   pub skips : WorkSkips cause old.work did work
   pub new_is : new ≡ record old { work = work; course = course_after did }
   pub none : calls ≡ 0
@@ -156,13 +167,13 @@ pub record WindingStep (ending : Ending) (step : StepMade) : Type 0 where
   pub winds : WorkWindsUp ending step.old.work step.new.work step.did step.calls left step.dirty step.dirty_after step.before step.after step.faults step.faults_after
   pub new_is : step.new ≡ record step.old { work = step.new.work }
 
--- A step of the job's own: one that may make its first change is made only where nothing dirty is owed, a deletion does what its
--- machine does, and a job that is to end makes one of its last steps. But for an end fewer steps are left.
+-- A step of the job's own: one that may make its first change is made only where nothing dirty is owed, a deletion, or the copy of what lies in
+-- something, does what its machine does, and a job that is to end makes one of its last steps. But for an end fewer steps are left.
 pub record OwnStep (unclaimed : Route → Type 0) (step : StepMade) : Type 0 where
   pub own : StepsOn unclaimed step.old step.new step.did step.calls step.before step.after step.faults step.faults_after
   pub settled : step.old.course ≡ GoesOn → is_fresh step.old.work ≡ true → IfKnown step.before (λ log. NoneOwed (current log) step.old.work step.dirty)
   pub leaves : LeavesDirty step.old.course step.old.work step.did step.new.work step.dirty step.dirty_after step.before step.after
-  pub walks : WalksOn step.old.course step.old.work step.new.work step.did step.calls step.dirty step.dirty_after step.before step.after step.faults step.faults_after
+  pub walks : WalksOn unclaimed step.old.course step.old.work step.new.work step.did step.calls step.dirty step.dirty_after step.before step.after step.faults step.faults_after
   pub winds : (ending : Ending) → step.old.course ≡ Ends ending → WindingStep ending step
   pub falls : ends step.did ≡ false → rank_with step.dirty_after (Some step.new) < rank_with step.dirty (Some step.old)
 
@@ -186,12 +197,14 @@ abbrev pub SyncsOwed : Running → Route → Did → Running → List Route → 
 SyncsOwed old path did new dirty dirty_after before after =
     OwedSynced old path did new dirty dirty_after before after ⊎ OwedRefused old path did new dirty dirty_after before after
 
--- A step of a job that has changed nothing yet, where an ended job left something dirty: that is synced first, as what stands there.
+-- A step of a job that has changed nothing yet, where an ended job left something dirty: that is synced first, as what stands there. Fewer steps are left to one
+-- that waits then.
 pub record OwedSyncStep (step : StepMade) : Type 0 where
   pub goes : step.old.course ≡ GoesOn
   pub fresh : is_fresh step.old.work ≡ true
   pub path : Route
   pub owed : Among step.dirty path
+  pub waits : last_rank step.old.work < work_rank step.old.work
   pub synced : SyncsOwed step.old path step.did step.new step.dirty step.dirty_after step.before step.after
   pub counted : IfKnown step.before (λ log. IfKnown step.after (HasMore log step.calls))
   pub few : step.calls ≤ 1

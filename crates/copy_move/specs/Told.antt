@@ -1,5 +1,5 @@
 -- What a history tells of its jobs: the live one, but for the size and the mode that a copy's source was said to have and
--- how many of its bytes were copied, and for where the walk of a deletion stands. Histories stand newest first here.
+-- how many of its bytes were copied, and for where the walk of a deletion, or of the copy of what lies in something, stands. Histories stand newest first here.
 use Rattle.std.specs.Prelude.{◌≡◌, ◌⊎◌, ℕ, Bool, true, false, ◌&&◌, Option, Some, None, if◌then◌else◌}
 use Rattle.std.specs.Option.{option_map}
 use Rattle.mc_text.specs.Routes.{Route}
@@ -20,14 +20,16 @@ use Rattle.tree_deletion.specs.declared.deletion.Stage.TheVariants.{Going}
 use Rattle.tree_deletion.specs.Standing.{after_item}
 use Rattle.copy_move.specs.declared.making.MakingStage.TheVariants as making
 use Rattle.copy_move.specs.declared.work.Work.{Work}
-use Rattle.copy_move.specs.declared.work.Work.TheVariants.{Copy, Delete, Make, SetMode}
+use Rattle.copy_move.specs.declared.work.Work.TheVariants.{Copy, CopyTree, Delete, Make, SetMode}
 use Rattle.copy_move.specs.declared.run.Course.{Course}
 use Rattle.copy_move.specs.declared.run.Course.TheVariants.{GoesOn, InTrouble, OwedSyncFailed}
 use Rattle.copy_move.specs.Makings as makings
 use Rattle.copy_move.specs.ModeSettings as modes
 use Rattle.mode_setting.specs.declared.setting.Stage.TheVariants as setting
 use Rattle.mode_setting.specs.Settings as settings
-use Rattle.copy_move.specs.Jobs.{Running, JobTells, closed_job, is_fresh, part_of, waits_on}
+use Rattle.copy_move.specs.TreeCopies as trees
+use Rattle.subtree_copy.specs.Standing.{SubtreeCopying}
+use Rattle.copy_move.specs.Jobs.{Running, JobTells, closed_job, halt_of, is_fresh, part_of, waits_on}
 
 -- what no history tells
 abbrev pub untold_facts : SourceFacts
@@ -41,26 +43,30 @@ stage_told (at.Clean part follows) = at.Clean part follows
 stage_told (at.Left part) = at.Left part
 stage_told at.Decided = at.Decided
 
-abbrev pub work_told : Work → Work
-work_told (Copy c) = Copy (record c { stage = stage_told c.stage })
-work_told (Delete d) = Delete (record d { depth = Top; place = unopened; tried = 0 })
-work_told (Make m) = Make m
-work_told (SetMode s) = SetMode s
+-- the work of the job with this number
+abbrev pub work_told : ℕ → Work → Work
+work_told id (Copy c) = Copy (record c { stage = stage_told c.stage })
+work_told id (CopyTree c) = CopyTree (trees.as_told id c)
+work_told id (Delete d) = Delete (record d { depth = Top; place = unopened; tried = 0 })
+work_told id (Make m) = Make m
+work_told id (SetMode s) = SetMode s
 
 -- a job as its history tells it
 abbrev pub told : Running → Running
-told job = record job { work = work_told job.work }
+told job = record job { work = work_told job.id job.work }
 
 -- the work once a part stands
 abbrev pub with_part : Route → Work → Work
 with_part part (Copy c) = Copy (record c { stage = at.Fill part untold_facts 0; folder = Dirty })
+with_part part (CopyTree c) = CopyTree (trees.with_part (Some part) c)
 with_part part (Delete d) = Delete d
 with_part part (Make m) = Make m
 with_part part (SetMode s) = SetMode s
 
--- the work once its file was placed
+-- the work once its file, or something of what is copied whole, was placed
 abbrev pub placed : Work → Work
 placed (Copy c) = Copy (record c { stage = at.Decided })
+placed (CopyTree c) = CopyTree (trees.with_part None c)
 placed (Delete d) = Delete d
 placed (Make m) = Make m
 placed (SetMode s) = SetMode s
@@ -68,20 +74,23 @@ placed (SetMode s) = SetMode s
 -- the work once this was removed
 abbrev pub removed : Route → Work → Work
 removed path (Copy c) = Copy c
+removed path (CopyTree c) = CopyTree c
 removed path (Delete d) = Delete (record d { stage = after_item d.path path Going })
 removed path (Make m) = Make m
 removed path (SetMode s) = SetMode s
 
--- the work once its thing was made
+-- the work once its thing, or a folder of what is copied whole, was made
 abbrev pub made : Work → Work
 made (Copy c) = Copy c
+made (CopyTree c) = CopyTree (trees.changed c)
 made (Delete d) = Delete d
 made (Make m) = Make (record m { stage = making.Sync })
 made (SetMode s) = SetMode s
 
--- the work once its thing was given the mode
+-- the work once its thing, or a folder of what is copied whole, was given the mode
 abbrev pub mode_given : Work → Work
 mode_given (Copy c) = Copy c
+mode_given (CopyTree c) = CopyTree (trees.changed c)
 mode_given (Delete d) = Delete d
 mode_given (Make m) = Make m
 mode_given (SetMode s) = SetMode (record s { stage = setting.Sync })
@@ -89,6 +98,7 @@ mode_given (SetMode s) = SetMode (record s { stage = setting.Sync })
 -- the work once this folder was kept
 abbrev pub spared : Route → Work → Work
 spared path (Copy c) = Copy c
+spared path (CopyTree c) = CopyTree c
 spared path (Delete d) = Delete (record d { stage = after_item d.path path d.stage })
 spared path (Make m) = Make m
 spared path (SetMode s) = SetMode s
@@ -96,6 +106,7 @@ spared path (SetMode s) = SetMode s
 -- the work once this was left as it is
 abbrev pub skipped : Route → Work → Work
 skipped path (Copy c) = Copy (record c { stage = copying.skipped c.stage })
+skipped path (CopyTree c) = CopyTree c
 skipped path (Delete d) = Delete (record d { stage = after_item d.path path d.stage })
 skipped path (Make m) = Make (record m { stage = makings.skipped m.stage })
 skipped path (SetMode s) = SetMode (record s { stage = settings.skipped s.stage })
@@ -105,23 +116,31 @@ abbrev pub cleaned_stage : Course → Stage → Stage
 cleaned_stage GoesOn (at.Clean part follows) = after_clean follows
 cleaned_stage course stage = at.Decided
 
+-- so it is of what is copied whole; in its last steps its part is gone
+abbrev pub cleaned_tree : Course → SubtreeCopying → SubtreeCopying
+cleaned_tree GoesOn c = trees.with_part None c
+cleaned_tree course c = trees.without_part c
+
 abbrev pub cleaned : Course → Work → Work
 cleaned course (Copy c) = Copy (record c { stage = cleaned_stage course c.stage })
+cleaned course (CopyTree c) = CopyTree (cleaned_tree course c)
 cleaned course (Delete d) = Delete d
 cleaned course (Make m) = Make m
 cleaned course (SetMode s) = SetMode s
 
--- The work once a folder, or the thing itself, was synced, or that was tried; a part that stands then has had its try. A deletion stands where it stood.
+-- The work once a folder, or the thing itself, was synced, or that was tried; a part that stands then has had its try. A deletion, and the copy of what lies in something,
+-- stand where they stood.
 -- The sync of what an ended job left dirty comes before the first change, and leaves the work as it is.
 abbrev pub synced : Work → Work
 synced (Copy c) = Copy (record c { stage = given_up c.stage; folder = Synced })
+synced (CopyTree c) = CopyTree c
 synced (Delete d) = Delete d
 synced (Make m) = Make (record m { stage = makings.after_sync m.stage })
 synced (SetMode s) = SetMode (record s { stage = modes.after_sync s.stage })
 
 -- a trouble at a barrier before the first change is that of what an ended job left dirty
 abbrev pub course_told : Work → Trouble → Course
-course_told work trouble = if is_fresh work && trouble.barrier then OwedSyncFailed trouble.cause else InTrouble trouble.cause
+course_told work trouble = if is_fresh work && trouble.barrier then OwedSyncFailed trouble.cause else InTrouble (halt_of trouble)
 
 -- the job after a step
 abbrev pub after_step : Did → Running → Option Running

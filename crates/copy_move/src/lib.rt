@@ -18,6 +18,6 @@ pub use deletion::TreeDeletion;
 pub use file_copy::PartTest;
 pub use making::{MakingStage, ThingMaking};
 pub use new_thing::NewThing;
-pub use run::{Course, Run};
+pub use run::{Course, Halt, Run};
 pub use tree_deletion::Dirty;
 pub use work::Work;

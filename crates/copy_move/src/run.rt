@@ -9,7 +9,7 @@ ghost use Rattle.copy_move.specs.Told.{running};
 mod answering;
 mod stepping;
 
-use crate::starting::{copy_of, deletion_of, folder_of, link_of, setting_of};
+use crate::starting::{copy_of, deletion_of, folder_of, link_of, setting_of, tree_copy_of};
 use crate::work::Work;
 use file_copy::PartTest;
 use job_reports::{Cause, Ending, Job, JobKind, StepResult};
@@ -19,12 +19,19 @@ use std::marker::Model;
 use tree_deletion::Dirty;
 use tree_trait::Tree;
 
+/// Why a job waits for an answer, and whether it stands at a barrier, where nothing can be skipped.
+#[derive(Clone, Copy, Debug, Drop, PartialEq, Eq)]
+pub struct Halt {
+    pub cause: Cause,
+    pub barrier: bool,
+}
+
 /// Whether a job goes on.
 #[derive(Clone, Copy, Debug, Drop, PartialEq, Eq)]
 pub enum Course {
     GoesOn,
     /// A call was refused, or there was no memory. The job waits for an answer.
-    InTrouble(Cause),
+    InTrouble(Halt),
     /// What an ended job left dirty could not be synced. The job has changed nothing yet, and waits for an answer.
     OwedSyncFailed(Cause),
     /// What stands next is to be left as it is, since this stood in the way.
@@ -61,6 +68,7 @@ impl Run {
     {
         let work = match job {
             Job::Copy(pairs) => copy_of(alloc, pairs, id)?,
+            Job::CopyTree(pairs) => tree_copy_of(alloc, pairs, id)?,
             Job::Delete(paths) => deletion_of(alloc, paths)?,
             Job::MakeFolder(path) => folder_of(alloc, path)?,
             Job::MakeLink(path, text) => link_of(alloc, path, text)?,

@@ -9,10 +9,11 @@ use crate::making::ThingMaking;
 use crate::new_thing::NewThing;
 use crate::work::Work;
 use file_copy::FileCopy;
-use job_reports::Pairs;
+use job_reports::{Pair, Pairs};
 use mc_text::{NoMemory, Path, Paths, Text};
 use mode_setting::ModeSetting;
 use std::alloc::Global;
+use subtree_copy::SubtreeCopy;
 
 /// The copy of one file.
 pub(crate) fn copy_of(alloc: Global, pairs: &Pairs, id: u32) -> Result<Work, NoMemory>
@@ -31,6 +32,21 @@ pub(crate) fn copy_of(alloc: Global, pairs: &Pairs, id: u32) -> Result<Work, NoM
     let source = pair.source.copy(alloc)?;
     let target = pair.target.copy(alloc)?;
     Ok(Work::Copy(FileCopy::new(id, source, source_folder, target, folder)))
+}
+
+/// The copy of one thing with all that lies in it.
+pub(crate) fn tree_copy_of(alloc: Global, pairs: &Pairs, id: u32) -> Result<Work, NoMemory>
+    requires { is_workable (Job.CopyTree pairs.now) ≡ true }
+    ensures { IfOk result (λ work. (first_work id (Job.CopyTree pairs.now) ≡ Some work) × IsGoing work) }
+{
+    let [pair] = pairs.0.as_slice() else {
+        unreachable!()
+    };
+    let top = Pair {
+        source: pair.source.copy(alloc)?,
+        target: pair.target.copy(alloc)?,
+    };
+    Ok(Work::CopyTree(SubtreeCopy::begin(alloc, id, top)?))
 }
 
 /// The deletion of one thing.

@@ -1,6 +1,6 @@
-//! What a job does: it copies a file, deletes a thing with all that lies in it, makes a folder or a link, or sets a thing's mode. One machine
-//! for each.
-ghost use Rattle.std.specs.Prelude.{◌≡◌, option_map, true};
+//! What a job does: it copies a file, or a thing with all that lies in it, deletes a thing with all that lies in it, makes a folder or a
+//! link, or sets a thing's mode. One machine for each.
+ghost use Rattle.std.specs.Prelude.{◌≡◌, false, option_map, true};
 ghost use Rattle.copy_move.specs.Jobs.{IsGoing, at_barrier, is_fresh, kind_of, part_of, path_of, taken_anew as anew, with_skips};
 ghost use Rattle.copy_move.specs.Settling.{changed_folder, is_owed_anywhere};
 ghost use Rattle.copy_move.specs.Steps.{WorkSkips, WorkSteps, WorkWindsUp};
@@ -15,6 +15,7 @@ use job_reports::{Cause, Did, Ending, JobKind, LastStepResult, StepResult};
 use mc_text::Path;
 use mode_setting::ModeSetting;
 use std::alloc::Global;
+use subtree_copy::SubtreeCopy;
 use tree_deletion::Dirty;
 use tree_trait::Tree;
 
@@ -22,6 +23,7 @@ use tree_trait::Tree;
 #[derive(Debug, Drop)]
 pub enum Work {
     Copy(FileCopy),
+    CopyTree(SubtreeCopy),
     Delete(TreeDeletion),
     Make(ThingMaking),
     SetMode(ModeSetting),
@@ -43,20 +45,23 @@ impl Work {
     {
         match self {
             Work::Copy(copy) => step_copy(copy, alloc, tree, parts, dirty),
+            Work::CopyTree(copy) => copy.step(alloc, tree, parts, dirty),
             Work::Delete(deletion) => deletion.step(alloc, tree, dirty),
             Work::Make(making) => step_making(making, alloc, tree, dirty),
             Work::SetMode(setting) => step_setting(setting, alloc, tree, dirty),
         }
     }
 
-    /// What is in trouble is left as it is.
+    /// What is in trouble is left as it is. It isn't at a barrier.
     pub(crate) fn skip(&mut self, alloc: Global, cause: Cause) -> Did
         requires going { IsGoing self.old }
+        requires apart { at_barrier self.old ≡ false }
         ensures skips { WorkSkips cause self.old result self.new }
         ensures going { IsGoing self.new }
     {
         match self {
             Work::Copy(copy) => copy.skip(alloc, cause),
+            Work::CopyTree(copy) => copy.skip(alloc, cause),
             Work::Delete(deletion) => deletion.skip(alloc, cause),
             Work::Make(making) => making.skip(alloc, cause),
             Work::SetMode(setting) => setting.skip(alloc, cause),
@@ -68,9 +73,11 @@ impl Work {
         requires going { IsGoing self.old }
         ensures skips { self.new ≡ with_skips cause self.old }
         ensures going { IsGoing self.new }
+        ensures barrier { at_barrier self.new ≡ at_barrier self.old }
     {
         match self {
             Work::Copy(_) => {}
+            Work::CopyTree(copy) => copy.skip_all(cause),
             Work::Delete(deletion) => deletion.skip_all(cause),
             Work::Make(_) => {}
             Work::SetMode(_) => {}
@@ -85,6 +92,7 @@ impl Work {
     {
         match self {
             Work::Copy(copy) => copy.retry(),
+            Work::CopyTree(copy) => copy.retry(),
             Work::Delete(_) => {}
             Work::Make(_) => {}
             Work::SetMode(_) => {}
@@ -104,6 +112,7 @@ impl Work {
     {
         match self {
             Work::Copy(copy) => wind_up_copy(copy, alloc, tree, ending, dirty),
+            Work::CopyTree(copy) => copy.wind_up(alloc, tree, ending, dirty),
             Work::Delete(deletion) => deletion.wind_up(alloc, tree, ending, dirty),
             Work::Make(making) => wind_up_making(making, alloc, tree, ending, dirty),
             Work::SetMode(setting) => wind_up_setting(setting, alloc, tree, ending, dirty),
@@ -116,6 +125,7 @@ impl Work {
     {
         match self {
             Work::Copy(_) => JobKind::Copy,
+            Work::CopyTree(_) => JobKind::Copy,
             Work::Delete(_) => JobKind::Delete,
             Work::Make(making) => making.thing().kind(),
             Work::SetMode(_) => JobKind::SetMode,
@@ -128,6 +138,7 @@ impl Work {
     {
         match self {
             Work::Copy(copy) => copy.source(),
+            Work::CopyTree(copy) => copy.source(),
             Work::Delete(deletion) => deletion.path(),
             Work::Make(making) => making.path(),
             Work::SetMode(setting) => setting.path(),
@@ -140,6 +151,7 @@ impl Work {
     {
         match self {
             Work::Copy(copy) => copy.part(),
+            Work::CopyTree(copy) => copy.part(),
             Work::Delete(_) => None,
             Work::Make(_) => None,
             Work::SetMode(_) => None,
@@ -152,6 +164,7 @@ impl Work {
     {
         match self {
             Work::Copy(copy) => copy.into_part(),
+            Work::CopyTree(copy) => copy.into_part(),
             Work::Delete(_) => None,
             Work::Make(_) => None,
             Work::SetMode(_) => None,
@@ -164,6 +177,7 @@ impl Work {
     {
         match self {
             Work::Copy(copy) => copy.is_at_barrier(),
+            Work::CopyTree(copy) => copy.is_at_barrier(),
             Work::Delete(deletion) => deletion.is_at_barrier(),
             Work::Make(making) => making.is_at_barrier(),
             Work::SetMode(setting) => setting.is_at_barrier(),
@@ -176,6 +190,7 @@ impl Work {
     {
         match self {
             Work::Copy(copy) => copy.folder(),
+            Work::CopyTree(copy) => copy.folder(),
             Work::Delete(deletion) => deletion.folder(),
             Work::Make(making) => making.folder(),
             Work::SetMode(setting) => setting.folder(),
@@ -189,6 +204,7 @@ impl Work {
     {
         match self {
             Work::Copy(_) => false,
+            Work::CopyTree(_) => false,
             Work::Delete(deletion) => deletion.path().is_prefix_of(dirty),
             Work::Make(_) => false,
             Work::SetMode(_) => true,
@@ -201,6 +217,7 @@ impl Work {
     {
         match self {
             Work::Copy(copy) => copy.is_fresh(),
+            Work::CopyTree(copy) => copy.is_fresh(),
             Work::Delete(deletion) => deletion.is_fresh(),
             Work::Make(making) => making.is_fresh(),
             Work::SetMode(setting) => setting.is_fresh(),

@@ -1,10 +1,10 @@
-//! Jobs without a session: one that makes a link, and those that set modes, step by step.
+//! Jobs without a session: one that makes a link, those that set modes, and one that copies a folder, step by step.
 ghost use Rattle.std.specs.Prelude.{◌≡◌, ◌∷◌, [], IfOk};
 
 use crate::stepping::work_off;
 use copy_move::{Dirty, Run};
-use job_reports::Job;
-use mc_text::{NoMemory, Path, Paths, Text};
+use job_reports::{Job, Pair, Pairs};
+use mc_text::{NoMemory, Path, PathError, Paths, Text};
 use row_page::Page;
 use std::alloc::Global;
 use tree_trait::Tree;
@@ -36,6 +36,21 @@ fn set_mode<T: Tree>(page: &mut Page, tree: &mut T, dirty: &mut Dirty, path: &st
         Ok(path) => work(page, tree, dirty, setting(page.alloc(), path, id)),
         Err(_error) => page.fail(),
     }
+}
+
+/// Copies a thing with all that lies in it to this path.
+pub fn copy_tree<T: Tree>(page: &mut Page, tree: &mut T, source: &str, target: &str) {
+    let mut dirty = Dirty::new(page.alloc());
+    match pair_of(page.alloc(), source, target) {
+        Ok(pair) => work(page, tree, &mut dirty, tree_copy(page.alloc(), pair)),
+        Err(_error) => page.fail(),
+    }
+}
+
+fn pair_of(alloc: Global, source: &str, target: &str) -> Result<Pair, PathError> {
+    let source = Path::parse(alloc, source)?;
+    let target = Path::parse(alloc, target)?;
+    Ok(Pair { source, target })
 }
 
 /// Works a job to its end, if there is one.
@@ -74,4 +89,23 @@ fn one_path(alloc: Global, path: Path) -> Result<Paths, NoMemory>
     let mut paths = Paths::new(alloc);
     paths.push(path)?;
     Ok(paths)
+}
+
+fn tree_copy(alloc: Global, pair: Pair) -> Result<Option<Run>, NoMemory> {
+    let Some(_from) = pair.source.parent(alloc)? else {
+        return Ok(None);
+    };
+    let Some(_to) = pair.target.parent(alloc)? else {
+        return Ok(None);
+    };
+    let pairs = one_pair(alloc, pair)?;
+    Ok(Some(Run::start(alloc, &Job::CopyTree(pairs), 1)?))
+}
+
+fn one_pair(alloc: Global, pair: Pair) -> Result<Pairs, NoMemory>
+    ensures { IfOk result (λ pairs. pairs ≡ pair ∷ []) }
+{
+    let mut pairs = Vec::new(alloc);
+    pairs.push(pair)?;
+    Ok(Pairs(pairs))
 }

@@ -8,7 +8,7 @@ use tree_trait::{Meta, Tree, TreeError};
 /// What stands at a path.
 #[derive(Clone, Copy)]
 enum Standing {
-    /// The file as it was put, or an empty folder or a link as it was made.
+    /// The file as it was put, or an empty folder or a link as it was made or put.
     Whole,
     Missing,
     /// Anything else.
@@ -25,9 +25,10 @@ pub fn tell_left<T: Tree>(page: &mut Page, image: &mut T, scene: Scene) {
         Scene::LeftTarget => tell_copy(page, image),
         Scene::NewFolder => tell_new_folder(page, image, "/a/n"),
         Scene::LeftNewFolder => tell_new_folders(page, image),
-        Scene::NewLink => tell_new_link(page, image),
+        Scene::NewLink => tell_link(page, image, "/a/l", "x"),
         Scene::Mode => tell_modes(page, image),
         Scene::LeftMode => tell_modes(page, image),
+        Scene::Tree => tell_tree(page, image),
     }
 }
 
@@ -74,7 +75,7 @@ fn tell_copy<T: Tree>(page: &mut Page, image: &mut T) {
     page.put(", the source ");
     tell_file(page, image, "/s/e", COPIED, "missing");
     page.put(", beside it ");
-    tell_beside(page, image);
+    tell_beside(page, image, "/t", "e");
 }
 
 fn tell_new_folders<T: Tree>(page: &mut Page, image: &mut T) {
@@ -109,21 +110,51 @@ fn if_nothing_in<T: Tree>(page: &mut Page, image: &mut T, path: &Path) -> Standi
     }
 }
 
-/// What stands where a link that says `x` is made.
-fn tell_new_link<T: Tree>(page: &mut Page, image: &mut T) {
-    let standing = match Path::parse(page.alloc(), "/a/l") {
-        Ok(path) => link_at(page, image, &path),
+/// What stands where a link with this text is made, or was put.
+fn tell_link<T: Tree>(page: &mut Page, image: &mut T, path: &str, text: &str) {
+    let standing = match Path::parse(page.alloc(), path) {
+        Ok(path) => link_at(page, image, &path, text),
         Err(_error) => wanting(page),
     };
     page.put(word_of(standing, "missing"));
 }
 
-fn link_at<T: Tree>(page: &mut Page, image: &mut T, path: &Path) -> Standing {
+fn link_at<T: Tree>(page: &mut Page, image: &mut T, path: &Path, text: &str) -> Standing {
     match image.read_link(page.alloc(), path) {
         Err(TreeError::Missing) => Standing::Missing,
         Err(_error) => Standing::Torn,
-        Ok(text) if text.as_str() == "x" => Standing::Whole,
-        Ok(_text) => Standing::Torn,
+        Ok(said) if said.as_str() == text => Standing::Whole,
+        Ok(_said) => Standing::Torn,
+    }
+}
+
+/// What stands of a copied folder, and of the one that it is a copy of.
+fn tell_tree<T: Tree>(page: &mut Page, image: &mut T) {
+    tell_tree_at(page, image, "/t/d", "/t/d/e", "/t/d/l");
+    page.put(", beside them ");
+    tell_beside(page, image, "/t/d", "e l");
+    page.put(", the source ");
+    tell_tree_at(page, image, "/s/d", "/s/d/e", "/s/d/l");
+}
+
+/// With which mode a folder stands, and what stands of the file and the link in it.
+fn tell_tree_at<T: Tree>(page: &mut Page, image: &mut T, folder: &str, file: &str, link: &str) {
+    match Path::parse(page.alloc(), folder) {
+        Ok(folder) => tell_folder_mode(page, image, &folder),
+        Err(_error) => page.fail(),
+    }
+    page.put(", its file ");
+    tell_file(page, image, file, COPIED, "missing");
+    page.put(", its link ");
+    tell_link(page, image, link, "e");
+}
+
+fn tell_folder_mode<T: Tree>(page: &mut Page, image: &mut T, path: &Path) {
+    match image.stat(page.alloc(), path) {
+        Err(TreeError::Missing) => page.put("missing"),
+        Err(_error) => page.fail(),
+        Ok(meta) if meta.kind == Kind::Folder => page.tell(format_args!("with {:o}", meta.mode)),
+        Ok(_) => page.put("torn"),
     }
 }
 
@@ -208,38 +239,36 @@ fn compared<T: Tree>(
     }
 }
 
-/// What the target's folder has but the target.
-fn tell_beside<T: Tree>(page: &mut Page, image: &mut T) {
-    match Path::parse(page.alloc(), "/t") {
-        Ok(folder) => tell_things_in(page, image, &folder),
+/// What a folder has but these names, where it stands.
+fn tell_beside<T: Tree>(page: &mut Page, image: &mut T, folder: &str, names: &str) {
+    match Path::parse(page.alloc(), folder) {
+        Ok(folder) => tell_things_in(page, image, &folder, names),
         Err(_error) => page.fail(),
     }
 }
 
-fn tell_things_in<T: Tree>(page: &mut Page, image: &mut T, folder: &Path) {
+fn tell_things_in<T: Tree>(page: &mut Page, image: &mut T, folder: &Path, names: &str) {
     match image.list(page.alloc(), folder) {
         Ok(children) if children.unnamed == 0 => {
-            page.put(beside_target(children.names.as_slice()));
+            page.put(beside(children.names.as_slice(), names));
         }
         Ok(_children) => page.put("a stranger"),
+        Err(TreeError::Missing) => page.put("nothing"),
         Err(_error) => page.fail(),
     }
 }
 
-fn beside_target(names: &[Name]) -> &'static str {
-    if names.iter().any(is_stranger) {
-        return "a stranger";
+/// What there is but the names of what is copied, which are given with a blank between them.
+fn beside(found: &[Name], names: &str) -> &'static str {
+    let mut part = false;
+    for name in found.iter() {
+        if is_part(name) {
+            part = true;
+        } else if !names.split(' ').any(|copied| copied == name.text()) {
+            return "a stranger";
+        }
     }
-    if names.iter().any(is_part) {
-        "a part"
-    } else {
-        "nothing"
-    }
-}
-
-/// Whether a name is neither the target's nor a part's.
-fn is_stranger(name: &Name) -> bool {
-    name.text() != "e" && !is_part(name)
+    if part { "a part" } else { "nothing" }
 }
 
 /// Whether job 1 may give this name to a part.

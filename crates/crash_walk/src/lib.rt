@@ -1,7 +1,7 @@
-//! Walks through every moment of ten sessions, of which one deletes a file, one a folder, one copies a file, one deletes two files of which
+//! Walks through every moment of eleven sessions, of which one deletes a file, one a folder, one copies a file, one deletes two files of which
 //! the first is left unsynced, one copies a file whose target is left so, and deletes the source, one makes a folder, one makes
-//! two of which the first is left unsynced, one makes a link, one sets a file's mode, and one those of two files of which the first is left
-//! unsynced. It walks through the crash images of each: what is left then?
+//! two of which the first is left unsynced, one makes a link, one sets a file's mode, one those of two files of which the first is left
+//! unsynced, and one copies a folder with all that lies in it. It walks through the crash images of each: what is left then?
 #![tactic(auto)]
 
 mod images;
@@ -30,4 +30,5 @@ pub fn tell_walks(page: &mut Page) {
     tell_scene(page, Scene::NewLink);
     tell_scene(page, Scene::Mode);
     tell_scene(page, Scene::LeftMode);
+    tell_scene(page, Scene::Tree);
 }

@@ -1,6 +1,6 @@
 //! The sessions and jobs whose moments are walked.
 use crate::images::walk;
-use crate::jobs::{make_link, set_modes};
+use crate::jobs::{copy_tree, make_link, set_modes};
 use crate::scenes::Scene;
 use crate::sessions::tell_session;
 use crate::things::FileThings;
@@ -35,6 +35,7 @@ fn tell_jobs(page: &mut Page, tree: MemTree, scene: Scene) {
         Scene::NewLink => make_link(page, &mut tree, "/a/l"),
         Scene::Mode => set_modes(page, &mut tree, "/a/x"),
         Scene::LeftMode => set_modes(page, &mut tree, "/a/x /a/y"),
+        Scene::Tree => copy_tree(page, &mut tree, "/s/d", "/t/d"),
         _ => page.fail(),
     }
     walk(page, tree.inner(), scene);

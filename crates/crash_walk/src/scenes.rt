@@ -24,6 +24,8 @@ pub enum Scene {
     Mode,
     /// Two files are given the mode 600. The sync of the first is refused, and so is that of its last steps; the second job makes it.
     LeftMode,
+    /// A folder of mode 555 is copied with a file and a link in it.
+    Tree,
 }
 
 impl Scene {
@@ -40,6 +42,7 @@ impl Scene {
             Scene::NewLink => "/a/l is made, a link that says x",
             Scene::Mode => "/a/x is given the mode 600",
             Scene::LeftMode => "/a/x is given the mode 600 and not synced, then /a/y is",
+            Scene::Tree => "/s/d is copied into /t with all that lies in it",
         }
     }
 
@@ -48,6 +51,7 @@ impl Scene {
         match self {
             Scene::Copy => true,
             Scene::LeftTarget => true,
+            Scene::Tree => true,
             _ => false,
         }
     }
@@ -61,6 +65,9 @@ impl Scene {
             Scene::NewFolder => "folder /a 755",
             Scene::LeftNewFolder => "folder /a 755",
             Scene::NewLink => "folder /a 755",
+            Scene::Tree => {
+                "folder /s 755\nfolder /t 755\nfolder /s/d 555\nfile /s/d/e 640 hello\nlink /s/d/l e"
+            }
             _ => "folder /a 755\nfile /a/x 644 hi\nfile /a/y 644 hi",
         }
     }
@@ -89,6 +96,7 @@ impl Scene {
             Scene::NewLink => None,
             Scene::Mode => None,
             Scene::LeftMode => None,
+            Scene::Tree => None,
         }
     }
 }

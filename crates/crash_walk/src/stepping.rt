@@ -18,9 +18,9 @@ impl PartTest for NoClaims {
     }
 }
 
-/// Works a job to its end, which comes in a few steps. One in trouble is aborted.
+/// Works a job to its end, which comes in at most 16 steps. One in trouble is aborted.
 pub fn work_off<T: Tree>(page: &mut Page, tree: &mut T, dirty: &mut Dirty, run: &mut Run) {
-    for _ in 0..8 {
+    for _ in 0..16 {
         if run.waits() {
             run.abort();
             continue;

@@ -1,6 +1,6 @@
 -- A job's first change comes in work that goes on, and from then on the folder that holds what it changes is on the disk.
 use Rattle.std.proofs.Common.{◌≡◌, ◌⊎◌, Bool, true, false, not, ◌||◌, List, refl, sym, ◌∙◌, ap, subst, inl, inr, Some}
-use Rattle.std.proofs.lemmas.Bool.{and_from, false≢true, or_left}
+use Rattle.std.proofs.lemmas.Bool.{and_from, false≢true, or_left, true≢false}
 use Rattle.mc_text.specs.Routes.{Route, same_path}
 use Rattle.tree_trait.specs.Shape.{IsTree}
 use Rattle.tree_trait.specs.Change.{CallLog, current}
@@ -12,7 +12,7 @@ use Rattle.session_history.specs.Named.{begins_change}
 use Rattle.copy_move.specs.declared.run.Course.{Course}
 use Rattle.copy_move.specs.declared.run.Course.TheVariants.{GoesOn, InTrouble, OwedSyncFailed, Skips, Ends}
 use Rattle.copy_move.specs.declared.work.Work.{Work}
-use Rattle.copy_move.specs.declared.work.Work.TheVariants.{Copy, Delete, Make, SetMode}
+use Rattle.copy_move.specs.declared.work.Work.TheVariants.{Copy, CopyTree, Delete, Make, SetMode}
 use Rattle.copy_move.specs.Jobs.{CallsOn, Running, TellsOn, WorkCalls, WorkTells, WorkWinds}
 use Rattle.copy_move.specs.Settling.{changed_folder}
 use Rattle.history_laws.specs.Staying.{may_change}
@@ -21,6 +21,7 @@ use Rattle.history_laws.proofs.Deleted.{folder_removed, removal_done}
 use Rattle.history_laws.proofs.Intact.{folder_apart}
 use Rattle.history_laws.proofs.Sources.{item_in}
 use Rattle.history_laws.proofs.Stepped.{calm_by, folders_by}
+use Rattle.history_laws.proofs.Unchanged.{is_tree}
 
 -- a change begins only in work that goes on
 winds_none : (ending : Ending) (old new : Work) (did : Did) → WorkWinds ending old did new → begins_change did ≡ true → ⊥
@@ -38,12 +39,24 @@ winds_none ending (Delete d) (Delete new) (Set path) t h = t
 winds_none ending (Delete d) (Make new) did t h = t
 winds_none ending (Make m) (Copy new) did t h = t
 winds_none ending (SetMode s) (Copy new) did t h = t
+winds_none ending (CopyTree s) (Copy new) did t h = t
+winds_none ending (SetMode s) (CopyTree new) did t h = t
 winds_none ending (SetMode s) (Delete new) did t h = t
+winds_none ending (CopyTree s) (Delete new) did t h = t
 winds_none ending (SetMode s) (Make new) did t h = t
+winds_none ending (CopyTree s) (Make new) did t h = t
 winds_none ending (Copy c) (SetMode new) did t h = t
+winds_none ending (Copy c) (CopyTree new) did t h = t
+winds_none ending (CopyTree c) (SetMode new) did t h = t
 winds_none ending (Delete d) (SetMode new) did t h = t
+winds_none ending (Delete d) (CopyTree new) did t h = t
 winds_none ending (Make m) (SetMode new) did t h = t
+winds_none ending (Make m) (CopyTree new) did t h = t
 winds_none ending (Make m) (Delete new) did t h = t
+winds_none ending (CopyTree c) (CopyTree new) (Began part) t h = t.may
+winds_none ending (CopyTree c) (CopyTree new) (Removed path) t h = t.may
+winds_none ending (CopyTree c) (CopyTree new) (Made path) t h = t.may
+winds_none ending (CopyTree c) (CopyTree new) (Set path) t h = t.may
 winds_none ending (SetMode s) (SetMode new) (Began part) t h = t
 winds_none ending (SetMode s) (SetMode new) (Removed path) t h = t
 winds_none ending (SetMode s) (SetMode new) (Made path) t h = t
@@ -63,10 +76,10 @@ winds_none ending old new (Ended how part) t h = false≢true h
 
 pub goes_then : (job new : Running) (did : Did) (course : Course) → job.course ≡ course → TellsOn course job did new → begins_change did ≡ true → (job.course ≡ GoesOn) × ((work : Work) × WorkTells job.work did work)
 goes_then job new did GoesOn is (work, tells, new_is) h = (is, (work, tells))
-goes_then job new did (InTrouble why) is t h = absurd t
+goes_then job new did (InTrouble halt) is t h = absurd t
 goes_then job new did (OwedSyncFailed why) is t h = absurd t
 goes_then job new did (Skips why) is (inl (path, work, did_is, passes, new_is)) h = absurd (false≢true (sym (ap begins_change did_is) ∙ h))
-goes_then job new did (Skips why) is (inr (did_is, new_is)) h = absurd (false≢true (sym (ap begins_change did_is) ∙ h))
+goes_then job new did (Skips why) is (inr (apart, did_is, new_is)) h = absurd (false≢true (sym (ap begins_change did_is) ∙ h))
 goes_then job new did (Ends ending) is (work, winds, new_is) h = absurd (winds_none ending job.work work did winds h)
 
 -- what is removed isn't the folder in which a job changes names
@@ -80,14 +93,23 @@ stays_by log now tree (Copy c) (Delete work) new path t calls = absurd t
 stays_by log now tree (Copy c) (Make work) new path t calls = absurd t
 stays_by log now tree (Make m) (Copy work) new path t calls = absurd t
 stays_by log now tree (SetMode s) (Copy work) new path t calls = absurd t
+stays_by log now tree (CopyTree s) (Copy work) new path t calls = absurd t
+stays_by log now tree (SetMode s) (CopyTree work) new path t calls = absurd t
 stays_by log now tree (SetMode s) (Delete work) new path t calls = absurd t
+stays_by log now tree (CopyTree s) (Delete work) new path t calls = absurd t
 stays_by log now tree (SetMode s) (Make work) new path t calls = absurd t
+stays_by log now tree (CopyTree s) (Make work) new path t calls = absurd t
 stays_by log now tree (Copy c) (SetMode work) new path t calls = absurd t
+stays_by log now tree (Copy c) (CopyTree work) new path t calls = absurd t
+stays_by log now tree (CopyTree c) (SetMode work) new path t calls = absurd t
 stays_by log now tree (Delete d) (SetMode work) new path t calls = absurd t
+stays_by log now tree (Delete d) (CopyTree work) new path t calls = absurd t
 stays_by log now tree (Make m) (SetMode work) new path t calls = absurd t
+stays_by log now tree (Make m) (CopyTree work) new path t calls = absurd t
 stays_by log now tree (Make m) (Delete work) new path t calls = absurd t
 stays_by log now tree (Make m) (Make work) new path t calls = absurd t
 stays_by log now tree (SetMode s) (SetMode work) new path t calls = absurd t
+stays_by log now tree (CopyTree c) (CopyTree work) new path t calls = absurd t.may
 
 -- so that is known to be on the disk from its first change on
 pub folder_stays : (job new : Running) (did : Did) (dirty dirty_after : List Route) (log now : CallLog) (folders : Route → Bool) → IsTree (current log) → WorkLeads job did new dirty dirty_after log now
@@ -108,37 +130,42 @@ folder_stays job new Barrier dirty dirty_after log now folders tree works known 
 folder_stays job new (Troubled trouble) dirty dirty_after log now folders tree works known = elim known [ inl stands ↦ stands | inr begins ↦ absurd (false≢true begins) ]
 folder_stays job new (Ended ending part) dirty dirty_after log now folders tree works known = elim known [ inl stands ↦ stands | inr begins ↦ absurd (false≢true begins) ]
 
--- a job that sets a mode changes no names
-sets_none : (old new : Work) (path q : Route) → WorkTells old (Set path) new → may_change (item_in old) q ≡ true → ⊥
-sets_none (Copy c) (Copy new) path q t own = t
-sets_none (Copy c) (Delete new) path q t own = t
-sets_none (Copy c) (Make new) path q t own = t
-sets_none (Delete d) (Copy new) path q t own = t
-sets_none (Delete d) (Delete new) path q t own = t
-sets_none (Delete d) (Make new) path q t own = t
-sets_none (Make m) (Copy new) path q t own = t
-sets_none (SetMode s) (Copy new) path q t own = t
-sets_none (SetMode s) (Delete new) path q t own = t
-sets_none (SetMode s) (Make new) path q t own = t
-sets_none (Copy c) (SetMode new) path q t own = t
-sets_none (Delete d) (SetMode new) path q t own = t
-sets_none (Make m) (SetMode new) path q t own = t
-sets_none (Make m) (Delete new) path q t own = t
-sets_none (Make m) (Make new) path q t own = t
-sets_none (SetMode s) (SetMode new) path q t own = false≢true own
+-- a job that sets a mode changes no names, but for one that copies whole
+sets_none : (old new : Work) (path q : Route) → is_tree old ≡ false → WorkTells old (Set path) new → may_change (item_in old) q ≡ true → ⊥
+sets_none (Copy c) (Copy new) path q other t own = t
+sets_none (Copy c) (Delete new) path q other t own = t
+sets_none (Copy c) (Make new) path q other t own = t
+sets_none (Delete d) (Copy new) path q other t own = t
+sets_none (Delete d) (Delete new) path q other t own = t
+sets_none (Delete d) (Make new) path q other t own = t
+sets_none (Make m) (Copy new) path q other t own = t
+sets_none (SetMode s) (Copy new) path q other t own = t
+sets_none (SetMode s) (CopyTree new) path q other t own = t
+sets_none (SetMode s) (Delete new) path q other t own = t
+sets_none (SetMode s) (Make new) path q other t own = t
+sets_none (Copy c) (SetMode new) path q other t own = t
+sets_none (Copy c) (CopyTree new) path q other t own = t
+sets_none (Delete d) (SetMode new) path q other t own = t
+sets_none (Delete d) (CopyTree new) path q other t own = t
+sets_none (Make m) (SetMode new) path q other t own = t
+sets_none (Make m) (CopyTree new) path q other t own = t
+sets_none (Make m) (Delete new) path q other t own = t
+sets_none (Make m) (Make new) path q other t own = t
+sets_none (SetMode s) (SetMode new) path q other t own = false≢true own
+sets_none (CopyTree c) new path q other t own = true≢false other
 
--- and in its folders no mode waits from then on
-pub calm_stays : (job new : Running) (did : Did) (dirty dirty_after : List Route) (log now : CallLog) (calm : Route → Bool) (q : Route) → WorkLeads job did new dirty dirty_after log now → may_change (item_in job.work) q ≡ true
-    → (calm q ≡ true) ⊎ (begins_change did ≡ true) → calm_by did (item_in job.work) calm q ≡ true
-calm_stays job new (Removed path) dirty dirty_after log now calm q works own known = or_left _ _ own
-calm_stays job new (Began part) dirty dirty_after log now calm q works own known = or_left _ _ own
-calm_stays job new (Made path) dirty dirty_after log now calm q works own known = or_left _ _ own
-calm_stays job new (Set path) dirty dirty_after log now calm q works own known = let goes = goes_then job new (Set path) job.course refl works.tells refl in absurd (sets_none job.work goes.1.0 path q goes.1.1 own)
-calm_stays job new (Chunk count) dirty dirty_after log now calm q works own known = elim known [ inl stands ↦ stands | inr begins ↦ absurd (false≢true begins) ]
-calm_stays job new (Placed path) dirty dirty_after log now calm q works own known = elim known [ inl stands ↦ stands | inr begins ↦ absurd (false≢true begins) ]
-calm_stays job new (Kept path) dirty dirty_after log now calm q works own known = elim known [ inl stands ↦ stands | inr begins ↦ absurd (false≢true begins) ]
-calm_stays job new (Skipped path why) dirty dirty_after log now calm q works own known = elim known [ inl stands ↦ stands | inr begins ↦ absurd (false≢true begins) ]
-calm_stays job new (Cleaned part) dirty dirty_after log now calm q works own known = elim known [ inl stands ↦ stands | inr begins ↦ absurd (false≢true begins) ]
-calm_stays job new Barrier dirty dirty_after log now calm q works own known = elim known [ inl stands ↦ stands | inr begins ↦ absurd (false≢true begins) ]
-calm_stays job new (Troubled trouble) dirty dirty_after log now calm q works own known = elim known [ inl stands ↦ stands | inr begins ↦ absurd (false≢true begins) ]
-calm_stays job new (Ended ending part) dirty dirty_after log now calm q works own known = elim known [ inl stands ↦ stands | inr begins ↦ absurd (false≢true begins) ]
+-- and in its folders no mode waits from then on, but where it copies whole
+pub calm_stays : (job new : Running) (did : Did) (dirty dirty_after : List Route) (log now : CallLog) (calm : Route → Bool) (q : Route) → is_tree job.work ≡ false → WorkLeads job did new dirty dirty_after log now
+    → may_change (item_in job.work) q ≡ true → (calm q ≡ true) ⊎ (begins_change did ≡ true) → calm_by did (item_in job.work) calm q ≡ true
+calm_stays job new (Removed path) dirty dirty_after log now calm q other works own known = or_left _ _ own
+calm_stays job new (Began part) dirty dirty_after log now calm q other works own known = or_left _ _ own
+calm_stays job new (Made path) dirty dirty_after log now calm q other works own known = or_left _ _ own
+calm_stays job new (Set path) dirty dirty_after log now calm q other works own known = let goes = goes_then job new (Set path) job.course refl works.tells refl in absurd (sets_none job.work goes.1.0 path q other goes.1.1 own)
+calm_stays job new (Chunk count) dirty dirty_after log now calm q other works own known = elim known [ inl stands ↦ stands | inr begins ↦ absurd (false≢true begins) ]
+calm_stays job new (Placed path) dirty dirty_after log now calm q other works own known = elim known [ inl stands ↦ stands | inr begins ↦ absurd (false≢true begins) ]
+calm_stays job new (Kept path) dirty dirty_after log now calm q other works own known = elim known [ inl stands ↦ stands | inr begins ↦ absurd (false≢true begins) ]
+calm_stays job new (Skipped path why) dirty dirty_after log now calm q other works own known = elim known [ inl stands ↦ stands | inr begins ↦ absurd (false≢true begins) ]
+calm_stays job new (Cleaned part) dirty dirty_after log now calm q other works own known = elim known [ inl stands ↦ stands | inr begins ↦ absurd (false≢true begins) ]
+calm_stays job new Barrier dirty dirty_after log now calm q other works own known = elim known [ inl stands ↦ stands | inr begins ↦ absurd (false≢true begins) ]
+calm_stays job new (Troubled trouble) dirty dirty_after log now calm q other works own known = elim known [ inl stands ↦ stands | inr begins ↦ absurd (false≢true begins) ]
+calm_stays job new (Ended ending part) dirty dirty_after log now calm q other works own known = elim known [ inl stands ↦ stands | inr begins ↦ absurd (false≢true begins) ]

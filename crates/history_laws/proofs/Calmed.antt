@@ -1,6 +1,6 @@
 -- A job's first change comes where nothing on its mount waits for a sync, so only what it names waits there then.
 use Rattle.std.proofs.Common.{◌≡◌, ◌⊎◌, Bool, true, false, not, List, [], ◌∷◌, refl, sym, ◌∙◌, ap, subst, inl, inr, Option, Some, None, arith, append-nil}
-use Rattle.std.proofs.lemmas.Bool.{both_ways, false≢true}
+use Rattle.std.proofs.lemmas.Bool.{both_ways, false≢true, true≢false}
 use Rattle.mc_text.specs.Routes.{Route}
 use Rattle.tree_trait.specs.Shape.{IsTree}
 use Rattle.tree_trait.specs.Change.{CallLog, current}
@@ -14,8 +14,10 @@ use Rattle.session_history.specs.declared.history.Event.TheVariants.{Step}
 use Rattle.session_history.specs.declared.history.Entry.{Entry}
 use Rattle.copy_move.specs.declared.run.Course.{Course}
 use Rattle.copy_move.specs.declared.run.Course.TheVariants.{GoesOn}
+use Rattle.tree_copy.specs.Standing.{is_fresh as is_fresh_tree}
+use Rattle.subtree_copy.specs.Standing.{SubtreeCopying}
 use Rattle.copy_move.specs.declared.work.Work.{Work}
-use Rattle.copy_move.specs.declared.work.Work.TheVariants.{Copy, Delete, Make, SetMode}
+use Rattle.copy_move.specs.declared.work.Work.TheVariants.{Copy, CopyTree, Delete, Make, SetMode}
 use Rattle.tree_deletion.specs.declared.deletion.Stage.{Stage}
 use Rattle.tree_deletion.specs.declared.deletion.Stage.TheVariants.{Begin, Going, Sync}
 use Rattle.tree_deletion.specs.Standing.{at_barrier, is_fresh as is_fresh_stage}
@@ -47,6 +49,7 @@ use Rattle.history_laws.proofs.ModesStay.{event_still as mode_still}
 use Rattle.history_laws.proofs.Owing.{apart_from, owed_modes, owed_names}
 use Rattle.history_laws.proofs.Unchanged.{has_begun, is_going}
 use Rattle.history_laws.proofs.Reports.{HasLive, JobsKnow}
+use Rattle.history_laws.proofs.TreeKnown.{ItemHas, TreeKnown, is_over}
 use Rattle.history_laws.proofs.Staying.{event_still}
 
 fresh_stage : (stage : Stage) → at_barrier stage ≡ false → is_going stage ≡ false → is_fresh_stage stage ≡ true
@@ -55,9 +58,22 @@ fresh_stage Going going none = absurd (false≢true (sym none))
 fresh_stage Sync going none = absurd (false≢true (sym going))
 
 -- work that begins a change, and has begun none, has changed nothing yet, and no part of it stands
-module _ (told : Said) (dirty : List Route) (marks : Marks) (log : CallLog) (course : Course) where
+module _ (told : Said) (dirty : List Route) (marks : Marks) (log : CallLog) (course : Course) (going : is_over course ≡ false) where
   abbrev IsStart : Work → Type 0
   IsStart work = (is_fresh work ≡ true) × (told.part ≡ None)
+
+  -- nothing is at work in a copy of folders that has changed nothing
+  fresh_copy : (c : SubtreeCopying) → not (is_fresh_tree c.at.stage) ≡ false → TreeKnown told dirty marks log course c → IsStart (CopyTree c)
+  fresh_copy c clean k =
+      let fresh = still_fresh (is_fresh_tree c.at.stage) clean in
+      let g = k.goes going in
+      let s = g.stands in
+      let o = s.unbegun fresh in
+      (fresh, subst (λ i. ItemHas told dirty marks (current log) course i) o.none k.part)
+    where
+      still_fresh : (b : Bool) → not b ≡ false → b ≡ true
+      still_fresh true h = refl
+      still_fresh false h = absurd (true≢false h)
 
   fresh_then : (old new : Work) (did : Did) → WorkTells old did new → begins_change did ≡ true → has_begun old ≡ false → WorkKnows told dirty marks log course old → IsStart old
   fresh_then (Copy c) (Copy new) (Began part) t h clean (name, listed, stage) =
@@ -91,12 +107,21 @@ module _ (told : Said) (dirty : List Route) (marks : Marks) (log : CallLog) (cou
   fresh_then (Delete d) (Delete new) (Ended ending part) t h clean k = absurd (false≢true h)
   fresh_then (Make m) (Copy new) did t h clean k = absurd t
   fresh_then (SetMode s) (Copy new) did t h clean k = absurd t
+  fresh_then (CopyTree s) (Copy new) did t h clean k = absurd t
+  fresh_then (SetMode s) (CopyTree new) did t h clean k = absurd t
   fresh_then (SetMode s) (Delete new) did t h clean k = absurd t
+  fresh_then (CopyTree s) (Delete new) did t h clean k = absurd t
   fresh_then (SetMode s) (Make new) did t h clean k = absurd t
+  fresh_then (CopyTree s) (Make new) did t h clean k = absurd t
   fresh_then (Copy c) (SetMode new) did t h clean k = absurd t
+  fresh_then (Copy c) (CopyTree new) did t h clean k = absurd t
+  fresh_then (CopyTree c) (SetMode new) did t h clean k = absurd t
   fresh_then (Delete d) (SetMode new) did t h clean k = absurd t
+  fresh_then (Delete d) (CopyTree new) did t h clean k = absurd t
   fresh_then (Make m) (SetMode new) did t h clean k = absurd t
+  fresh_then (Make m) (CopyTree new) did t h clean k = absurd t
   fresh_then (Make m) (Delete new) did t h clean k = absurd t
+  fresh_then (CopyTree c) (CopyTree new) did t h clean k = fresh_copy c clean k
   fresh_then (Make m) (Make new) (Made path) t h clean (name, none) = (ap makings.is_fresh t.0, none)
   fresh_then (Make m) (Make new) (Began part) t h clean k = absurd t
   fresh_then (Make m) (Make new) (Chunk count) t h clean k = absurd (false≢true h)
@@ -148,14 +173,14 @@ module _ (opening : CallLog) (tree : IsTree (current opening)) (settled : all_se
         h.within ∙ (ap folder_changed (sym same) ∙ item_folder job.work);
   }
     where
-      tidy : IsTidyJob opening older f.was.dirty job
-      tidy = subst (λ js. AreTidy opening older f.was.dirty js) jobs_is (traced_tidy opening tree settled older f.was f.before f.traced)
+      tidy : IsTidyJob opening older f.before f.was.dirty job
+      tidy = subst (λ js. AreTidy opening older f.before f.was.dirty js) jobs_is (traced_tidy opening tree settled older f.was f.before f.traced)
 
       goes : (job.course ≡ GoesOn) × ((work : Work) × WorkTells job.work h.did work)
       goes = goes_then job new h.did job.course refl works.tells h.begins
 
       start : (is_fresh job.work ≡ true) × (r.part ≡ None)
-      start = fresh_then (told_of opening f.before older r.part) f.was.dirty r.marks f.before job.course job.work goes.1.0 h.did goes.1.1 h.begins (tidy.clean (ap (λ n. has_changed n older) id_is ∙ h.unchanged))
+      start = fresh_then (told_of opening f.before older r.part) f.was.dirty r.marks f.before job.course (ap is_over goes.0) job.work goes.1.0 h.did goes.1.1 h.begins (tidy.clean (ap (λ n. has_changed n older) id_is ∙ h.unchanged))
           (subst (λ js. JobsKnow (told_of opening f.before older r.part) f.was.dirty r.marks f.before js) jobs_is r.knows)
 
   begins : Begins

@@ -35,10 +35,10 @@ use Rattle.tree_trait.proofs.Visible.{same_path-self, same_path-true}
 use Rattle.copy_move.specs.declared.work.Work.{Work}
 use Rattle.copy_move.specs.declared.work.Work.TheVariants.{Copy}
 use Rattle.copy_move.specs.declared.run.Course.{Course}
+use Rattle.copy_move.specs.declared.run.Halt.{Halt}
 use Rattle.copy_move.specs.declared.run.Course.TheVariants.{GoesOn, InTrouble}
-use Rattle.copy_move.specs.Jobs.{course_after}
+use Rattle.copy_move.specs.Jobs.{course_after, halt_of}
 use Rattle.copy_move.specs.Settling.{with_change as moves_dirty}
-use Rattle.history_laws.specs.Traces.{IsUnclaimed}
 use Rattle.history_laws.proofs.Calming.{stopped_is, written_known}
 use Rattle.history_laws.proofs.Changing.{off_itself, removed_known}
 use Rattle.history_laws.proofs.Deleted.{IsRemoval, comes_refused, removal_done, removal_leads}
@@ -102,7 +102,7 @@ part_cleaned told dirty marks log now work target part i kept has listed done = 
         (subst (λ (l : CallLog). IsUntouched (settled_marks l marks) (current l) target) (sym it.now_is)
         (untouched_settled after marks target (record { out = untouched.out; free = free; was = untouched.was })))
 
-module _ (told : Said) (dirty dirty_after : List Route) (marks : Marks) (log now : CallLog) (kept : IsKept told dirty marks log) (c : Copying) where
+module _ (told : Said) (dirty dirty_after : List Route) (marks : Marks) (log now : CallLog) (kept : IsKept told dirty marks log) (c : Copying) (unclaimed : Route → Type 0) where
   abbrev up : Route
   up = folder_of c.target
 
@@ -137,15 +137,15 @@ module _ (told : Said) (dirty dirty_after : List Route) (marks : Marks) (log now
   write_stops part i done bytes cause.TooLong path has stop = absurd stop
   write_stops part i done bytes (cause.Changed said got) path has stop = absurd stop
 
-  in_trouble : {A : Type 0} (why : Cause) → (let o : Course = InTrouble why in o) ≡ GoesOn → A
-  in_trouble why e = absurd (let f : ⊥ = cc in f)
+  in_trouble : {A : Type 0} (halt : Halt) → (let o : Course = InTrouble halt in o) ≡ GoesOn → A
+  in_trouble halt e = absurd (let f : ⊥ = cc in f)
 
   -- a step stops
   stops : (why : Cause) (path : Option Route) (course : Course) → (course ≡ GoesOn → ⊥) → WorkKnows told dirty marks log GoesOn (Copy c) → (stage : Stage) → c.stage ≡ stage
-      → CopyStops IsUnclaimed (places_of c) stage why path log (Some now) → In course
-  stops why path course off knows Begin is stop = comes_refused told dirty marks log now course (Copy c) kept (work_course told dirty marks log GoesOn course (Copy c) (λ e. absurd (off e)) knows) (how stop)
+      → CopyStops unclaimed (places_of c) stage why path log (Some now) → In course
+  stops why path course off knows Begin is stop = comes_refused told dirty marks log now course (Copy c) kept (work_course told dirty marks log GoesOn course (Copy c) (λ e. absurd (off e)) (λ still. refl) knows) (how stop)
     where
-      how : CopyStops IsUnclaimed (places_of c) Begin why path log (Some now) → (now ≡ log) ⊎ (now ≡ with_change log Nothing)
+      how : CopyStops unclaimed (places_of c) Begin why path log (Some now) → (now ≡ log) ⊎ (now ≡ with_change log Nothing)
       how (inl look) = inl (some_log now log look.1)
       how (inr (inl name)) = inl (some_log now log name.2)
       how (inr (inr (k, ready, free, run))) = stopped_is log now (making (current log) (places_of c) k) why path (λ s left. refl) run
@@ -160,16 +160,16 @@ module _ (told : Said) (dirty dirty_after : List Route) (marks : Marks) (log now
       i : ℕ
       i = at_fill.1.0
 
-      how : CopyStops IsUnclaimed (places_of c) (Fill part said done) why path log (Some now) → Comes told told dirty log now (λ m. HasPart told m (current now) c.target part i)
+      how : CopyStops unclaimed (places_of c) (Fill part said done) why path log (Some now) → Comes told told dirty log now (λ m. HasPart told m (current now) c.target part i)
       how (inl (less, inl read)) = part_refused told dirty c.target part i marks log now kept at_fill.1.1 (inl (some_log now log read.1))
       how (inl (less, inr write)) = write_stops part i done (next_bytes (current log) c.source said done) why path at_fill.1.1 write
       how (inr (full, run)) = placing_stops told dirty c.target part i marks log now said.mode why path kept at_fill.1.1 run
   stops why path course off knows (Clean part follows) is stop =
-      comes_refused told dirty marks log now course (Copy c) kept (work_course told dirty marks log GoesOn course (Copy c) (λ e. absurd (off e)) knows)
+      comes_refused told dirty marks log now course (Copy c) kept (work_course told dirty marks log GoesOn course (Copy c) (λ e. absurd (off e)) (λ still. refl) knows)
       (stopped_is log now (RemoveFile part) why path (λ s left. refl) stop)
   stops why path course off knows (Left part) is stop = absurd stop
   stops why path course off knows Decided is stop =
-      comes_refused told dirty marks log now course (Copy c) kept (work_course told dirty marks log GoesOn course (Copy c) (λ e. absurd (off e)) knows)
+      comes_refused told dirty marks log now course (Copy c) kept (work_course told dirty marks log GoesOn course (Copy c) (λ e. absurd (off e)) (λ still. refl) knows)
       (stopped_is log now (SyncFolder up) why path (λ s left. refl) stop)
 
   with_routes : (did : Did) (course : Course) (new : Work) → dirty_after ≡ dirty → Comes told (said_after now did (Copy c) told) dirty log now (KnowsAfter did (said_after now did (Copy c) told) dirty now course new)
@@ -188,7 +188,7 @@ module _ (told : Said) (dirty dirty_after : List Route) (marks : Marks) (log now
   cleaned_knows next.Begin after m s none untouched = (none, λ e. untouched)
   cleaned_knows next.Decided after m s none untouched = none
 
-  pub copy_tells : (new : Copying) (did : Did) → WorkKnows told dirty marks log GoesOn (Copy c) → Tells c did new → CopyCalls IsUnclaimed c did new log (Some now)
+  pub copy_tells : (new : Copying) (did : Did) → WorkKnows told dirty marks log GoesOn (Copy c) → Tells c did new → CopyCalls unclaimed c did new log (Some now)
       → (is_fresh c.stage c.folder ≡ true → MayBegin marks log c.target) → Leaves new → Steps told dirty dirty_after marks log now kept did (course_after did) (Copy c) (Copy new)
   copy_tells new (Began part) (name, listed, knows) (stage, (said, new_is)) (ready, began_of, (k, part_is, free, rows)) settled leaves =
       let at_begin = subst (λ x. StageKnows told marks (current log) GoesOn c x) stage knows in
@@ -200,7 +200,7 @@ module _ (told : Said) (dirty dirty_after : List Route) (marks : Marks) (log now
       let untouched = target_free told dirty dirty_after marks log now kept c firm ready at_begin.1 (λ e. settled (ap (λ x. is_fresh x c.folder) stage ∙ e)) c.folder refl in
       subst (λ (x : Copying). Steps told dirty dirty_after marks log now kept (Began part) GoesOn (Copy c) (Copy x)) (sym new_is)
       (subst (λ q. Steps told dirty dirty_after marks log now kept (Began q) GoesOn (Copy c) (Copy (record c { stage = Fill q said 0; folder = Dirty }))) (sym part_is)
-      (begun told dirty dirty_after marks log now kept c said k name ready is_said free at_begin.0 untouched (one_done log (making (current log) (places_of c) k) now rows) firm calm on_list.0 on_list.1))
+      (begun told dirty dirty_after marks log now kept c unclaimed said k name ready is_said free at_begin.0 untouched (one_done log (making (current log) (places_of c) k) now rows) firm calm on_list.0 on_list.1))
   copy_tells new (Chunk count) (name, listed, knows) (part, said, done, stage, least, most, fits, new_is) (other_part, other_said, other_done, other_stage, count_is, rows) settled leaves =
       let e : (let o : Stage = Fill other_part other_said other_done in o) ≡ Fill part said done = sym other_stage ∙ stage in
       let p_is : other_part ≡ part = cc in
@@ -245,9 +245,9 @@ module _ (told : Said) (dirty dirty_after : List Route) (marks : Marks) (log now
       (subst (λ (l : CallLog). Performs {A = Unit {0}} log (SyncFolder up) (Ok tt) (Some l)) (sym (some_log now rows.0 rows.2)) rows.1)
       (leaves ∙ (ap (λ f. moves_dirty (is_dirty f) (is_dirty new.folder) up dirty) dirty_is ∙ ap (λ (x : Copying). moves_dirty true (is_dirty x.folder) up dirty) new_is)))
   copy_tells new (Troubled trouble) knows (barrier, new_is) stop settled leaves =
-      with_routes (Troubled trouble) (InTrouble trouble.cause) (Copy new) (leaves_same new (ap (λ (x : Copying). x.folder) new_is) leaves)
-      (subst (λ (x : Copying). Comes told told dirty log now (λ m. WorkKnows told dirty m now (InTrouble trouble.cause) (Copy x))) (sym new_is)
-      (stops trouble.cause trouble.path (InTrouble trouble.cause) (in_trouble trouble.cause) knows c.stage refl stop))
+      with_routes (Troubled trouble) (InTrouble (halt_of trouble)) (Copy new) (leaves_same new (ap (λ (x : Copying). x.folder) new_is) leaves)
+      (subst (λ (x : Copying). Comes told told dirty log now (λ m. WorkKnows told dirty m now (InTrouble (halt_of trouble)) (Copy x))) (sym new_is)
+      (stops trouble.cause trouble.path (InTrouble (halt_of trouble)) (in_trouble (halt_of trouble)) knows c.stage refl stop))
   copy_tells new (Ended Finished part) (name, listed, knows) (stage, synced, part_is, new_is) done settled leaves =
       let none = subst (λ x. StageKnows told marks (current log) GoesOn c x) stage knows in
       subst (λ o. Steps told dirty dirty_after marks log now kept (Ended Finished o) GoesOn (Copy c) (Copy new)) (sym part_is)

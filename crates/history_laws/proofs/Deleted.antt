@@ -14,7 +14,6 @@ use Rattle.tree_trait.specs.Answers.{Performs}
 use Rattle.tree_trait.proofs.Visible.{same_path-self, same_path-true}
 use Rattle.tree_trait.proofs.Walking.{check_passes, removable}
 use Rattle.crash_law.specs.Guarded.{Marks}
-use Rattle.crash_law.proofs.Leading.{current_more}
 use Rattle.job_reports.specs.declared.report.Did.TheVariants.{Removed}
 use Rattle.job_reports.specs.Jobs.{folder_changed}
 use Rattle.job_reports.specs.Paths.{folder_of}
@@ -49,7 +48,7 @@ comes_refused told dirty marks log now course work kept knows (inl same) =
 comes_refused told dirty marks log now course work kept knows (inr more) =
     comes_one told told dirty dirty marks marks log now Nothing (λ m. WorkKnows told dirty m now course work) kept more
     (subst (λ (l : CallLog). IsKnown told dirty marks l) (sym more) (nothing_known told dirty marks log kept.known))
-    (work_settled now marks told dirty course work (work_still told dirty marks log now course work (ap current more ∙ current_more log Nothing) knows))
+    (work_settled now marks told dirty course work (work_still told dirty marks log now course work kept.known.guarded.tree (Nothing, more, inl refl) knows))
 
 pub either : (a b : Bool) → (a || b) ≡ true → (a ≡ true) ⊎ (b ≡ true)
 either true b h = inl refl

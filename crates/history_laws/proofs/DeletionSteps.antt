@@ -12,7 +12,6 @@ use Rattle.tree_trait.specs.CrashImages.{Among}
 use Rattle.tree_trait.specs.Answers.{Performs}
 use Rattle.tree_trait.proofs.Visible.{same_path-self, same_path-true}
 use Rattle.crash_law.specs.Guarded.{Marks}
-use Rattle.crash_law.proofs.Leading.{current_more}
 use Rattle.job_reports.specs.declared.report.Ending.{Ending}
 use Rattle.job_reports.specs.declared.report.Ending.TheVariants.{Finished, Aborted, Killed, NoMemory}
 use Rattle.job_reports.specs.declared.report.Did.{Did}
@@ -77,7 +76,7 @@ pub comes_synced_at : (told : Said) (dirty : List Route) (marks : Marks) (log no
 comes_synced_at told dirty marks log now up course work f kept knows at is =
     comes_one told told dirty (without up dirty) marks marks log now (Syncs f) (λ m. WorkKnows told (without up dirty) m now course work) kept is
     (subst (λ (l : CallLog). IsKnown told (without up dirty) marks l) (sym is) (cleared_known told dirty marks log kept.known up f at))
-    (work_settled now marks told (without up dirty) course work (work_still told (without up dirty) marks log now course work (ap current is ∙ current_more log (Syncs f)) knows))
+    (work_settled now marks told (without up dirty) course work (work_still told (without up dirty) marks log now course work kept.known.guarded.tree (Syncs f, is, inr (f, refl)) knows))
 
 -- the sync of a folder that was done, after which the job stands so
 comes_synced : (told : Said) (dirty : List Route) (marks : Marks) (log now : CallLog) (up : Route) (course : Course) (work : Work) → IsKept told dirty marks log

@@ -31,8 +31,8 @@ use Rattle.copy_move.specs.declared.work.Work.TheVariants.{Delete}
 use Rattle.copy_move.specs.declared.run.Course.{Course}
 use Rattle.copy_move.specs.declared.run.Course.TheVariants.{GoesOn, InTrouble, Ends}
 use Rattle.job_reports.specs.Jobs as jobs
-use Rattle.job_reports.specs.Stops.{trouble_at, cause_of}
-use Rattle.copy_move.specs.Jobs.{Running}
+use Rattle.job_reports.specs.Stops.{trouble_at}
+use Rattle.copy_move.specs.Jobs.{Running, halt_of}
 use Rattle.mode_setting.specs.SettingSteps.{sync_of}
 use Rattle.history_laws.specs.Calmed.{HasBegun}
 use Rattle.history_laws.specs.Doubt.{is_unsettled, name_waits}
@@ -177,7 +177,7 @@ sync_refused =
     )
 
 abbrev pub waiting : Running
-waiting = first Sync (InTrouble (cause_of refused.Fault))
+waiting = first Sync (InTrouble (halt_of (trouble_at refused.Fault [] true)))
 
 troubled_traced : IsTraced (log []) troubled_entries (stand (waiting ∷ []) ([] ∷ [])) (log (removal ∷ Nothing ∷ []))
 troubled_traced =

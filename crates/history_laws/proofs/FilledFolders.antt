@@ -21,7 +21,7 @@ use Rattle.crash_law.proofs.Leading.{current_more}
 use Rattle.crash_law.proofs.Tops.{none_below, under_made, under_moved, under_removed}
 use Rattle.history_laws.specs.Doubt.{is_pending, name_waits}
 use Rattle.history_laws.proofs.Changing.{none_below_file, said_one, said_two, some_is, some_none}
-use Rattle.history_laws.proofs.JobKnows.{IsUntouched, NoneOn, none_waits, untouched_free, way_sure}
+use Rattle.history_laws.proofs.Untouched.{IsUntouched, NoneOn, none_waits, untouched_free, way_sure}
 use Rattle.history_laws.proofs.Knowing.{IsKept, Said}
 use Rattle.history_laws.proofs.Pending.{pending_less, pending_synced}
 use Rattle.history_laws.proofs.Resting.{IsOfFiles, IsSureFolder, folder_at, folder_at_of, stands_at, sure_path, sure_still}

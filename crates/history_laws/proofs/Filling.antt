@@ -1,9 +1,9 @@
 -- A part is made, and filled.
-use Rattle.std.proofs.Common.{◌≡◌, ℕ, ◌<◌, ◌≤◌, ◌+◌, true, false, List, [], ◌∷◌, length, take, drop, refl, sym, ◌∙◌, ap, subst, Some, None, arith}
+use Rattle.std.proofs.Common.{◌≡◌, ℕ, ◌<◌, ◌≤◌, ◌+◌, Bool, true, false, List, [], ◌∷◌, length, take, drop, refl, sym, ◌∙◌, ap, subst, inl, inr, Option, Some, None, arith}
 use Rattle.std.specs.Prelude.{◌==◌, ◌||◌, not, unwrap_or}
-use Rattle.std.proofs.lemmas.Bool.{false_from_ne_true, or_left}
+use Rattle.std.proofs.lemmas.Bool.{false_from_ne_true, or_cases, or_left}
 use Rattle.mc_text.specs.declared.kind.Kind.TheVariants.{File}
-use Rattle.mc_text.specs.Routes.{Route, same_path}
+use Rattle.mc_text.specs.Routes.{Route, is_prefix, same_path}
 use Rattle.tree_trait.specs.declared.file_system.Node.{Node}
 use Rattle.tree_trait.specs.FileSystem.{find, node}
 use Rattle.tree_trait.specs.Change.{Change, Makes, Writes, CallLog, current, with_change, found, overwritten}
@@ -13,6 +13,8 @@ use Rattle.tree_trait.proofs.Walking.{stat-found}
 use Rattle.crash_law.specs.Guarded.{Marks}
 use Rattle.crash_law.proofs.Guarding.{found_there, same_quiet}
 use Rattle.crash_law.proofs.Syncing.{unaltered_law}
+use Rattle.crash_law.proofs.Tops.{none_below}
+use Rattle.job_reports.specs.Jobs.{Copies}
 use Rattle.job_reports.specs.declared.report.Did.TheVariants.{Began}
 use Rattle.file_copy.specs.declared.stage.FolderState.{FolderState}
 use Rattle.file_copy.specs.declared.stage.FolderState.TheVariants.{Synced, Dirty}
@@ -30,10 +32,11 @@ use Rattle.copy_move.specs.declared.work.Work.TheVariants.{Copy}
 use Rattle.copy_move.specs.declared.run.Course.TheVariants.{GoesOn}
 use Rattle.tree_deletion.specs.Folders.{joined}
 use Rattle.copy_move.specs.Settling.{with_change as moves_dirty}
-use Rattle.history_laws.specs.Traces.{IsUnclaimed}
 use Rattle.history_laws.specs.Doubt.{name_waits}
+use Rattle.history_laws.specs.Staying.{may_change}
 use Rattle.history_laws.proofs.Calming.{written_known}
 use Rattle.history_laws.proofs.FilledFolders.{IsFilling, met_untouched}
+use Rattle.history_laws.proofs.Intact.{prefix_way}
 use Rattle.history_laws.proofs.Knowing.{IsCalmIn, IsKept, IsKnown, Said, settled_marks}
 use Rattle.history_laws.proofs.JobKnows.{HasName, HasPart, IsFilled, IsUntouched, NoneOn, WorkKnows, calm_in, none_of_part, none_waits, part_settled, untouched_free, way_sure}
 use Rattle.history_laws.proofs.MakingParts.{MakesPart, made_known, marks_new, new_node, off_part, part_leads, part_node, with_part}
@@ -112,8 +115,8 @@ module _ (told : Said) (dirty dirty_after : List Route) (marks : Marks) (log now
       let same : dirty_after ≡ joined up dirty = leaves ∙ ap (λ x. moves_dirty (is_dirty x) true up dirty) is in
       (subst (λ xs. Among xs up) (sym same) (joined_holds up dirty), λ q among. subst (λ xs. Among xs q) (sym same) (joined_more up q dirty among))
 
-  module _ (said : SourceFacts) (k : ℕ) (target_name : HasName c.target) (ready : IsReady (current log) (places_of c)) (is_said : AreFactsOf (current log) c.source said)
-      (free : IsFirstFree (current log) IsUnclaimed (places_of c) k) (none : told.part ≡ None) (untouched : IsUntouched marks (current log) c.target)
+  module _ (unclaimed : Route → Type 0) (said : SourceFacts) (k : ℕ) (target_name : HasName c.target) (ready : IsReady (current log) (places_of c)) (is_said : AreFactsOf (current log) c.source said)
+      (free : IsFirstFree (current log) unclaimed (places_of c) k) (none : told.part ≡ None) (untouched : IsUntouched marks (current log) c.target)
       (d : IsDoneCall log (making (current log) (places_of c) k) now) (firm : IsSureFolder log up) (calm : IsCalmIn marks (current log) up) (listed : Among dirty_after up) (more : (q : Route) → Among dirty q → Among dirty_after q) where
     abbrev name : List ℕ
     name = part_name c.job k
@@ -161,7 +164,22 @@ module _ (told : Said) (dirty dirty_after : List Route) (marks : Marks) (log now
     same_n : (n == n) ≡ true
     same_n = Rattle.std.proofs.lemmas.Bool.eq-eqb n n refl
 
-    has : HasPart (with_part told up part) (marks_new marks part n) (current after) c.target part n
+    -- the folders that it may change: in none of them a mode waits, since nothing stands below the target
+    abbrev own : Route → Bool
+    own p = may_change (Copies c.source c.target) p
+
+    none_stands : {A : Type 0} (i : ℕ) → (let o : Option ℕ = None in o) ≡ Some i → A
+    none_stands i e = absurd (let f : ⊥ = cc in f)
+
+    own_calm : (p : Route) → own p ≡ true → IsCalmIn marks (current log) p
+    own_calm p here = elim (or_cases (same_path p up) (is_prefix c.target p) here) [
+      | inl same ↦ subst (λ q. IsCalmIn marks (current log) q) (sym (same_path-true p up same)) calm
+      | inr within ↦
+          let way = prefix_way c.target p within in
+          λ k i at. none_stands i (sym (ap (find (current log)) (ap (λ (q : Route). k ∷ q) way.1) ∙ none_below log (k ∷ way.0) c.target untouched.free) ∙ at)
+    ]
+
+    has : HasPart (with_part told up own part) (marks_new marks part n) (current after) c.target part n
     has = record {
       part_is = refl;
       leads = part_leads told dirty dirty_after marks log kept.known name up f made makes refl new_mode;
@@ -199,12 +217,12 @@ module _ (told : Said) (dirty dirty_after : List Route) (marks : Marks) (log now
     }
 
     pub begun : Begun part said
-    begun = comes_one told (with_part told up part) dirty dirty_after marks (marks_new marks part n) log now (Makes f name made)
-        (λ m. WorkKnows (with_part told up part) dirty_after m now GoesOn (Copy (record c { stage = Fill part said 0; folder = Dirty }))) kept d.is
-        (subst (λ (l : CallLog). IsKnown (with_part told up part) dirty_after (marks_new marks part n) l) (sym d.is)
-        (made_known told dirty dirty_after marks log kept.known name up f made makes refl new_mode up firm firm calm listed more))
-        (subst (λ (l : CallLog). WorkKnows (with_part told up part) dirty_after (settled_marks l (marks_new marks part n)) l GoesOn (Copy (record c { stage = Fill part said 0; folder = Dirty }))) (sym d.is)
-        (target_name, (λ e. (listed, or_left _ _ (or_left _ _ (same_path-self up)), or_left _ _ (same_path-self up))), (refl, (n, part_settled after (marks_new marks part n) (with_part told up part) c.target part n has, λ e. filled))))
+    begun = comes_one told (with_part told up own part) dirty dirty_after marks (marks_new marks part n) log now (Makes f name made)
+        (λ m. WorkKnows (with_part told up own part) dirty_after m now GoesOn (Copy (record c { stage = Fill part said 0; folder = Dirty }))) kept d.is
+        (subst (λ (l : CallLog). IsKnown (with_part told up own part) dirty_after (marks_new marks part n) l) (sym d.is)
+        (made_known told dirty dirty_after marks log kept.known name up f made makes refl new_mode up own firm firm own_calm listed more))
+        (subst (λ (l : CallLog). WorkKnows (with_part told up own part) dirty_after (settled_marks l (marks_new marks part n)) l GoesOn (Copy (record c { stage = Fill part said 0; folder = Dirty }))) (sym d.is)
+        (target_name, (λ e. (listed, or_left _ _ (or_left _ _ (same_path-self up)), or_left _ _ (or_left _ _ (same_path-self up)))), (refl, (n, part_settled after (marks_new marks part n) (with_part told up own part) c.target part n has, λ e. filled))))
 
   -- bytes are written behind the first
   module _ (part : Route) (said : SourceFacts) (done : ℕ) (listed : c.folder ≡ Dirty → Among dirty up × (told.folders up ≡ true) × (told.calm up ≡ true)) (target_name : HasName c.target) (i : ℕ) (has : HasPart told marks (current log) c.target part i)

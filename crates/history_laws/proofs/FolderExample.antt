@@ -40,7 +40,7 @@ use Rattle.session_history.specs.declared.history.Event.TheVariants.{Began, Orde
 use Rattle.session_history.specs.declared.history.JobOrder.TheVariants.{Answered}
 use Rattle.copy_move.specs.DeletionSteps.{Goes, Passes}
 use Rattle.copy_move.specs.Deletions.{Deleting, RefusedFile, machine_of}
-use Rattle.copy_move.specs.Jobs.{Running}
+use Rattle.copy_move.specs.Jobs.{Running, halt_of}
 use Rattle.copy_move.specs.declared.run.Course.{Course}
 use Rattle.copy_move.specs.declared.run.Course.TheVariants.{GoesOn, InTrouble, Skips}
 use Rattle.copy_move.specs.declared.work.Work.TheVariants.{Delete}
@@ -109,7 +109,7 @@ abbrev trouble : Rattle.job_reports.specs.declared.report.Trouble.Trouble
 trouble = trouble_at refused.Fault second false
 
 abbrev waits : Running
-waits = job half_way (InTrouble (cause_of refused.Fault))
+waits = job half_way (InTrouble (halt_of trouble))
 
 abbrev passes : Running
 passes = job half_way (Skips (cause_of refused.Fault))

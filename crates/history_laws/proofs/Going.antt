@@ -20,17 +20,16 @@ use Rattle.session_history.specs.declared.history.JobOrder.TheVariants.{Answered
 use Rattle.copy_move.specs.declared.run.Course.{Course}
 use Rattle.copy_move.specs.declared.run.Course.TheVariants.{GoesOn, InTrouble, OwedSyncFailed, Skips, Ends}
 use Rattle.copy_move.specs.declared.work.Work.{Work}
-use Rattle.copy_move.specs.declared.work.Work.TheVariants.{Copy, Delete, Make, SetMode}
-use Rattle.file_copy.specs.declared.stage.Stage.{Stage}
-use Rattle.file_copy.specs.declared.stage.Stage.TheVariants as at
-use Rattle.file_copy.specs.Copying.{Copying}
-use Rattle.file_copy.specs.Copying as copying
+use Rattle.copy_move.specs.declared.work.Work.TheVariants.{Copy, CopyTree, Delete, Make, SetMode}
 use Rattle.copy_move.specs.Jobs.{Running, answered, answered_on, closed_course, closed_job, first_work, taken_anew, with_skips}
 use Rattle.copy_move.specs.Told.{running}
-use Rattle.tree_trait.specs.declared.file_system.FileSystem.{FileSystem}
 use Rattle.session_history.specs.LiveJobs.{LiveJob, after_event, after_report, live}
-use Rattle.history_laws.specs.Traces.{EventLeads, Follows, IsJob, IsTraced, Stand, StepLeads, begun, if_closed, ordered, unless_ended, with_job}
-use Rattle.history_laws.proofs.JobKnows.{StageKnows, WorkKnows, work_course}
+use Rattle.history_laws.specs.Traces.{EventLeads, IsJob, Stand, StepLeads, begun, ordered, unless_ended, with_job}
+use Rattle.history_laws.proofs.JobKnows.{WorkKnows, work_course}
+use Rattle.history_laws.proofs.KnownParts.{stage_anew}
+use Rattle.job_answers.specs.Skipping.{kind_in, with_kind}
+use Rattle.history_laws.proofs.TreeKnown.{is_over, skips_kind}
+use Rattle.history_laws.proofs.TreeSkipped.{retries_tree}
 use Rattle.history_laws.proofs.JobLeads.{sync_leads, work_leads}
 use Rattle.history_laws.proofs.JobSteps.{gives_up}
 use Rattle.history_laws.proofs.Knowing.{Said, IsKept}
@@ -41,22 +40,16 @@ use Rattle.history_laws.proofs.Stepped.{AreMids, Comes, more, part_after, said_a
 no_more : (log : CallLog) → log ≡ more log []
 no_more log = ap (λ xs. (let l : CallLog = record log { changes = xs } in l)) (sym (append-nil log.changes))
 
-anew_stage : (told : Said) (m : Marks) (s : FileSystem) (course : Course) (c : Copying) (stage : Stage) → StageKnows told m s course c stage
-    → StageKnows told m s GoesOn (record c { stage = copying.taken_anew stage }) (copying.taken_anew stage)
-anew_stage told m s course c at.Begin k = k
-anew_stage told m s course c (at.Fill part said done) k = (k.0, (k.1.0, k.1.1))
-anew_stage told m s course c (at.Clean part follows) k = k
-anew_stage told m s course c (at.Left part) k = k
-anew_stage told m s course c at.Decided k = k
-
-anew_knows : (told : Said) (dirty : List Route) (m : Marks) (log : CallLog) (course : Course) (work : Work) → WorkKnows told dirty m log course work → WorkKnows told dirty m log GoesOn (taken_anew work)
-anew_knows told dirty m log course (Copy c) (name, listed, stage) = (name, listed, anew_stage told m (current log) course c c.stage stage)
-anew_knows told dirty m log course (Delete d) k = k
-anew_knows told dirty m log course (Make w) k = k
-anew_knows told dirty m log course (SetMode s) k = k
+anew_knows : (told : Said) (dirty : List Route) (m : Marks) (log : CallLog) (course : Course) (work : Work) → is_over course ≡ false → WorkKnows told dirty m log course work → WorkKnows told dirty m log GoesOn (taken_anew work)
+anew_knows told dirty m log course (Copy c) going (name, listed, stage) = (name, listed, stage_anew told m (current log) course GoesOn c c.stage stage)
+anew_knows told dirty m log course (CopyTree c) going k = retries_tree told dirty m log c course GoesOn going k
+anew_knows told dirty m log course (Delete d) going k = k
+anew_knows told dirty m log course (Make w) going k = k
+anew_knows told dirty m log course (SetMode s) going k = k
 
 skips_knows : (told : Said) (dirty : List Route) (m : Marks) (log : CallLog) (course : Course) (why : Cause) (work : Work) → WorkKnows told dirty m log course work → WorkKnows told dirty m log course (with_skips why work)
 skips_knows told dirty m log course why (Copy c) k = k
+skips_knows told dirty m log course why (CopyTree c) k = skips_kind told dirty m log course c (with_kind (kind_in why) c.skips) k
 skips_knows told dirty m log course why (Delete d) k = k
 skips_knows told dirty m log course why (Make w) k = k
 skips_knows told dirty m log course why (SetMode s) k = k
@@ -65,18 +58,18 @@ module _ (told : Said) (dirty : List Route) (marks : Marks) (log : CallLog) wher
   abbrev Knows : Running → Type 0
   Knows job = WorkKnows told dirty marks log job.course job.work
 
-  on_course : (course other : Course) (work : Work) → (other ≡ GoesOn → ⊥) → WorkKnows told dirty marks log course work → WorkKnows told dirty marks log other work
-  on_course course other work off k = work_course told dirty marks log course other work (λ e. absurd (off e)) k
+  on_course : (course other : Course) (work : Work) → (other ≡ GoesOn → ⊥) → is_over course ≡ false → WorkKnows told dirty marks log course work → WorkKnows told dirty marks log other work
+  on_course course other work off going k = work_course told dirty marks log course other work (λ e. absurd (off e)) (λ still. going) k
 
   answer_knows : (course : Course) (answer : Answer) (job : Running) → job.course ≡ course → Knows job → Knows (answered_on course answer job)
-  answer_knows (InTrouble why) Retry job is k = anew_knows told dirty marks log job.course job.work k
-  answer_knows (InTrouble why) Skip job is k = on_course job.course (Skips why) job.work (λ e. let f : ⊥ = cc in f) k
-  answer_knows (InTrouble why) SkipAll job is k = on_course job.course (Skips why) (with_skips why job.work) (λ e. let f : ⊥ = cc in f) (skips_knows told dirty marks log job.course why job.work k)
-  answer_knows (InTrouble why) Abort job is k = on_course job.course (Ends Rattle.job_reports.specs.declared.report.Ending.TheVariants.Aborted) job.work (λ e. let f : ⊥ = cc in f) k
-  answer_knows (OwedSyncFailed why) Retry job is k = anew_knows told dirty marks log job.course job.work k
+  answer_knows (InTrouble halt) Retry job is k = anew_knows told dirty marks log job.course job.work (ap is_over is) k
+  answer_knows (InTrouble halt) Skip job is k = on_course job.course (Skips halt.cause) job.work (λ e. let f : ⊥ = cc in f) (ap is_over is) k
+  answer_knows (InTrouble halt) SkipAll job is k = on_course job.course (Skips halt.cause) (with_skips halt.cause job.work) (λ e. let f : ⊥ = cc in f) (ap is_over is) (skips_knows told dirty marks log job.course halt.cause job.work k)
+  answer_knows (InTrouble halt) Abort job is k = on_course job.course (Ends Rattle.job_reports.specs.declared.report.Ending.TheVariants.Aborted) job.work (λ e. let f : ⊥ = cc in f) (ap is_over is) k
+  answer_knows (OwedSyncFailed why) Retry job is k = anew_knows told dirty marks log job.course job.work (ap is_over is) k
   answer_knows (OwedSyncFailed why) Skip job is k = k
   answer_knows (OwedSyncFailed why) SkipAll job is k = k
-  answer_knows (OwedSyncFailed why) Abort job is k = on_course job.course (Ends Rattle.job_reports.specs.declared.report.Ending.TheVariants.Aborted) job.work (λ e. let f : ⊥ = cc in f) k
+  answer_knows (OwedSyncFailed why) Abort job is k = on_course job.course (Ends Rattle.job_reports.specs.declared.report.Ending.TheVariants.Aborted) job.work (λ e. let f : ⊥ = cc in f) (ap is_over is) k
   answer_knows GoesOn answer job is k = k
   answer_knows (Skips why) answer job is k = k
   answer_knows (Ends ending) answer job is k = k
@@ -95,14 +88,21 @@ module _ (told : Said) (dirty : List Route) (marks : Marks) (log : CallLog) wher
 
   closed_by : (course : Course) → closed_course course ≡ GoesOn → course ≡ GoesOn
   closed_by GoesOn e = refl
-  closed_by (InTrouble why) e = absurd (let f : ⊥ = cc in f)
+  closed_by (InTrouble halt) e = absurd (let f : ⊥ = cc in f)
   closed_by (OwedSyncFailed why) e = absurd (let f : ⊥ = cc in f)
   closed_by (Skips why) e = absurd (let f : ⊥ = cc in f)
   closed_by (Ends ending) e = absurd (let f : ⊥ = cc in f)
 
+  closed_over : (course : Course) → is_over (closed_course course) ≡ false → is_over course ≡ false
+  closed_over GoesOn e = refl
+  closed_over (InTrouble why) e = refl
+  closed_over (OwedSyncFailed why) e = refl
+  closed_over (Skips why) e = refl
+  closed_over (Ends ending) e = e
+
   pub closed_know : (jobs : List Running) → JobsKnow told dirty marks log jobs → JobsKnow told dirty marks log (map closed_job jobs)
   closed_know [] k = k
-  closed_know (job ∷ []) k = work_course told dirty marks log job.course (closed_course job.course) job.work (closed_by job.course) k
+  closed_know (job ∷ []) k = work_course told dirty marks log job.course (closed_course job.course) job.work (closed_by job.course) (closed_over job.course) k
   closed_know (job ∷ other ∷ jobs) k = absurd k
 
 order_same : (id : ℕ) (order : JobOrder) (job : Running) → IsSame job (ordered id order job)

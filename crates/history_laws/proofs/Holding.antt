@@ -12,9 +12,6 @@ use Rattle.tree_trait.specs.CrashImages.{Among, IsCrashImage, all_settled, is_cl
 use Rattle.tree_trait.proofs.Visible.{same_path-true}
 use Rattle.crash_law.specs.Guarded.{Marks}
 use Rattle.crash_law.specs.Possible.{IsImage}
-use Rattle.file_copy.specs.Copying.{Copying}
-use Rattle.file_copy.specs.declared.stage.Stage.{Stage}
-use Rattle.file_copy.specs.declared.stage.Stage.TheVariants.{Begin, Fill, Clean, Left, Decided}
 use Rattle.session_history.specs.declared.history.Event.{Event}
 use Rattle.session_history.specs.declared.history.Event.TheVariants.{Key, Look, Sought, Order, Step, Closed}
 use Rattle.session_history.specs.declared.history.Event.TheVariants as event
@@ -25,7 +22,6 @@ use Rattle.session_history.specs.Named.{IsUnnamedSince, named_parts, names_path}
 use Rattle.job_reports.specs.Paths.{without}
 use Rattle.copy_move.specs.declared.run.Course.{Course}
 use Rattle.copy_move.specs.declared.work.Work.{Work}
-use Rattle.copy_move.specs.declared.work.Work.TheVariants.{Copy, Delete, Make, SetMode}
 use Rattle.copy_move.specs.Jobs.{Running}
 use Rattle.history_laws.specs.Doubt.{is_unsettled, node_waits, way_waits}
 use Rattle.history_laws.specs.Replayed.{log_prefix, replayed_tree}
@@ -35,7 +31,7 @@ use Rattle.history_laws.proofs.Deleted.{put_at, put_off}
 use Rattle.history_laws.proofs.Tidy.{not_listed}
 use Rattle.history_laws.proofs.Going.{Goes, SaidThen, closed_know, closed_live, event_goes}
 use Rattle.history_laws.proofs.Histories.{IsReached, enters, traced_reached}
-use Rattle.history_laws.proofs.JobKnows.{HasPart, StageKnows, WorkKnows}
+use Rattle.history_laws.proofs.JobKnows.{WorkKnows, work_said}
 use Rattle.history_laws.proofs.Knowing.{HasMode, HasNoMode, IsKept, Said, held, safe_path, waits_there}
 use Rattle.history_laws.proofs.Moments.{log_of, prefix_cut, prefix_is, traced_count}
 use Rattle.history_laws.proofs.Prefixes.{replayed_more, told_of}
@@ -73,32 +69,8 @@ held_image said dirty marks log path v image (shows, before, unnamed) kept left 
 ]
 
 module _ (path : Route) (v : Option Value) (told : Said) where
-  part_holding : (marks : Marks) (s : FileSystem) (target part : Route) (i : ℕ) → HasPart told marks s target part i → HasPart (holding path v told) marks s target part i
-  part_holding marks s target part i h = record {
-    part_is = h.part_is;
-    leads = h.leads;
-    loose = h.loose;
-    moves = h.moves;
-    file = h.file;
-    unnamed = h.unnamed;
-    name = h.name;
-    beside = h.beside;
-    apart = h.apart;
-    untouched = h.untouched;
-  }
-
-  stage_holding : (marks : Marks) (s : FileSystem) (course : Course) (c : Copying) (stage : Stage) → StageKnows told marks s course c stage → StageKnows (holding path v told) marks s course c stage
-  stage_holding marks s course c Begin k = k
-  stage_holding marks s course c (Fill part said done) (dirty, (i, has, filled)) = (dirty, (i, part_holding marks s c.target part i has, filled))
-  stage_holding marks s course c (Clean part follows) (dirty, (i, has)) = (dirty, (i, part_holding marks s c.target part i has))
-  stage_holding marks s course c (Left part) (i, has) = (i, part_holding marks s c.target part i has)
-  stage_holding marks s course c Decided k = k
-
   work_holding : (dirty : List Route) (marks : Marks) (log : CallLog) (course : Course) (work : Work) → WorkKnows told dirty marks log course work → WorkKnows (holding path v told) dirty marks log course work
-  work_holding dirty marks log course (Copy c) (name, listed, stage) = (name, listed, stage_holding marks (current log) course c c.stage stage)
-  work_holding dirty marks log course (Delete d) k = k
-  work_holding dirty marks log course (Make w) k = k
-  work_holding dirty marks log course (SetMode s) k = k
+  work_holding dirty marks log course work k = work_said told (holding path v told) refl refl refl refl dirty marks log course work k
 
   jobs_holding : (dirty : List Route) (marks : Marks) (log : CallLog) (jobs : List Running) → JobsKnow told dirty marks log jobs → JobsKnow (holding path v told) dirty marks log jobs
   jobs_holding dirty marks log [] k = k

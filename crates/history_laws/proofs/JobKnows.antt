@@ -1,160 +1,52 @@
 -- What is known of a live job's part and target, by where its work stands.
-use Rattle.std.proofs.Common.{◌≡◌, ◌⊎◌, ℕ, ◌≤◌, Bool, true, false, ◌&&◌, ◌||◌, List, [], ◌∷◌, ◌++◌, length, take, refl, sym, ◌∙◌, ap, subst, inl, inr, Option, Some, None, cond}
+use Rattle.std.proofs.Common.{◌≡◌, ◌⊎◌, ℕ, ◌≤◌, Bool, true, false, ◌&&◌, ◌||◌, List, ◌∷◌, ◌++◌, refl, sym, ◌∙◌, ap, subst, inl, inr, Option, Some, None, cond}
 use Rattle.std.specs.Prelude.{is_some}
-use Rattle.std.specs.Option.{option_map_or}
-use Rattle.std.proofs.lemmas.Bool.{false≢true, both_ways}
-use Rattle.mc_text.specs.declared.kind.Kind.TheVariants.{File}
+use Rattle.std.proofs.lemmas.Bool.{both_ways}
 use Rattle.mc_text.specs.Routes.{Route}
 use Rattle.tree_trait.specs.declared.file_system.FileSystem.{FileSystem}
-use Rattle.tree_trait.specs.declared.calls.TreeError.TheVariants.{Missing}
-use Rattle.tree_trait.specs.Calls.{Stat}
-use Rattle.tree_trait.specs.FileSystem.{find, lookup, node, starts_mount}
-use Rattle.tree_trait.specs.Refusals.{mount_here, mount_of, refusal_of}
+use Rattle.tree_trait.specs.FileSystem.{find, starts_mount}
+use Rattle.tree_trait.specs.Refusals.{mount_here, mount_of}
 use Rattle.tree_trait.specs.Answers.{mount_number}
 use Rattle.tree_trait.specs.Change.{CallLog, current}
 use Rattle.tree_trait.specs.CrashImages.{Among, is_clean}
-use Rattle.tree_trait.proofs.Finding.{and_then-some, find-once}
+use Rattle.tree_trait.proofs.Finding.{find-once}
 use Rattle.crash_law.specs.Guarded.{Marks}
 use Rattle.job_reports.specs.declared.report.Did.{Did}
 use Rattle.job_reports.specs.declared.report.Did.TheVariants.{Ended}
-use Rattle.file_copy.specs.declared.stage.FolderState.TheVariants.{Dirty}
-use Rattle.file_copy.specs.declared.stage.SourceFacts.{SourceFacts}
-use Rattle.file_copy.specs.declared.stage.Stage.{Stage}
-use Rattle.file_copy.specs.declared.stage.Stage.TheVariants.{Begin, Fill, Clean, Left, Decided}
-use Rattle.file_copy.specs.CopyCalls.{part_mode}
-use Rattle.file_copy.specs.Copying.{Copying}
-use Rattle.job_reports.specs.Paths.{folder_of}
-use Rattle.file_copy.proofs.FilledParts.{Holds}
 use Rattle.job_reports.proofs.PermittedCalls.{stat_missing}
 use Rattle.copy_move.specs.declared.run.Course.{Course}
 use Rattle.copy_move.specs.declared.run.Course.TheVariants.{GoesOn}
 use Rattle.copy_move.specs.declared.work.Work.{Work}
-use Rattle.copy_move.specs.declared.work.Work.TheVariants.{Copy, Delete, Make, SetMode}
-use Rattle.copy_move.specs.Settling.{IsMountOf, LiesApart, NoneOwed, changed_folder}
+use Rattle.copy_move.specs.declared.work.Work.TheVariants.{Copy, CopyTree, Delete, Make, SetMode}
 use Rattle.tree_deletion.specs.declared.deletion.Stage.TheVariants.{Going}
 use Rattle.tree_deletion.specs.Folders.{is_of}
 use Rattle.crash_law.proofs.Unworked.{unworked_law}
-use Rattle.history_laws.specs.Doubt.{is_pending, way_waits, name_waits}
-use Rattle.history_laws.proofs.Knowing.{HasMode, IsCalmIn, IsKept, IsKnown, Said, settled_marks}
-
--- nothing was done at the target yet, and nothing stands there
-pub record IsUntouched (marks : Marks) (s : FileSystem) (target : Route) : Type 0 where
-  pub out : marks.aside target ≡ false
-  pub free : find s target ≡ None
-  pub was : marks.was target ≡ None
-
--- the part stands beside the target, and leads to this node
-pub record HasPart (said : Said) (marks : Marks) (s : FileSystem) (target part : Route) (i : ℕ) : Type 0 where
-  pub part_is : said.part ≡ Some part
-  pub leads : find s part ≡ Some i
-  pub loose : marks.loose i ≡ true
-  pub moves : marks.roams i ≡ true
-  pub file : (node s i).kind ≡ File
-  pub unnamed : (node s i).unnamed ≡ 0
-  pub name : List ℕ
-  pub beside : part ≡ name ∷ folder_of target
-  pub apart : part ≡ target → ⊥
-  pub untouched : IsUntouched marks s target
-
--- the part holds the first bytes of the source
-pub record IsFilled (s : FileSystem) (source part : Route) (said : SourceFacts) (done i : ℕ) : Type 0 where
-  pub n : ℕ
-  pub source_leads : find s source ≡ Some n
-  pub apart : source ≡ part → ⊥
-  pub file : (node s n).kind ≡ File
-  pub size : said.size ≡ length (node s n).bytes
-  pub mode : said.mode ≡ (node s n).mode
-  pub few : done ≤ said.size
-  pub holds : Holds (node s i) (take done (node s n).bytes) (part_mode said.mode)
-
--- the path has a last name
-pub record HasName (path : Route) : Type 0 where
-  pub name : List ℕ
-  pub is : path ≡ name ∷ folder_of path
+use Rattle.history_laws.specs.Doubt.{way_waits}
+use Rattle.history_laws.proofs.Knowing.{HasMode, IsCalmIn, IsKept, Said, settled_marks}
+use Rattle.job_reports.specs.Paths.{folder_of}
+use Rattle.tree_trait.specs.Shape.{IsTree}
+use Rattle.tree_trait.specs.Change.{Change, Nothing, Syncs, with_change}
+use Rattle.crash_law.proofs.Leading.{current_more}
+use Rattle.history_laws.proofs.KnownParts.{file_said}
+use Rattle.history_laws.proofs.TreeKnown.{IsStill, TreeKnown, is_over, tree_course, tree_said, tree_settled, tree_still}
+pub use Rattle.history_laws.proofs.KnownParts.{FileKnows, HasLink, HasName, HasPart, IsFilled, IsLeftPart, LinkKnows, StageKnows, file_course, file_settled, part_settled, stage_course, stage_settled, untouched_settled}
+pub use Rattle.history_laws.proofs.Untouched.{IsUntouched, NoneOn, none_on, none_waits, untouched_free, way_sure}
 
 -- at and below the path stands what the job found there, or nothing any more
 abbrev pub IsIntact : Marks → FileSystem → Route → Type 0
 IsIntact marks s top = (rest : Route) → marks.aside (rest ++ top) ≡ false → (find s (rest ++ top) ≡ marks.was (rest ++ top)) ⊎ (find s (rest ++ top) ≡ None)
-
-abbrev pub StageKnows : Said → Marks → FileSystem → Course → Copying → Stage → Type 0
-StageKnows told marks s course c Begin = (told.part ≡ None) × (c.folder ≡ Dirty → IsUntouched marks s c.target)
-StageKnows told marks s course c (Fill part said done) =
-    (c.folder ≡ Dirty) × ((i : ℕ) × HasPart told marks s c.target part i × (course ≡ GoesOn → IsFilled s c.source part said done i))
-StageKnows told marks s course c (Clean part follows) = (c.folder ≡ Dirty) × ((i : ℕ) × HasPart told marks s c.target part i)
-StageKnows told marks s course c (Left part) = (i : ℕ) × HasPart told marks s c.target part i
-StageKnows told marks s course c Decided = told.part ≡ None
 
 -- of a deletion that goes on: the folder that holds the thing is on the disk, too, and in it, and within the thing, no mode waits
 abbrev pub KnowsWithin : Said → Marks → FileSystem → Route → Type 0
 KnowsWithin told marks s top = IsIntact marks s top × (told.folders (folder_of top) ≡ true) × ((q : Route) → is_of (folder_of top) top q ≡ true → told.calm q ≡ true)
 
 abbrev pub WorkKnows : Said → List Route → Marks → CallLog → Course → Work → Type 0
-WorkKnows told dirty marks log course (Copy c) =
-    HasName c.target × (c.folder ≡ Dirty → Among dirty (folder_of c.target) × (told.folders (folder_of c.target) ≡ true) × (told.calm (folder_of c.target) ≡ true)) × StageKnows told marks (current log) course c c.stage
+WorkKnows told dirty marks log course (Copy c) = FileKnows told dirty marks (current log) course c
+WorkKnows told dirty marks log course (CopyTree c) = TreeKnown told dirty marks log course c
 WorkKnows told dirty marks log course (Delete d) =
     HasName d.path × (told.part ≡ None) × (d.stage ≡ Going → KnowsWithin told marks (current log) d.path)
 WorkKnows told dirty marks log course (Make m) = HasName m.path × (told.part ≡ None)
 WorkKnows told dirty marks log course (SetMode s) = HasName s.path × (told.part ≡ None)
-
--- a path at which nothing stands, and of whose name nothing waits
-pub untouched_free : (told : Said) (dirty : List Route) (marks : Marks) (log : CallLog) (p : Route) → IsKept told dirty marks log → way_waits log p ≡ false → find (current log) p ≡ None → IsUntouched marks (current log) p
-untouched_free told dirty marks log p kept sure free =
-    let out = not_aside (marks.aside p) refl in
-    record { out = out; free = free; was = kept.was p out sure ∙ free }
-  where
-    not_aside : (b : Bool) → marks.aside p ≡ b → marks.aside p ≡ false
-    not_aside false is = is
-    not_aside true is = elim (kept.aside p is) [
-      | inl waits ↦ absurd (both_ways _ sure waits)
-      | inr stands ↦ absurd (false≢true (sym (ap is_some free) ∙ stands))
-    ]
-
--- no dirty folder lies on the mount of this one, but for those that were removed
-abbrev pub NoneOn : FileSystem → Route → List Route → Type 0
-NoneOn s up dirty = (kept : Route) → Among dirty kept → (refusal_of s (Stat kept) ≡ Some Missing) ⊎ LiesApart s up kept
-
--- so it is where none is owed
-pub none_on : (s : FileSystem) (work : Work) (dirty : List Route) → NoneOwed s work dirty → NoneOn s (changed_folder work) dirty
-none_on s work dirty none kept among = elim (none kept among) [ inl gone ↦ inl gone | inr apart ↦ inr apart.1 ]
-
--- Where no dirty folder lies on the mount of this one, nothing waits in it.
-pub none_waits : (told : Said) (dirty : List Route) (marks : Marks) (log : CallLog) (up : Route) → IsKnown told dirty marks log → NoneOn (current log) up dirty → (m : List ℕ) → name_waits log (m ∷ up) ≡ false
-none_waits told dirty marks log up known none m = by (find (current log) up) refl
-  where
-    listed : (f : ℕ) → find (current log) up ≡ Some f → (q : Route) × Among dirty q × (find (current log) q ≡ Some f) → true ≡ false
-    listed f at t =
-        let same = find-once (current log) known.guarded.tree t.0 up f t.2 at in
-        elim (none t.0 t.1) [
-          | inl gone ↦ absurd (let e : (let o : Option ℕ = None in o) ≡ Some f = sym (stat_missing (current log) t.0 gone) ∙ t.2 in cc)
-          | inr elsewhere ↦ absurd (elsewhere.2 (subst (λ q. elsewhere.0 ≡ mount_number (current log).mounts (mount_of (current log) q)) (sym same) elsewhere.1))
-        ]
-
-    no_more : (f : ℕ) → find (current log) up ≡ Some f → (b : Bool) → is_pending f m log.changes ≡ b → b ≡ false
-    no_more f at false is = refl
-    no_more f at true is = elim (known.tracked f m is) [ inl t ↦ listed f at t | inr unreached ↦ absurd (unreached up at) ]
-
-    by : (o : Option ℕ) → find (current log) up ≡ o → name_waits log (m ∷ up) ≡ false
-    by None is = ap (λ x. option_map_or (λ f. is_pending f m log.changes) x false) is
-    by (Some f) is = ap (λ x. option_map_or (λ f. is_pending f m log.changes) x false) is ∙ no_more f is (is_pending f m log.changes) refl
-
--- nor is the folder itself in doubt, nor one above it: those on other mounts never are
-pub way_sure : (told : Said) (dirty : List Route) (marks : Marks) (log : CallLog) (up : Route) (i : ℕ) → IsKnown told dirty marks log → find (current log) up ≡ Some i → NoneOn (current log) up dirty
-    → way_waits log up ≡ false
-way_sure told dirty marks log [] i known at none = refl
-way_sure told dirty marks log (name ∷ up) i known at none =
-    by (starts_mount (current log) i) refl (λ above. way_sure told dirty marks log up h.0 known h.1 above)
-  where
-    h : (g : ℕ) × (find (current log) up ≡ Some g) × (lookup (current log).names g name ≡ Some i)
-    h = and_then-some (find (current log) up) (λ g. lookup (current log).names g name) i at
-
-    by : (b : Bool) → starts_mount (current log) i ≡ b → (NoneOn (current log) up dirty → way_waits log up ≡ false) → way_waits log (name ∷ up) ≡ false
-    by true starts rest = known.files.mounts (name ∷ up) (ap (λ o. option_map_or (starts_mount (current log)) o false) at ∙ starts)
-    by false starts rest =
-        let same : mount_of (current log) (name ∷ up) ≡ mount_of (current log) up =
-        ap (λ o. mount_here (current log) o (mount_of (current log) up)) at ∙ ap (λ b. cond b i (mount_of (current log) up)) starts in
-        let above = subst (λ n. (kept : Route) → Among dirty kept → (refusal_of (current log) (Stat kept) ≡ Some Missing)
-        ⊎ ((number : ℕ) × (number ≡ mount_number (current log).mounts n) × (IsMountOf (current log) kept number → ⊥))) same none in
-        ap (λ b. b || way_waits log up) (none_waits told dirty marks log up known above name) ∙ rest above
 
 -- a mode that waits is of a path at which something stands, which is listed
 module _ (told : Said) (dirty : List Route) (marks : Marks) (log : CallLog) (kept : IsKept told dirty marks log) where
@@ -200,31 +92,6 @@ module _ (told : Said) (dirty : List Route) (marks : Marks) (log : CallLog) (kep
 
 -- What is known of a job is known with the marks that are settled.
 module _ (log : CallLog) (marks : Marks) where
-  pub untouched_settled : (p : Route) → IsUntouched marks (current log) p → IsUntouched (settled_marks log marks) (current log) p
-  untouched_settled p u = record {
-    out = ap (λ a. a && (way_waits log p || is_some (find (current log) p))) u.out;
-    free = u.free;
-    was = by (way_waits log p);
-  }
-    where
-      by : (b : Bool) → cond b (marks.was p) (find (current log) p) ≡ None
-      by true = u.was
-      by false = u.free
-
-  pub part_settled : (told : Said) (target part : Route) (i : ℕ) → HasPart told marks (current log) target part i → HasPart told (settled_marks log marks) (current log) target part i
-  part_settled told target part i h = record {
-    part_is = h.part_is;
-    leads = h.leads;
-    loose = h.loose;
-    moves = h.moves;
-    file = h.file;
-    unnamed = h.unnamed;
-    name = h.name;
-    beside = h.beside;
-    apart = h.apart;
-    untouched = untouched_settled target h.untouched;
-  }
-
   -- what is taken back stands, or it is said of it what was said
   remarked : (p : Route) → (let m = settled_marks log marks in m.aside p) ≡ false → (u : Bool) → way_waits log p ≡ u
       → (find (current log) p ≡ (let m = settled_marks log marks in m.was p)) ⊎ ((find (current log) p ≡ None) ⊎ ((marks.aside p ≡ false) × ((let m = settled_marks log marks in m.was p) ≡ marks.was p)))
@@ -238,39 +105,52 @@ module _ (log : CallLog) (marks : Marks) where
   pub intact_settled : (top : Route) → IsIntact marks (current log) top → IsIntact (settled_marks log marks) (current log) top
   intact_settled top known = unworked_law.remarked marks (settled_marks log marks) log top (λ p out. remarked p out (way_waits log p) refl) known
 
-  stage_settled : (told : Said) (course : Course) (c : Copying) (stage : Stage) → StageKnows told marks (current log) course c stage → StageKnows told (settled_marks log marks) (current log) course c stage
-  stage_settled told course c Begin (none, untouched) = (none, λ dirty. untouched_settled c.target (untouched dirty))
-  stage_settled told course c (Fill part said done) (dirty, (i, has, filled)) = (dirty, (i, part_settled told c.target part i has, filled))
-  stage_settled told course c (Clean part follows) (dirty, (i, has)) = (dirty, (i, part_settled told c.target part i has))
-  stage_settled told course c (Left part) (i, has) = (i, part_settled told c.target part i has)
-  stage_settled told course c Decided none = none
-
   pub work_settled : (told : Said) (dirty : List Route) (course : Course) (work : Work) → WorkKnows told dirty marks log course work → WorkKnows told dirty (settled_marks log marks) log course work
-  work_settled told dirty course (Copy c) (name, listed, stage) = (name, listed, stage_settled told course c c.stage stage)
+  work_settled told dirty course (Copy c) k = file_settled log marks told dirty course c k
+  work_settled told dirty course (CopyTree c) k = tree_settled log marks told dirty course c k
   work_settled told dirty course (Delete d) (name, none, intact) = (name, none, λ is. let k = intact is in (intact_settled d.path k.0, k.1, k.2))
   work_settled told dirty course (Make w) k = k
   work_settled told dirty course (SetMode s) k = k
 
--- a job that goes on only where it went on knows what it knew
-pub stage_course : (told : Said) (marks : Marks) (s : FileSystem) (course other : Course) (c : Copying) (stage : Stage) → (other ≡ GoesOn → course ≡ GoesOn) → StageKnows told marks s course c stage → StageKnows told marks s other c stage
-stage_course told marks s course other c Begin on k = k
-stage_course told marks s course other c (Fill part said done) on (dirty, (i, has, filled)) = (dirty, (i, has, λ e. filled (on e)))
-stage_course told marks s course other c (Clean part follows) on k = k
-stage_course told marks s course other c (Left part) on k = k
-stage_course told marks s course other c Decided on k = k
+-- A job that goes on only where it went on, and isn't in its last steps where it wasn't, knows what it knew.
+pub work_course : (told : Said) (dirty : List Route) (marks : Marks) (log : CallLog) (course other : Course) (work : Work) → (other ≡ GoesOn → course ≡ GoesOn) → (is_over other ≡ false → is_over course ≡ false)
+    → WorkKnows told dirty marks log course work → WorkKnows told dirty marks log other work
+work_course told dirty marks log course other (Copy c) on over k = file_course told dirty marks (current log) course other c on k
+work_course told dirty marks log course other (CopyTree c) on over k = tree_course told dirty marks log course other c on over k
+work_course told dirty marks log course other (Delete d) on over k = k
+work_course told dirty marks log course other (Make w) on over k = k
+work_course told dirty marks log course other (SetMode s) on over k = k
 
-pub work_course : (told : Said) (dirty : List Route) (marks : Marks) (log : CallLog) (course other : Course) (work : Work) → (other ≡ GoesOn → course ≡ GoesOn) → WorkKnows told dirty marks log course work → WorkKnows told dirty marks log other work
-work_course told dirty marks log course other (Copy c) on (name, listed, stage) = (name, listed, stage_course told marks (current log) course other c c.stage on stage)
-work_course told dirty marks log course other (Delete d) on k = k
-work_course told dirty marks log course other (Make w) on k = k
-work_course told dirty marks log course other (SetMode s) on k = k
+-- a sync, and a call that was refused, leave the tree as it was
+still_same : (log now : CallLog) → IsStill log now → current now ≡ current log
+still_same log now (c, is, how) = ap current is ∙ by c how
+  where
+    by : (c : Change) → (c ≡ Nothing) ⊎ ((f : ℕ) × (c ≡ Syncs f)) → current (with_change log c) ≡ current log
+    by c (inl none) = ap (λ (x : Change). current (with_change log x)) none ∙ current_more log Nothing
+    by c (inr (f, sync)) = ap (λ (x : Change). current (with_change log x)) sync ∙ current_more log (Syncs f)
 
--- what is known holds on after a call that leaves the tree as it was
-pub work_still : (told : Said) (dirty : List Route) (marks : Marks) (log now : CallLog) (course : Course) (work : Work) → current now ≡ current log → WorkKnows told dirty marks log course work → WorkKnows told dirty marks now course work
-work_still told dirty marks log now course (Copy c) same (name, listed, stage) = (name, listed, subst (λ (s : FileSystem). StageKnows told marks s course c c.stage) (sym same) stage)
-work_still told dirty marks log now course (Delete d) same (name, none, known) = (name, none, λ is. let k = known is in (subst (λ (s : FileSystem). IsIntact marks s d.path) (sym same) k.0, k.1, k.2))
-work_still told dirty marks log now course (Make m) same k = k
-work_still told dirty marks log now course (SetMode s) same k = k
+-- so what is known holds on
+pub work_still : (told : Said) (dirty : List Route) (marks : Marks) (log now : CallLog) (course : Course) (work : Work) → IsTree (current log) → IsStill log now → WorkKnows told dirty marks log course work
+    → WorkKnows told dirty marks now course work
+work_still told dirty marks log now course (Copy c) tree still k = subst (λ (s : FileSystem). FileKnows told dirty marks s course c) (sym (still_same log now still)) k
+work_still told dirty marks log now course (CopyTree c) tree still k = tree_still told dirty marks log now course c tree still k
+work_still told dirty marks log now course (Delete d) tree still (name, none, known) =
+    (name, none, λ is. let k = known is in (subst (λ (s : FileSystem). IsIntact marks s d.path) (sym (still_same log now still)) k.0, k.1, k.2))
+work_still told dirty marks log now course (Make m) tree still k = k
+work_still told dirty marks log now course (SetMode s) tree still k = k
+
+-- What is known of a job hangs on the tree, the part, the folders on the disk and the calm folders of what a history says.
+pub work_said : (told other : Said) → other.tree ≡ told.tree → other.part ≡ told.part → other.folders ≡ told.folders → other.calm ≡ told.calm → (dirty : List Route) (marks : Marks) (log : CallLog) (course : Course) (work : Work)
+    → WorkKnows told dirty marks log course work → WorkKnows other dirty marks log course work
+work_said told other tree part folders calm dirty marks log course (Copy c) k = file_said told other part folders calm marks (current log) dirty course c k
+work_said told other tree part folders calm dirty marks log course (CopyTree c) k = tree_said told other tree part folders calm dirty marks log course c k
+work_said told other tree part folders calm dirty marks log course (Delete d) (name, none, known) = (
+  name,
+  part ∙ none,
+  λ is. let k = known is in (k.0, ap (λ b. b (folder_of d.path)) folders ∙ k.1, λ q own. ap (λ b. b q) calm ∙ k.2 q own),
+)
+work_said told other tree part folders calm dirty marks log course (Make m) (name, none) = (name, part ∙ none)
+work_said told other tree part folders calm dirty marks log course (SetMode s) (name, none) = (name, part ∙ none)
 
 -- what is known after a report: of a job that has ended no part stands
 abbrev pub KnowsAfter : Did → Said → List Route → CallLog → Course → Work → Marks → Type 0

@@ -1,29 +1,25 @@
 -- A step of a job, by its course; and the sync of a folder that an ended job left.
-use Rattle.std.proofs.Common.{◌≡◌, true, List, refl, sym, ◌∙◌, ap, subst, inl, inr, Some}
+use Rattle.std.proofs.Common.{◌≡◌, ℕ, true, false, List, refl, sym, ◌∙◌, ap, subst, inl, inr, Some}
 use Rattle.mc_text.specs.Routes.{Route}
-use Rattle.tree_trait.specs.declared.file_system.FileSystem.{FileSystem}
 use Rattle.tree_trait.specs.Change.{CallLog, current}
 use Rattle.crash_law.specs.Guarded.{Marks}
 use Rattle.tree_trait.proofs.Visible.{same_path-true}
 use Rattle.job_reports.specs.Paths.{folder_of}
-use Rattle.job_reports.specs.declared.report.Cause.TheVariants.{Memory}
+use Rattle.job_reports.specs.declared.report.Cause.{Cause}
 use Rattle.job_reports.specs.declared.report.Ending.{Ending}
 use Rattle.job_reports.specs.declared.report.Did.{Did}
 use Rattle.job_reports.specs.declared.report.Did.TheVariants.{Skipped, Barrier, Troubled}
-use Rattle.file_copy.specs.declared.stage.Stage.{Stage}
-use Rattle.file_copy.specs.declared.stage.Stage.TheVariants.{Begin, Fill, Clean, Left, Decided}
 use Rattle.file_copy.specs.Copying.{Copying}
-use Rattle.file_copy.specs.Copying as copying
 use Rattle.job_reports.proofs.CallAnswers.{some_log}
 use Rattle.copy_move.specs.declared.work.Work.{Work}
-use Rattle.copy_move.specs.declared.work.Work.TheVariants.{Copy, Delete, Make, SetMode}
+use Rattle.copy_move.specs.declared.work.Work.TheVariants.{Copy, CopyTree, Delete, Make, SetMode}
 use Rattle.copy_move.specs.declared.run.Course.{Course}
 use Rattle.copy_move.specs.declared.run.Course.TheVariants.{GoesOn, InTrouble, OwedSyncFailed, Skips, Ends}
 use Rattle.copy_move.specs.Makings.{Making}
-use Rattle.copy_move.specs.Jobs.{Running, CallsOn, TellsOn, WorkCalls, WorkLastCalls, WorkTells, PassesOver, WorkWinds, course_after, is_fresh}
+use Rattle.copy_move.specs.Jobs.{Running, CallsOn, TellsOn, WorkCalls, WorkLastCalls, WorkTells, PassesOver, WorkWinds, course_after, is_fresh, unreported_skip}
 use Rattle.copy_move.specs.DeletionSteps.{after_try}
 use Rattle.copy_move.specs.Settling.{NoneOwed, WorkLeaves}
-use Rattle.copy_move.specs.Steps.{LeavesDirty}
+use Rattle.copy_move.specs.Steps.{LeavesDirty, SkipWalks, WalksOn}
 use Rattle.history_laws.specs.Traces.{IsUnclaimed, SyncLeads, WorkLeads}
 use Rattle.mode_setting.specs.Settings.{Setting}
 use Rattle.history_laws.proofs.Calming.{thing_stopped}
@@ -35,108 +31,141 @@ use Rattle.history_laws.proofs.CopySteps.{copy_tells}
 use Rattle.history_laws.proofs.Filling.{begins_owed}
 use Rattle.history_laws.proofs.JobSteps.{copy_winds, fresh_knows}
 use Rattle.history_laws.proofs.Knowing.{Said, IsKept}
-use Rattle.history_laws.proofs.JobKnows.{KnowsAfter, StageKnows, WorkKnows, none_on, work_course}
+use Rattle.history_laws.proofs.JobKnows.{KnowsAfter, WorkKnows, none_on, work_course}
+use Rattle.history_laws.proofs.KnownParts.{stage_skipped}
 use Rattle.history_laws.proofs.Stepped.{Comes, said_after}
-
-skip_stage : (told : Said) (m : Marks) (s : FileSystem) (course : Course) (c : Copying) (stage : Stage) → StageKnows told m s course c stage
-    → StageKnows told m s GoesOn (record c { stage = copying.skipped stage }) (copying.skipped stage)
-skip_stage told m s course c Begin k = k.0
-skip_stage told m s course c (Fill part said done) k = (k.0, (k.1.0, k.1.1))
-skip_stage told m s course c (Clean part follows) k = k
-skip_stage told m s course c (Left part) k = k
-skip_stage told m s course c Decided k = k
+use Rattle.history_laws.proofs.TreeKnown.{is_over}
+use Rattle.history_laws.proofs.TreeSkipped.{skips_tree}
+use Rattle.history_laws.proofs.TreeTells.{tree_tells}
+use Rattle.history_laws.proofs.TreeWinds.{tree_winds}
 
 module _ (told : Said) (dirty dirty_after : List Route) (marks : Marks) (log now : CallLog) (kept : IsKept told dirty marks log) where
-  skip_knows : (course : Course) (work new : Work) (path : Route) → PassesOver work path new → WorkKnows told dirty marks log course work → WorkKnows told dirty marks log GoesOn new
-  skip_knows course (Copy c) (Copy new) path (path_is, new_is) (name, listed, stage) =
-      subst (λ (n : Copying). WorkKnows told dirty marks log GoesOn (Copy n)) (sym new_is) (name, listed, skip_stage told marks (current log) course c c.stage stage)
-  skip_knows course (Copy c) (Delete new) path h k = absurd h
-  skip_knows course (Copy c) (Make new) path h k = absurd h
-  skip_knows course (Delete d) (Copy new) path h k = absurd h
-  skip_knows course (Delete d) (Make new) path h k = absurd h
-  skip_knows course (Make m) (Copy new) path h k = absurd h
-  skip_knows course (SetMode s) (Copy new) path h k = absurd h
-  skip_knows course (SetMode s) (Delete new) path h k = absurd h
-  skip_knows course (SetMode s) (Make new) path h k = absurd h
-  skip_knows course (Copy c) (SetMode new) path h k = absurd h
-  skip_knows course (Delete d) (SetMode new) path h k = absurd h
-  skip_knows course (Make m) (SetMode new) path h k = absurd h
-  skip_knows course (Make m) (Delete new) path h k = absurd h
-  skip_knows course (SetMode s) (SetMode new) path (path_is, new_is) k = subst (λ (n : Setting). WorkKnows told dirty marks log GoesOn (SetMode n)) (sym new_is) k
-  skip_knows course (Make m) (Make new) path (path_is, new_is) k = subst (λ (n : Making). WorkKnows told dirty marks log GoesOn (Make n)) (sym new_is) k
-  skip_knows course (Delete d) (Delete new) path at k = stays told dirty dirty_after marks log now kept course GoesOn d new _ k at (still_going told dirty dirty_after marks log now kept path d) dirty
+  skip_knows : (course : Course) (work new : Work) (path : Route) (cause : Cause) → is_over course ≡ false → PassesOver work path new → SkipWalks cause work (Skipped path cause) new → WorkKnows told dirty marks log course work
+      → WorkKnows told dirty marks log GoesOn new
+  skip_knows course (Copy c) (Copy new) path cause going (path_is, new_is) walks (name, listed, stage) =
+      subst (λ (n : Copying). WorkKnows told dirty marks log GoesOn (Copy n)) (sym new_is) (name, listed, stage_skipped told marks (current log) course GoesOn c c.stage stage)
+  skip_knows course (Copy c) (Delete new) path cause going h walks k = absurd h
+  skip_knows course (Copy c) (Make new) path cause going h walks k = absurd h
+  skip_knows course (Delete d) (Copy new) path cause going h walks k = absurd h
+  skip_knows course (Delete d) (Make new) path cause going h walks k = absurd h
+  skip_knows course (Make m) (Copy new) path cause going h walks k = absurd h
+  skip_knows course (SetMode s) (Copy new) path cause going h walks k = absurd h
+  skip_knows course (CopyTree s) (Copy new) path cause going h walks k = absurd h
+  skip_knows course (SetMode s) (CopyTree new) path cause going h walks k = absurd h
+  skip_knows course (SetMode s) (Delete new) path cause going h walks k = absurd h
+  skip_knows course (CopyTree s) (Delete new) path cause going h walks k = absurd h
+  skip_knows course (SetMode s) (Make new) path cause going h walks k = absurd h
+  skip_knows course (CopyTree s) (Make new) path cause going h walks k = absurd h
+  skip_knows course (Copy c) (SetMode new) path cause going h walks k = absurd h
+  skip_knows course (Copy c) (CopyTree new) path cause going h walks k = absurd h
+  skip_knows course (CopyTree c) (SetMode new) path cause going h walks k = absurd h
+  skip_knows course (Delete d) (SetMode new) path cause going h walks k = absurd h
+  skip_knows course (Delete d) (CopyTree new) path cause going h walks k = absurd h
+  skip_knows course (Make m) (SetMode new) path cause going h walks k = absurd h
+  skip_knows course (Make m) (CopyTree new) path cause going h walks k = absurd h
+  skip_knows course (Make m) (Delete new) path cause going h walks k = absurd h
+  skip_knows course (SetMode s) (SetMode new) path cause going (path_is, new_is) walks k = subst (λ (n : Setting). WorkKnows told dirty marks log GoesOn (SetMode n)) (sym new_is) k
+  skip_knows course (Make m) (Make new) path cause going (path_is, new_is) walks k = subst (λ (n : Making). WorkKnows told dirty marks log GoesOn (Make n)) (sym new_is) k
+  skip_knows course (Delete d) (Delete new) path cause going at walks k = stays told dirty dirty_after marks log now kept course GoesOn d new _ k at (still_going told dirty dirty_after marks log now kept path d) dirty
+  skip_knows course (CopyTree c) (CopyTree new) path cause going h walks k =
+      skips_tree told dirty marks log course GoesOn cause c new (Skipped path cause) going (λ trouble is on. let f : ⊥ = cc in f) walks k
+
+  -- what the machine of the work did
+  abbrev WorkWalks : Course → Work → Did → Work → Type 0
+  WorkWalks course old did new = (count : ℕ) × (f0 : ℕ) × (f1 : ℕ) × WalksOn IsUnclaimed course old new did count dirty dirty_after (Some log) (Some now) f0 f1
 
   work_tells : (old new : Work) (did : Did) → WorkKnows told dirty marks log GoesOn old → WorkTells old did new → WorkCalls IsUnclaimed old did new log (Some now)
-      → (is_fresh old ≡ true → NoneOwed (current log) old dirty) → WorkLeaves old did new dirty dirty_after (Some log) (Some now)
+      → (is_fresh old ≡ true → NoneOwed (current log) old dirty) → WorkLeaves old did new dirty dirty_after (Some log) (Some now) → WorkWalks GoesOn old did new
       → Steps told dirty dirty_after marks log now kept did (course_after did) old new
-  work_tells (Copy c) (Copy new) did knows tells calls settled leaves = copy_tells told dirty dirty_after marks log now kept c new did knows tells calls (λ fresh. begins_owed told dirty marks log c.target kept knows.0 (none_on (current log) (Copy c) dirty (settled fresh))) leaves
-  work_tells (Delete d) (Delete new) did knows tells calls settled leaves = deletion_tells told dirty dirty_after marks log now kept d new did knows tells calls settled leaves
-  work_tells (Make w) (Make new) did knows tells calls settled leaves = making_tells told dirty dirty_after marks log now kept w new did knows tells calls (λ fresh. none_on (current log) (Make w) dirty (settled fresh)) leaves
-  work_tells (SetMode s) (SetMode new) did knows tells calls settled leaves = setting_tells told dirty dirty_after marks log now kept s new did knows tells calls settled leaves
-  work_tells (Copy c) (Delete new) did knows tells calls settled leaves = absurd tells
-  work_tells (Copy c) (Make new) did knows tells calls settled leaves = absurd tells
-  work_tells (Delete d) (Copy new) did knows tells calls settled leaves = absurd tells
-  work_tells (Delete d) (Make new) did knows tells calls settled leaves = absurd tells
-  work_tells (Make w) (Copy new) did knows tells calls settled leaves = absurd tells
-  work_tells (SetMode s) (Copy new) did knows tells calls settled leaves = absurd tells
-  work_tells (SetMode s) (Delete new) did knows tells calls settled leaves = absurd tells
-  work_tells (SetMode s) (Make new) did knows tells calls settled leaves = absurd tells
-  work_tells (Copy c) (SetMode new) did knows tells calls settled leaves = absurd tells
-  work_tells (Delete d) (SetMode new) did knows tells calls settled leaves = absurd tells
-  work_tells (Make w) (SetMode new) did knows tells calls settled leaves = absurd tells
-  work_tells (Make w) (Delete new) did knows tells calls settled leaves = absurd tells
+  work_tells (Copy c) (Copy new) did knows tells calls settled leaves walks = copy_tells told dirty dirty_after marks log now kept c IsUnclaimed new did knows tells calls (λ fresh. begins_owed told dirty marks log c.target kept knows.0 (none_on (current log) (Copy c) dirty (settled fresh))) leaves
+  work_tells (Delete d) (Delete new) did knows tells calls settled leaves walks = deletion_tells told dirty dirty_after marks log now kept d new did knows tells calls settled leaves
+  work_tells (Make w) (Make new) did knows tells calls settled leaves walks = making_tells told dirty dirty_after marks log now kept w new did knows tells calls (λ fresh. none_on (current log) (Make w) dirty (settled fresh)) leaves
+  work_tells (SetMode s) (SetMode new) did knows tells calls settled leaves walks = setting_tells told dirty dirty_after marks log now kept s new did knows tells calls settled leaves
+  work_tells (CopyTree c) (CopyTree new) did knows tells calls settled leaves (count, f0, f1, goes) = tree_tells told dirty dirty_after marks log now kept c new did knows tells settled goes.free count goes.since f1 goes.steps
+  work_tells (Copy c) (Delete new) did knows tells calls settled leaves walks = absurd tells
+  work_tells (Copy c) (Make new) did knows tells calls settled leaves walks = absurd tells
+  work_tells (Delete d) (Copy new) did knows tells calls settled leaves walks = absurd tells
+  work_tells (Delete d) (Make new) did knows tells calls settled leaves walks = absurd tells
+  work_tells (Make w) (Copy new) did knows tells calls settled leaves walks = absurd tells
+  work_tells (SetMode s) (Copy new) did knows tells calls settled leaves walks = absurd tells
+  work_tells (CopyTree s) (Copy new) did knows tells calls settled leaves walks = absurd tells
+  work_tells (SetMode s) (CopyTree new) did knows tells calls settled leaves walks = absurd tells
+  work_tells (SetMode s) (Delete new) did knows tells calls settled leaves walks = absurd tells
+  work_tells (CopyTree s) (Delete new) did knows tells calls settled leaves walks = absurd tells
+  work_tells (SetMode s) (Make new) did knows tells calls settled leaves walks = absurd tells
+  work_tells (CopyTree s) (Make new) did knows tells calls settled leaves walks = absurd tells
+  work_tells (Copy c) (SetMode new) did knows tells calls settled leaves walks = absurd tells
+  work_tells (Copy c) (CopyTree new) did knows tells calls settled leaves walks = absurd tells
+  work_tells (CopyTree c) (SetMode new) did knows tells calls settled leaves walks = absurd tells
+  work_tells (Delete d) (SetMode new) did knows tells calls settled leaves walks = absurd tells
+  work_tells (Delete d) (CopyTree new) did knows tells calls settled leaves walks = absurd tells
+  work_tells (Make w) (SetMode new) did knows tells calls settled leaves walks = absurd tells
+  work_tells (Make w) (CopyTree new) did knows tells calls settled leaves walks = absurd tells
+  work_tells (Make w) (Delete new) did knows tells calls settled leaves walks = absurd tells
 
   work_winds : (ending : Ending) (old new : Work) (did : Did) → WorkKnows told dirty marks log (Ends ending) old → WorkWinds ending old did new → WorkLastCalls old did log (Some now)
-      → LeavesDirty (Ends ending) old did new dirty dirty_after (Some log) (Some now) → Steps told dirty dirty_after marks log now kept did (Ends ending) old new
-  work_winds ending (Copy c) (Copy new) did knows winds calls leaves =
+      → LeavesDirty (Ends ending) old did new dirty dirty_after (Some log) (Some now) → WorkWalks (Ends ending) old did new → Steps told dirty dirty_after marks log now kept did (Ends ending) old new
+  work_winds ending (Copy c) (Copy new) did knows winds calls leaves walks =
       copy_winds told dirty dirty_after marks log now kept c new ending did leaves.refusal knows winds (leaves.tried log refl) calls
       (leaves.dirty_is ∙ ap (λ f. after_try did leaves.refusal f dirty) (same_path-true leaves.folder (folder_of c.target) leaves.own))
-  work_winds ending (Delete d) (Delete new) did knows winds calls leaves =
+  work_winds ending (Delete d) (Delete new) did knows winds calls leaves walks =
       deletion_winds told dirty dirty_after marks log now kept d new ending did leaves.refusal leaves.folder knows winds (leaves.tried log refl) calls leaves.dirty_is
-  work_winds ending (Make m) (Make new) did knows winds calls leaves =
+  work_winds ending (Make m) (Make new) did knows winds calls leaves walks =
       making_winds told dirty dirty_after marks log now kept m new ending did leaves.refusal knows winds (leaves.tried log refl) calls
       (leaves.dirty_is ∙ ap (λ f. after_try did leaves.refusal f dirty) (same_path-true leaves.folder (folder_of m.path) leaves.own))
-  work_winds ending (SetMode s) (SetMode new) did knows winds calls leaves =
+  work_winds ending (SetMode s) (SetMode new) did knows winds calls leaves walks =
       setting_winds told dirty dirty_after marks log now kept s new ending did leaves.refusal knows winds (leaves.tried log refl) calls
       (leaves.dirty_is ∙ ap (λ f. after_try did leaves.refusal f dirty) (same_path-true leaves.folder s.path leaves.own))
-  work_winds ending (Copy c) (Delete new) did knows winds calls leaves = absurd winds
-  work_winds ending (Copy c) (Make new) did knows winds calls leaves = absurd winds
-  work_winds ending (Delete d) (Copy new) did knows winds calls leaves = absurd winds
-  work_winds ending (Delete d) (Make new) did knows winds calls leaves = absurd winds
-  work_winds ending (Make m) (Copy new) did knows winds calls leaves = absurd winds
-  work_winds ending (SetMode s) (Copy new) did knows winds calls leaves = absurd winds
-  work_winds ending (SetMode s) (Delete new) did knows winds calls leaves = absurd winds
-  work_winds ending (SetMode s) (Make new) did knows winds calls leaves = absurd winds
-  work_winds ending (Copy c) (SetMode new) did knows winds calls leaves = absurd winds
-  work_winds ending (Delete d) (SetMode new) did knows winds calls leaves = absurd winds
-  work_winds ending (Make m) (SetMode new) did knows winds calls leaves = absurd winds
-  work_winds ending (Make m) (Delete new) did knows winds calls leaves = absurd winds
+  work_winds ending (Copy c) (Delete new) did knows winds calls leaves walks = absurd winds
+  work_winds ending (Copy c) (Make new) did knows winds calls leaves walks = absurd winds
+  work_winds ending (Delete d) (Copy new) did knows winds calls leaves walks = absurd winds
+  work_winds ending (Delete d) (Make new) did knows winds calls leaves walks = absurd winds
+  work_winds ending (Make m) (Copy new) did knows winds calls leaves walks = absurd winds
+  work_winds ending (SetMode s) (Copy new) did knows winds calls leaves walks = absurd winds
+  work_winds ending (CopyTree s) (Copy new) did knows winds calls leaves walks = absurd winds
+  work_winds ending (SetMode s) (CopyTree new) did knows winds calls leaves walks = absurd winds
+  work_winds ending (SetMode s) (Delete new) did knows winds calls leaves walks = absurd winds
+  work_winds ending (CopyTree s) (Delete new) did knows winds calls leaves walks = absurd winds
+  work_winds ending (SetMode s) (Make new) did knows winds calls leaves walks = absurd winds
+  work_winds ending (CopyTree s) (Make new) did knows winds calls leaves walks = absurd winds
+  work_winds ending (Copy c) (SetMode new) did knows winds calls leaves walks = absurd winds
+  work_winds ending (Copy c) (CopyTree new) did knows winds calls leaves walks = absurd winds
+  work_winds ending (CopyTree c) (SetMode new) did knows winds calls leaves walks = absurd winds
+  work_winds ending (Delete d) (SetMode new) did knows winds calls leaves walks = absurd winds
+  work_winds ending (Delete d) (CopyTree new) did knows winds calls leaves walks = absurd winds
+  work_winds ending (Make m) (SetMode new) did knows winds calls leaves walks = absurd winds
+  work_winds ending (Make m) (CopyTree new) did knows winds calls leaves walks = absurd winds
+  work_winds ending (Make m) (Delete new) did knows winds calls leaves walks = absurd winds
+  work_winds ending (CopyTree c) (CopyTree new) did knows winds calls leaves (count, f0, f1, (tells, last)) = tree_winds told dirty dirty_after marks log now kept ending c new knows did count tells f0 f1 winds last calls leaves
 
   abbrev pub Leads : Running → Did → Running → Type 0
   Leads job did new = Comes told (said_after now did job.work told) dirty_after log now (KnowsAfter did (said_after now did job.work told) dirty_after now new.course new.work)
 
   by_course : (job new : Running) (did : Did) (course : Course) → job.course ≡ course → WorkKnows told dirty marks log course job.work → TellsOn course job did new
       → CallsOn IsUnclaimed course job did new log (Some now) → (course ≡ GoesOn → is_fresh job.work ≡ true → NoneOwed (current log) job.work dirty)
-      → LeavesDirty course job.work did new.work dirty dirty_after (Some log) (Some now) → Leads job did new
-  by_course job new did GoesOn is knows (work, tells, new_is) calls settled leaves =
+      → LeavesDirty course job.work did new.work dirty dirty_after (Some log) (Some now) → WorkWalks course job.work did new.work → Leads job did new
+  by_course job new did GoesOn is knows (work, tells, new_is) calls settled leaves walks =
       subst (λ (x : Running). Leads job did x) (sym new_is)
       (work_tells job.work work did knows tells (subst (λ (x : Running). WorkCalls IsUnclaimed job.work did x.work log (Some now)) new_is calls) (settled refl)
-      (subst (λ (x : Running). WorkLeaves job.work did x.work dirty dirty_after (Some log) (Some now)) new_is leaves))
-  by_course job new did (InTrouble why) is knows tells calls settled leaves = absurd tells
-  by_course job new did (OwedSyncFailed why) is knows tells calls settled leaves = absurd tells
-  by_course job new did (Skips why) is knows (inl (path, work, did_is, passes, new_is)) calls settled leaves =
+      (subst (λ (x : Running). WorkLeaves job.work did x.work dirty dirty_after (Some log) (Some now)) new_is leaves)
+      (subst (λ (x : Running). WorkWalks GoesOn job.work did x.work) new_is walks))
+  by_course job new did (InTrouble halt) is knows tells calls settled leaves walks = absurd tells
+  by_course job new did (OwedSyncFailed why) is knows tells calls settled leaves walks = absurd tells
+  by_course job new did (Skips why) is knows (inl (path, work, did_is, passes, new_is)) calls settled leaves (count, f0, f1, walks) =
       subst (λ x. Leads job x new) (sym did_is) (subst (λ (x : Running). Leads job (Skipped path why) x) (sym new_is)
-      (stands told dirty dirty_after marks log now kept GoesOn work (skip_knows (Skips why) job.work work path passes knows) leaves (some_log now log calls)))
-  by_course job new did (Skips why) is knows (inr (did_is, new_is)) calls settled leaves =
-      subst (λ x. Leads job x new) (sym did_is) (subst (λ (x : Running). Leads job (Troubled (Rattle.job_reports.specs.Stops.out_of_memory_at (Rattle.copy_move.specs.Jobs.at_barrier job.work))) x) (sym new_is)
-      (stands told dirty dirty_after marks log now kept (InTrouble Memory) job.work
-      (work_course told dirty marks log (Skips why) (InTrouble Memory) job.work (λ e. absurd (let f : ⊥ = cc in f)) knows) leaves (some_log now log calls)))
-  by_course job new did (Ends ending) is knows (work, winds, new_is) calls settled leaves =
+      (stands told dirty dirty_after marks log now kept GoesOn work (skip_knows (Skips why) job.work work path why refl passes
+      (subst (λ d. SkipWalks why job.work d work) did_is (subst (λ (x : Running). SkipWalks why job.work did x.work) new_is walks)) knows) leaves (some_log now log calls)))
+  by_course job new did (Skips why) is knows (inr (apart, did_is, new_is)) calls settled leaves walks =
+      subst (λ x. Leads job x new) (sym did_is) (subst (λ (x : Running). Leads job (Troubled (Rattle.job_reports.specs.Stops.out_of_memory_at false)) x) (sym new_is)
+      (stands told dirty dirty_after marks log now kept (InTrouble unreported_skip) job.work
+      (work_course told dirty marks log (Skips why) (InTrouble unreported_skip) job.work (λ e. absurd (let f : ⊥ = cc in f)) (λ on. refl) knows) leaves (some_log now log calls)))
+  by_course job new did (Ends ending) is knows (work, winds, new_is) calls settled leaves walks =
       subst (λ (x : Running). Leads job did x) (sym (new_is ∙ ap (λ c. (let x : Running = record job { work = work; course = c } in x)) is))
-      (work_winds ending job.work work did knows winds calls (subst (λ (x : Running). LeavesDirty (Ends ending) job.work did x.work dirty dirty_after (Some log) (Some now)) new_is leaves))
+      (work_winds ending job.work work did knows winds calls (subst (λ (x : Running). LeavesDirty (Ends ending) job.work did x.work dirty dirty_after (Some log) (Some now)) new_is leaves)
+      (subst (λ (x : Running). WorkWalks (Ends ending) job.work did x.work) new_is walks))
 
   pub work_leads : (job new : Running) (did : Did) → WorkKnows told dirty marks log job.course job.work → WorkLeads job did new dirty dirty_after log now → Leads job did new
-  work_leads job new did knows w = by_course job new did job.course refl knows w.tells w.called w.settled w.leaves
+  work_leads job new did knows w = by_course job new did job.course refl knows w.tells w.called w.settled w.leaves w.walks
 
   pub sync_leads : (job new : Running) (did : Did) → WorkKnows told dirty marks log job.course job.work → SyncLeads job did new dirty dirty_after log now → Leads job did new
   sync_leads job new did knows s = by s.synced
@@ -146,10 +175,10 @@ module _ (told : Said) (dirty dirty_after : List Route) (marks : Marks) (log now
           subst (λ x. Leads job x new) (sym f.did_is) (subst (λ (x : Running). Leads job Barrier x) (sym f.new_is)
           (subst (λ xs. Comes told told xs log now (λ m. WorkKnows told xs m now job.course job.work)) (sym f.dirty_is)
           (comes_thing_synced told dirty marks log now s.path job.course job.work kept
-          (fresh_knows told dirty (Rattle.job_reports.specs.Paths.without s.path dirty) marks log job.course job.work s.fresh knows) (f.called log refl))))
+          (fresh_knows told dirty (Rattle.job_reports.specs.Paths.without s.path dirty) marks log job.course job.work (ap is_over s.goes) s.fresh knows) (f.called log refl))))
       by (inr f) =
           subst (λ x. Leads job x new) (sym f.did_is) (subst (λ (x : Running). Leads job (Troubled f.trouble) x) (sym f.new_is)
           (subst (λ xs. Comes told told xs log now (λ m. WorkKnows told xs m now (OwedSyncFailed f.trouble.cause) job.work)) (sym f.dirty_is)
           (comes_refused told dirty marks log now (OwedSyncFailed f.trouble.cause) job.work kept
-          (work_course told dirty marks log job.course (OwedSyncFailed f.trouble.cause) job.work (λ x. absurd (let f : ⊥ = cc in f)) knows)
+          (work_course told dirty marks log job.course (OwedSyncFailed f.trouble.cause) job.work (λ x. absurd (let f : ⊥ = cc in f)) (λ on. ap is_over s.goes) knows)
           (thing_stopped log now s.path f.trouble.cause f.trouble.path (f.called log refl)))))

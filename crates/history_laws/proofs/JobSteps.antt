@@ -8,7 +8,6 @@ use Rattle.mc_text.specs.Routes.{Route, same_path}
 use Rattle.tree_trait.specs.declared.file_system.FileSystem.{FileSystem}
 use Rattle.tree_trait.specs.declared.calls.TreeError.{TreeError}
 use Rattle.tree_trait.specs.FileSystem.{Spot, find, starts_mount, value_at, visible_tree}
-use Rattle.tree_trait.specs.Refusals.{folder_kind}
 use Rattle.tree_trait.specs.Calls.{RemoveFile}
 use Rattle.tree_trait.specs.Change.{CallLog, current}
 use Rattle.tree_trait.specs.Answers.{Performs}
@@ -27,8 +26,11 @@ use Rattle.job_reports.specs.Paths.{folder_of}
 use Rattle.file_copy.specs.LastSteps.{SyncAnswers, WindCalls, Winds, given_up, left_at, removable}
 use Rattle.file_copy.specs.LastSteps as last
 use Rattle.job_reports.proofs.CallAnswers.{some_log}
+use Rattle.copy_levels.specs.declared.level.Level.{Level}
+use Rattle.tree_copy.specs.Standing.{is_fresh as tree_fresh}
+use Rattle.subtree_copy.specs.Standing.{SubtreeCopying, part_of as tree_part}
 use Rattle.copy_move.specs.declared.work.Work.{Work}
-use Rattle.copy_move.specs.declared.work.Work.TheVariants.{Copy, Delete, Make, SetMode}
+use Rattle.copy_move.specs.declared.work.Work.TheVariants.{Copy, CopyTree, Delete, Make, SetMode}
 use Rattle.copy_move.specs.declared.run.Course.{Course}
 use Rattle.copy_move.specs.declared.run.Course.TheVariants.{Ends}
 use Rattle.copy_move.specs.Jobs.{part_of}
@@ -39,7 +41,10 @@ use Rattle.history_laws.proofs.Deleted.{comes_refused, file_no_mount, put_at, pu
 use Rattle.history_laws.proofs.DeletionSteps.{Steps, ends, tried}
 use Rattle.history_laws.proofs.CopySteps.{part_cleaned}
 use Rattle.history_laws.proofs.Knowing.{Said, IsKept}
+use Rattle.history_laws.proofs.DirtyListed.{AreListed}
 use Rattle.history_laws.proofs.JobKnows.{HasPart, KnowsAfter, StageKnows, WorkKnows}
+use Rattle.history_laws.proofs.KnownParts.{IsLeftPart, part_left}
+use Rattle.history_laws.proofs.TreeKnown.{ItemHas, LeavesPart, TreeKnown, is_over, leaves_part}
 use Rattle.history_laws.proofs.Stepped.{Comes, comes_map, comes_none, comes_then, said_after}
 
 some_route : (p q : Route) → (let o : Option Route = Some p in o) ≡ Some q → p ≡ q
@@ -53,17 +58,43 @@ fresh_synced (Clean part follows) folder fresh dirty = false≢true fresh
 fresh_synced (Left part) folder fresh dirty = false≢true fresh
 fresh_synced Decided folder fresh dirty = false≢true fresh
 
-pub fresh_knows : (told : Said) (dirty other : List Route) (marks : Marks) (log : CallLog) (course : Course) (work : Work) → jobs.is_fresh work ≡ true → WorkKnows told dirty marks log course work → WorkKnows told other marks log course work
-fresh_knows told dirty other marks log course (Copy c) fresh (name, listed, stage) = (name, (λ e. absurd (fresh_synced c.stage c.folder fresh e)), stage)
-fresh_knows told dirty other marks log course (Delete d) fresh k = k
-fresh_knows told dirty other marks log course (Make w) fresh k = k
-fresh_knows told dirty other marks log course (SetMode s) fresh k = k
+-- nothing is at work in a copy of folders that has changed nothing, and it has marked no folder
+fresh_tree : (told : Said) (dirty other : List Route) (marks : Marks) (log : CallLog) (course : Course) (c : SubtreeCopying) → is_over course ≡ false → tree_fresh c.at.stage ≡ true → TreeKnown told dirty marks log course c
+    → TreeKnown told other marks log course c
+fresh_tree told dirty other marks log course c going fresh k =
+    let g = k.goes going in
+    let h = g.stands in
+    let o = h.unbegun fresh in
+    record {
+      name = k.name;
+      part = subst (λ i. ItemHas told other marks (current log) course i) (sym o.none) (subst (λ i. ItemHas told dirty marks (current log) course i) o.none k.part);
+      goes = λ on. record {
+        stands = record {
+          in_place = h.in_place;
+          laid = h.laid;
+          ends = h.ends;
+          unbegun = h.unbegun;
+          marked = h.marked;
+          listed = subst (λ (around : List Level). AreListed other c.at.levels.inner around) (sym o.around) (λ marked. absurd (both_ways _ o.clean marked));
+        };
+        begun = λ some. absurd (both_ways _ some fresh);
+      };
+    }
+
+-- a job that has changed nothing knows the same, whatever is dirty
+pub fresh_knows : (told : Said) (dirty other : List Route) (marks : Marks) (log : CallLog) (course : Course) (work : Work) → is_over course ≡ false → jobs.is_fresh work ≡ true → WorkKnows told dirty marks log course work
+    → WorkKnows told other marks log course work
+fresh_knows told dirty other marks log course (Copy c) going fresh (name, listed, stage) = (name, (λ e. absurd (fresh_synced c.stage c.folder fresh e)), stage)
+fresh_knows told dirty other marks log course (CopyTree c) going fresh k = fresh_tree told dirty other marks log course c going fresh k
+fresh_knows told dirty other marks log course (Delete d) going fresh k = k
+fresh_knows told dirty other marks log course (Make w) going fresh k = k
+fresh_knows told dirty other marks log course (SetMode s) going fresh k = k
 
 module _ (told : Said) (dirty dirty_after : List Route) (marks : Marks) (log now : CallLog) (kept : IsKept told dirty marks log) where
   -- an end names the part that stays
-  pub ends_with_part : (ending : Ending) (part target : Route) (i : ℕ) (work : Work) → HasPart told marks (current log) target part i → dirty_after ≡ dirty → now ≡ log
+  pub ends_with_part : (ending : Ending) (part : Route) (work : Work) → IsLeftPart told (current log) part → dirty_after ≡ dirty → now ≡ log
       → Comes told (said_after now (Ended ending (Some part)) work told) dirty_after log now (λ m. (let o : Option Route = None in o) ≡ None)
-  ends_with_part ending part target i work has same is =
+  ends_with_part ending part work has same is =
       subst (λ routes. Comes told (said_after now (Ended ending (Some part)) work told) routes log now (λ m. (let o : Option Route = None in o) ≡ None)) (sym same)
       (comes_none told (said_after now (Ended ending (Some part)) work told) dirty log now (λ m. (let o : Option Route = None in o) ≡ None) marks is
       (subst (λ (l : CallLog). IsKept (said_after l (Ended ending (Some part)) work told) dirty marks log) (sym is) (record {
@@ -88,7 +119,7 @@ module _ (told : Said) (dirty dirty_after : List Route) (marks : Marks) (log now
       })) refl)
     where
       mountless : option_map_or (starts_mount (current log)) (find (current log) part) false ≡ false
-      mountless = ap (λ o. option_map_or (starts_mount (current log)) o false) has.leads ∙ file_no_mount (current log) kept.known.guarded.tree i (ap folder_kind has.file)
+      mountless = ap (λ o. option_map_or (starts_mount (current log)) o false) has.leads ∙ file_no_mount (current log) kept.known.guarded.tree has.i has.bare
 
       at_part : visible_tree (current log) part ≡ Rattle.tree_trait.specs.FileSystem.put told.tree part (value_at (current log) part) part
       at_part =
@@ -109,16 +140,25 @@ module _ (told : Said) (dirty dirty_after : List Route) (marks : Marks) (log now
       by : (stage : Stage) → StageKnows told marks (current log) course c stage
           → Comes told (said_after now (Ended ending (part_at stage)) (Copy c) told) dirty_after log now (λ m. (let o : Option Route = None in o) ≡ None)
       by Begin k = ends told dirty dirty_after marks log now kept (Copy c) k.0 same is
-      by (Fill p said done) k = ends_with_part ending p c.target k.1.0 (Copy c) k.1.1 same is
-      by (Clean p follows) k = ends_with_part ending p c.target k.1.0 (Copy c) k.1.1 same is
-      by (Left p) k = ends_with_part ending p c.target k.0 (Copy c) k.1 same is
+      by (Fill p said done) k = ends_with_part ending p (Copy c) (part_left told marks (current log) c.target p k.1.0 k.1.1) same is
+      by (Clean p follows) k = ends_with_part ending p (Copy c) (part_left told marks (current log) c.target p k.1.0 k.1.1) same is
+      by (Left p) k = ends_with_part ending p (Copy c) (part_left told marks (current log) c.target p k.0 k.1) same is
       by Decided k = ends told dirty dirty_after marks log now kept (Copy c) k same is
+
+  -- the end of a job with the part that stands, if one does
+  pub ends_left : (ending : Ending) (work : Work) (part : Option Route) → LeavesPart told (current log) part → dirty_after ≡ dirty → now ≡ log
+      → Comes told (said_after now (Ended ending part) work told) dirty_after log now (λ m. (let o : Option Route = None in o) ≡ None)
+  ends_left ending work None none same is = ends told dirty dirty_after marks log now kept work none same is
+  ends_left ending work (Some part) left same is = ends_with_part ending part work left same is
 
   -- a job gives up
   pub gives_up : (work : Work) (course : Course) (did : Did) → WorkKnows told dirty marks log course work → did ≡ Ended NoMemory (part_of work) → dirty_after ≡ dirty → now ≡ log
       → Comes told (said_after now did work told) dirty_after log now (λ m. (said_after now did work told).part ≡ None)
   gives_up (Copy c) course did knows did_is same is =
       subst (λ x. Comes told (said_after now x (Copy c) told) dirty_after log now (λ m. (said_after now x (Copy c) told).part ≡ None)) (sym did_is) (ends_copy NoMemory c course (part_at c.stage) knows refl same is)
+  gives_up (CopyTree c) course did knows did_is same is =
+      subst (λ x. Comes told (said_after now x (CopyTree c) told) dirty_after log now (λ m. (said_after now x (CopyTree c) told).part ≡ None)) (sym did_is)
+      (ends_left NoMemory (CopyTree c) (tree_part c.at.item) (leaves_part told dirty marks (current log) course c.at.item knows.part) same is)
   gives_up (Delete d) course did knows did_is same is =
       subst (λ x. Comes told (said_after now x (Delete d) told) dirty_after log now (λ m. (said_after now x (Delete d) told).part ≡ None)) (sym did_is) (ends told dirty dirty_after marks log now kept (Delete d) knows.1 same is)
   gives_up (Make w) course did knows did_is same is =
@@ -127,7 +167,7 @@ module _ (told : Said) (dirty dirty_after : List Route) (marks : Marks) (log now
       subst (λ x. Comes told (said_after now x (SetMode s) told) dirty_after log now (λ m. (said_after now x (SetMode s) told).part ≡ None)) (sym did_is) (ends told dirty dirty_after marks log now kept (SetMode s) knows.1 same is)
 
   -- the part that a last step removes
-  removed_part : (c : Copying) (ending : Ending) (part : Route) (stage : Stage) → StageKnows told marks (current log) (Ends ending) c stage → removable stage ≡ Some part
+  pub removed_part : (c : Copying) (ending : Ending) (part : Route) (stage : Stage) → StageKnows told marks (current log) (Ends ending) c stage → removable stage ≡ Some part
       → (c.folder ≡ Dirty) × ((i : ℕ) × HasPart told marks (current log) c.target part i)
   removed_part c ending part (Fill p said done) (dirty_is, (i, has, filled)) is = (dirty_is, (i, subst (λ q. HasPart told marks (current log) c.target q i) (some_route p part is) has))
   removed_part c ending part (Clean p follows) (dirty_is, (i, has)) is = (dirty_is, (i, subst (λ q. HasPart told marks (current log) c.target q i) (some_route p part is) has))

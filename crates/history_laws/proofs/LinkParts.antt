@@ -1,12 +1,11 @@
 -- The part of a link is whole as it is made: of its node nothing waits, so it isn't loose.
-use Rattle.std.proofs.Common.{◌≡◌, ℕ, Bool, true, false, not, ◌&&◌, ◌||◌, List, ◌∷◌, refl, sym, ◌∙◌, ap, Some, None, arith}
+use Rattle.std.proofs.Common.{◌≡◌, ℕ, Bool, true, false, not, ◌&&◌, ◌||◌, List, ◌∷◌, refl, sym, ◌∙◌, ap, None, arith}
 use Rattle.std.specs.Prelude.{◌==◌}
 use Rattle.std.proofs.lemmas.Bool.{true≢false, eq-eqb, false_from_ne_true, or_left}
 use Rattle.mc_text.specs.Routes.{Route, same_path}
 use Rattle.mc_text.specs.declared.kind.Kind.TheVariants.{Link}
-use Rattle.tree_trait.specs.declared.file_system.FileSystem.{FileSystem}
 use Rattle.tree_trait.specs.declared.file_system.Node.{Node}
-use Rattle.tree_trait.specs.FileSystem.{find, node}
+use Rattle.tree_trait.specs.FileSystem.{node}
 use Rattle.tree_trait.specs.Refusals.{folder_kind, is_folder}
 use Rattle.tree_trait.specs.Change.{Makes, CallLog, current, with_change}
 use Rattle.tree_trait.specs.CrashImages.{Among, is_clean}
@@ -14,41 +13,13 @@ use Rattle.tree_trait.proofs.Visible.{same_path-true}
 use Rattle.crash_law.specs.Guarded.{Marks}
 use Rattle.crash_law.proofs.Leading.{clean_more}
 use Rattle.job_reports.specs.Paths.{folder_of}
-use Rattle.history_laws.proofs.JobKnows.{IsUntouched, untouched_settled}
-use Rattle.history_laws.proofs.Knowing.{IsCalmIn, IsKept, IsKnown, Said, settled_marks}
+use Rattle.history_laws.proofs.JobKnows.{IsUntouched}
+pub use Rattle.history_laws.proofs.KnownParts.{HasLink, link_settled}
+use Rattle.history_laws.proofs.Knowing.{IsCalmIn, IsKept, IsKnown, Said}
 use Rattle.history_laws.proofs.MakingParts.{MakesPart, made_known, marks_new, new_node, off_part, part_leads, part_node, with_part}
 use Rattle.history_laws.proofs.PlacingParts.{firm_known, marks_firm}
 use Rattle.history_laws.proofs.PlacingSteps.{IsWhole}
 use Rattle.history_laws.proofs.Resting.{IsSureFolder}
-
--- the part stands beside the target, and leads to a link that says this, which is on the disk but for its name
-pub record HasLink (said : Said) (marks : Marks) (s : FileSystem) (target part : Route) (text : List ℕ) (i : ℕ) : Type 0 where
-  pub part_is : said.part ≡ Some part
-  pub leads : find s part ≡ Some i
-  pub firm : marks.loose i ≡ false
-  pub moves : marks.roams i ≡ true
-  pub link : (node s i).kind ≡ Link
-  pub says : (node s i).bytes ≡ text
-  pub name : List ℕ
-  pub beside : part ≡ name ∷ folder_of target
-  pub apart : part ≡ target → ⊥
-  pub untouched : IsUntouched marks s target
-
--- it is known with the marks that are settled
-pub link_settled : (log : CallLog) (marks : Marks) (told : Said) (target part : Route) (text : List ℕ) (i : ℕ) → HasLink told marks (current log) target part text i
-    → HasLink told (settled_marks log marks) (current log) target part text i
-link_settled log marks told target part text i h = record {
-  part_is = h.part_is;
-  leads = h.leads;
-  firm = h.firm;
-  moves = h.moves;
-  link = h.link;
-  says = h.says;
-  name = h.name;
-  beside = h.beside;
-  apart = h.apart;
-  untouched = untouched_settled log marks target h.untouched;
-}
 
 -- so it may be placed, without a sync
 pub whole_link : (told : Said) (marks : Marks) (log : CallLog) (target part : Route) (text : List ℕ) (i : ℕ) → HasLink told marks (current log) target part text i → is_clean i log.changes ≡ true → IsWhole told marks log target part i
@@ -69,8 +40,8 @@ no_more true true h = refl
 no_more true false h = absurd (true≢false (sym h))
 no_more false b h = refl
 
--- a link is made beside its target, by a job whose item is in this folder
-module _ (told : Said) (dirty dirty_after : List Route) (marks : Marks) (log : CallLog) (kept : IsKept told dirty marks log) (folder target : Route) (name : List ℕ) (f : ℕ) (made : Node)
+-- a link is made beside its target, by a job whose item is in this folder, and that may change these folders
+module _ (told : Said) (dirty dirty_after : List Route) (marks : Marks) (log : CallLog) (kept : IsKept told dirty marks log) (folder : Route) (own : Route → Bool) (target : Route) (name : List ℕ) (f : ℕ) (made : Node)
     (m : MakesPart told log name (folder_of target) f) (link : made.kind ≡ Link) (apart : (name ∷ folder_of target) ≡ target → ⊥) (untouched : IsUntouched marks (current log) target) where
   abbrev up : Route
   up = folder_of target
@@ -101,10 +72,10 @@ module _ (told : Said) (dirty dirty_after : List Route) (marks : Marks) (log : C
   bare : is_folder made ≡ false
   bare = ap folder_kind link
 
-  pub link_known : IsSureFolder log folder → IsSureFolder log up → IsCalmIn marks (current log) up → Among dirty_after up → ((q : Route) → Among dirty q → Among dirty_after q) → IsKnown (with_part told folder part) dirty_after marks_then after
+  pub link_known : IsSureFolder log folder → IsSureFolder log up → ((p : Route) → own p ≡ true → IsCalmIn marks (current log) p) → Among dirty_after up → ((q : Route) → Among dirty q → Among dirty_after q) → IsKnown (with_part told folder own part) dirty_after marks_then after
   link_known around firm calm listed more =
-      firm_known (with_part told folder part) dirty_after (marks_new marks part n) after n link_clean new_mode
-      (made_known told dirty dirty_after marks log kept.known name up f made m bare new_mode folder around firm calm listed more)
+      firm_known (with_part told folder own part) dirty_after (marks_new marks part n) after n link_clean new_mode
+      (made_known told dirty dirty_after marks log kept.known name up f made m bare new_mode folder own around firm calm listed more)
 
   apart_of : same_path target part ≡ false
   apart_of = false_from_ne_true _ (λ same. apart (sym (same_path-true target part same)))
@@ -112,7 +83,7 @@ module _ (told : Said) (dirty dirty_after : List Route) (marks : Marks) (log : C
   node_made : node (current after) n ≡ made
   node_made = part_node told dirty dirty_after marks log kept.known name up f made m bare new_mode
 
-  pub has_link : HasLink (with_part told folder part) marks_then (current after) target part made.bytes n
+  pub has_link : HasLink (with_part told folder own part) marks_then (current after) target part made.bytes n
   has_link = record {
     part_is = refl;
     leads = part_leads told dirty dirty_after marks log kept.known name up f made m bare new_mode;

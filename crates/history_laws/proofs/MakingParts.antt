@@ -109,13 +109,13 @@ pub record MakesPart (told : Said) (log : CallLog) (name : List ℕ) (up : Route
   pub folder : is_folder (node (current log) f) ≡ true
   pub free : lookup (current log).names f name ≡ None
 
--- what a history says once it was made, by a job whose item is in this folder
-abbrev pub with_part : Said → Route → Route → Said
-with_part told folder part = record (naming_part told part) {
+-- what a history says once it was made, by a job whose item is in this folder, and that may change these folders
+abbrev pub with_part : Said → Route → (Route → Bool) → Route → Said
+with_part told folder own part = record (naming_part told part) {
   part = Some part;
   doubt = λ p. told.doubt p || same_path p part;
   folders = λ p. (same_path p folder || same_path p (folder_of part)) || told.folders p;
-  calm = λ p. same_path p (folder_of part) || told.calm p;
+  calm = λ p. own p || told.calm p;
 }
 
 module _ (told : Said) (dirty dirty_after : List Route) (marks : Marks) (log : CallLog) (known : IsKnown told dirty marks log) (name : List ℕ) (up : Route) (f : ℕ) (made : Node)
@@ -193,8 +193,9 @@ module _ (told : Said) (dirty dirty_after : List Route) (marks : Marks) (log : C
   nodes_more : length (current now).nodes ≡ count_after makes (new_node log)
   nodes_more = ap (λ (s : FileSystem). length s.nodes) (current_more log makes) ∙ count-after_change (current log) makes
 
-  pub made_known : (folder : Route) → IsSureFolder log folder → IsSureFolder log up → IsCalmIn marks (current log) up → Among dirty_after up → ((q : Route) → Among dirty q → Among dirty_after q) → IsKnown (with_part told folder part) dirty_after (marks_new marks part (new_node log)) now
-  made_known folder around firm calm listed more = naming_known (naming_part told part) (with_part told folder part) dirty dirty_after (marks_new marks part (new_node log)) log makes up part part f marked (record {
+  pub made_known : (folder : Route) (own : Route → Bool) → IsSureFolder log folder → IsSureFolder log up → ((p : Route) → own p ≡ true → IsCalmIn marks (current log) p) → Among dirty_after up → ((q : Route) → Among dirty q → Among dirty_after q)
+      → IsKnown (with_part told folder own part) dirty_after (marks_new marks part (new_node log)) now
+  made_known folder own around firm calm listed more = naming_known (naming_part told part) (with_part told folder own part) dirty dirty_after (marks_new marks part (new_node log)) log makes up part part f marked (record {
     naming = naming;
     within = refl;
     stands = stands;
@@ -215,7 +216,7 @@ module _ (told : Said) (dirty dirty_after : List Route) (marks : Marks) (log : C
       | inr before ↦ inl before
     ];
     modes = λ p h. h;
-    calm = λ p h. elim (either _ _ h) [ inl same ↦ inr (subst (λ q. IsCalmIn marks (current log) q) (sym (same_path-true p up same)) calm) | inr before ↦ inl before ];
+    calm = λ p h. elim (either (own p) (told.calm p) h) [ inl here ↦ inr (calm p here) | inr before ↦ inl before ];
     no_mode = λ p i at there. mode_of i (elim there [ inl before ↦ inl (sym (ap (find (current log)) (either_is p at)) ∙ before) | inr then ↦ inr (sym (ap (find (current now)) (either_is p at)) ∙ then) ]);
     touched = λ p at. or_right _ _ (subst (λ q. same_path q part ≡ true) (sym (either_is p at)) (same_path-self part));
     named = marked.aside;

@@ -14,7 +14,7 @@ use Rattle.job_reports.specs.Paths.{folder_of}
 use Rattle.copy_move.specs.declared.run.Course.{Course}
 use Rattle.copy_move.specs.declared.run.Course.TheVariants.{GoesOn}
 use Rattle.copy_move.specs.declared.work.Work.{Work}
-use Rattle.copy_move.specs.declared.work.Work.TheVariants.{Copy, Delete, Make, SetMode}
+use Rattle.copy_move.specs.declared.work.Work.TheVariants.{Copy, CopyTree, Delete, Make, SetMode}
 use Rattle.copy_move.specs.Deletions.{DeletionLeaves, Tells}
 use Rattle.copy_move.specs.Makings as makings
 use Rattle.mode_setting.specs.Settings as settings
@@ -54,7 +54,7 @@ listed told dirty marks log (name ∷ up) known waits = by (find (current log) u
         ]
 
 module _ (opening now : CallLog) (newest : List Entry) (stand : Stand) (path : Route) (tree : IsTree (current opening)) (settled : all_settled opening.changes ≡ true) (traced : IsTraced opening newest stand now) where
-  reached : IsReached opening newest stand now
+  abbrev reached : IsReached opening newest stand now
   reached = traced_reached opening tree settled newest stand now traced
 
   pub owed_names : name_waits now path ≡ true → Among stand.dirty (folder_of path)
@@ -68,13 +68,15 @@ module _ (opening now : CallLog) (newest : List Entry) (stand : Stand) (path : R
   pub owed_modes : (Among (named_parts newest) path → ⊥) → node_waits now path ≡ true → Among stand.dirty path
   owed_modes unnamed waits = (mode_waits _ stand.dirty reached.marks now reached.kept.known path (not_aside unnamed (reached.marks.aside path) refl) waits).0
 
-  calm_by : (up : Route) (name : List ℕ) → path ≡ name ∷ up → (Among (named_parts newest) path → ⊥) → IsCalmIn reached.marks (current now) up → (visible_tree (current now) path).is_mount ≡ false → node_waits now path ≡ false
-  calm_by up name is unnamed calm no_mount = by (find (current now) path) refl
+  -- nor does a mode wait of what stands at the path, where none does or another mount begins there
+  pub calm_at : (Among (named_parts newest) path → ⊥) → ((i : ℕ) → find (current now) path ≡ Some i → (reached.marks.modes i ≡ None) ⊎ (starts_mount (current now) i ≡ true)) → (visible_tree (current now) path).is_mount ≡ false
+      → node_waits now path ≡ false
+  calm_at unnamed calm no_mount = by (find (current now) path) refl
     where
       by : (o : Option ℕ) → find (current now) path ≡ o → node_waits now path ≡ false
       by None at = ap (λ x. option_map_or (λ i. not (is_clean i now.changes)) x false) at
       by (Some i) at =
-          ap (λ x. option_map_or (λ i. not (is_clean i now.changes)) x false) at ∙ ap not (elim (calm name i (ap (find (current now)) (sym is) ∙ at)) [
+          ap (λ x. option_map_or (λ i. not (is_clean i now.changes)) x false) at ∙ ap not (elim (calm i at) [
             | inl none ↦ clean_now _ stand.dirty reached.marks now reached.kept.known path (not_aside unnamed (reached.marks.aside path) refl) i at none
             | inr begins ↦ absurd (both_ways _ no_mount (ap (λ x. option_map_or (starts_mount (current now)) x false) at ∙ begins))
           ])
@@ -85,7 +87,7 @@ module _ (opening now : CallLog) (newest : List Entry) (stand : Stand) (path : R
     where
       by : (q : Route) → path ≡ q → node_waits now path ≡ false
       by [] is = absurd (both_ways _ no_mount (ap (λ q. (visible_tree (current now) q).is_mount) is ∙ reached.kept.known.guarded.tree.mounted))
-      by (name ∷ up) is = calm_by up name is unnamed (reached.kept.known.calm up (subst (λ q. calm_told newest (folder_of q) ≡ true) is calm)) no_mount
+      by (name ∷ up) is = calm_at unnamed (λ i at. reached.kept.known.calm up (subst (λ q. calm_told newest (folder_of q) ≡ true) is calm) name i (ap (find (current now)) (sym is) ∙ at)) no_mount
 
 pub owed_law : OwedLaw
 owed_law = record {
@@ -133,13 +135,27 @@ own_or_before (Make m) next (Copy new) did q dirty dirty_after before after t le
 own_or_before (Make m) next (SetMode new) did q dirty dirty_after before after t leaves among = absurd leaves
 own_or_before (Copy c) next (SetMode new) did q dirty dirty_after before after t leaves among = absurd leaves
 own_or_before (Delete d) (SetMode next) new did q dirty dirty_after before after t leaves among = absurd t
+own_or_before (Delete d) (CopyTree next) new did q dirty dirty_after before after t leaves among = absurd t
 own_or_before (Delete d) (Delete next) (SetMode new) did q dirty dirty_after before after t leaves among = absurd leaves
+own_or_before (Delete d) (Delete next) (CopyTree new) did q dirty dirty_after before after t leaves among = absurd leaves
 own_or_before (SetMode s) next (Copy new) did q dirty dirty_after before after t leaves among = absurd leaves
 own_or_before (SetMode s) next (Delete new) did q dirty dirty_after before after t leaves among = absurd leaves
 own_or_before (SetMode s) next (Make new) did q dirty dirty_after before after t leaves among = absurd leaves
 own_or_before (SetMode s) next (SetMode new) did q dirty dirty_after before after t leaves among =
     elim (changed_or_before (settings.is_dirty s.stage) (settings.is_dirty new.stage) s.path q dirty (subst (λ xs. Among xs q) leaves among)) [
       | inl same ↦ inl (subst (λ p. same_path p s.path ≡ true) (sym same) (same_path-self s.path))
+      | inr old ↦ inr old
+    ]
+own_or_before (Copy c) next (CopyTree new) did q dirty dirty_after before after t leaves among = absurd leaves
+own_or_before (Make m) next (CopyTree new) did q dirty dirty_after before after t leaves among = absurd leaves
+own_or_before (SetMode s) next (CopyTree new) did q dirty dirty_after before after t leaves among = absurd leaves
+own_or_before (CopyTree c) next (Copy new) did q dirty dirty_after before after t leaves among = absurd leaves
+own_or_before (CopyTree c) next (Delete new) did q dirty dirty_after before after t leaves among = absurd leaves
+own_or_before (CopyTree c) next (Make new) did q dirty dirty_after before after t leaves among = absurd leaves
+own_or_before (CopyTree c) next (SetMode new) did q dirty dirty_after before after t leaves among = absurd leaves
+own_or_before (CopyTree c) next (CopyTree new) did q dirty dirty_after before after t leaves among =
+    elim (changed_or_before leaves.was leaves.now leaves.folder q dirty (subst (λ xs. Among xs q) leaves.list among)) [
+      | inl same ↦ inl (subst (λ p. is_own (CopyTree c) p ≡ true) (sym same) leaves.own)
       | inr old ↦ inr old
     ]
 own_or_before (Make m) next (Delete new) did q dirty dirty_after before after t leaves among = absurd leaves

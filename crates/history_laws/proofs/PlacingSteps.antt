@@ -8,7 +8,7 @@ use Rattle.mc_text.specs.Routes.{Route, same_path}
 use Rattle.tree_trait.specs.declared.file_system.Node.{Node}
 use Rattle.tree_trait.specs.declared.file_system.FileSystem.{FileSystem}
 use Rattle.tree_trait.specs.declared.calls.TreeError.{TreeError}
-use Rattle.tree_trait.specs.FileSystem.{Spot, find, node, value}
+use Rattle.tree_trait.specs.FileSystem.{Spot, Value, find, node, value}
 use Rattle.tree_trait.specs.Refusals.{is_folder, folder_kind, walk, after_walk, rename_refusal}
 use Rattle.tree_trait.specs.Calls.{Call, SetMode, SyncFile, Rename}
 use Rattle.tree_trait.specs.Change.{Change, Nothing, Moves, Sets, Syncs, CallLog, current, with_change, change_of, found}
@@ -33,7 +33,7 @@ use Rattle.job_reports.proofs.CallAnswers.{IsDoneCall, done_call, some_log}
 use Rattle.file_copy.proofs.FilledParts.{Holds, holds_copy}
 use Rattle.copy_move.specs.declared.work.Work.TheVariants.{Copy}
 use Rattle.session_history.specs.Named.{changed_by, named_by}
-use Rattle.history_laws.specs.Replayed.{keeping, moved_from, placed_by}
+use Rattle.history_laws.specs.Replayed.{keeping, mode_placed, moved_from, placed_by, placed_copy}
 use Rattle.history_laws.proofs.Moved.{moved_here}
 use Rattle.history_laws.proofs.Calming.{moded_known, nothing_known, synced_known, refused_is}
 use Rattle.history_laws.proofs.Deleted.{file_no_mount, put_at, put_off}
@@ -199,7 +199,7 @@ said_placed told source to target = record {
 -- it is renamed to a path that lies at or below that target, and holds what stands where this comes from
 module _ (told : Said) (dirty : List Route) (source to target : Route) (tname : List ℕ) (target_is : target ≡ tname ∷ folder_of target) (part : Route) (i : ℕ) (listed : Among dirty (folder_of target))
     (marks : Marks) (mid now : CallLog) (kept : IsKept told dirty marks mid) (whole : IsWhole told marks mid target part i)
-    (copy : option_map copied (told.tree (moved_from source to target)).value ≡ Some (value (node (current mid) i))) (done : Performs {A = Unit {0}} mid (Rename part target) (Ok tt) (Some now)) where
+    (copy : option_map placed_copy (told.tree (moved_from source to target)).value ≡ Some (value (node (current mid) i))) (done : Performs {A = Unit {0}} mid (Rename part target) (Ok tt) (Some now)) where
   abbrev up : Route
   up = folder_of target
 
@@ -289,10 +289,10 @@ module _ (told : Said) (dirty : List Route) (source to target : Route) (tname : 
     named = named;
     off = λ p off.
         let o = subst (λ q. same_path p q ≡ false) (sym target_is) off in
-        (put_off told.tree target (option_map copied (told.tree comes_from).value) p o, put_off told.earlier target (told.tree target).value p o);
+        (put_off told.tree target (option_map placed_copy (told.tree comes_from).value) p o, put_off told.earlier target (told.tree target).value p o);
     placed = subst (λ q. after.tree q ≡ (let s : Spot = record { value = Some (value (node (current mid) i)); is_mount = false } in s)) target_is
-        (put_at told.tree target (option_map copied (told.tree comes_from).value)
-        ∙ (ap (λ (s : Spot). (let t : Spot = record s { value = option_map copied (told.tree comes_from).value } in t)) target_seen
+        (put_at told.tree target (option_map placed_copy (told.tree comes_from).value)
+        ∙ (ap (λ (s : Spot). (let t : Spot = record s { value = option_map placed_copy (told.tree comes_from).value } in t)) target_seen
         ∙ ap (λ v. (let t : Spot = record { value = v; is_mount = false } in t)) copy));
     earlier = subst (λ q. (after.earlier q).value ≡ None) target_is
         (ap (λ (s : Spot). s.value) (put_at told.earlier target (told.tree target).value) ∙ ap (λ (s : Spot). s.value) target_seen);
@@ -324,14 +324,14 @@ module _ (told : Said) (dirty : List Route) (c : Copying) (tname : List ℕ) (ta
 
   -- the part is renamed
   renamed : (marks : Marks) (mid now : CallLog) → IsKept told dirty marks mid → HasPart told marks (current mid) c.target part i → IsFirm told dirty c.target part i marks mid
-      → option_map copied (told.tree c.source).value ≡ Some (value (node (current mid) i)) → Performs {A = Unit {0}} mid (Rename part c.target) (Ok tt) (Some now) → Placing mid now
+      → option_map placed_copy (told.tree c.source).value ≡ Some (value (node (current mid) i)) → Performs {A = Unit {0}} mid (Rename part c.target) (Ok tt) (Some now) → Placing mid now
   renamed marks mid now kept has clean copy done =
       whole_placed told dirty c.source c.target c.target tname target_is part i listed marks mid now kept (whole_part told marks mid c.target part i has clean)
-      (ap (λ q. option_map copied (told.tree q).value) (moved_here c.source c.target) ∙ copy) done
+      (ap (λ q. option_map placed_copy (told.tree q).value) (moved_here c.source c.target) ∙ copy) done
 
   -- the sync and the renaming were done
   tail_done : (marks : Marks) (log now : CallLog) → IsKept told dirty marks log → HasPart told marks (current log) c.target part i
-      → option_map copied (told.tree c.source).value ≡ Some (value (node (current log) i)) → AllDone log (SyncFile part ∷ Rename part c.target ∷ []) (Some now) → Placing log now
+      → option_map placed_copy (told.tree c.source).value ≡ Some (value (node (current log) i)) → AllDone log (SyncFile part ∷ Rename part c.target ∷ []) (Some now) → Placing log now
   tail_done marks log now kept has copy (mid, synced, (last, moved, end)) =
       comes_then told (said_then now) dirty dirty log mid now _ _ (part_synced told dirty c.target part i marks log mid kept has synced)
       (λ m k knows. renamed m mid now k knows.0 knows.1 (copy ∙ ap (λ n. Some (value n)) (sym knows.2))
@@ -349,8 +349,12 @@ module _ (told : Said) (dirty : List Route) (c : Copying) (tname : List ℕ) (ta
     source_value : (told.tree c.source).value ≡ Some (value from)
     source_value = ap (λ (s : Spot). s.value) (sym (kept.known.shows c.source not_source)) ∙ ap (option_map (λ j. value (node (current log) j))) filled.source_leads
 
-    copy_of : (s : FileSystem) → Holds (node s i) from.bytes said.mode → option_map copied (told.tree c.source).value ≡ Some (value (node s i))
-    copy_of s h = ap (option_map copied) source_value ∙ ap (λ v. Some v) (sym (holds_copy (node s i) from filled.file (record { kind = h.kind; bytes_are = h.bytes_are; mode_is = h.mode_is ∙ filled.mode; unnamed = h.unnamed })))
+    -- of a file what is placed has its mode
+    as_file : placed_copy (value from) ≡ copied (value from)
+    as_file = ap (λ kind. (let v : Value = record (copied (value from)) { mode = mode_placed kind from.mode } in v)) filled.file
+
+    copy_of : (s : FileSystem) → Holds (node s i) from.bytes said.mode → option_map placed_copy (told.tree c.source).value ≡ Some (value (node s i))
+    copy_of s h = ap (option_map placed_copy) source_value ∙ ap (λ v. Some v) (as_file ∙ sym (holds_copy (node s i) from filled.file (record { kind = h.kind; bytes_are = h.bytes_are; mode_is = h.mode_is ∙ filled.mode; unnamed = h.unnamed })))
 
     full : Holds (node (current log) i) from.bytes (part_mode said.mode)
     full = let h = filled.holds in record { kind = h.kind; bytes_are = h.bytes_are ∙ (ap (λ n. take n from.bytes) filled.size ∙ take-length from.bytes); mode_is = h.mode_is; unnamed = h.unnamed }

@@ -7,6 +7,7 @@ use Rattle.tree_trait.specs.Change.{CallLog}
 use Rattle.crash_law.specs.Guarded.{Marks}
 use Rattle.job_reports.specs.declared.report.Did.{Did}
 use Rattle.job_reports.specs.declared.report.Did.TheVariants.{Began, Chunk, Placed, Removed, Made, Set, Kept, Skipped, Cleaned, Barrier, Troubled, Ended}
+use Rattle.job_reports.specs.declared.job.Pair.{Pair}
 use Rattle.job_reports.specs.declared.job.Job.{Job}
 use Rattle.job_reports.specs.declared.job.Job.TheVariants as plan
 use Rattle.job_reports.specs.Jobs.{Item, is_link_text}
@@ -21,6 +22,7 @@ use Rattle.history_laws.proofs.Knowing.{Said}
 use Rattle.history_laws.proofs.JobKnows.{HasName, KnowsAfter, WorkKnows}
 use Rattle.history_laws.proofs.Sources.{item_in}
 use Rattle.history_laws.proofs.Stepped.{part_after}
+use Rattle.history_laws.proofs.TreeSkipped.{begins_tree}
 
 -- what is known of the live jobs: of none no part stands
 abbrev pub JobsKnow : Said → List Route → Marks → CallLog → List Running → Type 0
@@ -108,6 +110,14 @@ module _ (told : Said) (dirty : List Route) (marks : Marks) (log : CallLog) (non
       (has_name target (and_parts _ _ has).1, (λ e. absurd (let f : ⊥ = cc in f)), (none, λ e. absurd (let f : ⊥ = cc in f)))
   copies id source target w false has is = absurd (let f : ⊥ = cc in f)
 
+  copies_tree : (id : ℕ) (pair : Pair) (w : Work) (b : Bool) → (is_some (parent_of pair.source) && is_some (parent_of pair.target)) ≡ b
+      → (let o : Option Work = if◌then◌else◌ b (Some (Rattle.copy_move.specs.Jobs.copies_tree id pair)) None in o) ≡ Some w → WorkKnows told dirty marks log GoesOn w
+  copies_tree id pair w true has is =
+      let both = and_parts (is_some (parent_of pair.source)) (is_some (parent_of pair.target)) has in
+      subst (λ x. WorkKnows told dirty marks log GoesOn x) (let e : Rattle.copy_move.specs.Jobs.copies_tree id pair ≡ w = cc in e)
+      (begins_tree told dirty marks log id pair none both.0 both.1 (has_name pair.target both.1))
+  copies_tree id pair w false has is = absurd (let f : ⊥ = cc in f)
+
   pub first_knows : (id : ℕ) (job : Job) (w : Work) → first_work id job ≡ Some w → WorkKnows told dirty marks log GoesOn w
   first_knows id (plan.Delete []) w is = absurd (let f : ⊥ = cc in f)
   first_knows id (plan.Delete (path ∷ [])) w is = deletes path w (is_some (parent_of path)) refl is
@@ -115,6 +125,9 @@ module _ (told : Said) (dirty : List Route) (marks : Marks) (log : CallLog) (non
   first_knows id (plan.Copy []) w is = absurd (let f : ⊥ = cc in f)
   first_knows id (plan.Copy (pair ∷ [])) w is = copies id pair.source pair.target w (is_some (parent_of pair.source) && is_some (parent_of pair.target)) refl is
   first_knows id (plan.Copy (pair ∷ more ∷ pairs)) w is = absurd (let f : ⊥ = cc in f)
+  first_knows id (plan.CopyTree []) w is = absurd (let f : ⊥ = cc in f)
+  first_knows id (plan.CopyTree (pair ∷ [])) w is = copies_tree id pair w (is_some (parent_of pair.source) && is_some (parent_of pair.target)) refl is
+  first_knows id (plan.CopyTree (pair ∷ more ∷ pairs)) w is = absurd (let f : ⊥ = cc in f)
   first_knows id (plan.MakeFolder path) w is = makes thing.Folder path w (is_some (parent_of path)) (λ has. has) is
   first_knows id (plan.MakeLink path text) w is = makes (thing.Link text) path w (is_some (parent_of path) && is_link_text text) (λ has. (and_parts _ _ has).0) is
   first_knows id (plan.SetMode [] mode) w is = absurd (let f : ⊥ = cc in f)

@@ -285,7 +285,7 @@ module _ (told after : Said) (dirty dirty_after : List Route) (marks : Marks) (l
       ∙ sym (ap (λ n. (let v : Option Value = Some (value (with_mode (node (current log) i).mode n)) in v)) node_now)))
 
   module _ (new : Marks) (m : IsMarked marks new log path i mode) where
-    still_none : (j : ℕ) → (j ≡ i → ⊥) → marks.modes j ≡ None → new.modes j ≡ None
+    pub still_none : (j : ℕ) → (j ≡ i → ⊥) → marks.modes j ≡ None → new.modes j ≡ None
     still_none j off none = by (new.modes j) refl
       where
         by : (o : Option ℕ) → new.modes j ≡ o → new.modes j ≡ None

@@ -4,6 +4,7 @@ use Rattle.std.specs.Prelude.{if◌then◌else◌, is_some, nat_le, ◌&&◌}
 use Rattle.std.specs.Option.{option_map}
 use Rattle.mc_text.specs.Routes.{Route, parent_of, same_path}
 use Rattle.job_reports.specs.declared.job.Job.{Job}
+use Rattle.job_reports.specs.declared.job.Pair.{Pair}
 use Rattle.job_reports.specs.declared.job.Job.TheVariants as plan
 use Rattle.job_reports.specs.Jobs.{Item, Copies, Removes, Makes, MakesLink, Sets, folder_changed, is_link_text, item_of}
 use Rattle.job_reports.specs.declared.report.Ending.{Ending}
@@ -19,7 +20,7 @@ use Rattle.job_reports.specs.declared.answer.Answer.TheVariants.{Retry, Skip, Sk
 use Rattle.copy_move.specs.declared.new_thing.NewThing.{NewThing}
 use Rattle.copy_move.specs.declared.new_thing.NewThing.TheVariants as thing
 use Rattle.copy_move.specs.declared.work.Work.{Work}
-use Rattle.copy_move.specs.declared.work.Work.TheVariants.{Copy, Delete, Make, SetMode}
+use Rattle.copy_move.specs.declared.work.Work.TheVariants.{Copy, CopyTree, Delete, Make, SetMode}
 use Rattle.copy_move.specs.declared.run.Course.{Course}
 use Rattle.copy_move.specs.declared.run.Course.TheVariants.{GoesOn, InTrouble, OwedSyncFailed, Skips, Ends}
 use Rattle.copy_move.specs.Deletions.{Deleting}
@@ -29,7 +30,7 @@ use Rattle.copy_move.specs.Makings as makings
 use Rattle.copy_move.specs.ModeSettings as modes
 use Rattle.mode_setting.specs.Settings.{Setting}
 use Rattle.mode_setting.specs.Settings as settings
-use Rattle.copy_move.specs.Jobs.{PassesOver, Running, JobTells, TellsOn, WorkTells, WorkWinds, answered, answered_on, copies, deletes, first_work, makes, sets, taken_anew, with_skips}
+use Rattle.copy_move.specs.Jobs.{PassesOver, Running, JobTells, TellsOn, WorkTells, WorkWinds, answered, answered_on, copies, copies_tree, deletes, first_work, makes, sets, taken_anew, with_skips}
 use Rattle.copy_move.specs.Settling.{changed_folder}
 use Rattle.history_laws.specs.Staying.{may_change}
 
@@ -41,9 +42,14 @@ making_item (thing.Link text) path = MakesLink path text
 -- what a work is at, whatever its stage
 abbrev pub item_in : Work → Item
 item_in (Copy c) = Copies c.source c.target
+item_in (CopyTree c) = Copies c.top.source c.top.target
 item_in (Delete d) = Removes d.path
 item_in (Make m) = making_item m.thing m.path
 item_in (SetMode s) = Sets s.path s.mode
+
+-- what is copied whole
+abbrev tree_item : Pair → Item
+tree_item top = Copies top.source top.target
 
 making_folder : (new : NewThing) (path : Route) → folder_changed (making_item new path) ≡ folder_of path
 making_folder thing.Folder path = refl
@@ -52,6 +58,7 @@ making_folder (thing.Link text) path = refl
 -- the folder in which it changes names is that of its item
 pub folder_is : (work : Work) → folder_changed (item_in work) ≡ changed_folder work
 folder_is (Copy c) = refl
+folder_is (CopyTree c) = refl
 folder_is (Delete d) = refl
 folder_is (Make m) = making_folder m.thing m.path
 folder_is (SetMode s) = refl
@@ -83,6 +90,9 @@ first_item id (plan.Delete (path ∷ more ∷ paths)) = refl
 first_item id (plan.Copy []) = refl
 first_item id (plan.Copy (pair ∷ [])) = first_if (is_some (parent_of pair.source) && is_some (parent_of pair.target)) (copies id pair.source pair.target)
 first_item id (plan.Copy (pair ∷ more ∷ pairs)) = refl
+first_item id (plan.CopyTree []) = refl
+first_item id (plan.CopyTree (pair ∷ [])) = first_if (is_some (parent_of pair.source) && is_some (parent_of pair.target)) (copies_tree id pair)
+first_item id (plan.CopyTree (pair ∷ more ∷ pairs)) = refl
 first_item id (plan.MakeFolder path) = first_if (is_some (parent_of path)) (makes thing.Folder path)
 first_item id (plan.MakeLink path text) = first_if (is_some (parent_of path) && is_link_text text) (makes (thing.Link text) path)
 first_item id (plan.SetMode [] mode) = refl
@@ -221,15 +231,24 @@ work_paths (Delete d) (Copy new) did t = absurd t
 work_paths (Delete d) (Make new) did t = absurd t
 work_paths (Make m) (Copy new) did t = absurd t
 work_paths (SetMode s) (Copy new) did t = absurd t
+work_paths (CopyTree s) (Copy new) did t = absurd t
+work_paths (SetMode s) (CopyTree new) did t = absurd t
 work_paths (SetMode s) (Delete new) did t = absurd t
+work_paths (CopyTree s) (Delete new) did t = absurd t
 work_paths (SetMode s) (Make new) did t = absurd t
+work_paths (CopyTree s) (Make new) did t = absurd t
 work_paths (Copy c) (SetMode new) did t = absurd t
+work_paths (Copy c) (CopyTree new) did t = absurd t
+work_paths (CopyTree c) (SetMode new) did t = absurd t
 work_paths (Delete d) (SetMode new) did t = absurd t
+work_paths (Delete d) (CopyTree new) did t = absurd t
 work_paths (Make m) (SetMode new) did t = absurd t
+work_paths (Make m) (CopyTree new) did t = absurd t
 work_paths (Make m) (Delete new) did t = absurd t
 work_paths (Delete d) (Delete new) did t = deletion_paths d new did t
 work_paths (Make m) (Make new) did t = making_paths m new did t
 work_paths (SetMode s) (SetMode new) did t = setting_paths s new did t
+work_paths (CopyTree c) (CopyTree new) did t = let after = t.after in ap tree_item after.top
 
 wind_paths : (ending : Ending) (old new : Work) (did : Did) → WorkWinds ending old did new → item_in new ≡ item_in old
 wind_paths ending (Copy c) (Copy new) did t = copy_winds ending c new did t
@@ -239,15 +258,24 @@ wind_paths ending (Delete d) (Copy new) did t = absurd t
 wind_paths ending (Delete d) (Make new) did t = absurd t
 wind_paths ending (Make m) (Copy new) did t = absurd t
 wind_paths ending (SetMode s) (Copy new) did t = absurd t
+wind_paths ending (CopyTree s) (Copy new) did t = absurd t
+wind_paths ending (SetMode s) (CopyTree new) did t = absurd t
 wind_paths ending (SetMode s) (Delete new) did t = absurd t
+wind_paths ending (CopyTree s) (Delete new) did t = absurd t
 wind_paths ending (SetMode s) (Make new) did t = absurd t
+wind_paths ending (CopyTree s) (Make new) did t = absurd t
 wind_paths ending (Copy c) (SetMode new) did t = absurd t
+wind_paths ending (Copy c) (CopyTree new) did t = absurd t
+wind_paths ending (CopyTree c) (SetMode new) did t = absurd t
 wind_paths ending (Delete d) (SetMode new) did t = absurd t
+wind_paths ending (Delete d) (CopyTree new) did t = absurd t
 wind_paths ending (Make m) (SetMode new) did t = absurd t
+wind_paths ending (Make m) (CopyTree new) did t = absurd t
 wind_paths ending (Make m) (Delete new) did t = absurd t
 wind_paths ending (Delete d) (Delete new) did t = deletion_winds ending d new did t
 wind_paths ending (Make m) (Make new) did t = making_winds ending m new did t
 wind_paths ending (SetMode s) (SetMode new) did t = setting_winds ending s new did t
+wind_paths ending (CopyTree c) (CopyTree new) did t = ap tree_item t.top
 
 skip_paths : (work new : Work) (path : Route) → PassesOver work path new → item_in new ≡ item_in work
 skip_paths (Copy c) (Copy new) path (path_is, new_is) = ap (λ (x : Copying). item_in (Copy x)) new_is
@@ -258,17 +286,27 @@ skip_paths (Delete d) (Delete new) path at = ap Removes at.path_is
 skip_paths (Delete d) (Make new) path h = absurd h
 skip_paths (Make m) (Copy new) path h = absurd h
 skip_paths (SetMode s) (Copy new) path h = absurd h
+skip_paths (CopyTree s) (Copy new) path h = absurd h
+skip_paths (SetMode s) (CopyTree new) path h = absurd h
 skip_paths (SetMode s) (Delete new) path h = absurd h
+skip_paths (CopyTree s) (Delete new) path h = absurd h
 skip_paths (SetMode s) (Make new) path h = absurd h
+skip_paths (CopyTree s) (Make new) path h = absurd h
 skip_paths (Copy c) (SetMode new) path h = absurd h
+skip_paths (Copy c) (CopyTree new) path h = absurd h
+skip_paths (CopyTree c) (SetMode new) path h = absurd h
 skip_paths (Delete d) (SetMode new) path h = absurd h
+skip_paths (Delete d) (CopyTree new) path h = absurd h
 skip_paths (Make m) (SetMode new) path h = absurd h
+skip_paths (Make m) (CopyTree new) path h = absurd h
 skip_paths (Make m) (Delete new) path h = absurd h
 skip_paths (Make m) (Make new) path (path_is, new_is) = ap (λ (x : Making). item_in (Make x)) new_is
+skip_paths (CopyTree c) (CopyTree new) path (cause, after) = ap tree_item after.top
 skip_paths (SetMode s) (SetMode new) path (path_is, new_is) = ap (λ (x : Setting). item_in (SetMode x)) new_is
 
 anew_paths : (work : Work) → item_in (taken_anew work) ≡ item_in work
 anew_paths (Copy c) = refl
+anew_paths (CopyTree c) = refl
 anew_paths (Delete d) = refl
 anew_paths (Make m) = refl
 anew_paths (SetMode s) = refl
@@ -278,10 +316,10 @@ IsSame old new = (new.id ≡ old.id) × (item_in new.work ≡ item_in old.work)
 
 on_same : (old new : Running) (did : Did) (course : Course) → TellsOn course old did new → IsSame old new
 on_same old new did GoesOn (work, tells, new_is) = (ap (λ (x : Running). x.id) new_is, ap (λ (x : Running). item_in x.work) new_is ∙ work_paths old.work work did tells)
-on_same old new did (InTrouble why) t = absurd t
+on_same old new did (InTrouble halt) t = absurd t
 on_same old new did (OwedSyncFailed why) t = absurd t
 on_same old new did (Skips why) (inl (path, work, did_is, passes, new_is)) = (ap (λ (x : Running). x.id) new_is, ap (λ (x : Running). item_in x.work) new_is ∙ skip_paths old.work work path passes)
-on_same old new did (Skips why) (inr (did_is, new_is)) = (ap (λ (x : Running). x.id) new_is, ap (λ (x : Running). item_in x.work) new_is)
+on_same old new did (Skips why) (inr (apart, did_is, new_is)) = (ap (λ (x : Running). x.id) new_is, ap (λ (x : Running). item_in x.work) new_is)
 on_same old new did (Ends ending) (work, winds, new_is) = (ap (λ (x : Running). x.id) new_is, ap (λ (x : Running). item_in x.work) new_is ∙ wind_paths ending old.work work did winds)
 
 pub tells_same : (old new : Running) (did : Did) → JobTells old did new → IsSame old new
@@ -289,15 +327,16 @@ tells_same old new did t = on_same old new did old.course t
 
 skips_paths : (why : Cause) (work : Work) → item_in (with_skips why work) ≡ item_in work
 skips_paths why (Copy c) = refl
+skips_paths why (CopyTree c) = refl
 skips_paths why (Delete d) = refl
 skips_paths why (Make m) = refl
 skips_paths why (SetMode s) = refl
 
 answer_on : (course : Course) (answer : Answer) (job : Running) → IsSame job (answered_on course answer job)
-answer_on (InTrouble why) Retry job = (refl, anew_paths job.work)
-answer_on (InTrouble why) Skip job = (refl, refl)
-answer_on (InTrouble why) SkipAll job = (refl, skips_paths why job.work)
-answer_on (InTrouble why) Abort job = (refl, refl)
+answer_on (InTrouble halt) Retry job = (refl, anew_paths job.work)
+answer_on (InTrouble halt) Skip job = (refl, refl)
+answer_on (InTrouble halt) SkipAll job = (refl, skips_paths halt.cause job.work)
+answer_on (InTrouble halt) Abort job = (refl, refl)
 answer_on (OwedSyncFailed why) Retry job = (refl, anew_paths job.work)
 answer_on (OwedSyncFailed why) Skip job = (refl, refl)
 answer_on (OwedSyncFailed why) SkipAll job = (refl, refl)

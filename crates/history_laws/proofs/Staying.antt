@@ -4,7 +4,6 @@ use Rattle.std.specs.Prelude.{◌==◌, if◌then◌else◌}
 use Rattle.std.specs.Option.{option_map_or}
 use Rattle.std.proofs.lemmas.Bool.{true≢false, both_ways, false_from_ne_true}
 use Rattle.mc_text.specs.Routes.{Route, same_path}
-use Rattle.tree_trait.specs.declared.file_system.FileSystem.{FileSystem}
 use Rattle.tree_trait.specs.Shape.{IsTree}
 use Rattle.tree_trait.specs.Change.{Change, CallLog, current}
 use Rattle.tree_trait.specs.CrashImages.{all_settled}
@@ -13,16 +12,12 @@ use Rattle.job_reports.specs.Jobs.{Item, item_of}
 use Rattle.crash_law.specs.Guarded.{Marks}
 use Rattle.job_reports.specs.declared.report.Did.{Did}
 use Rattle.job_reports.specs.declared.report.Did.TheVariants.{Began, Chunk, Placed, Removed, Made, Set, Kept, Skipped, Cleaned, Barrier, Troubled, Ended}
-use Rattle.file_copy.specs.declared.stage.Stage.{Stage}
-use Rattle.file_copy.specs.declared.stage.Stage.TheVariants.{Begin, Fill, Clean, Left, Decided}
-use Rattle.file_copy.specs.Copying.{Copying}
 use Rattle.session_history.specs.declared.history.Event.{Event}
 use Rattle.session_history.specs.declared.history.Event.TheVariants.{Key, Look, Sought, Order, Step, Closed}
 use Rattle.session_history.specs.declared.history.Event.TheVariants as event
 use Rattle.session_history.specs.declared.history.Entry.{Entry}
 use Rattle.copy_move.specs.declared.run.Course.{Course}
 use Rattle.copy_move.specs.declared.work.Work.{Work}
-use Rattle.copy_move.specs.declared.work.Work.TheVariants.{Copy, Delete, Make, SetMode}
 use Rattle.copy_move.specs.Jobs.{Running}
 use Rattle.history_laws.specs.Doubt.{name_waits, node_waits}
 use Rattle.session_history.specs.LiveJobs.{IsLivePart, LiveJob, after_event, after_report, live, live_jobs, part_after}
@@ -33,7 +28,7 @@ use Rattle.history_laws.specs.Traces.{EventLeads, IsTraced, Stand, StepLeads}
 use Rattle.history_laws.proofs.Prefixes.{told_of}
 use Rattle.history_laws.proofs.Going.{only_job}
 use Rattle.history_laws.proofs.Histories.{IsReached, enters, traced_reached}
-use Rattle.history_laws.proofs.JobKnows.{HasPart, StageKnows, WorkKnows}
+use Rattle.history_laws.proofs.JobKnows.{WorkKnows, work_said}
 use Rattle.history_laws.proofs.JobLeads.{sync_leads, work_leads}
 use Rattle.history_laws.proofs.JobSteps.{gives_up}
 use Rattle.history_laws.proofs.Knowing.{IsKept, Said, waits_there}
@@ -46,32 +41,8 @@ abbrev pub doubting : Said → CallLog → Said
 doubting told log = record told { doubt = name_waits log; modes = node_waits log }
 
 module _ (told : Said) (log : CallLog) where
-  part_doubting : (marks : Marks) (s : FileSystem) (target part : Route) (i : ℕ) → HasPart told marks s target part i → HasPart (doubting told log) marks s target part i
-  part_doubting marks s target part i h = record {
-    part_is = h.part_is;
-    leads = h.leads;
-    loose = h.loose;
-    moves = h.moves;
-    file = h.file;
-    unnamed = h.unnamed;
-    name = h.name;
-    beside = h.beside;
-    apart = h.apart;
-    untouched = h.untouched;
-  }
-
-  stage_doubting : (marks : Marks) (s : FileSystem) (course : Course) (c : Copying) (stage : Stage) → StageKnows told marks s course c stage → StageKnows (doubting told log) marks s course c stage
-  stage_doubting marks s course c Begin k = k
-  stage_doubting marks s course c (Fill part said done) (dirty, (i, has, filled)) = (dirty, (i, part_doubting marks s c.target part i has, filled))
-  stage_doubting marks s course c (Clean part follows) (dirty, (i, has)) = (dirty, (i, part_doubting marks s c.target part i has))
-  stage_doubting marks s course c (Left part) (i, has) = (i, part_doubting marks s c.target part i has)
-  stage_doubting marks s course c Decided k = k
-
   pub work_doubting : (dirty : List Route) (marks : Marks) (now : CallLog) (course : Course) (work : Work) → WorkKnows told dirty marks now course work → WorkKnows (doubting told log) dirty marks now course work
-  work_doubting dirty marks now course (Copy c) (name, listed, stage) = (name, listed, stage_doubting marks (current now) course c c.stage stage)
-  work_doubting dirty marks now course (Delete d) k = k
-  work_doubting dirty marks now course (Make w) k = k
-  work_doubting dirty marks now course (SetMode s) k = k
+  work_doubting dirty marks now course work k = work_said told (doubting told log) refl refl refl refl dirty marks now course work k
 
   pub kept_doubting : (dirty : List Route) (marks : Marks) → IsKept told dirty marks log → IsKept (doubting told log) dirty marks log
   kept_doubting dirty marks kept = record {

@@ -1,6 +1,6 @@
 -- Which dirty paths a step of a job leaves: a job that has changed something, and owes no sync, has none of its own.
 use Rattle.std.proofs.Common.{◌≡◌, ◌⊎◌, ℕ, Bool, true, false, List, [], ◌∷◌, refl, sym, ◌∙◌, ap, subst, inl, inr, Option, Some, None}
-use Rattle.std.specs.Prelude.{◌||◌}
+use Rattle.std.specs.Prelude.{◌||◌, if◌then◌else◌}
 use Rattle.std.proofs.lemmas.Bool.{true≢false, false≢true, both_ways}
 use Rattle.mc_text.specs.Routes.{Route, same_path}
 use Rattle.tree_trait.specs.FileSystem.{find, lookup}
@@ -19,12 +19,16 @@ use Rattle.copy_move.specs.declared.run.Course.TheVariants.{GoesOn, InTrouble, O
 use Rattle.copy_move.specs.declared.work.Work.{Work}
 use Rattle.copy_move.specs.declared.making.MakingStage.{MakingStage}
 use Rattle.copy_move.specs.declared.making.MakingStage.TheVariants as making
-use Rattle.copy_move.specs.declared.work.Work.TheVariants.{Copy, Delete, Make, SetMode}
+use Rattle.copy_move.specs.declared.work.Work.TheVariants.{Copy, CopyTree, Delete, Make, SetMode}
 use Rattle.copy_move.specs.Makings.{Making}
 use Rattle.copy_move.specs.Makings as makings
 use Rattle.mode_setting.specs.Settings.{Setting}
 use Rattle.mode_setting.specs.Settings as settings
 use Rattle.mode_setting.specs.SettingSteps.{SettingCalls}
+use Rattle.tree_copy.specs.Reports.{changes}
+use Rattle.tree_copy.specs.Standing.{after_report, is_fresh as is_fresh_tree}
+use Rattle.tree_copy.specs.declared.copy.Stage.{Stage as TreeStage}
+use Rattle.tree_copy.specs.declared.copy.Stage.TheVariants.{Going as TreeGoing}
 use Rattle.copy_move.specs.Jobs.{CallsOn, PassesOver, Running, TellsOn, WorkCalls, WorkTells, is_fresh}
 use Rattle.copy_move.specs.Settling.{NoneOwed, WorkLeaves, with_change}
 use Rattle.copy_move.proofs.FolderSteps.{copy_stays}
@@ -101,7 +105,7 @@ neither false b h = (refl, h)
 abbrev pub IsGoing : Course → Type 0
 IsGoing (Ends ending) = ⊥
 IsGoing GoesOn = Unit {0}
-IsGoing (InTrouble why) = Unit {0}
+IsGoing (InTrouble halt) = Unit {0}
 IsGoing (OwedSyncFailed why) = Unit {0}
 IsGoing (Skips why) = Unit {0}
 
@@ -109,9 +113,11 @@ IsGoing (Skips why) = Unit {0}
 abbrev pub IsApartFrom : Route → List Route → Type 0
 IsApartFrom path dirty = Among dirty (folder_of path) → folder_of path ≡ path
 
--- where the folder of a copy, or of a new thing, isn't dirty, it isn't listed; nor a thing that was given a mode, nor ever the folder around
+-- where the folder of a copy, or of a new thing, isn't dirty, it isn't listed; nor a thing that was given a mode, nor ever the folder around; what is
+-- copied whole has begun
 abbrev pub TidyFolder : Work → List Route → Type 0
 TidyFolder (Copy c) dirty = copying.is_dirty c.folder ≡ false → Among dirty (folder_of c.target) → ⊥
+TidyFolder (CopyTree c) dirty = is_fresh_tree c.at.stage ≡ false
 TidyFolder (Delete d) dirty = Unit {0}
 TidyFolder (Make m) dirty = makings.is_dirty m.stage ≡ false → Among dirty (folder_of m.path) → ⊥
 TidyFolder (SetMode s) dirty = (settings.is_dirty s.stage ≡ false → Among dirty s.path → ⊥) × IsApartFrom s.path dirty
@@ -145,6 +151,7 @@ set_apart s dirty log now owed d among = by s.path refl
 begins_set : (s : Setting) (work : Work) (did : Did) (dirty : List Route) (log now : CallLog) → WorkTells (SetMode s) did work → SettingCalls s did log (Some now) → (settings.is_fresh s.stage ≡ true → NoneOwed (current log) (SetMode s) dirty)
     → begins_change did ≡ true → IsApartFrom s.path dirty
 begins_set s (Copy new) did dirty log now t calls owed h = absurd t
+begins_set s (CopyTree new) did dirty log now t calls owed h = absurd t
 begins_set s (Delete new) did dirty log now t calls owed h = absurd t
 begins_set s (Make new) did dirty log now t calls owed h = absurd t
 begins_set s (SetMode new) (Set path) dirty log now t calls owed h = set_apart s dirty log now (owed (ap settings.is_fresh t.0)) (one_done log (Sets_mode s.path s.mode) now calls)
@@ -163,6 +170,7 @@ begins_set s (SetMode new) (Ended ending part) dirty log now t calls owed h = ab
 begins_apart : (old work new : Work) (did : Did) (dirty : List Route) (log now : CallLog) → WorkTells old did work → WorkCalls IsUnclaimed old did new log (Some now) → (is_fresh old ≡ true → NoneOwed (current log) old dirty)
     → begins_change did ≡ true → BeginsApart old dirty
 begins_apart (Copy c) work new did dirty log now t calls owed h = tt
+begins_apart (CopyTree c) work new did dirty log now t calls owed h = tt
 begins_apart (Delete d) work new did dirty log now t calls owed h = tt
 begins_apart (Make m) work new did dirty log now t calls owed h = tt
 begins_apart (SetMode s) work new did dirty log now t calls owed h = begins_set s work did dirty log now t calls owed h
@@ -179,12 +187,42 @@ tidy_by true now folder up dirty dirty_after leaves same old clean among =
 tidy_by false now folder up dirty dirty_after leaves same old clean among =
     old refl (subst (λ q. Among dirty q) same (subst (λ xs. Among xs up) (leaves ∙ ap (λ b. with_change false b folder dirty) clean) among))
 
+-- of what is copied whole something was changed then
+going_then : (did : Did) (stage : TreeStage) → begins_change did ≡ true → is_fresh_tree (after_report did stage) ≡ false
+going_then (Began part) stage h = refl
+going_then (Removed path) stage h = refl
+going_then (Made path) stage h = refl
+going_then (Set path) stage h = refl
+going_then (Chunk count) stage h = absurd (false≢true h)
+going_then (Placed path) stage h = absurd (false≢true h)
+going_then (Kept kept) stage h = absurd (false≢true h)
+going_then (Skipped path why) stage h = absurd (false≢true h)
+going_then (Cleaned part) stage h = absurd (false≢true h)
+going_then Barrier stage h = absurd (false≢true h)
+going_then (Troubled trouble) stage h = absurd (false≢true h)
+going_then (Ended ending part) stage h = absurd (false≢true h)
+
+going_still : (did : Did) (stage : TreeStage) → is_fresh_tree stage ≡ false → is_fresh_tree (after_report did stage) ≡ false
+going_still did stage going = by (changes did)
+  where
+    by : (b : Bool) → is_fresh_tree (if◌then◌else◌ b TreeGoing stage) ≡ false
+    by true = refl
+    by false = going
+
+tree_begun : (did : Did) (stage new : TreeStage) → new ≡ after_report did stage → ((begins_change did ≡ true → ⊥) → is_fresh_tree stage ≡ false) → is_fresh_tree new ≡ false
+tree_begun did stage new is old = ap is_fresh_tree is ∙ by (begins_change did) refl
+  where
+    by : (b : Bool) → begins_change did ≡ b → is_fresh_tree (after_report did stage) ≡ false
+    by true h = going_then did stage h
+    by false h = going_still did stage (old (λ begins. both_ways _ h begins))
+
 tidy_work : (old new : Work) (did : Did) (dirty dirty_after : List Route) (before after : Option CallLog) → WorkTells old did new → WorkLeaves old did new dirty dirty_after before after
     → ((begins_change did ≡ true → ⊥) → TidyFolder old dirty) → (begins_change did ≡ true → BeginsApart old dirty) → TidyFolder new dirty_after
 tidy_work (Copy c) (Copy new) did dirty dirty_after before after tells leaves old begins = λ clean among.
     tidy_by (copying.is_dirty c.folder) (copying.is_dirty new.folder) (folder_of c.target) (folder_of new.target) dirty dirty_after leaves (ap folder_of (copy_stays c new did tells)) (old (λ h. both_ways _ clean (dirty_then c new did tells h))) clean among
 tidy_work (Copy c) (Delete new) did dirty dirty_after before after tells leaves old begins = absurd tells
 tidy_work (Delete d) (Copy new) did dirty dirty_after before after tells leaves old begins = absurd tells
+tidy_work (CopyTree c) (CopyTree new) did dirty dirty_after before after tells leaves old begins = let a = tells.after in tree_begun did c.at.stage new.at.stage a.stage old
 tidy_work (Delete d) (Delete new) did dirty dirty_after before after tells leaves old begins = tt
 tidy_work (SetMode s) (SetMode new) did dirty dirty_after before after tells leaves old begins = (
   λ clean among.
@@ -202,11 +240,19 @@ tidy_work (Copy c) (Make new) did dirty dirty_after before after tells leaves ol
 tidy_work (Delete d) (Make new) did dirty dirty_after before after tells leaves old begins = absurd tells
 tidy_work (Make m) (Copy new) did dirty dirty_after before after tells leaves old begins = absurd tells
 tidy_work (SetMode s) (Copy new) did dirty dirty_after before after tells leaves old begins = absurd tells
+tidy_work (CopyTree s) (Copy new) did dirty dirty_after before after tells leaves old begins = absurd tells
+tidy_work (SetMode s) (CopyTree new) did dirty dirty_after before after tells leaves old begins = absurd tells
 tidy_work (SetMode s) (Delete new) did dirty dirty_after before after tells leaves old begins = absurd tells
+tidy_work (CopyTree s) (Delete new) did dirty dirty_after before after tells leaves old begins = absurd tells
 tidy_work (SetMode s) (Make new) did dirty dirty_after before after tells leaves old begins = absurd tells
+tidy_work (CopyTree s) (Make new) did dirty dirty_after before after tells leaves old begins = absurd tells
 tidy_work (Copy c) (SetMode new) did dirty dirty_after before after tells leaves old begins = absurd tells
+tidy_work (Copy c) (CopyTree new) did dirty dirty_after before after tells leaves old begins = absurd tells
+tidy_work (CopyTree c) (SetMode new) did dirty dirty_after before after tells leaves old begins = absurd tells
 tidy_work (Delete d) (SetMode new) did dirty dirty_after before after tells leaves old begins = absurd tells
+tidy_work (Delete d) (CopyTree new) did dirty dirty_after before after tells leaves old begins = absurd tells
 tidy_work (Make m) (SetMode new) did dirty dirty_after before after tells leaves old begins = absurd tells
+tidy_work (Make m) (CopyTree new) did dirty dirty_after before after tells leaves old begins = absurd tells
 tidy_work (Make m) (Delete new) did dirty dirty_after before after tells leaves old begins = absurd tells
 
 skipped_clean : (stage : MakingStage) → makings.is_dirty (makings.skipped stage) ≡ makings.is_dirty stage
@@ -219,6 +265,7 @@ tidy_passes : (old new : Work) (path : Route) (dirty : List Route) → PassesOve
 tidy_passes (Copy c) (Copy new) path dirty (path_is, new_is) old = subst (λ (n : Copying). TidyFolder (Copy n) dirty) (sym new_is) old
 tidy_passes (Copy c) (Delete new) path dirty h old = absurd h
 tidy_passes (Delete d) (Copy new) path dirty h old = absurd h
+tidy_passes (CopyTree c) (CopyTree new) path dirty (cause, after) old = ap is_fresh_tree after.stage ∙ old
 tidy_passes (Delete d) (Delete new) path dirty h old = tt
 tidy_passes (Make m) (Make new) path dirty (path_is, new_is) old = subst (λ (n : Making). TidyFolder (Make n) dirty) (sym new_is) (λ clean among. old (sym (skipped_clean m.stage) ∙ clean) among)
 tidy_passes (SetMode s) (SetMode new) path dirty (path_is, new_is) old =
@@ -227,11 +274,19 @@ tidy_passes (Copy c) (Make new) path dirty h old = absurd h
 tidy_passes (Delete d) (Make new) path dirty h old = absurd h
 tidy_passes (Make m) (Copy new) path dirty h old = absurd h
 tidy_passes (SetMode s) (Copy new) path dirty h old = absurd h
+tidy_passes (CopyTree s) (Copy new) path dirty h old = absurd h
+tidy_passes (SetMode s) (CopyTree new) path dirty h old = absurd h
 tidy_passes (SetMode s) (Delete new) path dirty h old = absurd h
+tidy_passes (CopyTree s) (Delete new) path dirty h old = absurd h
 tidy_passes (SetMode s) (Make new) path dirty h old = absurd h
+tidy_passes (CopyTree s) (Make new) path dirty h old = absurd h
 tidy_passes (Copy c) (SetMode new) path dirty h old = absurd h
+tidy_passes (Copy c) (CopyTree new) path dirty h old = absurd h
+tidy_passes (CopyTree c) (SetMode new) path dirty h old = absurd h
 tidy_passes (Delete d) (SetMode new) path dirty h old = absurd h
+tidy_passes (Delete d) (CopyTree new) path dirty h old = absurd h
 tidy_passes (Make m) (SetMode new) path dirty h old = absurd h
+tidy_passes (Make m) (CopyTree new) path dirty h old = absurd h
 tidy_passes (Make m) (Delete new) path dirty h old = absurd h
 
 module _ (job new : Running) (did : Did) (dirty dirty_after : List Route) (log now : CallLog) (before : Bool) where
@@ -242,12 +297,12 @@ module _ (job new : Running) (did : Did) (dirty dirty_after : List Route) (log n
       (tidy_work job.work work did dirty dirty_after (Some log) (Some now) tells (subst (λ (x : Running). WorkLeaves job.work did x.work dirty dirty_after (Some log) (Some now)) new_is leaves)
       (λ none. elim (changed_by before (begins_change did) changed) [ inl b ↦ old b (subst IsGoing (sym is) tt) | inr h ↦ absurd (none h) ])
       (λ h. apart work refl tells h))
-  tidy_on (InTrouble why) is t leaves old apart changed going = absurd t
+  tidy_on (InTrouble halt) is t leaves old apart changed going = absurd t
   tidy_on (OwedSyncFailed why) is t leaves old apart changed going = absurd t
   tidy_on (Skips why) is (inl (path, work, did_is, passes, new_is)) leaves old apart changed going =
       subst (λ (x : Running). TidyFolder x.work dirty_after) (sym new_is) (subst (λ xs. TidyFolder work xs) (sym leaves) (tidy_passes job.work work path dirty passes
       (elim (changed_by before (begins_change did) changed) [ inl b ↦ old b (subst IsGoing (sym is) tt) | inr h ↦ absurd (false≢true (sym (ap begins_change did_is) ∙ h)) ])))
-  tidy_on (Skips why) is (inr (did_is, new_is)) leaves old apart changed going =
+  tidy_on (Skips why) is (inr (off, did_is, new_is)) leaves old apart changed going =
       subst (λ (x : Running). TidyFolder x.work dirty_after) (sym new_is) (subst (λ xs. TidyFolder job.work xs) (sym leaves)
       (elim (changed_by before (begins_change did) changed) [ inl b ↦ old b (subst IsGoing (sym is) tt) | inr h ↦ absurd (false≢true (sym (ap begins_change did_is) ∙ h)) ]))
   tidy_on (Ends ending) is (work, winds, new_is) leaves old apart changed going = absurd (subst IsGoing (ap (λ (x : Running). x.course) new_is ∙ is) going)

@@ -1,6 +1,6 @@
 -- A job whose history tells of no change has begun none, as far as its work tells.
-use Rattle.std.proofs.Common.{◌≡◌, ℕ, Bool, true, false, [], ◌∷◌, refl, sym, ◌∙◌, ap, Option, Some, None}
-use Rattle.std.specs.Prelude.{if◌then◌else◌, is_some, nat_le, ◌&&◌}
+use Rattle.std.proofs.Common.{◌≡◌, ℕ, Bool, true, false, [], ◌∷◌, refl, sym, ◌∙◌, ap, subst, inl, inr, Option, Some, None}
+use Rattle.std.specs.Prelude.{if◌then◌else◌, is_some, nat_le, not, ◌&&◌}
 use Rattle.std.proofs.lemmas.Bool.{true≢false}
 use Rattle.mc_text.specs.Routes.{Route, parent_of, same_path}
 use Rattle.job_reports.specs.declared.report.Did.{Did}
@@ -8,6 +8,8 @@ use Rattle.job_reports.specs.declared.report.Did.TheVariants.{Began, Chunk, Plac
 use Rattle.copy_move.specs.declared.making.MakingStage.{MakingStage}
 use Rattle.copy_move.specs.declared.making.MakingStage.TheVariants as making
 use Rattle.job_reports.specs.declared.job.Job.{Job}
+use Rattle.job_reports.specs.declared.job.Pair.{Pair}
+use Rattle.job_reports.specs.declared.report.Ending.{Ending}
 use Rattle.job_reports.specs.declared.job.Job.TheVariants as plan
 use Rattle.job_reports.specs.Jobs.{is_link_text}
 use Rattle.file_copy.specs.Copying as copying
@@ -17,16 +19,21 @@ use Rattle.tree_deletion.specs.Standing.{after_item}
 use Rattle.copy_move.specs.declared.new_thing.NewThing.{NewThing}
 use Rattle.copy_move.specs.declared.new_thing.NewThing.TheVariants as thing
 use Rattle.copy_move.specs.declared.work.Work.{Work}
-use Rattle.copy_move.specs.declared.work.Work.TheVariants.{Copy, Delete, Make, SetMode}
+use Rattle.copy_move.specs.declared.work.Work.TheVariants.{Copy, CopyTree, Delete, Make, SetMode}
 use Rattle.copy_move.specs.Makings as makings
 use Rattle.copy_move.specs.ModeSettings as modes
 use Rattle.mode_setting.specs.declared.setting.Stage.{Stage as SettingStage}
 use Rattle.mode_setting.specs.declared.setting.Stage.TheVariants as setting
 use Rattle.mode_setting.specs.Settings as settings
-use Rattle.copy_move.specs.Jobs.{JobTells, Running, copies, deletes, first_work, makes, sets}
+use Rattle.copy_move.specs.Jobs.{JobTells, PassesOver, Running, TellsOn, WorkTells, WorkWinds, copies, copies_tree, deletes, first_work, makes, sets}
 use Rattle.job_reports.specs.Reports.{ends}
 use Rattle.copy_move.specs.Told.{after_step, cleaned, placed, skipped, spared, synced, told, work_told}
 use Rattle.copy_move.specs.declared.run.Course.{Course}
+use Rattle.copy_move.specs.declared.run.Course.TheVariants.{GoesOn, InTrouble, OwedSyncFailed, Skips, Ends}
+use Rattle.subtree_copy.specs.Standing.{SubtreeCopying}
+use Rattle.subtree_copy.specs.Unbegun.{MayBegin}
+use Rattle.tree_copy.specs.Standing.{after_report, is_fresh}
+use Rattle.tree_copy.specs.declared.copy.Stage.{Stage as TreeStage}
 use Rattle.copy_move.proofs.Telling.{told_follows}
 use Rattle.session_history.specs.Named.{begins_change}
 
@@ -39,15 +46,17 @@ is_going Sync = false
 -- a change was begun: the folder of a copy or of a new folder is dirty, or a deletion goes on
 abbrev pub has_begun : Work → Bool
 has_begun (Copy c) = copying.is_dirty c.folder
+has_begun (CopyTree c) = not (is_fresh c.at.stage)
 has_begun (Delete d) = is_going d.stage
 has_begun (Make m) = makings.is_dirty m.stage
 has_begun (SetMode s) = settings.is_dirty s.stage
 
-told_begun : (work : Work) → has_begun (work_told work) ≡ has_begun work
-told_begun (Copy c) = refl
-told_begun (Delete d) = refl
-told_begun (Make m) = refl
-told_begun (SetMode s) = refl
+told_begun : (id : ℕ) (work : Work) → has_begun (work_told id work) ≡ has_begun work
+told_begun id (Copy c) = refl
+told_begun id (CopyTree c) = refl
+told_begun id (Delete d) = refl
+told_begun id (Make m) = refl
+told_begun id (SetMode s) = refl
 
 item_begun : (top path : Route) (stage : Stage) → is_going stage ≡ false → is_going (after_item top path stage) ≡ false
 item_begun top path stage clean = by (same_path path top)
@@ -80,30 +89,95 @@ synced_setting setting.Done = refl
 
 skipped_begun : (path : Route) (work : Work) → has_begun work ≡ false → has_begun (skipped path work) ≡ false
 skipped_begun path (Copy c) clean = clean
+skipped_begun path (CopyTree c) clean = clean
 skipped_begun path (Delete d) clean = item_begun d.path path d.stage clean
 skipped_begun path (Make m) clean = skip_making m.stage ∙ clean
 skipped_begun path (SetMode s) clean = skip_setting s.stage ∙ clean
 
 spared_begun : (path : Route) (work : Work) → has_begun work ≡ false → has_begun (spared path work) ≡ false
 spared_begun path (Copy c) clean = clean
+spared_begun path (CopyTree c) clean = clean
 spared_begun path (Delete d) clean = item_begun d.path path d.stage clean
 spared_begun path (Make m) clean = clean
 spared_begun path (SetMode s) clean = clean
 
-placed_begun : (work : Work) → has_begun (placed work) ≡ has_begun work
-placed_begun (Copy c) = refl
-placed_begun (Delete d) = refl
-placed_begun (Make m) = refl
-placed_begun (SetMode s) = refl
+-- it copies one thing with all that lies in it
+abbrev pub is_tree : Work → Bool
+is_tree (CopyTree c) = true
+is_tree (Copy c) = false
+is_tree (Delete d) = false
+is_tree (Make m) = false
+is_tree (SetMode s) = false
 
-cleaned_begun : (course : Course) (work : Work) → has_begun (cleaned course work) ≡ has_begun work
-cleaned_begun course (Copy c) = refl
-cleaned_begun course (Delete d) = refl
-cleaned_begun course (Make m) = refl
-cleaned_begun course (SetMode s) = refl
+-- a step leaves it so
+tells_tree : (old new : Work) (did : Did) → WorkTells old did new → is_tree new ≡ false → is_tree old ≡ false
+tells_tree (Copy c) new did t other = refl
+tells_tree (Delete d) new did t other = refl
+tells_tree (Make m) new did t other = refl
+tells_tree (SetMode s) new did t other = refl
+tells_tree (CopyTree c) (CopyTree new) did t other = other
+tells_tree (CopyTree c) (Copy new) did t other = absurd t
+tells_tree (CopyTree c) (Delete new) did t other = absurd t
+tells_tree (CopyTree c) (Make new) did t other = absurd t
+tells_tree (CopyTree c) (SetMode new) did t other = absurd t
+
+winds_tree : (ending : Ending) (old new : Work) (did : Did) → WorkWinds ending old did new → is_tree new ≡ false → is_tree old ≡ false
+winds_tree ending (Copy c) new did t other = refl
+winds_tree ending (Delete d) new did t other = refl
+winds_tree ending (Make m) new did t other = refl
+winds_tree ending (SetMode s) new did t other = refl
+winds_tree ending (CopyTree c) (CopyTree new) did t other = other
+winds_tree ending (CopyTree c) (Copy new) did t other = absurd t
+winds_tree ending (CopyTree c) (Delete new) did t other = absurd t
+winds_tree ending (CopyTree c) (Make new) did t other = absurd t
+winds_tree ending (CopyTree c) (SetMode new) did t other = absurd t
+
+passes_tree : (old new : Work) (path : Route) → PassesOver old path new → is_tree new ≡ false → is_tree old ≡ false
+passes_tree (Copy c) new path h other = refl
+passes_tree (Delete d) new path h other = refl
+passes_tree (Make m) new path h other = refl
+passes_tree (SetMode s) new path h other = refl
+passes_tree (CopyTree c) (CopyTree new) path h other = other
+passes_tree (CopyTree c) (Copy new) path h other = absurd h
+passes_tree (CopyTree c) (Delete new) path h other = absurd h
+passes_tree (CopyTree c) (Make new) path h other = absurd h
+passes_tree (CopyTree c) (SetMode new) path h other = absurd h
+
+on_tree : (old new : Running) (did : Did) (course : Course) → TellsOn course old did new → is_tree new.work ≡ false → is_tree old.work ≡ false
+on_tree old new did GoesOn (work, tells, new_is) other = tells_tree old.work work did tells (sym (ap (λ (x : Running). is_tree x.work) new_is) ∙ other)
+on_tree old new did (InTrouble halt) t other = absurd t
+on_tree old new did (OwedSyncFailed why) t other = absurd t
+on_tree old new did (Skips why) (inl (path, work, did_is, passes, new_is)) other = passes_tree old.work work path passes (sym (ap (λ (x : Running). is_tree x.work) new_is) ∙ other)
+on_tree old new did (Skips why) (inr (apart, did_is, new_is)) other = sym (ap (λ (x : Running). is_tree x.work) new_is) ∙ other
+on_tree old new did (Ends ending) (work, winds, new_is) other = winds_tree ending old.work work did winds (sym (ap (λ (x : Running). is_tree x.work) new_is) ∙ other)
+
+pub step_tree : (old new : Running) (did : Did) → JobTells old did new → is_tree new.work ≡ false → is_tree old.work ≡ false
+step_tree old new did t other = on_tree old new did old.course t other
+
+told_tree : (id : ℕ) (work : Work) → is_tree (work_told id work) ≡ is_tree work
+told_tree id (Copy c) = refl
+told_tree id (CopyTree c) = refl
+told_tree id (Delete d) = refl
+told_tree id (Make m) = refl
+told_tree id (SetMode s) = refl
+
+placed_begun : (work : Work) → is_tree work ≡ false → has_begun (placed work) ≡ has_begun work
+placed_begun (Copy c) other = refl
+placed_begun (CopyTree c) other = absurd (true≢false other)
+placed_begun (Delete d) other = refl
+placed_begun (Make m) other = refl
+placed_begun (SetMode s) other = refl
+
+cleaned_begun : (course : Course) (work : Work) → is_tree work ≡ false → has_begun (cleaned course work) ≡ has_begun work
+cleaned_begun course (Copy c) other = refl
+cleaned_begun course (CopyTree c) other = absurd (true≢false other)
+cleaned_begun course (Delete d) other = refl
+cleaned_begun course (Make m) other = refl
+cleaned_begun course (SetMode s) other = refl
 
 synced_begun : (work : Work) → has_begun work ≡ false → has_begun (synced work) ≡ false
 synced_begun (Copy c) clean = refl
+synced_begun (CopyTree c) clean = clean
 synced_begun (Delete d) clean = clean
 synced_begun (Make m) clean = synced_making m.stage
 synced_begun (SetMode s) clean = synced_setting s.stage
@@ -112,23 +186,87 @@ some_job : (a b : Running) → (let o : Option Running = Some a in o) ≡ Some b
 some_job a b h = let e : a ≡ b = cc in ap (λ (x : Running). has_begun x.work) (sym e)
 
 -- a report that begins no change leaves it so
-clean_after : (did : Did) (job new : Running) → begins_change did ≡ false → after_step did job ≡ Some new → has_begun job.work ≡ false → has_begun new.work ≡ false
-clean_after (Began part) job new none h clean = absurd (true≢false none)
-clean_after (Removed path) job new none h clean = absurd (true≢false none)
-clean_after (Chunk count) job new none h clean = some_job job new h ∙ clean
-clean_after (Set path) job new none h clean = absurd (true≢false none)
-clean_after (Placed path) job new none h clean = some_job (record job { work = placed job.work }) new h ∙ (placed_begun job.work ∙ clean)
-clean_after (Made path) job new none h clean = absurd (true≢false none)
-clean_after (Kept path) job new none h clean = some_job (record job { work = spared path job.work }) new h ∙ spared_begun path job.work clean
-clean_after (Skipped path why) job new none h clean = some_job (record job { work = skipped path job.work; course = Rattle.copy_move.specs.declared.run.Course.TheVariants.GoesOn }) new h ∙ skipped_begun path job.work clean
-clean_after (Cleaned part) job new none h clean = some_job (record job { work = cleaned job.course job.work }) new h ∙ (cleaned_begun job.course job.work ∙ clean)
-clean_after Barrier job new none h clean = some_job (record job { work = synced job.work }) new h ∙ synced_begun job.work clean
-clean_after (Troubled trouble) job new none h clean = some_job (record job { course = Rattle.copy_move.specs.Told.course_told job.work trouble }) new h ∙ clean
-clean_after (Ended ending part) job new none h clean = absurd (let f : ⊥ = cc in f)
+clean_after : (did : Did) (job new : Running) → is_tree job.work ≡ false → begins_change did ≡ false → after_step did job ≡ Some new → has_begun job.work ≡ false → has_begun new.work ≡ false
+clean_after (Began part) job new other none h clean = absurd (true≢false none)
+clean_after (Removed path) job new other none h clean = absurd (true≢false none)
+clean_after (Chunk count) job new other none h clean = some_job job new h ∙ clean
+clean_after (Set path) job new other none h clean = absurd (true≢false none)
+clean_after (Placed path) job new other none h clean = some_job (record job { work = placed job.work }) new h ∙ (placed_begun job.work other ∙ clean)
+clean_after (Made path) job new other none h clean = absurd (true≢false none)
+clean_after (Kept path) job new other none h clean = some_job (record job { work = spared path job.work }) new h ∙ spared_begun path job.work clean
+clean_after (Skipped path why) job new other none h clean = some_job (record job { work = skipped path job.work; course = Rattle.copy_move.specs.declared.run.Course.TheVariants.GoesOn }) new h ∙ skipped_begun path job.work clean
+clean_after (Cleaned part) job new other none h clean = some_job (record job { work = cleaned job.course job.work }) new h ∙ (cleaned_begun job.course job.work other ∙ clean)
+clean_after Barrier job new other none h clean = some_job (record job { work = synced job.work }) new h ∙ synced_begun job.work clean
+clean_after (Troubled trouble) job new other none h clean = some_job (record job { course = Rattle.copy_move.specs.Told.course_told job.work trouble }) new h ∙ clean
+clean_after (Ended ending part) job new other none h clean = absurd (let f : ⊥ = cc in f)
+
+-- So it is of what is copied whole, whose first change begins a part or makes a folder.
+stage_stays : (did : Did) (stage : TreeStage) → MayBegin did → begins_change did ≡ false → after_report did stage ≡ stage
+stage_stays (Began part) stage may none = absurd (true≢false none)
+stage_stays (Made path) stage may none = absurd (true≢false none)
+stage_stays (Skipped path cause) stage may none = refl
+stage_stays (Troubled trouble) stage may none = refl
+stage_stays (Ended ending part) stage may none = refl
+stage_stays (Chunk count) stage may none = absurd may
+stage_stays (Placed path) stage may none = absurd may
+stage_stays (Removed path) stage may none = absurd may
+stage_stays (Set path) stage may none = absurd may
+stage_stays (Kept path) stage may none = absurd may
+stage_stays (Cleaned part) stage may none = absurd may
+stage_stays Barrier stage may none = absurd may
+
+not_true : (b : Bool) → not b ≡ false → b ≡ true
+not_true true h = refl
+not_true false h = absurd (true≢false h)
+
+as_stage : (old new : TreeStage) → new ≡ old → not (is_fresh old) ≡ false → not (is_fresh new) ≡ false
+as_stage old new is clean = ap (λ s. not (is_fresh s)) is ∙ clean
+
+tree_tells : (c : SubtreeCopying) (work : Work) (did : Did) → WorkTells (CopyTree c) did work → begins_change did ≡ false → has_begun (CopyTree c) ≡ false → has_begun work ≡ false
+tree_tells c (CopyTree new) did t none clean =
+    let after = t.after in as_stage c.at.stage new.at.stage (after.stage ∙ stage_stays did c.at.stage (t.first (not_true (is_fresh c.at.stage) clean)) none) clean
+tree_tells c (Copy new) did t none clean = absurd t
+tree_tells c (Delete new) did t none clean = absurd t
+tree_tells c (Make new) did t none clean = absurd t
+tree_tells c (SetMode new) did t none clean = absurd t
+
+tree_passes : (c : SubtreeCopying) (work : Work) (path : Route) → PassesOver (CopyTree c) path work → has_begun (CopyTree c) ≡ false → has_begun work ≡ false
+tree_passes c (CopyTree new) path (cause, after) clean = as_stage c.at.stage new.at.stage after.stage clean
+tree_passes c (Copy new) path h clean = absurd h
+tree_passes c (Delete new) path h clean = absurd h
+tree_passes c (Make new) path h clean = absurd h
+tree_passes c (SetMode new) path h clean = absurd h
+
+tree_winds : (ending : Ending) (c : SubtreeCopying) (work : Work) (did : Did) → WorkWinds ending (CopyTree c) did work → has_begun (CopyTree c) ≡ false → has_begun work ≡ false
+tree_winds ending c (CopyTree new) did t clean = as_stage c.at.stage new.at.stage t.stage clean
+tree_winds ending c (Copy new) did t clean = absurd t
+tree_winds ending c (Delete new) did t clean = absurd t
+tree_winds ending c (Make new) did t clean = absurd t
+tree_winds ending c (SetMode new) did t clean = absurd t
+
+tree_clean : (job new : Running) (did : Did) (c : SubtreeCopying) (course : Course) → job.work ≡ CopyTree c → TellsOn course job did new → begins_change did ≡ false → has_begun job.work ≡ false → has_begun new.work ≡ false
+tree_clean job new did c GoesOn is (work, tells, new_is) none clean =
+    ap (λ (x : Running). has_begun x.work) new_is ∙ tree_tells c work did (subst (λ w. WorkTells w did work) is tells) none (sym (ap has_begun is) ∙ clean)
+tree_clean job new did c (InTrouble halt) is t none clean = absurd t
+tree_clean job new did c (OwedSyncFailed why) is t none clean = absurd t
+tree_clean job new did c (Skips why) is (inl (path, work, did_is, passes, new_is)) none clean =
+    ap (λ (x : Running). has_begun x.work) new_is ∙ tree_passes c work path (subst (λ w. PassesOver w path work) is passes) (sym (ap has_begun is) ∙ clean)
+tree_clean job new did c (Skips why) is (inr (apart, did_is, new_is)) none clean = ap (λ (x : Running). has_begun x.work) new_is ∙ clean
+tree_clean job new did c (Ends ending) is (work, winds, new_is) none clean =
+    ap (λ (x : Running). has_begun x.work) new_is ∙ tree_winds ending c work did (subst (λ w. WorkWinds ending w did work) is winds) (sym (ap has_begun is) ∙ clean)
 
 pub step_clean : (job new : Running) (did : Did) → JobTells job did new → ends did ≡ false → begins_change did ≡ false → has_begun job.work ≡ false → has_begun new.work ≡ false
-step_clean job new did tells on none clean =
-    sym (told_begun new.work) ∙ clean_after did (told job) (told new) none (told_follows job new did tells on) (told_begun job.work ∙ clean)
+step_clean job new did tells on none clean = by job.work refl
+  where
+    other : is_tree job.work ≡ false → has_begun new.work ≡ false
+    other is = sym (told_begun new.id new.work) ∙ clean_after did (told job) (told new) (told_tree job.id job.work ∙ is) none (told_follows job new did tells on) (told_begun job.id job.work ∙ clean)
+
+    by : (work : Work) → job.work ≡ work → has_begun new.work ≡ false
+    by (CopyTree c) is = tree_clean job new did c job.course is tells none clean
+    by (Copy c) is = other (ap is_tree is)
+    by (Delete d) is = other (ap is_tree is)
+    by (Make m) is = other (ap is_tree is)
+    by (SetMode s) is = other (ap is_tree is)
 
 -- a job begins so
 deletes_clean : (path : Route) (w : Work) (b : Bool) → (let o : Option Work = if◌then◌else◌ b (Some (deletes path)) None in o) ≡ Some w → has_begun w ≡ false
@@ -143,6 +281,10 @@ copies_clean : (id : ℕ) (source target : Route) (w : Work) (b : Bool) → (let
 copies_clean id source target w true is = let e : copies id source target ≡ w = cc in ap has_begun (sym e)
 copies_clean id source target w false is = absurd (let f : ⊥ = cc in f)
 
+trees_clean : (id : ℕ) (pair : Pair) (w : Work) (b : Bool) → (let o : Option Work = if◌then◌else◌ b (Some (copies_tree id pair)) None in o) ≡ Some w → has_begun w ≡ false
+trees_clean id pair w true is = let e : copies_tree id pair ≡ w = cc in ap has_begun (sym e)
+trees_clean id pair w false is = absurd (let f : ⊥ = cc in f)
+
 sets_clean : (path : Route) (mode : ℕ) (w : Work) (b : Bool) → (let o : Option Work = if◌then◌else◌ b (Some (sets path mode)) None in o) ≡ Some w → has_begun w ≡ false
 sets_clean path mode w true is = let e : sets path mode ≡ w = cc in ap has_begun (sym e)
 sets_clean path mode w false is = absurd (let f : ⊥ = cc in f)
@@ -154,6 +296,9 @@ first_clean id (plan.Delete (path ∷ more ∷ paths)) w is = absurd (let f : �
 first_clean id (plan.Copy []) w is = absurd (let f : ⊥ = cc in f)
 first_clean id (plan.Copy (pair ∷ [])) w is = copies_clean id pair.source pair.target w (is_some (parent_of pair.source) && is_some (parent_of pair.target)) is
 first_clean id (plan.Copy (pair ∷ more ∷ pairs)) w is = absurd (let f : ⊥ = cc in f)
+first_clean id (plan.CopyTree []) w is = absurd (let f : ⊥ = cc in f)
+first_clean id (plan.CopyTree (pair ∷ [])) w is = trees_clean id pair w (is_some (parent_of pair.source) && is_some (parent_of pair.target)) is
+first_clean id (plan.CopyTree (pair ∷ more ∷ pairs)) w is = absurd (let f : ⊥ = cc in f)
 first_clean id (plan.MakeFolder path) w is = makes_clean thing.Folder path w (is_some (parent_of path)) is
 first_clean id (plan.MakeLink path text) w is = makes_clean (thing.Link text) path w (is_some (parent_of path) && is_link_text text) is
 first_clean id (plan.SetMode [] mode) w is = absurd (let f : ⊥ = cc in f)

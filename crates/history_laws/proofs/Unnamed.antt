@@ -9,20 +9,19 @@ use Rattle.tree_trait.proofs.Visible.{same_path-self}
 use Rattle.job_reports.specs.declared.report.Did.{Did}
 use Rattle.job_reports.specs.declared.report.Did.TheVariants.{Began, Chunk, Placed, Removed, Made, Set, Kept, Skipped, Cleaned, Barrier, Troubled, Ended}
 use Rattle.job_reports.specs.Jobs.{Item, Copies, Removes, Makes, MakesLink, Sets}
-use Rattle.file_copy.specs.Copied.{copied}
 use Rattle.session_history.specs.declared.history.Event.{Event}
 use Rattle.session_history.specs.declared.history.Event.TheVariants.{Key, Look, Sought, Order, Step, Closed}
 use Rattle.session_history.specs.declared.history.Event.TheVariants as event
 use Rattle.session_history.specs.declared.history.Entry.{Entry}
 use Rattle.session_history.specs.LiveJobs.{LiveJob, live_jobs, live_item}
 use Rattle.session_history.specs.Named.{IsUnnamedSince, changed_by, named_by, names, names_path}
-use Rattle.history_laws.specs.Replayed.{keeping, log_prefix, made_by, moved_from, placed_by, replayed_event, replayed_step, replayed_tree, set_by, with_mode, with_mode_of}
+use Rattle.history_laws.specs.Replayed.{keeping, log_prefix, made_by, moved_from, placed_by, placed_copy, replayed_event, replayed_step, replayed_tree, set_by, with_mode, with_mode_of}
 use Rattle.history_laws.proofs.Deleted.{put_off}
 use Rattle.history_laws.proofs.Owing.{in_filter}
 
 -- a path that an entry doesn't name has what it had
 placed_unnamed : (item : Option Item) (target : Route) (v : View) (path : Route) → same_path path target ≡ false → placed_by item target v path ≡ v path
-placed_unnamed (Some (Copies source to)) target v path unnamed = put_off v target (Rattle.std.specs.Option.option_map copied (v (moved_from source to target)).value) path unnamed
+placed_unnamed (Some (Copies source to)) target v path unnamed = put_off v target (Rattle.std.specs.Option.option_map placed_copy (v (moved_from source to target)).value) path unnamed
 placed_unnamed (Some (Removes file)) target v path unnamed = refl
 placed_unnamed (Some (Makes folder)) target v path unnamed = refl
 placed_unnamed (Some (MakesLink link text)) target v path unnamed = refl

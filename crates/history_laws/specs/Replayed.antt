@@ -2,7 +2,8 @@
 use Rattle.std.specs.Prelude.{ℕ, ◌+◌, bit_or, if◌then◌else◌, List, [], ◌∷◌, length, take, Option, Some, None}
 use Rattle.std.specs.Option.{option_map}
 use Rattle.mc_text.specs.Routes.{Route, same_path}
-use Rattle.mc_text.specs.declared.kind.Kind.TheVariants.{Folder, Link}
+use Rattle.mc_text.specs.declared.kind.Kind.{Kind}
+use Rattle.mc_text.specs.declared.kind.Kind.TheVariants.{File, Folder, Link, Other}
 use Rattle.tree_trait.specs.FileSystem.{Value, View, put, value_at, visible_tree}
 use Rattle.tree_trait.specs.Change.{CallLog, current}
 use Rattle.job_reports.specs.declared.report.Did.{Did}
@@ -25,9 +26,20 @@ abbrev pub moved_from : Route → Route → Route → Route
 moved_from source target [] = source
 moved_from source target (name ∷ up) = if same_path (name ∷ up) target then source else name ∷ moved_from source target up
 
--- what is placed has what stands where it comes from
+-- the mode of what is placed as a copy of a thing: that of the thing, but a link is made with none
+abbrev pub mode_placed : Kind → ℕ → ℕ
+mode_placed Link mode = 0
+mode_placed File mode = mode
+mode_placed Folder mode = mode
+mode_placed Other mode = mode
+
+-- what is placed as a copy of a thing
+abbrev pub placed_copy : Value → Value
+placed_copy v = record (copied v) { mode = mode_placed v.kind v.mode }
+
+-- what is placed is a copy of what stands where it comes from
 abbrev pub placed_by : Option Item → Route → View → View
-placed_by (Some (Copies source target)) path v = put v path (option_map copied (v (moved_from source target path)).value)
+placed_by (Some (Copies source target)) path v = put v path (option_map placed_copy (v (moved_from source target path)).value)
 placed_by (Some (Removes file)) path v = v
 placed_by (Some (Makes folder)) path v = v
 placed_by (Some (MakesLink link text)) path v = v

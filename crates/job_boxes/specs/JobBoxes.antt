@@ -1,5 +1,6 @@
 -- The boxes of jobs as they are seen, and what they go by.
 use Rattle.std.specs.Prelude.{ℕ, List, Option}
+use Rattle.mc_text.specs.declared.kind.Kind.{Kind}
 use Rattle.mc_text.specs.Routes.{Route}
 use Rattle.job_reports.specs.declared.report.Trouble.{Trouble}
 use Rattle.job_reports.specs.declared.row.JobRow.{JobRow}
@@ -9,12 +10,12 @@ use Rattle.job_boxes.specs.declared.job_box.JobBox.{JobBox}
 use Rattle.job_boxes.specs.declared.job_box.JobBox.TheVariants as box
 use Rattle.job_boxes.specs.declared.job_box.Surroundings.{Surroundings}
 
--- A box that asks whether to delete a file, asks for the source mask of a copy or, with that mask, for its destination, for a new folder,
+-- A box that asks whether to delete a thing, asks for the source mask of a copy or, with that mask, for its destination, for a new folder,
 -- for what a new link is to say or, with that, for its name, or for a thing's mode, or tells of a job's trouble.
 pub data JobBoxState : Type 0 where
   DeleteBox : (path : Route) → JobBoxState
-  MaskBox : (path : Route) → (typed : InputState) → JobBoxState
-  TargetBox : (path : Route) → (mask : List ℕ) → (typed : InputState) → JobBoxState
+  MaskBox : (kind : Kind) → (path : Route) → (typed : InputState) → JobBoxState
+  TargetBox : (kind : Kind) → (path : Route) → (mask : List ℕ) → (typed : InputState) → JobBoxState
   FolderBox : (typed : InputState) → JobBoxState
   LinkTextBox : (typed : InputState) → JobBoxState
   LinkNameBox : (text : List ℕ) → (typed : InputState) → JobBoxState
@@ -24,8 +25,8 @@ pub data JobBoxState : Type 0 where
 -- a box as it is seen
 abbrev pub seen : JobBox → JobBoxState
 seen (box.Delete chosen) = DeleteBox chosen.path
-seen (box.SourceMask chosen typed) = MaskBox chosen.path typed
-seen (box.CopyTo source typed) = TargetBox source.chosen.path source.mask typed
+seen (box.SourceMask chosen typed) = MaskBox chosen.kind chosen.path typed
+seen (box.CopyTo source typed) = TargetBox source.chosen.kind source.chosen.path source.mask typed
 seen (box.MakeFolder typed) = FolderBox typed
 seen (box.LinkText typed) = LinkTextBox typed
 seen (box.LinkName text typed) = LinkNameBox text typed

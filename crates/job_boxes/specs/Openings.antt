@@ -1,5 +1,6 @@
 -- The boxes as they open.
 use Rattle.std.specs.Prelude.{ℕ, List, Option, Some, None}
+use Rattle.mc_text.specs.declared.kind.Kind.{Kind}
 use Rattle.mc_text.specs.Routes.{Route, path_text}
 use Rattle.mc_dialogs.specs.InputKeys.{InputState}
 use Rattle.box_words.specs.BoxLines.{link_text_line, mask_line, mode_box, thing_text}
@@ -8,11 +9,11 @@ use Rattle.job_plans.specs.declared.choosing.Opens.TheVariants as opens
 use Rattle.mc_panels.specs.Panels.{PanelState, current_name}
 use Rattle.job_boxes.specs.JobBoxes.{JobBoxState, DeleteBox, MaskBox, NewModeBox}
 
--- the box that such a key opens on a thing of this mode
-abbrev pub box_of : Opens → Route → ℕ → JobBoxState
-box_of opens.Delete path mode = DeleteBox path
-box_of opens.SourceMask path mode = MaskBox path mask_line
-box_of opens.Mode path mode = NewModeBox path (mode_box mode)
+-- the box that such a key opens on a thing of this kind and mode
+abbrev pub box_of : Opens → Kind → Route → ℕ → JobBoxState
+box_of opens.Delete kind path mode = DeleteBox path
+box_of opens.SourceMask kind path mode = MaskBox kind path mask_line
+box_of opens.Mode kind path mode = NewModeBox path (mode_box mode)
 
 -- what a link says at first that is asked for in a panel: the path of the thing under the cursor, or of the folder, where that is on `..`
 abbrev pub text_within : Option (List ℕ) → Route → List ℕ

@@ -9,8 +9,8 @@ use Rattle.job_boxes.specs.JobBoxes.{JobBoxState, DeleteBox, MaskBox, TargetBox,
 
 abbrev pub with_job_box : JobBoxState → CellGrid → CellGrid
 with_job_box (DeleteBox path) grid = with_box grid (plain_lines delete_lines)
-with_job_box (MaskBox path typed) grid = with_input grid typed
-with_job_box (TargetBox path mask typed) grid = with_input grid typed
+with_job_box (MaskBox kind path typed) grid = with_input grid typed
+with_job_box (TargetBox kind path mask typed) grid = with_input grid typed
 with_job_box (FolderBox typed) grid = with_input grid typed
 with_job_box (LinkTextBox typed) grid = with_input grid typed
 with_job_box (LinkNameBox text typed) grid = with_input grid typed

@@ -1,5 +1,6 @@
 -- What a key comes to in each box of a job (mc(1), "Copy, Rename", "Miscellaneous Keys"; F5, F7 and F8 of its bottom line).
 use Rattle.std.specs.Prelude.{◌≡◌, ◌⊎◌, ⊤, ℕ, Bool, true, false, MatchBool, if◌then◌else◌, List, [], ◌∷◌, Option}
+use Rattle.mc_text.specs.declared.kind.Kind.{Kind}
 use Rattle.mc_text.specs.Routes.{Route}
 use Rattle.home_paths.specs.Homes.{with_home}
 use Rattle.tree_trait.specs.Change.{CallLog}
@@ -70,10 +71,10 @@ delete_answer rows path delete.Shuts = Shuts
 delete_answer rows path delete.Deletes = begun_alone rows (delete_plan path)
 
 -- the source mask: with any mask that is typed the destination is asked for, at first the folder of the other panel
-abbrev pub MaskLeads : LineReply → Route → Route → JobReply → Type 0
-MaskLeads line.Stays path other reply = reply ≡ Stays
-MaskLeads line.Shuts path other reply = reply ≡ Shuts
-MaskLeads (line.Takes text) path other reply = OpensBox (TargetBox path text (target_line other)) reply
+abbrev pub MaskLeads : LineReply → Kind → Route → Route → JobReply → Type 0
+MaskLeads line.Stays kind path other reply = reply ≡ Stays
+MaskLeads line.Shuts kind path other reply = reply ≡ Shuts
+MaskLeads (line.Takes text) kind path other reply = OpensBox (TargetBox kind path text (target_line other)) reply
 
 -- what a new link is to say: with any text that is typed its name is asked for
 abbrev pub LinkTextLeads : LineReply → JobReply → Type 0
@@ -105,10 +106,10 @@ trouble_answer rows (trouble.Gives answer) = if can_answer rows answer then Answ
 -- of a thing that matches the mask, the new folder's path, and that of the link with its text.
 abbrev pub BoxLeads : JobBoxState → Option CallLog → Around → Key → JobReply → Type 0
 BoxLeads (DeleteBox path) contents around key reply = reply ≡ delete_answer around.rows path (delete_reply_to key)
-BoxLeads (MaskBox path typed) contents around key reply = MaskLeads (line_reply (input_shut typed key)) path around.other reply
-BoxLeads (TargetBox path mask typed) contents around key reply =
+BoxLeads (MaskBox kind path typed) contents around key reply = MaskLeads (line_reply (input_shut typed key)) kind path around.other reply
+BoxLeads (TargetBox kind path mask typed) contents around key reply =
     PathLeads (line_reply (input_shut typed key)) around.rows
-    (λ text planned. CopyLeads contents path mask around.current (with_home around.home text) planned) reply
+    (λ text planned. CopyLeads contents kind path mask around.current (with_home around.home text) planned) reply
 BoxLeads (FolderBox typed) contents around key reply =
     PathLeads (line_reply (input_shut typed key)) around.rows
     (λ text planned. FolderLeads contents around.current (with_home around.home text) planned) reply
@@ -122,8 +123,8 @@ BoxLeads (TroubleBox told) contents around key reply = reply ≡ trouble_answer 
 -- a box after a key
 abbrev pub box_after : JobBoxState → Key → JobBoxState
 box_after (DeleteBox path) key = DeleteBox path
-box_after (MaskBox path typed) key = MaskBox path (input_after typed key)
-box_after (TargetBox path mask typed) key = TargetBox path mask (input_after typed key)
+box_after (MaskBox kind path typed) key = MaskBox kind path (input_after typed key)
+box_after (TargetBox kind path mask typed) key = TargetBox kind path mask (input_after typed key)
 box_after (FolderBox typed) key = FolderBox (input_after typed key)
 box_after (LinkTextBox typed) key = LinkTextBox (input_after typed key)
 box_after (LinkNameBox text typed) key = LinkNameBox text (input_after typed key)

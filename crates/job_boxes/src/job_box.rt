@@ -17,9 +17,9 @@ pub struct MaskedSource {
 pub enum JobBox {
     /// Asks whether to delete this thing.
     Delete(Chosen),
-    /// Asks which names of the source are copied, of a copy of this file.
+    /// Asks which names of the source are copied, of a copy of this thing.
     SourceMask(Chosen, InputLine),
-    /// Asks where this file is to be copied to.
+    /// Asks where this thing is to be copied to.
     CopyTo(MaskedSource, InputLine),
     /// Asks where a new folder is to be made, and under which name.
     MakeFolder(InputLine),

@@ -1,3 +1,4 @@
+mod AnyKind
 mod Refusing
 mod NewPlaces
 mod CopyCauses

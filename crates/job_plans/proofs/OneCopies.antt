@@ -2,6 +2,7 @@
 use Rattle.std.proofs.Common.{◌≡◌, ◌⊎◌, inl, inr, ℕ, true, false, List, [], ◌∷◌, map, refl, ◌∙◌, ap, subst, Option, Result, Ok, Err, arith}
 use Rattle.std.specs.Prelude.{IfOk, chars, is_some}
 use Rattle.mc_text.specs.declared.error.NoMemory.{NoMemory}
+use Rattle.mc_text.specs.declared.kind.Kind.{Kind}
 use Rattle.mc_text.specs.Routes.{Route, parent_of}
 use Rattle.tree_trait.specs.Change.{CallLog}
 use Rattle.tagging.specs.declared.glob.GlobPart.{GlobPart}
@@ -73,11 +74,11 @@ module _ (path : Route) (mask : List ℕ) (from : Route) (typed : List ℕ) wher
 
   -- WHAT THE COPY COMES TO
 
-  module _ (contents : Option CallLog) where
+  module _ (kind : Kind) (contents : Option CallLog) where
     leads : (target : Route) (plan : JobPlan) → is_below_home typed ≡ false → IsSound (only_copy path target)
         → IsJobFor (copy_request path mask from typed) (only_copy path target)
-        → IsPlanned contents (copy_request path mask from typed) (Ok (only_copy path target)) → PlanLeads (sight contents) path target plan
-        → CopyLeads contents path mask from typed plan
+        → IsPlanned contents (copy_request path mask from typed) (Ok (only_copy path target)) → PlanLeads (sight contents) kind path target plan
+        → CopyLeads contents kind path mask from typed plan
     leads target (Begins plan) not_home sound asked known at =
         (target, record { not_home = not_home; asked_for = asked; sound = sound; planned = known; vacant = at.0 }, at.1, at.2)
     leads target (Refuses refusal) not_home sound asked known at =
@@ -85,8 +86,8 @@ module _ (path : Route) (mask : List ℕ) (from : Route) (typed : List ℕ) wher
 
     pub copy_leads : (after : Option CallLog) (request : Request) (job : Planned) (target : Route) (result : Result JobPlan NoMemory) → is_below_home typed ≡ false
         → request ≡ copy_request path mask from typed → IsSound job → IsJobFor request job → IsPlanned contents request (Ok job)
-        → job ≡ only_copy (source_of job) target → after ≡ contents → IfOk result (PlanLeads (sight after) path target)
-        → IfOk result (CopyLeads contents path mask from typed)
+        → job ≡ only_copy (source_of job) target → after ≡ contents → IfOk result (PlanLeads (sight after) kind path target)
+        → IfOk result (CopyLeads contents kind path mask from typed)
     copy_leads after request job target (Err e) not_home is sound asked known at same planned = tt
     copy_leads after request job target (Ok plan) not_home is sound asked known at same planned =
         let wanted : IsJobFor (copy_request path mask from typed) job = subst (λ (r : Request). IsJobFor r job) is asked in
@@ -94,16 +95,16 @@ module _ (path : Route) (mask : List ℕ) (from : Route) (typed : List ℕ) wher
         leads target plan not_home (subst IsSound copy sound) (subst (λ (j : Planned). IsJobFor (copy_request path mask from typed) j) copy wanted)
         (subst (λ (j : Planned). IsPlanned contents (copy_request path mask from typed) (Ok j)) copy
         (subst (λ (r : Request). IsPlanned contents r (Ok job)) is known))
-        (subst (λ (c : Option CallLog). PlanLeads (sight c) path target plan) same planned)
+        (subst (λ (c : Option CallLog). PlanLeads (sight c) kind path target plan) same planned)
 
     refuses : (error : PlanError) (plan : JobPlan) → is_below_home typed ≡ false → IsPlanned contents (copy_request path mask from typed) (Err error)
-        → IsToldAs error plan → CopyLeads contents path mask from typed plan
+        → IsToldAs error plan → CopyLeads contents kind path mask from typed plan
     refuses error (Begins plan) not_home known told = absurd told
     refuses error (Refuses refusal) not_home known told = inr (not_home, inl (record { error = error; planned = known; told = told }))
 
     pub refused_copy : (request : Request) (error : PlanError) (result : Result JobPlan NoMemory) → is_below_home typed ≡ false
         → request ≡ copy_request path mask from typed → IsPlanned contents request (Err error) → IfOk result (IsToldAs error)
-        → IfOk result (CopyLeads contents path mask from typed)
+        → IfOk result (CopyLeads contents kind path mask from typed)
     refused_copy request error (Err e) not_home is known told = tt
     refused_copy request error (Ok plan) not_home is known told =
         refuses error plan not_home (subst (λ (r : Request). IsPlanned contents r (Err error)) is known) told

@@ -3,6 +3,7 @@ use Rattle.std.proofs.Common.{◌≡◌, ℕ, ◌≤◌, Bool, true, false, ◌&
 use Rattle.std.proofs.lemmas.Bool.{false≢true}
 use Rattle.std.specs.Prelude.{nat_le}
 use Rattle.std.specs.Option.{option_map, option_map_or}
+use Rattle.mc_text.specs.declared.kind.Kind.{Kind}
 use Rattle.mc_text.specs.Routes.{Route, spelled}
 use Rattle.tree_trait.specs.declared.calls.TreeError.{TreeError}
 use Rattle.tree_trait.specs.declared.calls.TreeError.TheVariants.{Missing}
@@ -15,7 +16,7 @@ use Rattle.tree_trait.specs.Answers.{IsMeta, IfKnown, Reads}
 use Rattle.tree_trait.proofs.Walking.{stat-found}
 use Rattle.job_reports.proofs.PermittedCalls.{stat_missing}
 use Rattle.job_plans.specs.declared.choosing.Opens.{Opens}
-use Rattle.job_plans.specs.Copies.{HasMode, IsTaken, IsVacant, MayAsk, is_spot_of, may_open}
+use Rattle.job_plans.specs.Copies.{HasKind, HasMode, IsTaken, IsVacant, MayAsk, is_spot_of, may_open}
 use Rattle.job_plans.specs.Reading.{sight}
 
 -- what `stat` says of a path is what can be seen there
@@ -52,13 +53,25 @@ has_mode (Some log) path meta reads =
     subst (λ (i : Option ℕ). option_map (λ (v : Value). v.mode) (option_map (λ i. value (node (current log) i)) i) ≡ Some meta.mode) (sym at)
     (ap (λ (mode : ℕ). Some mode) (sym r.1.mode))
 
+-- and is of the kind that the look tells
+has_kind : (contents : Option CallLog) (path : Route) (meta : Meta)
+    → IfKnown contents (λ log. Reads log (Stat path) (let r : Result Meta TreeError = Ok meta in r) (IsMeta (current log) path))
+    → HasKind (sight contents) path meta.kind
+has_kind None path meta reads = tt
+has_kind (Some log) path meta reads =
+    let r = reads log refl in
+    let at = stat-found (current log) path r.0 in
+    subst (λ (i : Option ℕ). option_map (λ (v : Value). v.kind) (option_map (λ i. value (node (current log) i)) i) ≡ Some meta.kind) (sym at)
+    (ap (λ (kind : Kind). Some kind) (sym r.1.kind))
+
 pub thing_look : (box : Opens) (contents : Option CallLog) (wanted path : Route) (meta : Meta) → path ≡ wanted → length (spelled wanted) ≤ 4096
     → IfKnown contents (λ log. Reads log (Stat path) (let r : Result Meta TreeError = Ok meta in r) (IsMeta (current log) path)) → may_open box meta.kind ≡ true
-    → MayAsk box (sight contents) wanted true × HasMode (sight contents) wanted meta.mode × (path ≡ wanted)
+    → MayAsk box (sight contents) wanted true × HasMode (sight contents) wanted meta.mode × HasKind (sight contents) wanted meta.kind × (path ≡ wanted)
 thing_look box contents wanted path meta same close reads kind =
     let near : length (spelled path) ≤ 4096 = subst (λ (q : Route). length (spelled q) ≤ 4096) (sym same) close in (
       subst (λ q. MayAsk box (sight contents) q true) same (may_ask box contents path meta true near reads kind),
       subst (λ q. HasMode (sight contents) q meta.mode) same (has_mode contents path meta reads),
+      subst (λ q. HasKind (sight contents) q meta.kind) same (has_kind contents path meta reads),
       same,
     )
 

@@ -1,18 +1,26 @@
 -- What a box may ask of, and the plans that it confirms.
-use Rattle.std.specs.Prelude.{◌≡◌, ℕ, Bool, true, false, ◌&&◌, nat_le, ⊤, [], ◌∷◌, length, IsSome, Option, Some, None}
+use Rattle.std.specs.Prelude.{◌≡◌, ℕ, Bool, true, false, ◌&&◌, nat_le, ⊤, List, [], ◌∷◌, length, IsSome, Option, Some, None}
 use Rattle.std.specs.Option.{option_map, option_map_or}
 use Rattle.mc_text.specs.declared.kind.Kind.{Kind}
+use Rattle.mc_text.specs.declared.kind.Kind.TheVariants.{File, Folder, Link, Other}
 use Rattle.mc_text.specs.Routes.{Route, spelled}
 use Rattle.tree_trait.specs.FileSystem.{Spot, Value, View}
-use Rattle.tree_trait.specs.Refusals.{file_kind}
 use Rattle.job_reports.specs.declared.job.Job.{Job}
 use Rattle.job_reports.specs.declared.job.Job.TheVariants as plan
+use Rattle.job_reports.specs.declared.job.Pair.{Pair}
 use Rattle.job_plans.specs.declared.choosing.Opens.{Opens}
 use Rattle.job_plans.specs.declared.choosing.Opens.TheVariants as opens
 
--- a file may be copied, and anything deleted or given a mode
+-- a file, a folder or a link may be copied
+abbrev pub may_copy : Kind → Bool
+may_copy File = true
+may_copy Folder = true
+may_copy Link = true
+may_copy Other = false
+
+-- and anything deleted or given a mode
 abbrev pub may_open : Opens → Kind → Bool
-may_open opens.SourceMask kind = file_kind kind
+may_open opens.SourceMask kind = may_copy kind
 may_open opens.Delete kind = true
 may_open opens.Mode kind = true
 
@@ -30,12 +38,24 @@ abbrev pub HasMode : Option View → Route → ℕ → Type 0
 HasMode None path mode = ⊤
 HasMode (Some view) path mode = option_map (λ (v : Value). v.mode) (view path).value ≡ Some mode
 
--- the plans of one file
+-- the thing at a path is of a kind, as far as the tree can be seen
+abbrev pub HasKind : Option View → Route → Kind → Type 0
+HasKind None path kind = ⊤
+HasKind (Some view) path kind = option_map (λ (v : Value). v.kind) (view path).value ≡ Some kind
+
+-- the plans of one thing
 abbrev pub delete_plan : Route → Job
 delete_plan path = plan.Delete (path ∷ [])
 
-abbrev pub copy_plan : Route → Route → Job
-copy_plan source target = plan.Copy (record { source = source; target = target } ∷ [])
+-- a file's copy, or that of another thing with all that lies in it
+abbrev pub copies : Kind → List Pair → Job
+copies File pairs = plan.Copy pairs
+copies Folder pairs = plan.CopyTree pairs
+copies Link pairs = plan.CopyTree pairs
+copies Other pairs = plan.CopyTree pairs
+
+abbrev pub copy_plan : Kind → Route → Route → Job
+copy_plan kind source target = copies kind (record { source = source; target = target } ∷ [])
 
 abbrev pub mode_plan : Route → ℕ → Job
 mode_plan path mode = plan.SetMode (path ∷ []) mode

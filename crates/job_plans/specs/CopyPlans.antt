@@ -1,5 +1,6 @@
 -- Where a copy goes, and why none is made. The rule is that of a plan of one source (`op_plan`), after mc(1), "Copy, Rename": masks.
 use Rattle.std.specs.Prelude.{◌≡◌, ◌≢◌, ◌⊎◌, ℕ, true, false, List, [], ◌∷◌, Option, Some, Result, Ok, Err, is_some}
+use Rattle.mc_text.specs.declared.kind.Kind.{Kind}
 use Rattle.mc_text.specs.Routes.{Route, parent_of}
 use Rattle.tree_trait.specs.declared.calls.TreeError.TheVariants.{Missing}
 use Rattle.tree_trait.specs.FileSystem.{View}
@@ -92,8 +93,8 @@ CopyRefused contents path mask from typed refusal =
     ⊎ ((is_below_home typed ≡ false)
     × (HasNoPlan contents (copy_request path mask from typed) refusal ⊎ HasNoRoom contents path (copy_request path mask from typed) refusal))
 
--- what planning a copy comes to: the plan, or why it is refused
-abbrev pub CopyLeads : Option CallLog → Route → List ℕ → Route → List ℕ → JobPlan → Type 0
-CopyLeads contents path mask from typed (Begins plan) =
-    (target : Route) × IsNewCopy contents path mask from typed target × (plan ≡ copy_plan path target) × (is_workable plan ≡ true)
-CopyLeads contents path mask from typed (Refuses refusal) = CopyRefused contents path mask from typed refusal
+-- what planning the copy of a thing of this kind comes to: the plan, or why it is refused
+abbrev pub CopyLeads : Option CallLog → Kind → Route → List ℕ → Route → List ℕ → JobPlan → Type 0
+CopyLeads contents kind path mask from typed (Begins plan) =
+    (target : Route) × IsNewCopy contents path mask from typed target × (plan ≡ copy_plan kind path target) × (is_workable plan ≡ true)
+CopyLeads contents kind path mask from typed (Refuses refusal) = CopyRefused contents path mask from typed refusal

@@ -72,7 +72,13 @@ fn look_at_thing<T: ReadTree>(
     match tree.stat(alloc, &path) {
         Ok(meta) => {
             if may_ask_of(opens, meta.kind) {
-                Ok(Choice::Thing(Chosen { path }, meta.mode))
+                Ok(Choice::Thing(
+                    Chosen {
+                        path,
+                        kind: meta.kind,
+                    },
+                    meta.mode,
+                ))
             } else {
                 Ok(Choice::Nothing)
             }
@@ -82,13 +88,13 @@ fn look_at_thing<T: ReadTree>(
     }
 }
 
-/// Whether a box may ask of a thing of this kind: a file may be copied, and anything deleted or given a mode.
+/// Whether a box may ask of a thing of this kind: a file, a folder or a link may be copied, and anything deleted or given a mode.
 fn may_ask_of(opens: Opens, kind: Kind) -> bool
     ensures { result ≡ may_open opens kind }
 {
     match (opens, kind) {
-        (Opens::SourceMask, Kind::File) => true,
-        (Opens::SourceMask, Kind::Folder | Kind::Link | Kind::Other) => false,
+        (Opens::SourceMask, Kind::File | Kind::Folder | Kind::Link) => true,
+        (Opens::SourceMask, Kind::Other) => false,
         (Opens::Delete | Opens::Mode, _) => true,
     }
 }

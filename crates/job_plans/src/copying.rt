@@ -5,7 +5,8 @@ ghost use Rattle.tree_trait.specs.Calls.{Stat};
 ghost use Rattle.tree_trait.specs.Change.{current};
 ghost use Rattle.tree_trait.specs.Answers.{HasCause, IfKnown, IsMeta, Reads};
 ghost use Rattle.job_reports.specs.Jobs.{is_workable};
-ghost use Rattle.job_plans.specs.Copies.{IsTaken, IsVacant, copy_plan, delete_plan, mode_plan};
+ghost use Rattle.job_reports.specs.declared.job.Job.TheVariants.{Copy};
+ghost use Rattle.job_plans.specs.Copies.{IsTaken, IsVacant, copies, copy_plan, delete_plan, mode_plan};
 ghost use Rattle.job_plans.specs.CopyPlans.{CopyLeads, IsOneCopy, copy_request, only_copy, source_of};
 ghost use Rattle.job_plans.specs.Choices.{AfterLook, PlanLeads, plan_refusals};
 ghost use Rattle.job_plans.specs.Places.{is_below_home};
@@ -15,7 +16,7 @@ use crate::home::is_below_home;
 use crate::refused::{refuse, refused};
 use box_words::Chosen;
 use job_reports::{Job, Pair, Pairs};
-use mc_text::{NoMemory, Path, Paths, Text};
+use mc_text::{Kind, NoMemory, Path, Paths, Text};
 use op_plan::{Job as Planned, Pair as PlannedPair, Pairs as PlannedPairs, Request, make_plan};
 use session_history::{PlanError, Refusal};
 use std::alloc::Global;
@@ -28,7 +29,7 @@ pub enum JobPlan {
     Refuses(Refusal),
 }
 
-/// Plans the copy of a file that a mask is to match to where a typed text leads from a folder, if nothing stands there. The text's last part
+/// Plans the copy of a thing that a mask is to match to where a typed text leads from a folder, if nothing stands there. The text's last part
 /// makes the target's name of the source's, or names the folder that is to hold it. What begins at HOME, which isn't known here, is refused
 /// without a look.
 pub fn plan_copy<T: ReadTree>(
@@ -39,7 +40,7 @@ pub fn plan_copy<T: ReadTree>(
     from: &Path,
     typed: &str,
 ) -> Result<JobPlan, NoMemory>
-    ensures leads { IfOk result (CopyLeads (T.contents tree.old) chosen.now.path mask.now from.now typed.now) }
+    ensures leads { IfOk result (CopyLeads (T.contents tree.old) chosen.now.kind chosen.now.path mask.now from.now typed.now) }
     ensures home { is_below_home typed.now ≡ true → tree.new ≡ tree.old }
     ensures reads { ReadsTree plan_refusals result (T.contents tree.old) (T.contents tree.new)
         (T.fault_count tree.old) (T.fault_count tree.new) }
@@ -54,7 +55,7 @@ pub fn plan_copy<T: ReadTree>(
     }
 }
 
-/// What is asked for: the copy of one file.
+/// What is asked for: the copy of one thing.
 fn request_of(
     alloc: Global,
     chosen: &Chosen,
@@ -89,7 +90,7 @@ fn target_of(job: Planned) -> Path
     }
 }
 
-/// Plans the copy of a file to a target, if nothing stands there.
+/// Plans the copy of a thing to a target, if nothing stands there.
 fn plan_to<T: ReadTree>(
     alloc: Global,
     tree: &mut T,
@@ -97,7 +98,7 @@ fn plan_to<T: ReadTree>(
     target: Path,
 ) -> Result<JobPlan, NoMemory>
     requires within { is_some (parent_of target) ≡ true }
-    ensures leads { IfOk result (PlanLeads (sight (T.contents tree.old)) chosen.now.path target) }
+    ensures leads { IfOk result (PlanLeads (sight (T.contents tree.old)) chosen.now.kind chosen.now.path target) }
     ensures reads { ReadsTree plan_refusals result (T.contents tree.old) (T.contents tree.new)
         (T.fault_count tree.old) (T.fault_count tree.new) }
 {
@@ -126,7 +127,7 @@ fn after_look(
     error: TreeError,
 ) -> Result<JobPlan, NoMemory>
     requires within { is_some (parent_of target) ≡ true }
-    ensures { IfOk result (AfterLook error chosen.now.path target) }
+    ensures { IfOk result (AfterLook error chosen.now.kind chosen.now.path target) }
 {
     match error {
         TreeError::Missing => Ok(JobPlan::Begins(copy_to(alloc, chosen, target)?)),
@@ -135,16 +136,30 @@ fn after_look(
     }
 }
 
-/// The copy of a file.
+/// The copy of what was chosen.
 fn copy_to(alloc: Global, chosen: &Chosen, target: Path) -> Result<Job, NoMemory>
     requires within { is_some (parent_of target) ≡ true }
-    ensures planned { IfOk result (λ plan. plan ≡ copy_plan chosen.now.path target) }
+    ensures planned { IfOk result (λ plan. plan ≡ copy_plan chosen.now.kind chosen.now.path target) }
     ensures workable { IfOk result (λ plan. is_workable plan ≡ true) }
 {
     let source = chosen.path.copy(alloc)?;
     let mut pairs = Vec::new(alloc);
     pairs.push(Pair { source, target })?;
-    Ok(Job::Copy(Pairs(pairs)))
+    Ok(copying(chosen.kind, Pairs(pairs)))
+}
+
+/// The copy of a file, or of another thing with all that lies in it.
+#[tactic(auto, using(crate::proofs::AnyKind::works_alike))]
+fn copying(kind: Kind, pairs: Pairs) -> Job
+    ensures planned { result ≡ copies kind pairs }
+    ensures workable { is_workable result ≡ is_workable (Copy pairs) }
+{
+    match kind {
+        Kind::File => Job::Copy(pairs),
+        Kind::Folder => Job::CopyTree(pairs),
+        Kind::Link => Job::CopyTree(pairs),
+        Kind::Other => Job::CopyTree(pairs),
+    }
 }
 
 /// The setting of a thing's mode.

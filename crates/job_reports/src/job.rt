@@ -2,7 +2,7 @@
 use mc_text::{Path, Paths, Text};
 use std::marker::Model;
 
-/// A file that is to be copied, and where to.
+/// What is to be copied, and where to.
 #[derive(Debug, Drop)]
 pub struct Pair {
     pub source: Path,
@@ -25,8 +25,10 @@ impl Model for Pairs {
 /// A job, as it was planned.
 #[derive(Debug, Drop)]
 pub enum Job {
-    /// Copies each source to its target.
+    /// Copies each source, which is a file, to its target.
     Copy(Pairs),
+    /// Copies each source, with all that lies in it, to its target, where nothing stands.
+    CopyTree(Pairs),
     /// Deletes these.
     Delete(Paths),
     /// Makes a new, empty folder at this path.

@@ -410,7 +410,7 @@ module _ (contents contents_after : Option CallLog) (faults : ℕ) (old new : Se
       calls = omega (arith, calls_is);
       most = let few = s.few in omega (arith, calls_is, few);
     };
-    leads = (same_noted old new screen quit, (told live, told_is, refl, inr (inr (s.goes, fresh_told live.work ∙ s.fresh, reports s.synced))));
+    leads = (same_noted old new screen quit, (told live, told_is, refl, inr (inr (s.goes, fresh_told live.id live.work ∙ s.fresh, reports s.synced))));
     sought = tt;
     caused = λ log known. tt;
     traced = step_traced live stepped did made calls before after is (inr s) calls_is job s.counted (λ log known. owed_tells live stepped s.path did old.dirty new.dirty contents contents_after log known s.synced);

@@ -12,7 +12,7 @@ use Rattle.file_copy.specs.Copying as copying
 use Rattle.session_history.specs.declared.history.Event.TheVariants.{Step}
 use Rattle.session_history.specs.declared.history.Entry.{Entry}
 use Rattle.copy_move.specs.declared.work.Work.{Work}
-use Rattle.copy_move.specs.declared.work.Work.TheVariants.{Copy, Delete, Make, SetMode}
+use Rattle.copy_move.specs.declared.work.Work.TheVariants.{Copy, CopyTree, Delete, Make, SetMode}
 use Rattle.copy_move.specs.declared.run.Course.{Course}
 use Rattle.copy_move.specs.declared.run.Course.TheVariants.{GoesOn, InTrouble, OwedSyncFailed, Skips, Ends}
 use Rattle.copy_move.specs.Deletions.{Deleting, DeletionLeaves}
@@ -144,6 +144,7 @@ module _ (job : Option Running) (newest older : List Entry) (dirty dirty_after :
     where
       begun : Work → Bool
       begun (Copy x) = copying.is_dirty x.folder
+      begun (CopyTree c) = false
       begun (Delete d) = false
       begun (Make m) = false
       begun (SetMode s) = false
@@ -153,6 +154,7 @@ module _ (job : Option Running) (newest older : List Entry) (dirty dirty_after :
     where
       begun : Work → Bool
       begun (Copy x) = false
+      begun (CopyTree c) = false
       begun (Delete d) = false
       begun (Make x) = makings.is_dirty x.stage
       begun (SetMode s) = false
@@ -162,9 +164,28 @@ module _ (job : Option Running) (newest older : List Entry) (dirty dirty_after :
     where
       begun : Work → Bool
       begun (Copy x) = false
+      begun (CopyTree c) = false
       begun (Delete d) = false
       begun (Make m) = false
       begun (SetMode x) = settings.is_dirty x.stage
+  work_moves live (CopyTree c) (CopyTree w) (CopyTree new) before after is work same t h =
+      folder_moves live h.folder is (subst (λ x. is_own x h.folder ≡ true) (sym work) h.own) h.was h.now h.synced h.list
+  work_moves live (CopyTree c) (Copy w) new before after is work same t h = absurd t
+  work_moves live (CopyTree c) (Delete w) new before after is work same t h = absurd t
+  work_moves live (CopyTree c) (Make w) new before after is work same t h = absurd t
+  work_moves live (CopyTree c) (SetMode w) new before after is work same t h = absurd t
+  work_moves live (CopyTree c) (CopyTree w) (Copy new) before after is work same t h = absurd h
+  work_moves live (CopyTree c) (CopyTree w) (Delete new) before after is work same t h = absurd h
+  work_moves live (CopyTree c) (CopyTree w) (Make new) before after is work same t h = absurd h
+  work_moves live (CopyTree c) (CopyTree w) (SetMode new) before after is work same t h = absurd h
+  work_moves live (Copy c) (CopyTree w) new before after is work same t h = absurd t
+  work_moves live (Delete d) (CopyTree w) new before after is work same t h = absurd t
+  work_moves live (Make m) (CopyTree w) new before after is work same t h = absurd t
+  work_moves live (SetMode s) (CopyTree w) new before after is work same t h = absurd t
+  work_moves live (Copy c) (Copy w) (CopyTree new) before after is work same t h = absurd h
+  work_moves live (Delete d) (Delete w) (CopyTree new) before after is work same t h = absurd h
+  work_moves live (Make m) (Make w) (CopyTree new) before after is work same t h = absurd h
+  work_moves live (SetMode s) (SetMode w) (CopyTree new) before after is work same t h = absurd h
   work_moves live (SetMode s) (Copy w) new before after is work same t h = absurd t
   work_moves live (SetMode s) (Delete w) new before after is work same t h = absurd t
   work_moves live (SetMode s) (Make w) new before after is work same t h = absurd t
@@ -213,7 +234,7 @@ module _ (job : Option Running) (newest older : List Entry) (dirty dirty_after :
     where
       by : (course : Course) → TellsOn course live did stepped → LeavesDirty course live.work did stepped.work dirty dirty_after before after → Moves
       by GoesOn (work, tells, new_is) leaves = work_moves live live.work work stepped.work before after is refl (sym (ap (λ (s : Running). s.work) new_is)) tells leaves
-      by (InTrouble cause) tells leaves = absurd tells
+      by (InTrouble halt) tells leaves = absurd tells
       by (OwedSyncFailed cause) tells leaves = absurd tells
       by (Skips cause) tells leaves = inl leaves
       by (Ends ending) tells leaves = tries leaves.folder leaves.refusal did refl leaves.dirty_is

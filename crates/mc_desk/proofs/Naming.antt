@@ -44,10 +44,10 @@ step_numbered n (Troubled trouble) (Some job) h live is = let same : job.id ≡ 
 step_numbered n (Ended ending part) (Some job) h live is = absurd cc
 
 answered_id : (answer : Answer) (course : Course) (job : Running) → (answered_on course answer job).id ≡ job.id
-answered_id Retry (InTrouble cause) job = refl
-answered_id Skip (InTrouble cause) job = refl
-answered_id SkipAll (InTrouble cause) job = refl
-answered_id Abort (InTrouble cause) job = refl
+answered_id Retry (InTrouble halt) job = refl
+answered_id Skip (InTrouble halt) job = refl
+answered_id SkipAll (InTrouble halt) job = refl
+answered_id Abort (InTrouble halt) job = refl
 answered_id Retry (OwedSyncFailed cause) job = refl
 answered_id Skip (OwedSyncFailed cause) job = refl
 answered_id SkipAll (OwedSyncFailed cause) job = refl

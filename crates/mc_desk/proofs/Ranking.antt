@@ -16,7 +16,7 @@ use Rattle.file_copy.specs.declared.stage.FolderState.{FolderState}
 use Rattle.file_copy.specs.declared.stage.FolderState.TheVariants.{Synced, Dirty}
 use Rattle.file_copy.specs.LastSteps.{last_steps}
 use Rattle.copy_move.specs.declared.work.Work.{Work}
-use Rattle.copy_move.specs.declared.work.Work.TheVariants.{Copy, Delete, Make, SetMode}
+use Rattle.copy_move.specs.declared.work.Work.TheVariants.{Copy, CopyTree, Delete, Make, SetMode}
 use Rattle.copy_move.specs.declared.run.Course.{Course}
 use Rattle.copy_move.specs.declared.run.Course.TheVariants.{GoesOn, InTrouble, OwedSyncFailed, Skips, Ends}
 use Rattle.copy_move.specs.Jobs.{Running, closed_course}
@@ -37,7 +37,6 @@ use Rattle.job_reports.specs.Paths.{folder_of, without}
 use Rattle.copy_move.specs.Steps.{LeavesDirty, RunStep, OwedSyncStep, SyncsOwed, step_made}
 use Rattle.copy_move.specs.Told.{if_closed}
 use Rattle.copy_move.proofs.DeletionRuns.{fewer, one_fewer}
-use Rattle.copy_move.proofs.Falling.{trouble_falls}
 use Rattle.copy_move.proofs.FolderSteps.{joined_more, one_more, tried_more}
 
 more : (most : ℕ) → 0 < most + 8
@@ -89,12 +88,14 @@ some_setting_try setting.Done = omega arith
 
 some_end : (work : Work) → 0 < last_rank work
 some_end (Copy c) = some_last c.stage c.folder
+some_end (CopyTree c) = omega arith
 some_end (Delete d) = omega arith
 some_end (Make m) = some_making_try m.stage
 some_end (SetMode s) = some_setting_try s.stage
 
 some_work : (work : Work) → 0 < work_rank work
 some_work (Copy c) = some_copy c.stage c.folder
+some_work (CopyTree c) = omega arith
 some_work (Delete d) = omega arith
 some_work (Make m) = some_making m.stage
 some_work (SetMode s) = some_setting s.stage
@@ -102,9 +103,10 @@ some_work (SetMode s) = some_setting s.stage
 -- a live job has steps left
 some_steps : (course : Course) (work : Work) → 0 < rank_on course work
 some_steps GoesOn work = some_work work
-some_steps (InTrouble cause) work = some_end work
+some_steps (InTrouble halt) work = some_end work
 some_steps (OwedSyncFailed cause) work = some_end work
 some_steps (Skips cause) (Copy c) = omega arith
+some_steps (Skips cause) (CopyTree c) = omega arith
 some_steps (Skips cause) (Delete d) = omega arith
 some_steps (Skips cause) (Make m) = omega arith
 some_steps (Skips cause) (SetMode s) = omega arith
@@ -113,11 +115,13 @@ some_steps (Ends ending) work = some_end work
 -- a job that waits is counted as one that is aborted
 closed_rank : (course : Course) (work : Work) (dirty : List Route) → rank_at dirty (closed_course course) work ≤ rank_at dirty course work
 closed_rank GoesOn work dirty = omega arith
-closed_rank (InTrouble cause) (Copy c) dirty = omega arith
-closed_rank (InTrouble cause) (Delete d) dirty = omega arith
-closed_rank (InTrouble cause) (Make m) dirty = omega arith
-closed_rank (InTrouble cause) (SetMode s) dirty = omega arith
+closed_rank (InTrouble halt) (Copy c) dirty = omega arith
+closed_rank (InTrouble halt) (CopyTree c) dirty = omega arith
+closed_rank (InTrouble halt) (Delete d) dirty = omega arith
+closed_rank (InTrouble halt) (Make m) dirty = omega arith
+closed_rank (InTrouble halt) (SetMode s) dirty = omega arith
 closed_rank (OwedSyncFailed cause) (Copy c) dirty = omega arith
+closed_rank (OwedSyncFailed cause) (CopyTree c) dirty = omega arith
 closed_rank (OwedSyncFailed cause) (Delete d) dirty = omega arith
 closed_rank (OwedSyncFailed cause) (Make m) dirty = omega arith
 closed_rank (OwedSyncFailed cause) (SetMode s) dirty = omega arith
@@ -161,6 +165,15 @@ deletion_more d (Cleaned part) dirty dirty_after before after h = let same = ap 
 
 work_more : (old new : Work) (did : Did) (dirty dirty_after : List Route) (before after : Option CallLog) → WorkLeaves old did new dirty dirty_after before after → length dirty_after ≤ length dirty + 1
 work_more (Copy c) (Copy new) did dirty dirty_after before after h = subst (λ xs. length xs ≤ length dirty + 1) (sym h) (one_more (copying.is_dirty c.folder) (copying.is_dirty new.folder) (folder_of c.target) dirty)
+work_more (CopyTree c) (CopyTree new) did dirty dirty_after before after h = subst (λ xs. length xs ≤ length dirty + 1) (sym h.list) (one_more h.was h.now h.folder dirty)
+work_more (CopyTree c) (Copy new) did dirty dirty_after before after h = absurd h
+work_more (CopyTree c) (Delete new) did dirty dirty_after before after h = absurd h
+work_more (CopyTree c) (Make new) did dirty dirty_after before after h = absurd h
+work_more (CopyTree c) (SetMode new) did dirty dirty_after before after h = absurd h
+work_more (Copy c) (CopyTree new) did dirty dirty_after before after h = absurd h
+work_more (Delete d) (CopyTree new) did dirty dirty_after before after h = absurd h
+work_more (Make m) (CopyTree new) did dirty dirty_after before after h = absurd h
+work_more (SetMode s) (CopyTree new) did dirty dirty_after before after h = absurd h
 work_more (Copy c) (Delete new) did dirty dirty_after before after h = absurd h
 work_more (Copy c) (Make new) did dirty dirty_after before after h = absurd h
 work_more (Delete d) (Make new) did dirty dirty_after before after h = absurd h
@@ -179,7 +192,7 @@ work_more (Delete d) (Delete new) did dirty dirty_after before after h = deletio
 
 leaves_more : (course : Course) (old new : Work) (did : Did) (dirty dirty_after : List Route) (before after : Option CallLog) → LeavesDirty course old did new dirty dirty_after before after → length dirty_after ≤ length dirty + 1
 leaves_more GoesOn old new did dirty dirty_after before after h = work_more old new did dirty dirty_after before after h
-leaves_more (InTrouble cause) old new did dirty dirty_after before after h = absurd h
+leaves_more (InTrouble halt) old new did dirty dirty_after before after h = absurd h
 leaves_more (OwedSyncFailed cause) old new did dirty dirty_after before after h = absurd h
 leaves_more (Skips cause) old new did dirty dirty_after before after h = let same = ap length h in omega (arith, same)
 leaves_more (Ends ending) old new did dirty dirty_after before after h = subst (λ d. length d ≤ length dirty + 1) (sym h.dirty_is) (tried_more did h.refusal h.folder dirty)
@@ -201,7 +214,7 @@ settled_falls closed job stepped did made dirty dirty_after before after f0 f1 s
         let count : length dirty_after ≡ length dirty = ap length h.dirty_is in
         let waits : rank_at dirty_after stepped.course stepped.work ≡ rank_at dirty_after (OwedSyncFailed h.trouble.cause) job.work = ap (λ (j : Running). rank_at dirty_after j.course j.work) h.new_is in
         let goes : rank_at dirty job.course job.work ≡ rank_at dirty GoesOn job.work = ap (λ c. rank_at dirty c job.work) s.goes in
-        let low = trouble_falls job.work in
+        let low = s.waits in
         rank_left closed job stepped did dirty dirty_after (omega (arith, count)) (λ going. omega (arith, count, waits, goes, low))
 
 pub run_falls : (unclaimed : Route → Type 0) (closed : Bool) (job stepped : Running) (did : Did) (made : ℕ) (dirty dirty_after : List Route) (before after : Option CallLog) (f0 f1 : ℕ)

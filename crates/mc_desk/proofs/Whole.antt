@@ -61,7 +61,7 @@ desk_of start opening contents faults desk written settled lost asked shut room 
 
 closed_waits : (course : Course) → waits_on (closed_course course) ≡ false
 closed_waits GoesOn = refl
-closed_waits (InTrouble cause) = refl
+closed_waits (InTrouble halt) = refl
 closed_waits (OwedSyncFailed cause) = refl
 closed_waits (Skips cause) = refl
 closed_waits (Ends ending) = refl

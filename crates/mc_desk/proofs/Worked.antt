@@ -21,7 +21,7 @@ use Rattle.job_reports.specs.declared.row.JobState.TheVariants.{Ready, Troubled}
 use Rattle.job_reports.specs.Reports.{passes_over}
 use Rattle.job_reports.specs.declared.report.Cause.{Cause}
 use Rattle.copy_move.specs.declared.work.Work.{Work}
-use Rattle.copy_move.specs.declared.work.Work.TheVariants.{Copy, Delete, Make, SetMode}
+use Rattle.copy_move.specs.declared.work.Work.TheVariants.{Copy, CopyTree, Delete, Make, SetMode}
 use Rattle.copy_move.specs.declared.run.Course.{Course}
 use Rattle.copy_move.specs.declared.run.Course.TheVariants.{GoesOn, InTrouble, OwedSyncFailed, Skips, Ends}
 use Rattle.copy_move.specs.Jobs.{MayAnswer, Running, answered, answered_on, first_work, is_barred, kind_of, path_of, taken_anew, waits_on, with_skips}
@@ -109,21 +109,23 @@ still_does course answer job t = go course answer
 
     anew : (work : Work) → row (taken_anew work) ≡ row work
     anew (Copy c) = refl
+    anew (CopyTree c) = refl
     anew (Delete d) = refl
     anew (Make m) = refl
     anew (SetMode s) = refl
 
     skipping : (cause : Cause) (work : Work) → row (with_skips cause work) ≡ row work
     skipping cause (Copy c) = refl
+    skipping cause (CopyTree c) = refl
     skipping cause (Delete d) = refl
     skipping cause (Make m) = refl
     skipping cause (SetMode s) = refl
 
     go : (course : Course) (answer : Answer) → ready_row (row_of (answered_on course answer job) t) ≡ ready_row (row_of job t)
-    go (InTrouble cause) Retry = anew job.work
-    go (InTrouble cause) Skip = refl
-    go (InTrouble cause) SkipAll = skipping cause job.work
-    go (InTrouble cause) Abort = refl
+    go (InTrouble halt) Retry = anew job.work
+    go (InTrouble halt) Skip = refl
+    go (InTrouble halt) SkipAll = skipping halt.cause job.work
+    go (InTrouble halt) Abort = refl
     go (OwedSyncFailed cause) Retry = anew job.work
     go (OwedSyncFailed cause) Skip = refl
     go (OwedSyncFailed cause) SkipAll = refl
@@ -141,10 +143,10 @@ started_ready id plan run started = go (first_work id plan) started
     go (Some work) is = let same : running id work ≡ run = cc in ap (λ (j : Running). waits_on j.course) (sym same)
 
 answered_ready : (course : Course) (answer : Answer) (job : Running) → waits_on course ≡ true → (passes_over answer ≡ true → is_barred course job.work ≡ false) → waits_on (answered_on course answer job).course ≡ false
-answered_ready (InTrouble cause) Retry job waits fits = refl
-answered_ready (InTrouble cause) Skip job waits fits = refl
-answered_ready (InTrouble cause) SkipAll job waits fits = refl
-answered_ready (InTrouble cause) Abort job waits fits = refl
+answered_ready (InTrouble halt) Retry job waits fits = refl
+answered_ready (InTrouble halt) Skip job waits fits = refl
+answered_ready (InTrouble halt) SkipAll job waits fits = refl
+answered_ready (InTrouble halt) Abort job waits fits = refl
 answered_ready (OwedSyncFailed cause) Retry job waits fits = refl
 answered_ready (OwedSyncFailed cause) Skip job waits fits = absurd (true≢false (fits refl))
 answered_ready (OwedSyncFailed cause) SkipAll job waits fits = absurd (true≢false (fits refl))

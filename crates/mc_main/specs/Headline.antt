@@ -16,6 +16,8 @@ use Rattle.history_laws.specs.Replayed.{log_prefix, replayed_tree}
 use Rattle.session_history.specs.Entries.{IsMoment}
 use Rattle.history_laws.specs.Safe.{IsSafe}
 use Rattle.history_laws.specs.Staying.{StaysDone}
+use Rattle.outcome_laws.specs.Outcomes.{IsOutcome, Leaves}
+use Rattle.outcome_laws.specs.Untouched.{LeavesAlone}
 use Rattle.mc_desk.specs.Tallies.{keys_in}
 use Rattle.mc_desk.specs.declared.starts.Start.{Start}
 use Rattle.mc_desk.specs.Sessions.{EndsSession}
@@ -131,6 +133,15 @@ IsSafeRun opening now newest =
 -- what a finished job did stays done
 abbrev pub IsFinishedRun : CallLog → CallLog → List Entry → Type 0
 IsFinishedRun opening now newest = IsTree (current opening) → all_settled opening.changes ≡ true → StaysDone opening now newest
+
+-- Where a job reports that it is finished, all that it was to do is done, but for what it passed over, and what it doesn't touch is as it was where the
+-- job was begun.
+pub record HasOutcomes (opening now : CallLog) (newest : List Entry) : Type 0 where
+  pub done : Leaves IsOutcome opening now newest
+  pub alone : LeavesAlone opening now newest
+
+abbrev pub IsOutcomeRun : CallLog → CallLog → List Entry → Type 0
+IsOutcomeRun opening now newest = IsTree (current opening) → all_settled opening.changes ≡ true → HasOutcomes opening now newest
 
 -- once a job has made its first change, nothing is in doubt on its mount but what that change names
 abbrev pub IsCalmedRun : CallLog → CallLog → List Entry → Type 0

@@ -8,7 +8,7 @@ ghost use Rattle.mc_desk.specs.Shown.{put_since};
 ghost use Rattle.mc_desk.specs.Tallies.{faults_in, has_lost};
 ghost use Rattle.mc_desk.specs.Desks.{RanNothing};
 ghost use Rattle.mc_main.specs.Beginnings.{asked_in, printed_for, surroundings_in, start_in, status_with, text_of};
-ghost use Rattle.mc_main.specs.Headline.{IsStatusOr, MayRefuseStart, RefusesStart, IsRun, ReadsKeys, TookAll, IsSafeRun, IsFinishedRun, IsCalmedRun, IsReplayedRun, ShowsRun, IsComplete};
+ghost use Rattle.mc_main.specs.Headline.{IsStatusOr, MayRefuseStart, RefusesStart, IsRun, ReadsKeys, TookAll, IsSafeRun, IsFinishedRun, IsOutcomeRun, IsCalmedRun, IsReplayedRun, ShowsRun, IsComplete};
 ghost use Rattle.mc_main.specs.Printed.{PrintsStart};
 
 use crate::endings::{refuse, refuse_start, run_desk, without_session};
@@ -73,6 +73,11 @@ pub fn mc_run<N: Tag, T: Tree, K: Source, S: Sink, P: Spawner, C: Clock, G: Gate
     // for parts that were named, and, unless it was the job's own, the mode of a folder at which another mount begins.
     ensures finished { IfKnown (T.contents tree) (λ opening. IfKnown (T.contents result.tree) (λ now.
         IsFinishedRun opening now (reverse result.history.entries))) }
+
+    // Where a job reports that it is finished, all that it was to do is done, but for what it passed over: a copy stands of all that stands at the source,
+    // nothing stands that was to be removed, and what was to be made, or given a mode, is so. All else is as it was where the job was begun.
+    ensures outcome { IfKnown (T.contents tree) (λ opening. IfKnown (T.contents result.tree) (λ now.
+        IsOutcomeRun opening now (reverse result.history.entries))) }
 
     // Once a job has made its first change, nothing is in doubt on its mount but what that change names.
     ensures calmed { IfKnown (T.contents tree) (λ opening. IfKnown (T.contents result.tree) (λ now.

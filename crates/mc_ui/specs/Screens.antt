@@ -1,6 +1,7 @@
 -- What a key or a look makes of the screen: the two panels, the box that stands over them, a message over these, and a file that is viewed
 -- over all.
 use Rattle.std.specs.Prelude.{◌≡◌, ◌≢◌, ◌⊎◌, ℕ, Bool, true, false, is_some, MatchBool, ⊤, if◌then◌else◌, List, [], ◌∷◌, Option, Some, None, Ok, Err}
+use Rattle.mc_text.specs.declared.kind.Kind.{Kind}
 use Rattle.mc_text.specs.Routes.{Route}
 use Rattle.tree_trait.specs.declared.calls.TreeError.{TreeError}
 use Rattle.tree_trait.specs.FileSystem.{View as TreeView}
@@ -55,7 +56,7 @@ use Rattle.panel_pair.specs.Pairs.{PairState, untagged_pair}
 use Rattle.box_words.specs.BoxKeys.{closes_message}
 use Rattle.box_words.specs.BoxLines.{folder_line}
 use Rattle.job_plans.specs.Reading.{sight}
-use Rattle.job_plans.specs.Copies.{HasMode, MayAsk}
+use Rattle.job_plans.specs.Copies.{HasKind, HasMode, MayAsk}
 use Rattle.mc_ui.specs.Boxes.{Box, NoBox, OneJobBox, PanelsBox, FindBox, JobsBox, first_refusal, with_news, with_refusal, with_trouble}
 use Rattle.mc_ui.specs.Findings.{find_refusal}
 use Rattle.mc_ui.specs.ListedJobs.{left_by_jobs}
@@ -140,11 +141,12 @@ abbrev pub Works : PanelCommand → Option CallLog → List Refusal → Screen �
 Works command contents [] before after = IsDone command contents before after
 Works command contents (refusal ∷ more) before after = IsRefused command contents (refusal ∷ more) before after
 
--- The box is opened on a thing, with its mode, if it may ask of that; or the look at it was refused, and a message says so.
+-- The box is opened on a thing, with its kind and its mode, if it may ask of that; or the look at it was refused, and a message says so.
 abbrev pub AsksOf : Opens → Option TreeView → Route → List Refusal → Screen → Screen → Type 0
 AsksOf box tree path [] before after =
     (MayAsk box tree path false × (after ≡ before))
-    ⊎ ((mode : ℕ) × MayAsk box tree path true × HasMode tree path mode × (after ≡ record before { over = OneJobBox (box_of box path mode) }))
+    ⊎ ((kind : Kind) × (mode : ℕ) × MayAsk box tree path true × HasMode tree path mode × HasKind tree path kind
+    × (after ≡ record before { over = OneJobBox (box_of box kind path mode) }))
 AsksOf box tree path (refusal ∷ more) before after =
     (e : TreeError) × (refusal ∷ more ≡ Tree path e ∷ []) × (after ≡ told_refusal (Tree path e) before)
 

@@ -74,6 +74,15 @@ fn things_in(scene: &str) -> &'static str {
         "fixed inner folder" => {
             "folder /a 755\nfolder /a/d 755\nfolder /a/d/e 555\nfile /a/d/e/z 644 hi\nfile /a/d/x 644 hi\nfile /a/y 644 ho"
         }
+        "fixed tree" => {
+            "folder /a 755\nfolder /s 755\nfolder /s/d 555\nlink /s/d/l x\nfile /s/d/x 640 hi"
+        }
+        "unread tree" => {
+            "folder /a 755\nfolder /s 755\nfolder /s/d 555\nlink /s/d/l x\nfile /s/d/u 0 no\nfile /s/d/x 640 hi"
+        }
+        "unread inner tree" => {
+            "folder /a 755\nfolder /s 755\nfolder /s/d 755\nfolder /s/d/e 700\nother /s/d/e/p\nfile /s/d/e/u 0 no\nfile /s/d/e/v 0 no\nfile /s/d/x 640 hi"
+        }
         _ => "no such tree",
     }
 }

@@ -29,7 +29,7 @@ use Rattle.tree_copy.specs.declared.progress.Progress.{Progress}
 use Rattle.tree_copy.specs.declared.progress.Progress.TheVariants.{UnderWay, Decided, Anew}
 use Rattle.tree_copy.specs.Falling.{AllMade, HasName, IsSteady, is_made}
 use Rattle.tree_copy.specs.Progress.{link_progress, progress}
-use Rattle.tree_copy.specs.Skipping.{Skips, SkipsAt, SkipsNamed, SkipsRest, retried, retried_at}
+use Rattle.tree_copy.specs.Skipping.{SkipsAt, SkipsNamed, SkipsRest, retried_at}
 use Rattle.tree_copy.specs.Standing.{Seen}
 use Rattle.tree_copy.specs.Steps.{IsWorkable, idle, settled}
 use Rattle.tree_copy.proofs.Beginnings.{beginning_law}

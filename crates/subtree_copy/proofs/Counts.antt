@@ -1,6 +1,6 @@
 -- The calls of a step are those of the machine's.
 use Rattle.std.specs.Prelude.{◌⊎◌, ◌&&◌, not, if◌then◌else◌}
-use Rattle.std.proofs.Common.{◌≡◌, ℕ, ◌+◌, refl, sym, ◌∙◌, ap, subst, inl, inr, arith, Bool, true, false, List, [], ◌∷◌, length, Option, Some, None}
+use Rattle.std.proofs.Common.{◌≡◌, ℕ, refl, sym, ◌∙◌, ap, subst, inl, inr, arith, Bool, true, false, List, [], ◌∷◌, length, Option, Some, None}
 use Rattle.mc_text.specs.Routes.{Route}
 use Rattle.tree_trait.specs.declared.calls.TreeError.TheVariants as refused
 use Rattle.tree_trait.specs.Answers.{IfKnown, HasRisen}
@@ -34,7 +34,7 @@ use Rattle.tree_copy.specs.Standing.{Seen}
 use Rattle.tree_copy.specs.Steps.{FileWorks, LinkWorks, TakesNext, WorksOn}
 use Rattle.subtree_copy.specs.Counted.{CountLaw, MeetsFault, StepCounts}
 use Rattle.subtree_copy.specs.Passing.{OrPassedOver}
-use Rattle.subtree_copy.specs.SubtreeSteps.{ListSteps, SubtreeSteps, step_result}
+use Rattle.subtree_copy.specs.SubtreeSteps.{ListSteps, step_result}
 use Rattle.subtree_copy.proofs.Barred.{passed_trouble}
 
 -- no call was made

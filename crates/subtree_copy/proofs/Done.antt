@@ -1,7 +1,7 @@
 -- The last step of a copy, which finds nothing left and nothing owed.
-use Rattle.std.proofs.Common.{◌≡◌, ℕ, not, refl, sym, ◌∙◌, ap, inl, inr, Bool, true, false, List, ◌∷◌, Option}
+use Rattle.std.proofs.Common.{◌≡◌, ℕ, not, refl, sym, ◌∙◌, ap, inl, inr, Bool, true, false, List, Option}
 use Rattle.std.specs.Prelude.{if◌then◌else◌}
-use Rattle.std.proofs.lemmas.Bool.{false≢true, true≢false}
+use Rattle.std.proofs.lemmas.Bool.{false≢true}
 use Rattle.mc_text.specs.Routes.{Route}
 use Rattle.tree_trait.specs.Change.{CallLog}
 use Rattle.folder_copy.specs.FolderCopying.{is_dirty}
@@ -12,7 +12,7 @@ use Rattle.tree_copy.specs.declared.item.Item.TheVariants.{Next, File, Link, Sta
 use Rattle.job_reports.specs.declared.report.Did.{Did}
 use Rattle.tree_copy.specs.Parts.{IsPartPlace}
 use Rattle.tree_copy.specs.Standing.{Seen}
-use Rattle.tree_copy.specs.Steps.{CopySteps, GoesOn, TakesNext, WorksOn, at_end}
+use Rattle.tree_copy.specs.Steps.{CopySteps, GoesOn, TakesNext, WorksOn}
 use Rattle.subtree_copy.specs.Leaving.{is_done, is_done_in, may_leave, owes_at_end}
 use Rattle.subtree_copy.specs.Marks.{brings_in, brings_made, is_left_dirty}
 use Rattle.subtree_copy.proofs.Barred.{HasNext, next_at, why_next}

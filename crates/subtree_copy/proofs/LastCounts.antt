@@ -1,11 +1,10 @@
 -- A last step counts its calls, and tells a fault only where the tree's count has risen.
-use Rattle.std.proofs.Common.{◌≡◌, ℕ, ◌+◌, ◌≤◌, refl, sym, ◌∙◌, ap, subst, inl, inr, List, arith, Option, Some, None}
+use Rattle.std.proofs.Common.{◌≡◌, ℕ, ◌+◌, ◌≤◌, refl, sym, ◌∙◌, ap, subst, inl, inr, arith, Option, Some, None}
 use Rattle.std.specs.Prelude.{◌⊎◌}
 use Rattle.mc_text.specs.Routes.{Route}
-use Rattle.tree_trait.specs.declared.calls.TreeError.TheVariants as refused
 use Rattle.tree_trait.specs.Calls.{RemoveFile, SyncFolder}
 use Rattle.tree_trait.specs.Change.{CallLog}
-use Rattle.tree_trait.specs.Answers.{HasRisen, IfKnown}
+use Rattle.tree_trait.specs.Answers.{IfKnown}
 use Rattle.job_reports.specs.CallRuns.{HasMore}
 use Rattle.job_reports.specs.declared.report.Ending.{Ending}
 use Rattle.job_reports.specs.declared.report.LastStepResult.{LastStepResult}
@@ -16,7 +15,7 @@ use Rattle.link_copy.specs.LinkCopying.{LinkCopying}
 use Rattle.link_copy.specs.declared.removal.RemovalStep.{RemovalStep}
 use Rattle.tree_copy.specs.declared.item.Item.{Item}
 use Rattle.tree_copy.specs.declared.item.Item.TheVariants.{Next, File, Link, Stays}
-use Rattle.tree_copy.specs.Ending.{EndsAll, FoldersWind, LinkCleaned, LinkStays, TriesFolder, WindsAt}
+use Rattle.tree_copy.specs.Ending.{EndsAll, FoldersWind, TriesFolder, WindsAt}
 use Rattle.tree_copy.specs.Standing.{Seen}
 use Rattle.tree_copy.specs.Steps.{idle}
 use Rattle.subtree_copy.specs.Counted.{LastCountLaw, LastStepCounts}

@@ -1,18 +1,21 @@
-mod Answered
-mod Barred
-mod Begun
-mod Counts
+pub mod Answered
+pub mod Barred
+pub mod Begun
+pub mod Counts
 mod Done
 mod Fewer
 mod Held
-mod LastCounts
-mod LastOnes
+pub mod LastCounts
+pub mod LastOnes
+mod LastRuns
 mod Left
 pub mod Listed
-mod Ranked
-mod Reportings
+pub mod Ranked
+pub mod Reportings
+pub mod StillTelling
+mod Syncs
 pub mod Targets
-mod Tellings
-mod Unbegun
-mod Waits
+pub mod Tellings
+pub mod Unbegun
+pub mod Waits
 mod Worked

@@ -1,10 +1,11 @@
 -- The reports of steps and last steps, and the folders that they change.
 use Rattle.std.proofs.Common.{◌≡◌, ℕ, refl, sym, ◌∙◌, ap, subst, inl, inr, Bool, true, false, List, [], ◌∷◌, ◌++◌, Option, Some, None}
-use Rattle.std.specs.Prelude.{◌⊎◌, ◌||◌, if◌then◌else◌}
+use Rattle.std.specs.Prelude.{◌⊎◌, ◌||◌, ◌&&◌, ⊤, not, if◌then◌else◌}
 use Rattle.std.proofs.lemmas.Bool.{false≢true}
 use Rattle.mc_text.specs.Routes.{Route, is_prefix, same_path}
 use Rattle.tree_trait.specs.Change.{CallLog}
 use Rattle.tree_trait.proofs.Visible.{same_path-self}
+use Rattle.job_answers.specs.Skipping.{holds, kind_in, passed_cause}
 use Rattle.job_answers.specs.declared.skips.Skips.{Skips as Kinds}
 use Rattle.job_reports.specs.declared.job.Pair.{Pair}
 use Rattle.job_reports.specs.declared.report.Cause.{Cause}
@@ -48,6 +49,8 @@ use Rattle.subtree_copy.specs.Passing.{OrPassedOver}
 use Rattle.subtree_copy.specs.Reporting.{ChangesOwn, MayTell, MayWind, ReportingLaw, part_wound}
 use Rattle.subtree_copy.specs.Standing.{SubtreeCopying, part_of}
 use Rattle.subtree_copy.specs.SubtreeSteps.{ListSteps, step_result}
+use Rattle.subtree_copy.proofs.Barred.{passed_trouble}
+use Rattle.subtree_copy.proofs.Syncs.{cleaned_by_sync, passed_barrier}
 use Rattle.subtree_copy.proofs.Targets.{works_at_once}
 
 -- a report of a file, of a link, of a folder
@@ -131,8 +134,110 @@ passes_may : (skips : Kinds) (worked : StepResult) (old new : Seen) (result : St
 passes_may skips worked old new result (inl p) may = subst (λ (r : StepResult). MayTell r.did) (sym p.1) may
 passes_may skips worked old new result (inr p) may = skip_may old.item p.0 old new result.did p.3
 
+-- only what is passed over tells that something was skipped, with the cause for which it was
+abbrev SkippedFor : Cause → Did → Type 0
+SkippedFor cause (Skipped path why) = why ≡ cause
+SkippedFor cause did = ⊤
+
+abbrev NotSkipped : Did → Type 0
+NotSkipped (Skipped path cause) = ⊥
+NotSkipped did = ⊤
+
+file_not : (f m : Copying) (did : Did) → file.Tells f did m → NotSkipped did
+file_not f m (Skipped path cause) t = t
+file_not f m (Ended ending part) t = tt
+file_not f m (Removed path) t = tt
+file_not f m (Kept path) t = tt
+file_not f m (Began part) t = tt
+file_not f m (Chunk count) t = tt
+file_not f m (Placed path) t = tt
+file_not f m (Made path) t = tt
+file_not f m (Set path) t = tt
+file_not f m (Cleaned part) t = tt
+file_not f m Barrier t = tt
+file_not f m (Troubled trouble) t = tt
+
+link_not : (l m : LinkCopying) (did : Did) → link.Tells l did m → NotSkipped did
+link_not l m (Skipped path cause) t = t
+link_not l m (Ended ending part) t = tt
+link_not l m (Removed path) t = tt
+link_not l m (Kept path) t = tt
+link_not l m (Began part) t = tt
+link_not l m (Chunk count) t = tt
+link_not l m (Placed path) t = tt
+link_not l m (Made path) t = tt
+link_not l m (Set path) t = tt
+link_not l m (Cleaned part) t = tt
+link_not l m Barrier t = tt
+link_not l m (Troubled trouble) t = tt
+
+folder_not : (report : FolderDid) (did : Did) → IsToldAs report did → NotSkipped did
+folder_not (folder_did.Made path) did told = subst NotSkipped (sym told) tt
+folder_not (folder_did.Set path) did told = subst NotSkipped (sym told) tt
+folder_not folder_did.Barrier did told = subst NotSkipped (sym told) tt
+folder_not folder_did.Closed did told = absurd told
+folder_not (folder_did.Troubled trouble) did told = subst NotSkipped (sym told) tt
+
+module _ (unclaimed : Route → Type 0) (old new : Seen) (did : Did) (before after : Option CallLog) where
+  takes_not : TakesNext unclaimed old new did before after → NotSkipped did
+  takes_not (inl s) = subst NotSkipped (sym s.says) tt
+  takes_not (inr (inl t)) = (let w = t.works in file_not (file.begun old.job t.pair.source t.pair.target) w.moved did w.tells)
+  takes_not (inr (inr (inl t))) = (let w = t.works in link_not (link_begun t.pair t.part) w.moved did w.tells)
+  takes_not (inr (inr (inr (inl t)))) = (let w = t.works in folder_not w.report did w.says)
+  takes_not (inr (inr (inr (inr (next, inl (debt, e)))))) = folder_not e.report did e.says
+  takes_not (inr (inr (inr (inr (next, inr (debt, f, same)))))) = subst NotSkipped (sym f.says) tt
+
+  works_not : (item : Item) → WorksOn item unclaimed old new did before after → NotSkipped did
+  works_not Next (inl s) = folder_not s.report did s.says
+  works_not Next (inr t) = takes_not t.1
+  works_not (File f) w = file_not f w.moved did w.tells
+  works_not (Link l) w = link_not l w.moved did w.tells
+  works_not (Stays part) w = absurd w
+
+list_not : (free : Route → Bool) (old new : Seen) (worked : StepResult) (dirty dirty_after : List Route) (before after : Option CallLog) (f0 f1 : ℕ) → ListSteps free old new worked dirty dirty_after before after f0 f1
+    → may_leave old ≡ false → NotSkipped worked.did
+list_not free old new worked dirty dirty_after before after f0 f1 (inl s) settled = subst NotSkipped (sym (ap (λ (r : StepResult). r.did) s.says)) tt
+list_not free old new worked dirty dirty_after before after f0 f1 (inr s) settled =
+    works_not (IsPartPlace free old) old new worked.did before after old.item (works_at_once free old new worked.did worked.calls before after f0 f1 s.steps settled)
+
+named_for : (names : List (List ℕ)) (cause : Cause) (old new : Seen) (did : Did) → machine.SkipsNamed names cause old did new → SkippedFor cause did
+named_for [] cause old new did (moved, inl s, stands) = subst (SkippedFor cause) (sym s.0) refl
+named_for [] cause old new did (moved, inr room, stands) = subst (SkippedFor cause) (sym room.0) tt
+named_for (name ∷ names) cause old new did (inl s) = subst (SkippedFor cause) (sym s.0) refl
+named_for (name ∷ names) cause old new did (inr (inl (long, inl s))) = subst (SkippedFor cause) (sym s.0) refl
+named_for (name ∷ names) cause old new did (inr (inl (long, inr room))) = subst (SkippedFor cause) (sym room.0) tt
+named_for (name ∷ names) cause old new did (inr (inr room)) = subst (SkippedFor cause) (sym room.0) tt
+
+skip_for : (item : Item) (cause : Cause) (old new : Seen) (did : Did) → machine.SkipsAt item cause old did new → SkippedFor cause did
+skip_for Next cause old new did s = named_for old.levels.inner.names.names cause old new did s
+skip_for (File f) cause old new did (moved, inl s, stands) = subst (SkippedFor cause) (sym s.0) refl
+skip_for (File f) cause old new did (moved, inr room, stands) = subst (SkippedFor cause) (sym room.0) tt
+skip_for (Link l) cause old new did (moved, inl s, stands) = subst (SkippedFor cause) (sym s.0) refl
+skip_for (Link l) cause old new did (moved, inr room, stands) = subst (SkippedFor cause) (sym room.0) tt
+skip_for (Stays part) cause old new did s = absurd s
+
+-- such a cause is of a kind that is skipped
+held_so : (barrier held : Bool) (cause why : Cause) → (if not barrier && held then Some cause else None) ≡ Some why → (held ≡ true) × (cause ≡ why)
+held_so true held cause why is = absurd (let f : ⊥ = cc in f)
+held_so false true cause why is = (refl, cc)
+held_so false false cause why is = absurd (let f : ⊥ = cc in f)
+
+passed_kind : (skips : Kinds) (did : Did) (why : Cause) → passed_cause skips did ≡ Some why → holds skips (kind_in why) ≡ true
+passed_kind skips did why is =
+    let t = passed_trouble skips did why is in
+    let u = t.0 in
+    let so = held_so u.barrier (holds skips (kind_in u.cause)) u.cause why (sym (ap (passed_cause skips) t.1) ∙ is) in
+    sym (ap (λ c. holds skips (kind_in c)) so.1) ∙ so.0
+
+passes_kind : (skips : Kinds) (worked : StepResult) (old new : Seen) (path : Route) (cause : Cause) (calls : ℕ) → OrPassedOver skips worked old new (step_result (Skipped path cause) calls) → NotSkipped worked.did
+    → holds skips (kind_in cause) ≡ true
+passes_kind skips worked old new path cause calls (inl p) none = absurd (subst NotSkipped (sym (ap (λ (r : StepResult). r.did) p.1)) none)
+passes_kind skips worked old new path cause calls (inr p) none =
+    let same : cause ≡ p.0 = skip_for old.item p.0 old new (Skipped path cause) p.3 in
+    ap (λ c. holds skips (kind_in c)) same ∙ passed_kind skips worked.did p.0 p.1
+
 -- a last step
-stays_part : (part : Option Route) → part_of (stays_if part) ≡ part
+pub stays_part : (part : Option Route) → part_of (stays_if part) ≡ part
 stays_part (Some part) = refl
 stays_part None = refl
 
@@ -154,14 +259,14 @@ folders_wound ending part old new last before after f0 f1 w = by w.winds
         record { may = (refl, refl); stage = ap (λ (c : Seen). c.stage) e.stands; part = ap (λ (c : Seen). part_of c.item) e.stands }
 
 -- where a file is at work its part stands
-file_removable : (stage : FileStage) → progress stage ≡ UnderWay → left_at stage ≡ None → file_last.removable stage ≡ part_at stage
+pub file_removable : (stage : FileStage) → progress stage ≡ UnderWay → left_at stage ≡ None → file_last.removable stage ≡ part_at stage
 file_removable (file_stage.Fill part facts done) going none = refl
 file_removable (file_stage.Clean part follows) going none = refl
 file_removable (file_stage.Left part) going none = absurd (let f : ⊥ = cc in f)
 file_removable file_stage.Begin going none = refl
 file_removable file_stage.Decided going none = refl
 
-no_more : (stage : FileStage) → progress stage ≡ UnderWay → left_at stage ≡ None → file_last.removable stage ≡ None → ⊥
+pub no_more : (stage : FileStage) → progress stage ≡ UnderWay → left_at stage ≡ None → file_last.removable stage ≡ None → ⊥
 no_more (file_stage.Fill part facts done) going none gone = (let f : ⊥ = cc in f)
 no_more (file_stage.Clean part follows) going none gone = (let f : ⊥ = cc in f)
 no_more (file_stage.Left part) going none gone = (let f : ⊥ = cc in f)
@@ -191,7 +296,7 @@ file_wound ending f m old new (Kept path) w can stage now = absurd w
 file_wound ending f m old new (Skipped path cause) w can stage now = absurd w
 file_wound ending f m old new (Troubled trouble) w can stage now = absurd w
 
-removable_part : (stage : LinkStage) → is_removable stage ≡ true → has_part stage ≡ true
+pub removable_part : (stage : LinkStage) → is_removable stage ≡ true → has_part stage ≡ true
 removable_part link_stage.Place h = refl
 removable_part (link_stage.Clean follows) h = refl
 removable_part link_stage.Left h = refl
@@ -252,11 +357,18 @@ worked_own top c h = by (brings_made c) refl
     by true is = around_own top c.levels.inner c.levels.around h.levels (brings_around c.item c is)
     by false is = moved_own top c.levels.inner c.levels.around h.levels
 
-pub list_own : (free : Route → Bool) (c : SubtreeCopying) (old new : Seen) (worked : StepResult) (dirty dirty_after : List Route) (before after : Option CallLog) (f0 f1 : ℕ) → ListSteps free old new worked dirty dirty_after before after f0 f1
-    → IsInPlace c.top old → ChangesOwn c dirty dirty_after
-list_own free c old new worked dirty dirty_after before after f0 f1 (inl s) h = record { folder = folder_worked old; own = worked_own c.top old h; was = false; now = false; list = s.list }
-list_own free c old new worked dirty dirty_after before after f0 f1 (inr s) h =
-    record { folder = folder_worked old; own = worked_own c.top old h; was = was_dirty old; now = is_dirty_after old worked.did new; list = s.list }
+pub list_own : (free : Route → Bool) (c : SubtreeCopying) (old new : Seen) (worked : StepResult) (did : Did) (dirty dirty_after : List Route) (before after : Option CallLog) (f0 f1 : ℕ)
+    → ListSteps free old new worked dirty dirty_after before after f0 f1 → IsInPlace c.top old → may_leave old ≡ false → (worked.did ≡ Barrier → did ≡ Barrier) → ChangesOwn c did dirty dirty_after
+list_own free c old new worked did dirty dirty_after before after f0 f1 (inl s) h settled told =
+    record { folder = folder_worked old; own = worked_own c.top old h; was = false; now = false; list = s.list; synced = λ was now. absurd (false≢true was) }
+list_own free c old new worked did dirty dirty_after before after f0 f1 (inr s) h settled told = record {
+  folder = folder_worked old;
+  own = worked_own c.top old h;
+  was = was_dirty old;
+  now = is_dirty_after old worked.did new;
+  list = s.list;
+  synced = λ was now. told (cleaned_by_sync free old new worked.did worked.calls before after f0 f1 s.steps settled was now);
+}
 
 pub reporting_law : ReportingLaw
 reporting_law = record {
@@ -266,6 +378,10 @@ reporting_law = record {
       let w = winds_wound old.at.item ending old.at new.at last before after f0 f1 s.winds can in
       record { may = w.may; top = ap (λ (c : SubtreeCopying). c.top) s.stands; skips = ap (λ (c : SubtreeCopying). c.skips) s.stands; stage = w.stage; part = w.part };
   list = λ free old new did calls dirty dirty_after before after f0 f1 s h.
-      let l = s.leaves in list_own free old s.mid s.moved s.worked dirty dirty_after before after f0 f1 s.works (leaves_all old.top l.0 old.at s.mid l.1 h);
+      let l = s.leaves in
+      list_own free old s.mid s.moved s.worked did dirty dirty_after before after f0 f1 s.works (leaves_all old.top l.0 old.at s.mid l.1 h) s.settled
+      (passed_barrier old.skips s.worked s.moved new.at (step_result did calls) s.passes);
+  kinds = λ free old new path cause calls dirty dirty_after before after f0 f1 s.
+      passes_kind old.skips s.worked s.moved new.at path cause calls s.passes (list_not free s.mid s.moved s.worked dirty dirty_after before after f0 f1 s.works s.settled);
   tried = λ old new same h. moved_own old.top new.at.levels.inner new.at.levels.around h.levels;
 }

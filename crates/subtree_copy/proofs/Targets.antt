@@ -64,7 +64,7 @@ folder_there c new folder_did.Closed t = ap (λ (x : FolderCopying). x.target) t
 folder_there c new (folder_did.Troubled trouble) t = ap (λ (x : FolderCopying). x.target) t.1
 
 -- a folder that isn't made is still to be made
-unmade : (pair : Pair) (mode : ℕ) (new : FolderCopying) (report : FolderDid) (did : Did) (c : Seen) → IsToldAs report did → folder.Tells (folder.copying pair.source pair.target (Make mode) Synced) report new
+pub unmade : (pair : Pair) (mode : ℕ) (new : FolderCopying) (report : FolderDid) (did : Did) (c : Seen) → IsToldAs report did → folder.Tells (folder.copying pair.source pair.target (Make mode) Synced) report new
     → is_left_dirty did c ≡ false → new.stage ≡ Make mode
 unmade pair mode new (folder_did.Made path) did c told t clean = absurd (true≢false (sym (ap (λ d. is_left_dirty d c) told) ∙ clean))
 unmade pair mode new (folder_did.Set path) did c told t clean = absurd (let e = t.1 in let f : ⊥ = cc in f)

@@ -243,6 +243,12 @@ retry_part (File f) c is = settled_file _ (record f { stage = file.taken_anew f.
 retry_part (Link l) c is = settled_link _ (record l { stage = link.taken_anew l.stage }) (idle c) refl refl ∙ anew_link l.stage l.part
 retry_part (Stays part) c is = ap part_of is
 
+retry_stage : (item : Item) (c : Seen) → (let r : Seen = machine.retried_at item c in r.stage) ≡ c.stage
+retry_stage Next c = refl
+retry_stage (File f) c = settled_stage (progress (file.taken_anew f.stage)) (File (record f { stage = file.taken_anew f.stage })) (idle c)
+retry_stage (Link l) c = settled_stage (link_progress (link.taken_anew l.stage)) (Link (record l { stage = link.taken_anew l.stage })) (idle c)
+retry_stage (Stays part) c = refl
+
 -- folders that are left
 pub leaves_item : (n : ℕ) (old mid : Seen) → LeavesAll n old mid → (mid.item ≡ old.item) × (mid.stage ≡ old.stage)
 leaves_item zero old mid is = (ap (λ (c : Seen). c.item) is, ap (λ (c : Seen). c.stage) is)
@@ -289,5 +295,5 @@ told_law = record {
   skip = λ cause old new did s going.
       let g = skips_goes old.at.item cause old.at new.at did refl going s.skips in
       record { top = ap (λ (c : SubtreeCopying). c.top) s.stands; part = g.part; stage = g.stage; skips = ap (λ (c : SubtreeCopying). c.skips) s.stands };
-  retry = λ c going. retry_part c.at.item c.at refl;
+  retry = λ c. record { part = retry_part c.at.item c.at refl; stage = retry_stage c.at.item c.at };
 }

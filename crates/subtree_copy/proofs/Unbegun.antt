@@ -25,9 +25,10 @@ use Rattle.folder_copy.specs.declared.stage.Stage.{Stage}
 use Rattle.folder_copy.specs.declared.stage.Stage.TheVariants.{Make, Fill, Close, Done}
 use Rattle.link_copy.specs.LinkCopying as link
 use Rattle.link_copy.specs.LinkCopying.{LinkCopying, taken_anew as link_anew}
+use Rattle.link_copy.specs.declared.stage.Stage.TheVariants as link_stage
 use Rattle.subtree_walk.specs.Places.{is_empty, opened}
 use Rattle.copy_levels.specs.Levels.{Levels, is_around_dirty, made_levels, owed_at}
-use Rattle.tree_copy.specs.declared.copy.Stage.TheVariants.{Begin, Going}
+use Rattle.tree_copy.specs.declared.copy.Stage.TheVariants.{Going}
 use Rattle.tree_copy.specs.declared.item.Item.{Item}
 use Rattle.tree_copy.specs.declared.item.Item.TheVariants.{Next, File, Link, Stays}
 use Rattle.tree_copy.specs.Falling.{IsSteady}
@@ -42,7 +43,7 @@ use Rattle.subtree_copy.specs.Leaving.{is_done, is_done_in, may_leave, owes_at_e
 use Rattle.subtree_copy.specs.Passing.{OrPassedOver}
 use Rattle.subtree_copy.specs.Standing.{IsGoing, SubtreeCopying, at_barrier}
 use Rattle.subtree_copy.specs.SubtreeSteps.{ListSteps, SubtreeSteps, step_result}
-use Rattle.subtree_copy.specs.Unbegun.{IsOutside, IsUnbegun, UnbegunLaw}
+use Rattle.subtree_copy.specs.Unbegun.{IsOutside, IsUnbegun, MayBegin, UnbegunLaw}
 use Rattle.subtree_copy.proofs.Barred.{HasNext, Says, file_same, folder_same, left_workable, link_same, list_barred, passed_trouble, unbarred}
 use Rattle.subtree_copy.proofs.Targets.{works_at_once}
 use Rattle.subtree_copy.proofs.Tellings.{leaves_item, list_goes, settled_stage, skips_goes}
@@ -116,6 +117,42 @@ quiet_link l m (Set path) t quiet = absurd (true≢false quiet)
 quiet_link l m (Cleaned part) t quiet = absurd (true≢false quiet)
 quiet_link l m Barrier t quiet = absurd (true≢false quiet)
 
+-- what may be reported of a thing that is taken up
+begins_file : (f m : Copying) (did : Did) → f.stage ≡ file_stage.Begin → file.Tells f did m → MayBegin did
+begins_file f m (Began part) begin t = tt
+begins_file f m (Made path) begin t = tt
+begins_file f m (Skipped path cause) begin t = tt
+begins_file f m (Troubled trouble) begin t = tt
+begins_file f m (Ended ending part) begin t = tt
+begins_file f m (Chunk count) begin (part, facts, done, stage, least, most, fits, is) = (let e = sym begin ∙ stage in let g : ⊥ = cc in g)
+begins_file f m (Placed path) begin (part, facts, stage, path_is, is) = (let e = sym begin ∙ stage in let g : ⊥ = cc in g)
+begins_file f m (Cleaned part) begin (next, stage, is) = (let e = sym begin ∙ stage in let g : ⊥ = cc in g)
+begins_file f m Barrier begin (stage, dirty, is) = (let e = sym begin ∙ stage in let g : ⊥ = cc in g)
+begins_file f m (Removed path) begin t = t
+begins_file f m (Set path) begin t = t
+begins_file f m (Kept path) begin t = t
+
+begins_link : (l m : LinkCopying) (did : Did) → l.stage ≡ link_stage.Make → link.Tells l did m → MayBegin did
+begins_link l m (Began part) make t = tt
+begins_link l m (Made path) make t = tt
+begins_link l m (Skipped path cause) make t = tt
+begins_link l m (Troubled trouble) make t = tt
+begins_link l m (Ended ending part) make t = tt
+begins_link l m (Placed path) make (stage, same, is) = (let e = sym make ∙ stage in let g : ⊥ = cc in g)
+begins_link l m (Cleaned part) make (next, stage, same, is) = (let e = sym make ∙ stage in let g : ⊥ = cc in g)
+begins_link l m Barrier make (stage, dirty, is) = (let e = sym make ∙ stage in let g : ⊥ = cc in g)
+begins_link l m (Chunk count) make t = t
+begins_link l m (Removed path) make t = t
+begins_link l m (Set path) make t = t
+begins_link l m (Kept path) make t = t
+
+begins_folder : (pair : Pair) (mode : ℕ) (m : FolderCopying) (report : FolderDid) (did : Did) → IsToldAs report did → folder.Tells (folder.copying pair.source pair.target (Make mode) marks.Synced) report m → MayBegin did
+begins_folder pair mode m (folder_did.Made path) did told t = subst MayBegin (sym told) tt
+begins_folder pair mode m (folder_did.Set path) did told t = absurd (let e = t.1 in let g : ⊥ = cc in g)
+begins_folder pair mode m folder_did.Barrier did told t = absurd (let e = t.0 in let g : ⊥ = cc in g)
+begins_folder pair mode m folder_did.Closed did told t = absurd told
+begins_folder pair mode m (folder_did.Troubled trouble) did told t = subst MayBegin (sym told) tt
+
 module _ (unclaimed : Route → Type 0) (old new : Seen) (did : Did) (before after : Option CallLog) (o : IsOutside old) where
   file_outside : (pair : Pair) → FileWorks unclaimed (file.begun old.job pair.source pair.target) old new did before after → changes did ≡ false → IsOutside new
   file_outside pair w quiet =
@@ -178,39 +215,21 @@ module _ (unclaimed : Route → Type 0) (old new : Seen) (did : Did) (before aft
   works_apart (Link l) is w u says = absurd (let e = sym o.none ∙ is in let g : ⊥ = cc in g)
   works_apart (Stays part) is w u says = absurd w
 
-  -- nor does it sync anything
-  makes_no_sync : (pair : Pair) (names : List (List ℕ)) (mode : ℕ) → FolderMakes pair names mode old new did before after → did ≡ Barrier → ⊥
-  makes_no_sync pair names mode w is = by w.report w.says w.tells
-    where
-      by : (report : FolderDid) → IsToldAs report did → folder.Tells (folder.copying pair.source pair.target (Make mode) marks.Synced) report w.moved → ⊥
-      by (folder_did.Made path) told t = (let e = sym told ∙ is in let g : ⊥ = cc in g)
-      by (folder_did.Set path) told t = (let e = sym told ∙ is in let g : ⊥ = cc in g)
-      by folder_did.Barrier told t = (let e = t.0 in let g : ⊥ = cc in g)
-      by folder_did.Closed told t = absurd told
-      by (folder_did.Troubled trouble) told t = (let e = sym told ∙ is in let g : ⊥ = cc in g)
+  -- and its first change begins a part or makes a folder
+  takes_first : TakesNext unclaimed old new did before after → MayBegin did
+  takes_first (inl s) = subst MayBegin (sym s.says) tt
+  takes_first (inr (inl t)) = (let w = t.works in begins_file (file.begun old.job t.pair.source t.pair.target) w.moved did refl w.tells)
+  takes_first (inr (inr (inl t))) = (let w = t.works in begins_link (link_begun t.pair t.part) w.moved did refl w.tells)
+  takes_first (inr (inr (inr (inl t)))) = (let w = t.works in begins_folder t.pair t.mode w.moved w.report did w.says w.tells)
+  takes_first (inr (inr (inr (inr (next, inl (debt, e)))))) = absurd (no_debt debt)
+  takes_first (inr (inr (inr (inr (next, inr (debt, f, same)))))) = subst MayBegin (sym f.says) tt
 
-  takes_no_sync : TakesNext unclaimed old new did before after → did ≡ Barrier → ⊥
-  takes_no_sync (inl s) is = (let e = sym s.says ∙ is in let g : ⊥ = cc in g)
-  takes_no_sync (inr (inl t)) is =
-      let w = t.works in
-      let told : file.Tells (file.begun old.job t.pair.source t.pair.target) Barrier w.moved = subst (λ (d : Did). file.Tells (file.begun old.job t.pair.source t.pair.target) d w.moved) is w.tells in
-      let e = told.0 in
-      let g : ⊥ = cc in g
-  takes_no_sync (inr (inr (inl t))) is =
-      let w = t.works in
-      let told : link.Tells (link_begun t.pair t.part) Barrier w.moved = subst (λ (d : Did). link.Tells (link_begun t.pair t.part) d w.moved) is w.tells in
-      let e = told.0 in
-      let g : ⊥ = cc in g
-  takes_no_sync (inr (inr (inr (inl t)))) is = makes_no_sync t.pair t.names t.mode t.works is
-  takes_no_sync (inr (inr (inr (inr (next, inl (debt, e)))))) is = no_debt debt
-  takes_no_sync (inr (inr (inr (inr (next, inr (debt, f, same)))))) is = (let e = sym f.says ∙ is in let g : ⊥ = cc in g)
-
-  works_no_sync : (item : Item) → old.item ≡ item → WorksOn item unclaimed old new did before after → did ≡ Barrier → ⊥
-  works_no_sync Next is (inl s) says = false≢true (sym (ap is_around_dirty o.around) ∙ s.dirty)
-  works_no_sync Next is (inr t) says = takes_no_sync t.1 says
-  works_no_sync (File f) is w says = (let e = sym o.none ∙ is in let g : ⊥ = cc in g)
-  works_no_sync (Link l) is w says = (let e = sym o.none ∙ is in let g : ⊥ = cc in g)
-  works_no_sync (Stays part) is w says = w
+  works_first : (item : Item) → old.item ≡ item → WorksOn item unclaimed old new did before after → MayBegin did
+  works_first Next is (inl s) = absurd (false≢true (sym (ap is_around_dirty o.around) ∙ s.dirty))
+  works_first Next is (inr t) = takes_first t.1
+  works_first (File f) is w = absurd (let e = sym o.none ∙ is in let g : ⊥ = cc in g)
+  works_first (Link l) is w = absurd (let e = sym o.none ∙ is in let g : ⊥ = cc in g)
+  works_first (Stays part) is w = absurd w
 
 -- no folder was left, since none was gone into
 left_outside : (n : ℕ) (old mid : Seen) → LeavesAll n old mid → IsUnbegun old → is_fresh mid.stage ≡ true → IsOutside mid
@@ -252,21 +271,21 @@ skips_unbegun cause old new did s can h fresh =
     let g = skips_goes old.item cause old new did refl can s in
     skip_outside old.item cause old new did refl s (h (fresh_before did old new g.stage fresh).1)
 
-named_no_sync : (names : List (List ℕ)) (cause : Cause) (old new : Seen) (did : Did) → machine.SkipsNamed names cause old did new → did ≡ Barrier → ⊥
-named_no_sync [] cause old new did (moved, inl s, stands) is = (let e = sym s.0 ∙ is in let g : ⊥ = cc in g)
-named_no_sync [] cause old new did (moved, inr room, stands) is = (let e = sym room.0 ∙ is in let g : ⊥ = cc in g)
-named_no_sync (name ∷ names) cause old new did (inl s) is = (let e = sym s.0 ∙ is in let g : ⊥ = cc in g)
-named_no_sync (name ∷ names) cause old new did (inr (inl (long, inl s))) is = (let e = sym s.0 ∙ is in let g : ⊥ = cc in g)
-named_no_sync (name ∷ names) cause old new did (inr (inl (long, inr room))) is = (let e = sym room.0 ∙ is in let g : ⊥ = cc in g)
-named_no_sync (name ∷ names) cause old new did (inr (inr room)) is = (let e = sym room.0 ∙ is in let g : ⊥ = cc in g)
+named_first : (names : List (List ℕ)) (cause : Cause) (old new : Seen) (did : Did) → machine.SkipsNamed names cause old did new → MayBegin did
+named_first [] cause old new did (moved, inl s, stands) = subst MayBegin (sym s.0) tt
+named_first [] cause old new did (moved, inr room, stands) = subst MayBegin (sym room.0) tt
+named_first (name ∷ names) cause old new did (inl s) = subst MayBegin (sym s.0) tt
+named_first (name ∷ names) cause old new did (inr (inl (long, inl s))) = subst MayBegin (sym s.0) tt
+named_first (name ∷ names) cause old new did (inr (inl (long, inr room))) = subst MayBegin (sym room.0) tt
+named_first (name ∷ names) cause old new did (inr (inr room)) = subst MayBegin (sym room.0) tt
 
-skip_no_sync : (item : Item) (cause : Cause) (old new : Seen) (did : Did) → machine.SkipsAt item cause old did new → did ≡ Barrier → ⊥
-skip_no_sync Next cause old new did s is = named_no_sync old.levels.inner.names.names cause old new did s is
-skip_no_sync (File f) cause old new did (moved, inl s, stands) is = (let e = sym s.0 ∙ is in let g : ⊥ = cc in g)
-skip_no_sync (File f) cause old new did (moved, inr room, stands) is = (let e = sym room.0 ∙ is in let g : ⊥ = cc in g)
-skip_no_sync (Link l) cause old new did (moved, inl s, stands) is = (let e = sym s.0 ∙ is in let g : ⊥ = cc in g)
-skip_no_sync (Link l) cause old new did (moved, inr room, stands) is = (let e = sym room.0 ∙ is in let g : ⊥ = cc in g)
-skip_no_sync (Stays part) cause old new did s is = s
+skip_first : (item : Item) (cause : Cause) (old new : Seen) (did : Did) → machine.SkipsAt item cause old did new → MayBegin did
+skip_first Next cause old new did s = named_first old.levels.inner.names.names cause old new did s
+skip_first (File f) cause old new did (moved, inl s, stands) = subst MayBegin (sym s.0) tt
+skip_first (File f) cause old new did (moved, inr room, stands) = subst MayBegin (sym room.0) tt
+skip_first (Link l) cause old new did (moved, inl s, stands) = subst MayBegin (sym s.0) tt
+skip_first (Link l) cause old new did (moved, inr room, stands) = subst MayBegin (sym room.0) tt
+skip_first (Stays part) cause old new did s = absurd s
 
 -- something is left to be done, so a name is next
 next_left : (c : Seen) → IsOutside c → is_done c ≡ false → HasNext c
@@ -301,12 +320,12 @@ module _ (free : Route → Bool) (old new : Seen) (worked : StepResult) (dirty d
           sym (ap (λ (t : Trouble). t.barrier) same) ∙ unbarred old o.none (ap is_around_dirty o.around) (next_left old o s.left)
       by (inr s) = works_apart (IsPartPlace free old) old new worked.did before after o old.item refl (works_at_once free old new worked.did worked.calls before after f0 f1 s.steps settled_at) u says
 
-  list_no_sync : IsOutside old → worked.did ≡ Barrier → ⊥
-  list_no_sync o is = by w
+  list_first : IsOutside old → MayBegin worked.did
+  list_first o = by w
     where
-      by : ListSteps free old new worked dirty dirty_after before after f0 f1 → ⊥
-      by (inl s) = (let e = sym (ap (λ (r : StepResult). r.did) s.says) ∙ is in let g : ⊥ = cc in g)
-      by (inr s) = works_no_sync (IsPartPlace free old) old new worked.did before after o old.item refl (works_at_once free old new worked.did worked.calls before after f0 f1 s.steps settled_at) is
+      by : ListSteps free old new worked dirty dirty_after before after f0 f1 → MayBegin worked.did
+      by (inl s) = subst MayBegin (sym (ap (λ (r : StepResult). r.did) s.says)) tt
+      by (inr s) = works_first (IsPartPlace free old) old new worked.did before after o old.item refl (works_at_once free old new worked.did worked.calls before after f0 f1 s.steps settled_at)
 
 module _ (free : Route → Bool) (old new : SubtreeCopying) (did : Did) (calls : ℕ) (dirty dirty_after : List Route) (before after : Option CallLog) (f0 f1 : ℕ)
     (s : SubtreeSteps free old new did calls dirty dirty_after before after f0 f1) (h : IsUnbegun old.at) where
@@ -349,20 +368,16 @@ step_apart free old new t calls dirty dirty_after before after f0 f1 s steady ca
         let barred = list_barred free s.mid s.moved s.worked dirty dirty_after before after f0 f1 u.0 s.works u.1 s.settled there.0 (left_workable l.0 old.at s.mid l.1 can) in
         comes_apart p.0 s.moved new.at t (skip_comes s.moved.item p.0 s.moved new.at (Troubled t) refl p.3 s.going (sym barred ∙ u.2))
 
-step_no_sync : (free : Route → Bool) (old new : SubtreeCopying) (calls : ℕ) (dirty dirty_after : List Route) (before after : Option CallLog) (f0 f1 : ℕ) → SubtreeSteps free old new Barrier calls dirty dirty_after before after f0 f1
-    → IsUnbegun old.at → is_fresh old.at.stage ≡ true → ⊥
-step_no_sync free old new calls dirty dirty_after before after f0 f1 s h fresh = by s.passes
+step_first : (free : Route → Bool) (old new : SubtreeCopying) (did : Did) (calls : ℕ) (dirty dirty_after : List Route) (before after : Option CallLog) (f0 f1 : ℕ) → SubtreeSteps free old new did calls dirty dirty_after before after f0 f1
+    → IsUnbegun old.at → is_fresh old.at.stage ≡ true → MayBegin did
+step_first free old new did calls dirty dirty_after before after f0 f1 s h fresh = by s.passes
   where
     mid_outside : IsOutside s.mid
     mid_outside = (let l = s.leaves in left_outside l.0 old.at s.mid l.1 h (ap is_fresh (leaves_item l.0 old.at s.mid l.1).1 ∙ fresh))
 
-    by : OrPassedOver old.skips s.worked s.moved new.at (step_result Barrier calls) → ⊥
-    by (inl p) = list_no_sync free s.mid s.moved s.worked dirty dirty_after before after f0 f1 s.works s.settled mid_outside (sym (ap (λ (r : StepResult). r.did) p.1))
-    by (inr p) = skip_no_sync s.moved.item p.0 s.moved new.at Barrier p.3 refl
-
-not_so : (b : Bool) → (b ≡ true → ⊥) → b ≡ false
-not_so true h = absurd (h refl)
-not_so false h = refl
+    by : OrPassedOver old.skips s.worked s.moved new.at (step_result did calls) → MayBegin did
+    by (inl p) = subst MayBegin (sym (ap (λ (r : StepResult). r.did) p.1)) (list_first free s.mid s.moved s.worked dirty dirty_after before after f0 f1 s.works s.settled mid_outside)
+    by (inr p) = skip_first s.moved.item p.0 s.moved new.at did p.3
 
 retry_unbegun : (item : Item) (c : Seen) → c.item ≡ item → IsUnbegun c → IsUnbegun (machine.retried_at item c)
 retry_unbegun Next c is h = h
@@ -378,6 +393,6 @@ unbegun_law = record {
   step = λ free old new did calls dirty dirty_after before after f0 f1 s can h. step_unbegun free old new did calls dirty dirty_after before after f0 f1 s h;
   skip = λ cause old new did s can h. skips_unbegun cause old.at new.at did s.skips can h;
   retry = λ c h. retry_unbegun c.at.item c.at refl h;
-  sync = λ free old new calls dirty dirty_after before after f0 f1 s h. not_so (is_fresh old.at.stage) (λ fresh. step_no_sync free old new calls dirty dirty_after before after f0 f1 s h fresh);
+  first = λ free old new did calls dirty dirty_after before after f0 f1 s h fresh. step_first free old new did calls dirty dirty_after before after f0 f1 s h fresh;
   trouble = λ free old new t calls dirty dirty_after before after f0 f1 s steady can h fresh. step_apart free old new t calls dirty dirty_after before after f0 f1 s steady can h fresh;
 }

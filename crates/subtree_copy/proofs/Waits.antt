@@ -28,7 +28,7 @@ use Rattle.tree_copy.specs.Standing.{Seen}
 use Rattle.tree_copy.specs.Steps.{IsWorkable, idle, settled}
 use Rattle.subtree_copy.specs.Passing.{OrPassedOver}
 use Rattle.subtree_copy.specs.Ranks.{last_rank, rank}
-use Rattle.subtree_copy.specs.Standing.{IsGoing, SubtreeCopying, at_barrier, barrier_at, barrier_at_end, barrier_at_name}
+use Rattle.subtree_copy.specs.Standing.{IsGoing, SubtreeCopying, barrier_at, barrier_at_end, barrier_at_name}
 use Rattle.subtree_copy.specs.SubtreeSteps.{SubtreeSteps, step_result}
 use Rattle.subtree_copy.specs.Troubles.{TroubleLaw}
 use Rattle.subtree_copy.proofs.Answered.{waiting_law}

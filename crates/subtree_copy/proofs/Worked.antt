@@ -1,5 +1,5 @@
 -- A step with the list of dirty folders.
-use Rattle.std.proofs.Common.{◌≡◌, ℕ, ◌&&◌, ◌-◌, not, refl, sym, ◌∙◌, ap, subst, inl, inr, Bool, true, false, List, length, take, Option}
+use Rattle.std.proofs.Common.{◌≡◌, ℕ, ◌&&◌, ◌-◌, not, refl, sym, ◌∙◌, ap, inl, inr, Bool, true, false, List, length, take, Option}
 use Rattle.std.specs.Prelude.{if◌then◌else◌}
 use Rattle.mc_text.specs.Routes.{Route}
 use Rattle.tree_trait.specs.Change.{CallLog}
@@ -9,7 +9,6 @@ use Rattle.job_reports.specs.Paths.{without}
 use Rattle.job_reports.specs.Stops.{out_of_memory_at}
 use Rattle.folder_copy.specs.FolderCopying.{is_dirty}
 use Rattle.copy_levels.specs.Levels.{is_around_dirty, target_around}
-use Rattle.job_reports.specs.declared.report.Did.{Did}
 use Rattle.tree_copy.specs.Standing.{Seen}
 use Rattle.tree_copy.specs.Steps.{CopySteps}
 use Rattle.tree_deletion.specs.Folders.{joined, with_change}

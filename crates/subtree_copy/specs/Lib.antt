@@ -1,5 +1,7 @@
 pub mod Barriers
 pub mod Counted
+pub mod Known
+pub mod LastCalls
 pub mod Leaving
 pub mod Marks
 pub mod Passing

@@ -1,7 +1,9 @@
 -- Which reports a job makes that works such a copy, and of which folders.
-use Rattle.std.specs.Prelude.{◌≡◌, ℕ, ⊤, Bool, true, List, Option, None, Some}
+use Rattle.std.specs.Prelude.{◌≡◌, ℕ, ⊤, Bool, true, false, List, Option, None, Some}
 use Rattle.mc_text.specs.Routes.{Route}
 use Rattle.tree_trait.specs.Change.{CallLog}
+use Rattle.job_answers.specs.Skipping.{holds, kind_in}
+use Rattle.job_reports.specs.declared.report.Cause.{Cause}
 use Rattle.job_reports.specs.declared.report.Did.{Did}
 use Rattle.job_reports.specs.declared.report.Did.TheVariants.{Began, Chunk, Placed, Removed, Made, Set, Kept, Skipped, Cleaned, Barrier, Troubled, Ended}
 use Rattle.job_reports.specs.declared.report.Ending.{Ending}
@@ -58,13 +60,14 @@ pub record IsWound (ending : Ending) (old : SubtreeCopying) (did : Did) (new : S
   pub stage : new.at.stage ≡ old.at.stage
   pub part : part_of new.at.item ≡ part_wound did (part_of old.at.item)
 
--- a folder of the copy's own joined the list or left it, or the list is as it was
-pub record ChangesOwn (c : SubtreeCopying) (dirty dirty_after : List Route) : Type 0 where
+-- a folder of the copy's own joined the list, or left it with the report of its sync, or the list is as it was
+pub record ChangesOwn (c : SubtreeCopying) (did : Did) (dirty dirty_after : List Route) : Type 0 where
   pub folder : Route
   pub own : is_own c folder ≡ true
   pub was : Bool
   pub now : Bool
   pub list : dirty_after ≡ with_change was now folder dirty
+  pub synced : was ≡ true → now ≡ false → did ≡ Barrier
 
 pub record ReportingLaw : Type 0 where
   pub step : (free : Route → Bool) (old new : SubtreeCopying) (did : Did) (calls : ℕ) (dirty dirty_after : List Route) (before after : Option CallLog) (faults faults_after : ℕ)
@@ -72,6 +75,9 @@ pub record ReportingLaw : Type 0 where
   pub last : (ending : Ending) (old new : SubtreeCopying) (last : LastStepResult) (dirty dirty_after : List Route) (before after : Option CallLog) (faults faults_after : ℕ)
       → LastSubtreeStep ending old new last dirty dirty_after before after faults faults_after → IsWindable old.at.item → IsWound ending old last.did new
   pub list : (free : Route → Bool) (old new : SubtreeCopying) (did : Did) (calls : ℕ) (dirty dirty_after : List Route) (before after : Option CallLog) (faults faults_after : ℕ)
-      → SubtreeSteps free old new did calls dirty dirty_after before after faults faults_after → IsInPlace old.top old.at → ChangesOwn old dirty dirty_after
+      → SubtreeSteps free old new did calls dirty dirty_after before after faults faults_after → IsInPlace old.top old.at → ChangesOwn old did dirty dirty_after
+  -- what is passed over is in a trouble of a kind that is skipped
+  pub kinds : (free : Route → Bool) (old new : SubtreeCopying) (path : Route) (cause : Cause) (calls : ℕ) (dirty dirty_after : List Route) (before after : Option CallLog) (faults faults_after : ℕ)
+      → SubtreeSteps free old new (Skipped path cause) calls dirty dirty_after before after faults faults_after → holds old.skips (kind_in cause) ≡ true
   -- the folder that a last step tries is the one that is worked then
   pub tried : (old new : SubtreeCopying) → new.top ≡ old.top → IsInPlace old.top new.at → is_own old new.at.levels.inner.copy.target ≡ true

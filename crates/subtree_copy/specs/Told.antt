@@ -23,9 +23,14 @@ pub record IsAfter (did : Did) (old new : SubtreeCopying) : Type 0 where
   pub stage : new.at.stage ≡ after_report did old.at.stage
   pub skips : new.skips ≡ old.skips
 
+-- what a retry leaves as it is
+pub record IsKept (old new : SubtreeCopying) : Type 0 where
+  pub part : part_of new.at.item ≡ part_of old.at.item
+  pub stage : new.at.stage ≡ old.at.stage
+
 -- So it stands after each step and each skip; and a retry changes nothing of that.
 pub record ToldLaw : Type 0 where
   pub step : (free : Route → Bool) (old new : SubtreeCopying) (did : Did) (calls : ℕ) (dirty dirty_after : List Route) (before after : Option CallLog) (faults faults_after : ℕ)
       → SubtreeSteps free old new did calls dirty dirty_after before after faults faults_after → IsGoing old → IsAfter did old new
   pub skip : (cause : Cause) (old new : SubtreeCopying) (did : Did) → SubtreeSkips cause old did new → IsGoing old → IsAfter did old new
-  pub retry : (c : SubtreeCopying) → IsGoing c → (let again : SubtreeCopying = retries c in part_of again.at.item) ≡ part_of c.at.item
+  pub retry : (c : SubtreeCopying) → IsKept c (retries c)

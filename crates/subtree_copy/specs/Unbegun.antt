@@ -1,11 +1,11 @@
--- A copy that has changed nothing yet: nothing is at work, no folder was gone into, and none is dirty.
-use Rattle.std.specs.Prelude.{◌≡◌, ℕ, Bool, true, false, List, [], Option}
+-- A copy that has changed nothing yet: nothing is at work, no folder was gone into, and none is dirty. Its first change begins a part or makes a folder.
+use Rattle.std.specs.Prelude.{◌≡◌, ℕ, ⊤, Bool, true, false, List, [], Option}
 use Rattle.mc_text.specs.Routes.{Route}
 use Rattle.tree_trait.specs.Change.{CallLog}
 use Rattle.job_reports.specs.declared.job.Pair.{Pair}
 use Rattle.job_reports.specs.declared.report.Cause.{Cause}
 use Rattle.job_reports.specs.declared.report.Did.{Did}
-use Rattle.job_reports.specs.declared.report.Did.TheVariants.{Barrier, Troubled}
+use Rattle.job_reports.specs.declared.report.Did.TheVariants.{Began, Chunk, Placed, Removed, Made, Set, Kept, Skipped, Cleaned, Barrier, Troubled, Ended}
 use Rattle.job_reports.specs.declared.report.Trouble.{Trouble}
 use Rattle.folder_copy.specs.FolderCopying.{is_dirty}
 use Rattle.tree_copy.specs.declared.item.Item.TheVariants.{Next}
@@ -25,7 +25,22 @@ pub record IsOutside (c : Seen) : Type 0 where
 abbrev pub IsUnbegun : Seen → Type 0
 IsUnbegun c = is_fresh c.stage ≡ true → IsOutside c
 
--- So it is of a copy that begins, and each step, skip and retry keeps it. No trouble of such a copy is at a barrier, and it syncs nothing.
+-- what it may report
+abbrev pub MayBegin : Did → Type 0
+MayBegin (Began part) = ⊤
+MayBegin (Made path) = ⊤
+MayBegin (Skipped path cause) = ⊤
+MayBegin (Troubled trouble) = ⊤
+MayBegin (Ended ending part) = ⊤
+MayBegin (Chunk count) = ⊥
+MayBegin (Placed path) = ⊥
+MayBegin (Removed path) = ⊥
+MayBegin (Set path) = ⊥
+MayBegin (Kept path) = ⊥
+MayBegin (Cleaned part) = ⊥
+MayBegin Barrier = ⊥
+
+-- So it is of a copy that begins, and each step, skip and retry keeps it. No trouble of such a copy is at a barrier.
 pub record UnbegunLaw : Type 0 where
   pub begins : (job : ℕ) (top : Pair) → (let copy : SubtreeCopying = started job top in IsUnbegun copy.at)
   pub step : (free : Route → Bool) (old new : SubtreeCopying) (did : Did) (calls : ℕ) (dirty dirty_after : List Route) (before after : Option CallLog) (faults faults_after : ℕ)
@@ -35,5 +50,5 @@ pub record UnbegunLaw : Type 0 where
   pub trouble : (free : Route → Bool) (old new : SubtreeCopying) (trouble : Trouble) (calls : ℕ) (dirty dirty_after : List Route) (before after : Option CallLog) (faults faults_after : ℕ)
       → SubtreeSteps free old new (Troubled trouble) calls dirty dirty_after before after faults faults_after → IsSteady old.at → IsGoing old → IsUnbegun old.at → is_fresh new.at.stage ≡ true
       → trouble.barrier ≡ false
-  pub sync : (free : Route → Bool) (old new : SubtreeCopying) (calls : ℕ) (dirty dirty_after : List Route) (before after : Option CallLog) (faults faults_after : ℕ)
-      → SubtreeSteps free old new Barrier calls dirty dirty_after before after faults faults_after → IsUnbegun old.at → is_fresh old.at.stage ≡ false
+  pub first : (free : Route → Bool) (old new : SubtreeCopying) (did : Did) (calls : ℕ) (dirty dirty_after : List Route) (before after : Option CallLog) (faults faults_after : ℕ)
+      → SubtreeSteps free old new did calls dirty dirty_after before after faults faults_after → IsUnbegun old.at → is_fresh old.at.stage ≡ true → MayBegin did

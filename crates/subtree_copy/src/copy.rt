@@ -3,7 +3,9 @@ ghost use Rattle.std.specs.Prelude.{◌≡◌, IfOk, is_some, option_map, true};
 ghost use Rattle.mc_text.specs.Routes.{is_prefix, parent_of};
 ghost use Rattle.job_answers.specs.Skipping.{kind_in, with_kind};
 ghost use Rattle.job_reports.specs.Paths.{folder_of};
+ghost use Rattle.tree_trait.specs.Answers.{IfKnown};
 ghost use Rattle.tree_copy.specs.Standing.{is_fresh};
+ghost use Rattle.subtree_copy.specs.LastCalls.{LastCalls, TellsTried};
 ghost use Rattle.subtree_copy.specs.Reporting.{ChangesOwn, IsWound};
 ghost use Rattle.subtree_copy.specs.Standing.{IsGoing, at_barrier, is_own, part_of, retries, started};
 ghost use Rattle.subtree_copy.specs.SubtreeSteps.{LastSubtreeStep, SubtreeSkips, SubtreeSteps};
@@ -72,7 +74,7 @@ impl SubtreeCopy {
         requires going { IsGoing self.old }
         ensures steps { SubtreeSteps (P.is_free parts.now) self.old self.new result.did result.calls
             dirty.old dirty.new (T.contents tree.old) (T.contents tree.new) (T.fault_count tree.old) (T.fault_count tree.new) }
-        ensures own { ChangesOwn self.old dirty.old dirty.new }
+        ensures own { ChangesOwn self.old result.did dirty.old dirty.new }
         ensures going { IsGoing self.new }
     {
         leave_settled(&mut self.machine);
@@ -118,6 +120,8 @@ impl SubtreeCopy {
             (T.contents tree.old) (T.contents tree.new) (T.fault_count tree.old) (T.fault_count tree.new) }
         ensures wound { IsWound ending self.old result.did self.new }
         ensures own { is_own self.old self.new.at.levels.inner.copy.target ≡ true }
+        ensures called { IfKnown (T.contents tree.old) (λ log. LastCalls (part_of self.old.at.item) result.did log (T.contents tree.new)) }
+        ensures told { IfKnown (T.contents tree.old) (λ log. TellsTried (part_of self.old.at.item) result.did result.left self.new.at.levels.inner.copy.target log (T.contents tree.new)) }
     {
         let last = self.machine.wind_up(alloc, tree, ending);
         dirty.note_try(&last.did, last.left, self.machine.folder());

@@ -1,6 +1,7 @@
 //! Laws of copies. They have no code: their clauses are proved, and stand here so that they are.
 ghost use Rattle.subtree_copy.specs.Barriers.{BarrierLaw};
 ghost use Rattle.subtree_copy.specs.Counted.{CountLaw, LastCountLaw};
+ghost use Rattle.subtree_copy.specs.Known.{KnownLaw};
 ghost use Rattle.subtree_copy.specs.Ranks.{AnsweredLaw, LastRankLaw, RankLaw, SteadyLaw, WaitingLaw};
 ghost use Rattle.subtree_copy.specs.Reporting.{ReportingLaw};
 ghost use Rattle.subtree_copy.specs.Told.{ToldLaw};
@@ -60,6 +61,11 @@ pub fn what_an_unbegun_copy_is()
 /// Which reports a step and a last step make, and that each changes a folder of the copy's own.
 pub fn what_a_copy_reports()
     ensures { ReportingLaw }
+{}
+
+/// A tree that tells what it holds goes on telling with each step.
+pub fn each_step_keeps_the_tree_known()
+    ensures { KnownLaw }
 {}
 
 /// A last step counts its calls, at most two, and tells a fault only where the tree's count has risen.

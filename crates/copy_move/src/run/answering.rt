@@ -3,7 +3,7 @@ ghost use Rattle.std.specs.Prelude.{◌≡◌, Err, IfErr, OnErr, OnOk, false, t
 ghost use Rattle.job_reports.specs.Reports.{passes_over};
 ghost use Rattle.copy_move.specs.Jobs.{MayAnswer, answered, closed_job, ended_course, is_barred, waits_on};
 
-use super::{Course, Run};
+use super::{Course, Halt, Run};
 use job_reports::{Answer, AnswerError, Cause, Ending};
 
 impl Run {
@@ -17,7 +17,7 @@ impl Run {
         ensures same { OnErr result (self.new ≡ self.old) }
     {
         match self.course {
-            Course::InTrouble(cause) => self.answer_trouble(cause, answer),
+            Course::InTrouble(halt) => self.answer_trouble(halt, answer),
             Course::OwedSyncFailed(_) => self.answer_owed_sync(answer),
             Course::GoesOn | Course::Skips(_) | Course::Ends(_) => Err(AnswerError::NotAsked),
         }
@@ -47,8 +47,8 @@ impl Run {
     }
 
     /// An answer where a call of the work was refused.
-    fn answer_trouble(&mut self, cause: Cause, answer: Answer) -> Result<(), AnswerError>
-        requires course { self.old.course ≡ Course.InTrouble cause }
+    fn answer_trouble(&mut self, halt: Halt, answer: Answer) -> Result<(), AnswerError>
+        requires course { self.old.course ≡ Course.InTrouble halt }
         ensures taken { OnOk result (self.new ≡ answered answer self.old) }
         ensures fits { OnOk result (MayAnswer self.old answer) }
         ensures wrong { IfErr result (λ e. (e ≡ AnswerError.WrongAnswer) × (passes_over answer ≡ true) × (is_barred self.old.course self.old.work ≡ true)) }
@@ -60,17 +60,17 @@ impl Run {
                 self.course = Course::GoesOn;
             }
             Answer::Skip => {
-                if self.work.is_at_barrier() {
+                if halt.barrier {
                     return Err(AnswerError::WrongAnswer);
                 }
-                self.course = Course::Skips(cause);
+                self.course = Course::Skips(halt.cause);
             }
             Answer::SkipAll => {
-                if self.work.is_at_barrier() {
+                if halt.barrier {
                     return Err(AnswerError::WrongAnswer);
                 }
-                self.work.skip_all(cause);
-                self.course = Course::Skips(cause);
+                self.work.skip_all(halt.cause);
+                self.course = Course::Skips(halt.cause);
             }
             Answer::Abort => self.course = Course::Ends(Ending::Aborted),
         }

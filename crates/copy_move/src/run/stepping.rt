@@ -4,11 +4,11 @@ ghost use Rattle.std.specs.Prelude.{◌≡◌, true};
 ghost use Rattle.tree_trait.specs.Change.{current};
 ghost use Rattle.tree_trait.specs.Answers.{IfKnown};
 ghost use Rattle.tree_trait.specs.CrashImages.{Among};
-ghost use Rattle.copy_move.specs.Jobs.{course_after, is_fresh};
+ghost use Rattle.copy_move.specs.Jobs.{IsGoing, course_after, is_fresh};
 ghost use Rattle.copy_move.specs.Settling.{NoneOwed};
 ghost use Rattle.copy_move.specs.Steps.{OwedSyncStep, OwnStep, RunStep, SkipSteps, WindingStep};
 
-use super::{Course, Run};
+use super::{Course, Halt, Run};
 use crate::owed::first_owed;
 use crate::reports::without_call;
 use file_copy::PartTest;
@@ -92,6 +92,7 @@ impl Run {
         owed: Path,
     ) -> StepResult
         requires course { self.old.course ≡ Course.GoesOn }
+        requires going { IsGoing self.old.work }
         requires fresh { is_fresh self.old.work ≡ true }
         requires owed { Among dirty.old owed }
         ensures steps { OwedSyncStep (record {
@@ -198,7 +199,10 @@ fn after_report(did: &Did) -> Course
     ensures { result ≡ course_after did.now }
 {
     match did {
-        Did::Troubled(trouble) => Course::InTrouble(trouble.cause),
+        Did::Troubled(trouble) => Course::InTrouble(Halt {
+            cause: trouble.cause,
+            barrier: trouble.barrier,
+        }),
         _ => Course::GoesOn,
     }
 }

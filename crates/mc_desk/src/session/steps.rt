@@ -15,7 +15,7 @@ use super::Session;
 use crate::claims::NoClaims;
 use crate::log::plain;
 use crate::replies::{Ended, StepReply};
-use crate::standing::closed;
+use crate::standing::{Standing, closed};
 use crate::tag::Tag;
 use copy_move::Run;
 use job_reports::{Did, Ending, StepResult, is_end};
@@ -61,7 +61,7 @@ impl<N: Tag, T: Tree, S: Sink, P: Spawner> Session<N, T, S, P> {
             return idle(self.standing.closed);
         };
         if job.waits() {
-            self.standing.job = Some(job);
+            put_back(&mut self.standing.job, Some(job));
             return idle(self.standing.closed);
         }
         let id = job.id();
@@ -91,7 +91,8 @@ impl<N: Tag, T: Tree, S: Sink, P: Spawner> Session<N, T, S, P> {
         });
         self.standing.calls = calls;
         self.standing.has_unseen_end = end_waits(ended, self.standing.has_unseen_end);
-        self.standing.job = left(job, ended, self.standing.closed);
+        let kept = left(job, ended, self.standing.closed);
+        put_back(&mut self.standing.job, kept);
         StepReply::Did
     }
 
@@ -139,17 +140,32 @@ impl<N: Tag, T: Tree, S: Sink, P: Spawner> Session<N, T, S, P> {
             of: _,
         } = session;
         let (screen, failed) = terminal.into_parts();
+        let quit = standing.quit;
+        let lost = standing.lost;
+        let_go(standing);
         Ended {
             tree,
             screen,
             spawner,
             history: log.into_history(),
-            quit: standing.quit,
+            quit,
             failed,
-            lost: standing.lost,
+            lost,
         }
     }
 }
+
+/// Puts a job where none stands. It is a function of its own, since what an assignment lets go of is looked at on each way out, and a job may hold much.
+fn put_back(place: &mut Option<Run>, job: Option<Run>)
+    ensures { place.new ≡ job }
+{
+    *place = job;
+}
+
+/// Lets go of where a session stood, in a function of its own for the same reason.
+fn let_go(_standing: Standing)
+    ensures { true ≡ true }
+{}
 
 /// The reply where no job can be stepped.
 fn idle(is_closed: bool) -> StepReply

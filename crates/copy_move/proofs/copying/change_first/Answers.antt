@@ -8,7 +8,7 @@ use Rattle.copy_move.proofs.copying.change_first.Goals as goal
 
 pub returns-in_default-clause-steps : goal.returns-in_default-clause-steps
 returns-in_default-clause-steps g c =
-    no_first (λ path. g.P.PartTest.is_free c.args.parts.now path ≡ true) c.args.copy.now _ _ _ _ _ _ c.requires.fresh
+    no_first (λ path. g.P.PartTest.is_free c.args.parts.now path ≡ true) c.args.copy.now _ _ _ _ _ _ c.requires.going c.requires.fresh
     (ap (λ (s : StepResult). s.did) c.without_call.ensures ∙ ap Troubled c.out_of_memory.ensures) (ap (λ (s : StepResult). s.calls) c.without_call.ensures) c.in_default.ensures.refused
 
 pub returns-clause-steps : goal.returns-clause-steps

@@ -15,7 +15,7 @@ target_of-requires g c =
 
 pub returns-in-Ok-clause-leads : goal.returns-in-Ok-clause-leads
 returns-in-Ok-clause-leads g c =
-    copy_leads c.args.chosen.now.path c.args.mask.now c.args.from.now c.args.typed.now (g.T.ReadTree.contents c.args.tree.now)
+    copy_leads c.args.chosen.now.path c.args.mask.now c.args.from.now c.args.typed.now c.args.chosen.now.kind (g.T.ReadTree.contents c.args.tree.now)
     (g.T.ReadTree.contents c.make_plan.new.tree) c.in_ok-request.request c.in-Ok.job c.target_of.result c.plan_to.result
     (sym c.is_below_home.ensures ∙ c.if-is_below_home.false) c.in_ok-request.ensures c.in-Ok.ensures.sound c.in-Ok.ensures.asked
     c.in-Ok.ensures.answer c.target_of.ensures.target c.in-Ok.ensures.same c.plan_to.ensures.leads

@@ -1,5 +1,5 @@
 -- The folder around leaves the list with its sync.
-use Rattle.std.proofs.Common.{◌≡◌, true, not, refl}
+use Rattle.std.proofs.Common.{not, refl}
 use Rattle.tree_copy.specs.Standing.{seen}
 use Rattle.subtree_copy.proofs.Targets.{stays_around}
 use Rattle.subtree_copy.proofs.Worked.{worked_around}

@@ -1,5 +1,5 @@
 -- The list stays as it is.
-use Rattle.std.proofs.Common.{◌≡◌, true, refl}
+use Rattle.std.proofs.Common.{refl}
 use Rattle.tree_copy.specs.Standing.{seen}
 use Rattle.subtree_copy.proofs.Done.{ended_so}
 use Rattle.subtree_copy.proofs.Worked.{worked_at_end}

@@ -1,5 +1,4 @@
 -- The folder joins the list, and stays there only where it was changed.
-use Rattle.std.proofs.Common.{◌≡◌, true}
 use Rattle.tree_copy.specs.Standing.{seen}
 use Rattle.subtree_copy.proofs.Worked.{ran_short, worked_in_clean}
 use Rattle.subtree_copy.proofs.working.work_in_clean.Goals as goal

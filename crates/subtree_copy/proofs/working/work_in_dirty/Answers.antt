@@ -1,5 +1,5 @@
 -- The folder that is worked leaves the list with its sync.
-use Rattle.std.proofs.Common.{◌≡◌, true, not, refl}
+use Rattle.std.proofs.Common.{not, refl}
 use Rattle.tree_copy.specs.Standing.{seen}
 use Rattle.subtree_copy.proofs.Worked.{worked_in_dirty}
 use Rattle.subtree_copy.proofs.working.work_in_dirty.Goals as goal

@@ -7,11 +7,11 @@ use Rattle.copy_move.proofs.run.Run.sync_owed.Goals as goal
 
 pub returns-in-Ok : goal.returns-in-Ok
 returns-in-Ok g c =
-    record { steps = owed_synced c.args.owed _ _ _ c.requires.course c.requires.fresh c.requires.owed _ _ _ _ c.in-Ok.calls c.in-Ok.ensures c.remove.ensures }
+    record { steps = owed_synced c.args.owed _ _ _ c.requires.course c.requires.fresh c.requires.owed c.requires.going _ _ _ _ c.in-Ok.calls c.in-Ok.ensures c.remove.ensures }
 
 pub returns : goal.returns
 returns g c =
     record {
-      steps = owed_refused c.args.owed _ _ _ c.requires.course c.requires.fresh c.requires.owed _ _ _ _ c.in-Err.stop _ c.in-Err.ensures
+      steps = owed_refused c.args.owed _ _ _ c.requires.course c.requires.fresh c.requires.owed c.requires.going _ _ _ _ c.in-Err.stop _ c.in-Err.ensures
           (ap (λ (j : Running). let k : Running = record j { course = OwedSyncFailed c.in-Err.stop.trouble.cause } in k) c.self.view_is) refl;
     }

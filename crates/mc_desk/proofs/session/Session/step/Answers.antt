@@ -70,13 +70,13 @@ invariant_of-self-2 g c =
     let room : 2 ≤ c.note-2.new.self.spare = omega (arith, had, kept) in
     let bounded : length c.reserve.new.self.newest + 3 ≤ 2 ^ 56 = not_refused c.reserve.result granted c.reserve.ensures.bounded in
     let fits : length inside.log.newest + 3 ≤ 2 ^ 56 = subst (λ es. length es + 3 ≤ 2 ^ 56) c.reserve.ensures.same bounded in
-    let job : c.left.result ≡ if_closed inside.standing.closed (if ends did then None else Some c.step-did.new.self) =
-    c.left.ensures ∙ ap (λ b. if_closed inside.standing.closed (if b then None else Some c.step-did.new.self)) c.is_end-ended.ensures in
+    let job : c.put_back-2.new.place ≡ if_closed inside.standing.closed (if ends did then None else Some c.step-did.new.self) =
+    c.put_back-2.ensures ∙ c.left-kept.ensures ∙ ap (λ b. if_closed inside.standing.closed (if b then None else Some c.step-did.new.self)) c.is_end-ended.ensures in
     record {
       desk = desk_stepped g.N.Tag.start g.N.Tag.opening (g.T.ReadTree.contents inside.tree) (g.T.ReadTree.contents c.step-did.new.tree) g.N.Tag.tree_faults _ _ c.args.seat count made calls _ _ c.in-Some.job c.step-did.new.self did
           c.requires.main c.self.invariant.desk is c.step-did.ensures.steps fits c.saturating_add-calls.ensures c.self.invariant.counted (sym counted)
           more job
-          (ap (λ u. let t : Tally = record { job = option_map told c.left.result; last = inside.standing.last_id; has_unseen_end = u; closed = inside.standing.closed; due = awaited inside.standing.due; lost = inside.standing.lost; calls = calls } in t)
+          (ap (λ u. let t : Tally = record { job = option_map told c.put_back-2.new.place; last = inside.standing.last_id; has_unseen_end = u; closed = inside.standing.closed; due = awaited inside.standing.due; lost = inside.standing.lost; calls = calls } in t)
           (c.end_waits-self-inside.ensures ∙ ap (λ b. b || inside.standing.has_unseen_end) c.is_end-ended.ensures))
           refl refl room (sym c.waits.ensures ∙ c.if-waits.false) refl;
       counted = search rules;
@@ -94,18 +94,18 @@ pub returns-clause-nearer : goal.returns-clause-nearer
 returns-clause-nearer g c closed live =
     let job = c.in-Some.job in
     let was : c.args.self.now.job ≡ Some job = sym (ap (λ (d : Seen). d.job) c.self.view_is) ∙ (sym c.take.ensures.value ∙ c.in-Some.is) in
-    let now : c.left.result ≡ if_closed c.self.inside.standing.closed (if ends c.step-did.result.did then None else Some c.step-did.new.self) =
-    c.left.ensures ∙ ap (λ b. if_closed c.self.inside.standing.closed (if b then None else Some c.step-did.new.self)) c.is_end-ended.ensures in
-    nearer c.args.self.now job c.left.result _ c.self.inside.dirty c.step-did.new.dirty was (sym (ap (λ (d : Seen). d.dirty) c.self.view_is)) now
+    let now : c.put_back-2.new.place ≡ if_closed c.self.inside.standing.closed (if ends c.step-did.result.did then None else Some c.step-did.new.self) =
+    c.put_back-2.ensures ∙ c.left-kept.ensures ∙ ap (λ b. if_closed c.self.inside.standing.closed (if b then None else Some c.step-did.new.self)) c.is_end-ended.ensures in
+    nearer c.args.self.now job c.put_back-2.new.place _ c.self.inside.dirty c.step-did.new.dirty was (sym (ap (λ (d : Seen). d.dirty) c.self.view_is)) now
     (run_falls _ c.self.inside.standing.closed job c.step-did.new.self c.step-did.result.did _ _ _ _ _ _ _ c.step-did.ensures.steps)
 
 pub returns-clause-worked : goal.returns-clause-worked
 returns-clause-worked g c ready =
     let job = c.in-Some.job in
     let was : c.args.self.now.job ≡ Some job = sym (ap (λ (d : Seen). d.job) c.self.view_is) ∙ (sym c.take.ensures.value ∙ c.in-Some.is) in
-    let now : c.left.result ≡ if_closed c.self.inside.standing.closed (if ends c.step-did.result.did then None else Some c.step-did.new.self) =
-    c.left.ensures ∙ ap (λ b. if_closed c.self.inside.standing.closed (if b then None else Some c.step-did.new.self)) c.is_end-ended.ensures in
-    nearer c.args.self.now job c.left.result _ c.self.inside.dirty c.step-did.new.dirty was (sym (ap (λ (d : Seen). d.dirty) c.self.view_is)) now
+    let now : c.put_back-2.new.place ≡ if_closed c.self.inside.standing.closed (if ends c.step-did.result.did then None else Some c.step-did.new.self) =
+    c.put_back-2.ensures ∙ c.left-kept.ensures ∙ ap (λ b. if_closed c.self.inside.standing.closed (if b then None else Some c.step-did.new.self)) c.is_end-ended.ensures in
+    nearer c.args.self.now job c.put_back-2.new.place _ c.self.inside.dirty c.step-did.new.dirty was (sym (ap (λ (d : Seen). d.dirty) c.self.view_is)) now
     (run_falls _ c.self.inside.standing.closed job c.step-did.new.self c.step-did.result.did _ _ _ _ _ _ _ c.step-did.ensures.steps)
 
 pub returns-clause-dirty : goal.returns-clause-dirty

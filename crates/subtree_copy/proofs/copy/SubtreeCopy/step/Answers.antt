@@ -1,11 +1,12 @@
 -- Folders are left, the machine makes its step, and what it is in trouble with may be passed over.
-use Rattle.std.proofs.Common.{◌≡◌, true, refl, subst}
+use Rattle.std.proofs.Common.{refl, subst}
 use Rattle.tree_copy.specs.Standing.{seen}
 use Rattle.subtree_copy.specs.Standing.{SubtreeCopying}
 use Rattle.subtree_copy.specs.SubtreeSteps.{SubtreeSteps}
 use Rattle.subtree_copy.proofs.Held.{left_held, passed_held, worked_held}
 use Rattle.subtree_copy.specs.Reporting.{ChangesOwn}
 use Rattle.subtree_copy.proofs.Reportings.{list_own}
+use Rattle.subtree_copy.proofs.Syncs.{passed_barrier}
 use Rattle.subtree_copy.proofs.copy.SubtreeCopy.step.Goals as goal
 
 pub invariant_of-self : goal.invariant_of-self
@@ -34,6 +35,7 @@ returns-clause-steps g c =
 pub returns-clause-own : goal.returns-clause-own
 returns-clause-own g c =
     let held = left_held c.self.inside.top c.self.inside.folder (seen c.self.inside.machine) (seen c.leave_settled.new.machine) c.self.invariant c.leave_settled.ensures.leaves c.leave_settled.ensures.workable in
-    subst (λ (d : SubtreeCopying). ChangesOwn d c.args.dirty.now c.work-worked.new.dirty) c.self.view_is
+    subst (λ (d : SubtreeCopying). ChangesOwn d c.or_passed_over.result.did c.args.dirty.now c.work-worked.new.dirty) c.self.view_is
     (list_own (g.P.PartTest.is_free c.args.parts.now) (record { top = c.self.inside.top; at = seen c.self.inside.machine; skips = c.self.inside.skips }) (seen c.leave_settled.new.machine) (seen c.work-worked.new.machine) c.work-worked.result
-    _ _ _ _ _ _ c.work-worked.ensures.works held.in_place)
+    c.or_passed_over.result.did _ _ _ _ _ _ c.work-worked.ensures.works held.in_place c.leave_settled.ensures.settled
+    (passed_barrier c.self.inside.skips c.work-worked.result (seen c.work-worked.new.machine) (seen c.or_passed_over.new.machine) c.or_passed_over.result c.or_passed_over.ensures.passes))

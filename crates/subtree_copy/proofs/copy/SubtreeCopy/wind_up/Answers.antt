@@ -1,12 +1,15 @@
 -- The machine makes the last step, and the folder that it tried leaves the list.
 use Rattle.std.proofs.Common.{◌≡◌, true, refl, subst, ap, ◌∙◌}
+use Rattle.tree_copy.specs.Ending.{WindsAt}
 use Rattle.tree_copy.specs.Standing.{seen}
 use Rattle.tree_deletion.specs.Folders.{after_try}
 use Rattle.subtree_copy.specs.Standing.{SubtreeCopying}
 use Rattle.subtree_copy.specs.SubtreeSteps.{LastSubtreeStep}
 use Rattle.subtree_copy.proofs.Held.{wound_held}
 use Rattle.subtree_copy.specs.Reporting.{IsWound}
-use Rattle.subtree_copy.specs.Standing.{is_own}
+use Rattle.subtree_copy.specs.Standing.{is_own, part_of}
+use Rattle.subtree_copy.specs.LastCalls.{LastCalls, TellsTried}
+use Rattle.subtree_copy.proofs.LastRuns.{winds_told}
 use Rattle.subtree_copy.proofs.Reportings.{moved_own, winds_wound}
 use Rattle.subtree_copy.proofs.copy.SubtreeCopy.wind_up.Goals as goal
 
@@ -35,3 +38,19 @@ returns-clause-own g c =
     let place = held.in_place in
     subst (λ (d : SubtreeCopying). is_own d c.wind_up-last.new.self.stack.levels.inner.copy.target ≡ true) c.self.view_is
     (moved_own c.self.inside.top c.wind_up-last.new.self.stack.levels.inner c.wind_up-last.new.self.stack.levels.around place.levels)
+
+pub returns-clause-called : goal.returns-clause-called
+returns-clause-called g c log known =
+    let held = c.self.invariant in
+    subst (λ (d : SubtreeCopying). LastCalls (part_of d.at.item) c.wind_up-last.result.did log (g.T.ReadTree.contents c.wind_up-last.new.tree)) c.self.view_is
+    (let t = winds_told c.self.inside.machine.item c.args.ending (seen c.self.inside.machine) (seen c.wind_up-last.new.self) c.wind_up-last.result log (g.T.ReadTree.contents c.wind_up-last.new.tree) _ _
+    (subst (λ b. WindsAt c.self.inside.machine.item c.args.ending (seen c.self.inside.machine) (seen c.wind_up-last.new.self) c.wind_up-last.result b (g.T.ReadTree.contents c.wind_up-last.new.tree) (g.T.ReadTree.fault_count c.args.tree.now)
+    (g.T.ReadTree.fault_count c.wind_up-last.new.tree)) known c.wind_up-last.ensures.winds) held.windable held.in_worked in t.called)
+
+pub returns-clause-told : goal.returns-clause-told
+returns-clause-told g c log known =
+    let held = c.self.invariant in
+    subst (λ (d : SubtreeCopying). TellsTried (part_of d.at.item) c.wind_up-last.result.did c.wind_up-last.result.left c.wind_up-last.new.self.stack.levels.inner.copy.target log (g.T.ReadTree.contents c.wind_up-last.new.tree)) c.self.view_is
+    (let t = winds_told c.self.inside.machine.item c.args.ending (seen c.self.inside.machine) (seen c.wind_up-last.new.self) c.wind_up-last.result log (g.T.ReadTree.contents c.wind_up-last.new.tree) _ _
+    (subst (λ b. WindsAt c.self.inside.machine.item c.args.ending (seen c.self.inside.machine) (seen c.wind_up-last.new.self) c.wind_up-last.result b (g.T.ReadTree.contents c.wind_up-last.new.tree) (g.T.ReadTree.fault_count c.args.tree.now)
+    (g.T.ReadTree.fault_count c.wind_up-last.new.tree)) known c.wind_up-last.ensures.winds) held.windable held.in_worked in t.told)

@@ -1,0 +1,93 @@
+-- The copy of a thing with all that lies in it, as the work of a job: what a step may report, and where the copy stands then; what that says of
+-- the tree's calls; and what a history tells of it. What it does next is said in subtree_copy.
+use Rattle.std.specs.Prelude.{◌≡◌, ◌≤◌, ℕ, Bool, true, false, List, Option, Some}
+use Rattle.mc_text.specs.Routes.{Route}
+use Rattle.tree_trait.specs.Change.{CallLog}
+use Rattle.job_answers.specs.Skipping.{holds, kind_in}
+use Rattle.job_answers.specs.declared.skips.Skips.{Skips}
+use Rattle.job_reports.specs.declared.job.Pair.{Pair}
+use Rattle.job_reports.specs.declared.report.Cause.{Cause}
+use Rattle.job_reports.specs.declared.report.Did.{Did}
+use Rattle.job_reports.specs.declared.report.Did.TheVariants.{Skipped, Troubled}
+use Rattle.job_reports.specs.declared.report.Trouble.{Trouble}
+use Rattle.tree_copy.specs.declared.copy.Stage.{Stage}
+use Rattle.tree_copy.specs.declared.copy.Stage.TheVariants.{Going}
+use Rattle.tree_copy.specs.declared.item.Item.{Item}
+use Rattle.tree_copy.specs.declared.item.Item.TheVariants.{Next}
+use Rattle.tree_copy.specs.Ending.{stays_if}
+use Rattle.tree_copy.specs.Falling.{IsSteady}
+use Rattle.tree_copy.specs.Standing.{Seen, begun, is_fresh}
+use Rattle.subtree_copy.specs.Reporting.{MayTell}
+use Rattle.subtree_copy.specs.Standing.{SubtreeCopying, at_barrier, named_of, part_of}
+use Rattle.subtree_copy.specs.Standing as standing
+use Rattle.subtree_copy.specs.SubtreeSteps.{SubtreeSteps}
+use Rattle.subtree_copy.specs.Told.{IsAfter}
+use Rattle.subtree_copy.specs.Unbegun.{IsUnbegun, MayBegin}
+
+-- a copy that goes on: a step can be made, and its ranks and its beginning are as its laws want them
+pub record IsGoing (c : SubtreeCopying) : Type 0 where
+  pub can : standing.IsGoing c
+  pub steady : IsSteady c.at
+  pub unbegun : IsUnbegun c.at
+
+-- What a step may report that goes on, and where the copy stands then. A trouble is at a barrier where the copy stands so after it, and never before the
+-- first change, which begins a part or makes a folder; what is passed over is in a trouble of a kind to which `Skip all` was answered.
+pub record Tells (c : SubtreeCopying) (did : Did) (new : SubtreeCopying) : Type 0 where
+  pub may : MayTell did
+  pub after : IsAfter did c new
+  pub first : is_fresh c.at.stage ≡ true → MayBegin did
+  pub barred : (trouble : Trouble) → did ≡ Troubled trouble → trouble.barrier ≡ at_barrier new.at
+  pub apart : (trouble : Trouble) → did ≡ Troubled trouble → is_fresh c.at.stage ≡ true → trouble.barrier ≡ false
+  pub kinds : (path : Route) (cause : Cause) → did ≡ Skipped path cause → holds c.skips (kind_in cause) ≡ true
+
+-- what is left as it is: all that a history tells of the copy stays
+abbrev pub Passes : SubtreeCopying → Route → SubtreeCopying → Type 0
+Passes c path new = (cause : Cause) × IsAfter (Skipped path cause) c new
+
+-- a part is named only where no other job claims its path
+abbrev pub AllowsOnly : (Route → Type 0) → (Route → Bool) → Type 0
+AllowsOnly unclaimed free = (path : Route) → free path ≡ true → unclaimed path
+
+-- What the machine does in a step, which may come after looks that met faults.
+pub record Goes (unclaimed : Route → Type 0) (old new : SubtreeCopying) (did : Did) (calls : ℕ) (dirty dirty_after : List Route) (before after : Option CallLog) (faults faults_after : ℕ) : Type 0 where
+  pub free : Route → Bool
+  pub allows : AllowsOnly unclaimed free
+  pub since : ℕ
+  pub later : faults ≤ since
+  pub steps : SubtreeSteps free old new did calls dirty dirty_after before after since faults_after
+
+-- what a step says of the tree's calls: they are those of the machine
+pub record Calls (unclaimed : Route → Type 0) (c : SubtreeCopying) (did : Did) (new : SubtreeCopying) (log : CallLog) (after : Option CallLog) : Type 0 where
+  pub calls : ℕ
+  pub dirty : List Route
+  pub dirty_after : List Route
+  pub faults : ℕ
+  pub faults_after : ℕ
+  pub goes : Goes unclaimed c new did calls dirty dirty_after (Some log) after faults faults_after
+
+-- A copy as its history tells it: the one just begun, with its stage and its part, as one that stays, and with the kinds of troubles that it passes over.
+abbrev pub told_at : ℕ → Pair → Stage → Option Route → Skips → SubtreeCopying
+told_at id top stage part skips = record {
+  top = top;
+  at = (let c : Seen = begun id (named_of top.source) (named_of top.target) in record c { stage = stage; item = stays_if part });
+  skips = skips;
+}
+
+abbrev pub as_told : ℕ → SubtreeCopying → SubtreeCopying
+as_told id c = told_at id c.top c.at.stage (part_of c.at.item) c.skips
+
+-- the copy with this item at work
+abbrev pub with_item : Item → SubtreeCopying → SubtreeCopying
+with_item item c = record c { at = (let s : Seen = c.at in record s { item = item }) }
+
+-- something was changed
+abbrev pub changed : SubtreeCopying → SubtreeCopying
+changed c = record c { at = (let s : Seen = c.at in record s { stage = Going }) }
+
+-- what a report makes of a copy as it is told: this part stands, and something was changed
+abbrev pub with_part : Option Route → SubtreeCopying → SubtreeCopying
+with_part part c = with_item (stays_if part) (changed c)
+
+-- in last steps the part was removed
+abbrev pub without_part : SubtreeCopying → SubtreeCopying
+without_part c = with_item Next c

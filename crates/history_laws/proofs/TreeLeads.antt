@@ -1,0 +1,147 @@
+-- What a step of a copy of folders comes to: what is known then of the copy, where it is known of its part and of the folder around. Its first change is
+-- made where nothing is owed, and there all is known as it begins.
+use Rattle.std.proofs.Common.{◌≡◌, ℕ, Bool, true, false, List, [], ◌∷◌, ◌++◌, sym, ◌∙◌, ap, subst, inl, inr, Some, None}
+use Rattle.std.specs.Option.{option_map_or}
+use Rattle.std.proofs.lemmas.Bool.{both_ways, or_cases}
+use Rattle.mc_text.specs.Routes.{Route, is_prefix, same_path}
+use Rattle.tree_trait.specs.FileSystem.{find, node}
+use Rattle.tree_trait.specs.Refusals.{is_folder}
+use Rattle.tree_trait.specs.Change.{CallLog, current}
+use Rattle.tree_trait.proofs.Visible.{same_path-true}
+use Rattle.crash_law.specs.Guarded.{Marks}
+use Rattle.crash_law.proofs.Tops.{none_below}
+use Rattle.job_reports.specs.Paths.{folder_of}
+use Rattle.job_reports.specs.declared.job.Pair.{Pair}
+use Rattle.job_reports.specs.declared.report.Did.{Did}
+use Rattle.copy_levels.specs.declared.level.Level.{Level}
+use Rattle.copy_levels.specs.Levels.{Levels, coming, is_around_dirty}
+use Rattle.tree_deletion.specs.Folders.{is_of}
+use Rattle.tree_copy.specs.InPlace.{AreMoved, HoldsTop}
+use Rattle.tree_copy.specs.Standing.{is_fresh}
+use Rattle.tree_copy.specs.Steps.{IsWorkable}
+use Rattle.subtree_copy.specs.Standing.{SubtreeCopying}
+use Rattle.subtree_copy.specs.SubtreeSteps.{SubtreeSteps}
+use Rattle.subtree_copy.specs.Told.{IsAfter}
+use Rattle.subtree_copy.proofs.Unbegun.{unbegun_law}
+use Rattle.copy_move.specs.Settling.{NoneOwed}
+use Rattle.copy_move.specs.declared.run.Course.{Course}
+use Rattle.copy_move.specs.declared.work.Work.TheVariants.{CopyTree}
+use Rattle.history_laws.specs.Doubt.{is_pending, name_waits}
+use Rattle.history_laws.proofs.AtWork.{ItemKnown}
+use Rattle.history_laws.proofs.Calm.{IsCalm, PartCalm}
+use Rattle.history_laws.proofs.CalmLaws.{calm_law}
+use Rattle.history_laws.proofs.FilledFolders.{IsFilling, filling_begins}
+use Rattle.history_laws.proofs.Intact.{prefix_way}
+use Rattle.history_laws.proofs.KnownParts.{HasName}
+use Rattle.history_laws.proofs.Knowing.{IsKept, Said}
+use Rattle.history_laws.proofs.Names.{WorkedMarked}
+use Rattle.history_laws.proofs.OpenFolders.{AroundKnow, InnerKnows, LevelsKnow}
+use Rattle.history_laws.proofs.OwedModes.{OwedModes}
+use Rattle.history_laws.proofs.PartTexts.{TextKnown}
+use Rattle.history_laws.proofs.TreeGoing.{LogHas, log_goes, steps_stand}
+use Rattle.history_laws.proofs.TreeKnown.{AroundKnows, ItemHas, TreeHas, TreeKnown, TreeStands, copy_known}
+use Rattle.history_laws.proofs.Untouched.{NoneOn, none_on, none_waits}
+
+-- what is known of the log once something was changed
+pub log_has : (told : Said) (dirty : List Route) (marks : Marks) (log : CallLog) (c : SubtreeCopying) → TreeStands dirty c → TreeHas told marks log c → LogHas c.top log c.at
+log_has told dirty marks log c stands h = record {
+  copy = copy_known told dirty marks log c stands h;
+  ends = stands.ends;
+  marked = stands.marked;
+  text = h.text;
+  whole = h.whole;
+  calm = h.calm;
+  names = h.names;
+}
+
+-- It is known, too, where the first change may be made: nothing is owed, the folder stands, and nothing stands at the target.
+module _ (told : Said) (dirty : List Route) (marks : Marks) (log : CallLog) (kept : IsKept told dirty marks log) (c : SubtreeCopying) (stands : TreeStands dirty c) (fresh : is_fresh c.at.stage ≡ true)
+    (owed : NoneOwed (current log) (CopyTree c) dirty) (f : ℕ) (at : find (current log) (folder_of c.top.target) ≡ Some f) (folder : is_folder (node (current log) f) ≡ true) (free : find (current log) c.top.target ≡ None) where
+  abbrev up : Route
+  up = folder_of c.top.target
+
+  none : NoneOn (current log) up dirty
+  none = none_on (current log) (CopyTree c) dirty owed
+
+  -- the folder that holds the target is the one that is worked
+  holds : (inner : Level) (around : List Level) → around ≡ [] → AreMoved c.top inner around → inner.copy.target ≡ up
+  holds inner around is moved = (let h : HoldsTop c.top inner = subst (AreMoved c.top inner) is moved in h.to)
+
+  begins_levels : (name : List ℕ) (l : Levels) → l.around ≡ [] → l.inner.copy.target ≡ up → LevelsKnow log name l
+  begins_levels name l is to = record {
+    inner = subst (λ b. InnerKnows b log l.inner.copy.target (coming name l.inner.names l.around)) (sym (ap is_around_dirty is))
+        (subst (λ q. IsFilling log q (coming name l.inner.names l.around)) (sym to) (filling_begins told dirty marks log up f (coming name l.inner.names l.around) kept at folder none));
+    around = subst (AroundKnow log name) (sym is) tt;
+  }
+
+  -- no name waits in a folder of its own
+  none_own : (name : List ℕ) (q : Route) → is_of up c.top.target q ≡ true → name_waits log (name ∷ q) ≡ false
+  none_own name q own = elim (or_cases (same_path q up) (is_prefix c.top.target q) own) [
+    | inl here ↦ subst (λ p. name_waits log (name ∷ p) ≡ false) (sym (same_path-true q up here)) (none_waits told dirty marks log up kept.known none name)
+    | inr within ↦
+        let way = prefix_way c.top.target q within in
+        ap (λ o. option_map_or (λ g. is_pending g name log.changes) o false) (ap (find (current log)) way.1 ∙ none_below log way.0 c.top.target free)
+  ]
+
+  pub first_has : LogHas c.top log c.at
+  first_has =
+      let outside = stands.unbegun fresh in
+      let place = stands.in_place in
+      record {
+        copy = (
+          (begins_levels c.at.name c.at.levels outside.around (holds c.at.levels.inner c.at.levels.around outside.around place.levels), stands.laid),
+          subst (λ i. ItemKnown log c.at i) (sym outside.none) tt,
+        );
+        ends = stands.ends;
+        marked = stands.marked;
+        text = subst (λ i. TextKnown log i) (sym outside.none) tt;
+        whole = subst (λ i. PartCalm log i) (sym outside.none) tt;
+        calm = λ rest. (let law = calm_law in law.free log c.at (rest ++ c.top.target) (none_below log rest c.top.target free));
+        names = λ name q own waits. absurd (both_ways _ (none_own name q own) waits);
+      }
+
+module _ (told : Said) (dirty dirty_after : List Route) (marks : Marks) (log now : CallLog) (kept : IsKept told dirty marks log) (c new : SubtreeCopying) (did : Did) (free : Route → Bool) (count f0 f1 : ℕ)
+    (s : SubtreeSteps free c new did count dirty dirty_after (Some log) (Some now) f0 f1) (stands : TreeStands dirty c) (name : HasName c.top.target) (told_so : IsAfter did c new) where
+  name_then : HasName new.top.target
+  name_then = subst (λ (top : Pair). HasName top.target) (sym told_so.top) name
+
+  -- once something was changed
+  pub tree_then : is_prefix c.top.target c.top.source ≡ false → LogHas c.top log c.at → (after : Said) (course : Course) (m : Marks) → OwedModes after.tree new.at → after.folders (folder_of c.top.target) ≡ true → ItemHas after dirty_after m (current now) course new.at.item
+      → AroundKnows after m (current now) new → TreeKnown after dirty_after m now course new
+  tree_then outside has after course m modes folder part around =
+      let has_now = log_goes free c new did count dirty dirty_after log now f0 f1 s kept.known.guarded.tree kept.known.files has in
+      let copy = has_now.copy in
+      record {
+        name = name_then;
+        part = part;
+        goes = λ on. record {
+          stands = steps_stand free c new did count dirty dirty_after log now f0 f1 s told_so.stage has_now.marked stands;
+          begun = λ some. record {
+            outside = subst (λ (top : Pair). is_prefix top.target top.source ≡ false) (sym told_so.top) outside;
+            levels = copy.0.0;
+            item = copy.1;
+            text = has_now.text;
+            whole = has_now.whole;
+            calm = λ rest. subst (λ (top : Pair). IsCalm now new.at (rest ++ top.target)) (sym told_so.top) (has_now.calm rest);
+            names = λ n q own. has_now.names n q (subst (λ (top : Pair). is_of (folder_of top.target) top.target q ≡ true) told_so.top own);
+            modes = modes;
+            folder = subst (λ (top : Pair). after.folders (folder_of top.target) ≡ true) (sym told_so.top) folder;
+            around = around;
+          };
+        };
+      }
+
+  -- where nothing was changed still
+  pub tree_fresh : is_fresh c.at.stage ≡ true → is_fresh new.at.stage ≡ true → (after : Said) (course : Course) (m : Marks) → ItemHas after dirty_after m (current now) course new.at.item → TreeKnown after dirty_after m now course new
+  tree_fresh was still after course m part =
+      let law = unbegun_law in
+      let before = stands.unbegun was in
+      let outside = law.step free c new did count dirty dirty_after (Some log) (Some now) f0 f1 s (subst IsWorkable (sym before.none) tt) stands.unbegun still in
+      record {
+        name = name_then;
+        part = part;
+        goes = λ on. record {
+          stands = steps_stand free c new did count dirty dirty_after log now f0 f1 s told_so.stage (subst (λ i. WorkedMarked i new.at.levels.inner) (sym outside.none) tt) stands;
+          begun = λ some. absurd (both_ways _ some still);
+        };
+      }

@@ -1,0 +1,87 @@
+-- What no job has touched yet: a target at which nothing stands, in a folder on whose mount nothing waits.
+use Rattle.std.proofs.Common.{◌≡◌, ◌⊎◌, ℕ, Bool, true, false, ◌||◌, List, [], ◌∷◌, refl, sym, ◌∙◌, ap, subst, inl, inr, Option, Some, None, cond}
+use Rattle.std.specs.Prelude.{is_some}
+use Rattle.std.specs.Option.{option_map_or}
+use Rattle.std.proofs.lemmas.Bool.{false≢true, both_ways}
+use Rattle.mc_text.specs.Routes.{Route}
+use Rattle.tree_trait.specs.declared.file_system.FileSystem.{FileSystem}
+use Rattle.tree_trait.specs.declared.calls.TreeError.TheVariants.{Missing}
+use Rattle.tree_trait.specs.Calls.{Stat}
+use Rattle.tree_trait.specs.FileSystem.{find, lookup, starts_mount}
+use Rattle.tree_trait.specs.Refusals.{mount_here, mount_of, refusal_of}
+use Rattle.tree_trait.specs.Answers.{mount_number}
+use Rattle.tree_trait.specs.Change.{CallLog, current}
+use Rattle.tree_trait.specs.CrashImages.{Among}
+use Rattle.tree_trait.proofs.Finding.{and_then-some, find-once}
+use Rattle.crash_law.specs.Guarded.{Marks}
+use Rattle.job_reports.proofs.PermittedCalls.{stat_missing}
+use Rattle.copy_move.specs.declared.work.Work.{Work}
+use Rattle.copy_move.specs.Settling.{IsMountOf, LiesApart, NoneOwed, changed_folder}
+use Rattle.history_laws.specs.Doubt.{is_pending, name_waits, way_waits}
+use Rattle.history_laws.proofs.Knowing.{IsKept, IsKnown, Said}
+
+-- nothing was done at the target yet, and nothing stands there
+pub record IsUntouched (marks : Marks) (s : FileSystem) (target : Route) : Type 0 where
+  pub out : marks.aside target ≡ false
+  pub free : find s target ≡ None
+  pub was : marks.was target ≡ None
+
+-- a path at which nothing stands, and of whose name nothing waits
+pub untouched_free : (told : Said) (dirty : List Route) (marks : Marks) (log : CallLog) (p : Route) → IsKept told dirty marks log → way_waits log p ≡ false → find (current log) p ≡ None → IsUntouched marks (current log) p
+untouched_free told dirty marks log p kept sure free =
+    let out = not_aside (marks.aside p) refl in
+    record { out = out; free = free; was = kept.was p out sure ∙ free }
+  where
+    not_aside : (b : Bool) → marks.aside p ≡ b → marks.aside p ≡ false
+    not_aside false is = is
+    not_aside true is = elim (kept.aside p is) [
+      | inl waits ↦ absurd (both_ways _ sure waits)
+      | inr stands ↦ absurd (false≢true (sym (ap is_some free) ∙ stands))
+    ]
+
+-- no dirty folder lies on the mount of this one, but for those that were removed
+abbrev pub NoneOn : FileSystem → Route → List Route → Type 0
+NoneOn s up dirty = (kept : Route) → Among dirty kept → (refusal_of s (Stat kept) ≡ Some Missing) ⊎ LiesApart s up kept
+
+-- so it is where none is owed
+pub none_on : (s : FileSystem) (work : Work) (dirty : List Route) → NoneOwed s work dirty → NoneOn s (changed_folder work) dirty
+none_on s work dirty none kept among = elim (none kept among) [ inl gone ↦ inl gone | inr apart ↦ inr apart.1 ]
+
+-- Where no dirty folder lies on the mount of this one, nothing waits in it.
+pub none_waits : (told : Said) (dirty : List Route) (marks : Marks) (log : CallLog) (up : Route) → IsKnown told dirty marks log → NoneOn (current log) up dirty → (m : List ℕ) → name_waits log (m ∷ up) ≡ false
+none_waits told dirty marks log up known none m = by (find (current log) up) refl
+  where
+    listed : (f : ℕ) → find (current log) up ≡ Some f → (q : Route) × Among dirty q × (find (current log) q ≡ Some f) → true ≡ false
+    listed f at t =
+        let same = find-once (current log) known.guarded.tree t.0 up f t.2 at in
+        elim (none t.0 t.1) [
+          | inl gone ↦ absurd (let e : (let o : Option ℕ = None in o) ≡ Some f = sym (stat_missing (current log) t.0 gone) ∙ t.2 in cc)
+          | inr elsewhere ↦ absurd (elsewhere.2 (subst (λ q. elsewhere.0 ≡ mount_number (current log).mounts (mount_of (current log) q)) (sym same) elsewhere.1))
+        ]
+
+    no_more : (f : ℕ) → find (current log) up ≡ Some f → (b : Bool) → is_pending f m log.changes ≡ b → b ≡ false
+    no_more f at false is = refl
+    no_more f at true is = elim (known.tracked f m is) [ inl t ↦ listed f at t | inr unreached ↦ absurd (unreached up at) ]
+
+    by : (o : Option ℕ) → find (current log) up ≡ o → name_waits log (m ∷ up) ≡ false
+    by None is = ap (λ x. option_map_or (λ f. is_pending f m log.changes) x false) is
+    by (Some f) is = ap (λ x. option_map_or (λ f. is_pending f m log.changes) x false) is ∙ no_more f is (is_pending f m log.changes) refl
+
+-- nor is the folder itself in doubt, nor one above it: those on other mounts never are
+pub way_sure : (told : Said) (dirty : List Route) (marks : Marks) (log : CallLog) (up : Route) (i : ℕ) → IsKnown told dirty marks log → find (current log) up ≡ Some i → NoneOn (current log) up dirty
+    → way_waits log up ≡ false
+way_sure told dirty marks log [] i known at none = refl
+way_sure told dirty marks log (name ∷ up) i known at none =
+    by (starts_mount (current log) i) refl (λ above. way_sure told dirty marks log up h.0 known h.1 above)
+  where
+    h : (g : ℕ) × (find (current log) up ≡ Some g) × (lookup (current log).names g name ≡ Some i)
+    h = and_then-some (find (current log) up) (λ g. lookup (current log).names g name) i at
+
+    by : (b : Bool) → starts_mount (current log) i ≡ b → (NoneOn (current log) up dirty → way_waits log up ≡ false) → way_waits log (name ∷ up) ≡ false
+    by true starts rest = known.files.mounts (name ∷ up) (ap (λ o. option_map_or (starts_mount (current log)) o false) at ∙ starts)
+    by false starts rest =
+        let same : mount_of (current log) (name ∷ up) ≡ mount_of (current log) up =
+        ap (λ o. mount_here (current log) o (mount_of (current log) up)) at ∙ ap (λ b. cond b i (mount_of (current log) up)) starts in
+        let above = subst (λ n. (kept : Route) → Among dirty kept → (refusal_of (current log) (Stat kept) ≡ Some Missing)
+        ⊎ ((number : ℕ) × (number ≡ mount_number (current log).mounts n) × (IsMountOf (current log) kept number → ⊥))) same none in
+        ap (λ b. b || way_waits log up) (none_waits told dirty marks log up known above name) ∙ rest above

@@ -1,0 +1,328 @@
+-- What a job that copies has done, in each of its steps; and what it leaves once it is finished.
+use Rattle.std.proofs.Common.{◌≡◌, ◌⊎◌, ℕ, Bool, true, false, List, [], ◌∷◌, ◌++◌, refl, sym, ◌∙◌, ap, subst, inl, inr, Option, Some, None}
+use Rattle.std.specs.Prelude.{is_some}
+use Rattle.std.proofs.lemmas.Bool.{both_ways, false≢true}
+use Rattle.mc_text.specs.Routes.{Route, is_prefix, parent_of}
+use Rattle.mc_text.specs.declared.kind.Kind.TheVariants as kind
+use Rattle.tree_trait.specs.Change.{CallLog, current}
+use Rattle.tree_trait.specs.CrashImages.{Among}
+use Rattle.tree_trait.specs.FileSystem.{Spot, View}
+use Rattle.tree_trait.specs.Shape.{IsTree}
+use Rattle.crash_law.specs.Guarded.{Marks}
+use Rattle.job_reports.specs.Jobs.{Copies}
+use Rattle.job_reports.specs.declared.job.Pair.{Pair}
+use Rattle.job_reports.specs.declared.report.Cause.{Cause}
+use Rattle.job_reports.specs.declared.report.Did.{Did}
+use Rattle.job_reports.specs.declared.report.Did.TheVariants.{Skipped, Troubled, Ended}
+use Rattle.job_reports.specs.declared.report.Did.TheVariants as common
+use Rattle.job_reports.specs.declared.report.Ending.TheVariants.{Finished}
+use Rattle.job_reports.specs.declared.report.StepResult.{StepResult}
+use Rattle.job_reports.specs.Stops.{out_of_memory_at}
+use Rattle.file_copy.specs.CopyCalls.{CopyCalls}
+use Rattle.file_copy.specs.Copying as file
+use Rattle.file_copy.specs.Copying.{Copying}
+use Rattle.file_copy.specs.declared.stage.Stage.{Stage as FileStage}
+use Rattle.file_copy.specs.declared.stage.Stage.TheVariants as file_stage
+use Rattle.folder_copy.specs.declared.stage.FolderDid.{FolderDid}
+use Rattle.folder_copy.specs.declared.stage.FolderDid.TheVariants as folder_did
+use Rattle.copy_levels.specs.declared.level.Level.{Level}
+use Rattle.job_answers.specs.Skipping.{passed_cause}
+use Rattle.tree_copy.specs.declared.due.Due.TheVariants.{End, Thing}
+use Rattle.tree_copy.specs.declared.item.Item.{Item}
+use Rattle.tree_copy.specs.declared.item.Item.TheVariants.{Next, File, Link, Stays}
+use Rattle.tree_copy.specs.declared.progress.Progress.TheVariants.{UnderWay}
+use Rattle.tree_copy.specs.InPlace.{AreMoved, HoldsTop, IsInPlace, IsMoved, owed_of}
+use Rattle.tree_copy.specs.Progress.{progress}
+use Rattle.tree_copy.specs.Reports.{IsToldAs}
+use Rattle.tree_copy.specs.Skipping as machine
+use Rattle.tree_copy.specs.Standing.{Seen, due, due_at, pair_of}
+use Rattle.tree_copy.specs.Steps.{CopySteps, TakesNext, WorksOn, at_end, link_begun}
+use Rattle.tree_copy.specs.Parts.{IsPartPlace}
+use Rattle.tree_copy.proofs.InPlaces.{closed_in_place, leaves_all, pair_moved, place_law}
+use Rattle.tree_copy.proofs.Staying.{staying_law}
+use Rattle.subtree_copy.specs.Passing.{OrPassedOver}
+use Rattle.subtree_copy.specs.Standing.{SubtreeCopying, named_of, retries, started}
+use Rattle.subtree_copy.proofs.Begun.{begins_held}
+use Rattle.subtree_copy.specs.SubtreeSteps.{ListSteps, SubtreeSkips, SubtreeSteps, step_result}
+use Rattle.history_laws.specs.Replayed.{replayed_step}
+use Rattle.history_laws.proofs.Intact.{prefix_append}
+use Rattle.history_laws.proofs.Knowing.{IsKept, Said}
+use Rattle.history_laws.proofs.KnownParts.{FileKnows, StageKnows}
+use Rattle.history_laws.proofs.OwedModes.{ShowsTree}
+use Rattle.history_laws.proofs.TreeCalls.{left_item}
+use Rattle.history_laws.proofs.TreeKnown.{ItemHas, TreeKnown}
+use Rattle.history_laws.proofs.TreeMachine.{SaysPassed, passed_trouble, skip_says}
+use Rattle.copy_move.specs.declared.run.Course.{Course}
+use Rattle.outcome_laws.specs.Outcomes.{IsCopied, IsReached, passed_by}
+use Rattle.outcome_laws.proofs.Accounts.{FileDone, IsAccounted, IsCovered, IsDue, IsNext, IsPending, ItemDone, TreeDone, covered_below}
+use Rattle.outcome_laws.proofs.FileWork.{bare_begins, file_anew, file_goes, self_prefix, skipped_done}
+use Rattle.outcome_laws.proofs.TreeItems.{file_paths, file_works, link_works}
+use Rattle.outcome_laws.proofs.TreeLevels.{closed_done, leaves_done, no_name}
+use Rattle.outcome_laws.proofs.TreeFolders.{syncs_done, takes_folder}
+use Rattle.outcome_laws.proofs.TreeClosings.{ends_done}
+use Rattle.outcome_laws.proofs.TreePasses.{retries_done, skips_done}
+
+-- what the copy of a file has done
+abbrev pub FileAccounts : List Route → View → Copying → Type 0
+FileAccounts passed v c = FileDone v passed c.target c.source c.target c.stage
+
+-- what the copy of a thing with all that lies in it has done, which is in its place
+pub record TreeAccounts (passed : List Route) (v : View) (c : SubtreeCopying) : Type 0 where
+  pub in_place : IsInPlace c.top c.at
+  pub done : TreeDone v passed c.top c.at
+
+-- what is covered isn't reached
+covered_not : {A : Type 0} (passed : List Route) (path : Route) → IsReached passed path → IsCovered passed path → A
+covered_not passed path reached (left, among, above) = absurd (both_ways _ (reached left among) above)
+
+-- where no part stands the history shows the tree
+shows_all : (told : Said) (dirty : List Route) (marks : Marks) (log : CallLog) → IsKept told dirty marks log → told.part ≡ None → ShowsTree told.tree log
+shows_all told dirty marks log kept none p = ap (λ (s : Spot). s.value) (kept.known.shows p (λ part. let e : (let o : Option Route = None in o) ≡ Some p = sym none ∙ part in let f : ⊥ = cc in f))
+
+-- the copy of a file
+module _ (told : Said) (dirty : List Route) (marks : Marks) (log now : CallLog) (kept : IsKept told dirty marks log) (c new : Copying) (passed : List Route) where
+  pub file_steps : (unclaimed : Route → Type 0) (course : Course) (did : Did) (after : Option CallLog) → FileKnows told dirty marks (current log) course c → file.Tells c did new → CopyCalls unclaimed c did new log after → FileAccounts passed told.tree c
+      → FileAccounts (passed_by did passed) (replayed_step now did (Some (Copies c.source c.target)) told.tree) new
+  file_steps unclaimed course did after knows tells called done =
+      subst (λ t. FileDone (replayed_step now did (Some (Copies c.source c.target)) told.tree) (passed_by did passed) t new.source new.target new.stage) (sym (file_paths c new did tells).1)
+      (file_goes now told.tree passed (record { source = c.source; target = c.target }) unclaimed c new did log after (record { rest = []; from = refl; to = refl }) tells called begins done)
+    where
+      begins : c.stage ≡ file_stage.Begin → IsTree (current log) × ShowsTree told.tree log
+      begins is = (kept.known.guarded.tree, (let k = subst (StageKnows told marks (current log) course c) is knows.2 in shows_all told dirty marks log kept k.0))
+
+pub file_passed : (c new : Copying) (path : Route) (passed : List Route) (v : View) → path ≡ c.source → new ≡ record c { stage = file.skipped c.stage } → FileAccounts passed v c → FileAccounts (path ∷ passed) v new
+file_passed c new path passed v path_is new_is done =
+    subst (λ p. FileAccounts (p ∷ passed) v new) (sym path_is) (subst (λ (x : Copying). FileAccounts (c.source ∷ passed) v x) (sym new_is) (skipped_done v passed c.target c.source c.target c.stage done))
+
+pub file_taken : (c : Copying) (passed : List Route) (v : View) → FileAccounts passed v c → FileAccounts passed v (record c { stage = file.taken_anew c.stage })
+file_taken c passed v done = file_anew v passed c.target c.source c.target c.stage done
+
+pub file_ends : (c new : Copying) (part : Option Route) (passed : List Route) (v : View) → file.Tells c (Ended Finished part) new → FileAccounts passed v c → IsCopied c.source c.target passed v
+file_ends c new part passed v (stage, synced, part_is, new_is) done = λ rest off reached. by (subst (λ s. FileDone v passed c.target c.source c.target s) stage done) rest off reached
+  where
+    by : FileDone v passed c.target c.source c.target file_stage.Decided → IsCopied c.source c.target passed v
+    by (inl covered) rest off reached = covered_not passed (rest ++ c.source) reached (covered_below passed c.source (rest ++ c.source) (prefix_append c.source rest) covered)
+    by (inr all) rest off reached = all rest off
+
+-- the next name is that of what is taken up
+next_of : (c : Seen) (names : List (List ℕ)) (pair : Pair) → c.levels.inner.names.names ≡ names → due_at names c ≡ Thing pair → IsNext c.levels.inner pair.source
+next_of c [] pair names_is is = absurd (let f : ⊥ = cc in f)
+next_of c (name ∷ names) pair names_is is = let same : pair_of c name ≡ pair = cc in (name, names, names_is, sym (ap (λ (p : Pair). p.source) same))
+
+not_begun : (stage : FileStage) → progress stage ≡ UnderWay → stage ≡ file_stage.Begin → ⊥
+not_begun stage under is = (let e : progress file_stage.Begin ≡ UnderWay = sym (ap progress is) ∙ under in let f : ⊥ = cc in f)
+
+module _ (now : CallLog) (v : View) (passed : List Route) (top : Pair) where
+  abbrev Then : Did → View
+  Then did = replayed_step now did (Some (Copies top.source top.target)) v
+
+  -- a step of the machine
+  module _ (unclaimed : Route → Type 0) (old new : Seen) (did : Did) (log : CallLog) (h : TreeDone v passed top old) (place : IsInPlace top old) (tree : IsTree (current log)) where
+    abbrev After : Type 0
+    After = TreeDone (Then did) (passed_by did passed) top new
+
+    takes_done : old.item ≡ Next → ShowsTree v log → TakesNext unclaimed old new did (Some log) (Some now) → After
+    takes_done none shows (inl s) = subst (λ d. TreeDone (Then d) (passed_by d passed) top new) (sym s.says) (subst (TreeDone v passed top) (sym s.stands) h)
+    takes_done none shows (inr (inl t)) =
+        file_works now v passed top old new did h unclaimed (file.begun old.job t.pair.source t.pair.target) log (Some now) t.works
+        (pair_moved top old.levels.inner.names.names old t.pair refl t.next place) (next_of old old.levels.inner.names.names t.pair refl t.next) tt (λ is. (tree, shows))
+    takes_done none shows (inr (inr (inl t))) =
+        let is = t.is log refl in
+        link_works now v passed top old new did h (link_begun t.pair t.part) (Some log) (Some now) t.works
+        (pair_moved top old.levels.inner.names.names old t.pair refl t.next place) (next_of old old.levels.inner.names.names t.pair refl t.next)
+        (bare_begins v log tree shows t.pair.source t.pair.target kind.Link is.0.0 is.0.1 refl is.1)
+    takes_done none shows (inr (inr (inr (inl t)))) =
+        takes_folder now v passed top old new did log (Some now) t.pair t.names t.mode h tree shows none
+        (pair_moved top old.levels.inner.names.names old t.pair refl t.next place) (next_of old old.levels.inner.names.names t.pair refl t.next) (t.is log refl) t.works
+    takes_done none shows (inr (inr (inr (inr (next, inl (debt, e)))))) =
+        let at = closed_in_place top old place in
+        ends_done now v passed top (at_end old) new did (Some log) (Some now) (closed_done v passed top old none h) none at.levels e
+    takes_done none shows (inr (inr (inr (inr (next, inr (debt, f, same)))))) =
+        subst (λ d. TreeDone (Then d) (passed_by d passed) top new) (sym f.says) (subst (TreeDone v passed top) (sym f.stands) (closed_done v passed top old none h))
+
+    works_done : (item : Item) → old.item ≡ item → (item ≡ Next → ShowsTree v log) → WorksOn item unclaimed old new did (Some log) (Some now) → After
+    works_done Next is shows (inl s) = syncs_done now v passed top old new did (Some log) (Some now) h is s
+    works_done Next is shows (inr (clean, takes)) = takes_done is (shows refl) takes
+    works_done (File f) is shows w =
+        let d = subst (λ i. ItemDone v passed top.target old.levels.inner i) is h.item in
+        let m = subst (Rattle.tree_copy.specs.InPlace.ItemMoved top) is place.item in
+        file_works now v passed top old new did h unclaimed f log (Some now) w m d.1 d.2 (λ begin. absurd (not_begun f.stage d.0 begin))
+    works_done (Link l) is shows w =
+        let d = subst (λ i. ItemDone v passed top.target old.levels.inner i) is h.item in
+        let m = subst (Rattle.tree_copy.specs.InPlace.ItemMoved top) is place.item in
+        link_works now v passed top old new did h l (Some log) (Some now) w m d.1 d.2
+    works_done (Stays part) is shows w = absurd w
+
+  pub copy_done : (free : Route → Bool) (old new : Seen) (did : Did) (calls : ℕ) (log : CallLog) (f0 f1 : ℕ) → CopySteps free old new did calls (Some log) (Some now) f0 f1 → TreeDone v passed top old → IsInPlace top old → IsTree (current log)
+      → (old.item ≡ Next → ShowsTree v log) → TreeDone (Then did) (passed_by did passed) top new
+  copy_done free old new did calls log f0 f1 s h place tree shows =
+      let mid = s.mid in
+      works_done (IsPartPlace free mid) mid new did log (leaves_done v passed top s.folders old mid s.leaves h) (leaves_all top s.folders old mid s.leaves place) tree mid.item refl
+      (λ none. shows (sym (left_item s.folders old mid s.leaves) ∙ none)) s.works
+
+  -- what is passed over changes nothing
+  passed_still : (did : Did) → SaysPassed did → Then did ≡ v
+  passed_still did (inl (path, cause, is)) = ap Then is
+  passed_still did (inr (trouble, is)) = ap Then is
+
+-- A step of the copy of a thing with all that lies in it.
+module _ (told : Said) (dirty dirty_after : List Route) (marks : Marks) (log now : CallLog) (kept : IsKept told dirty marks log) (c new : SubtreeCopying) (did : Did) (passed : List Route) (course : Course) (free : Route → Bool) (count f0 f1 : ℕ)
+    (part : ItemHas told dirty marks (current log) course c.at.item) (s : SubtreeSteps free c new did count dirty dirty_after (Some log) (Some now) f0 f1) (a : TreeAccounts passed told.tree c) where
+  abbrev seen_tree : Did → View
+  seen_tree d = replayed_step now d (Some (Copies c.top.source c.top.target)) told.tree
+
+  abbrev r : StepResult
+  r = s.worked
+
+  abbrev mid : Seen
+  mid = s.mid
+
+  before : TreeDone told.tree passed c.top mid
+  before = leaves_done told.tree passed c.top s.leaves.0 c.at mid s.leaves.1 a.done
+
+  place_before : IsInPlace c.top mid
+  place_before = leaves_all c.top s.leaves.0 c.at mid s.leaves.1 a.in_place
+
+  shown : mid.item ≡ Next → ShowsTree told.tree log
+  shown none = shows_all told dirty marks log kept (subst (ItemHas told dirty marks (current log) course) (sym (left_item s.leaves.0 c.at mid s.leaves.1) ∙ none) part)
+
+  worked : TreeDone (seen_tree r.did) (passed_by r.did passed) c.top s.moved × IsInPlace c.top s.moved
+  worked = by s.works
+    where
+      by : ListSteps free mid s.moved r dirty dirty_after (Some log) (Some now) f0 f1 → TreeDone (seen_tree r.did) (passed_by r.did passed) c.top s.moved × IsInPlace c.top s.moved
+      by (inl out) = (
+        subst (λ d. TreeDone (seen_tree d) (passed_by d passed) c.top s.moved) (sym (ap (λ (x : StepResult). x.did) out.says)) (subst (TreeDone told.tree passed c.top) (sym out.stays) before),
+        subst (IsInPlace c.top) (sym out.stays) place_before,
+      )
+      by (inr m) = (
+        copy_done now told.tree passed c.top free mid s.moved r.did r.calls log f0 f1 m.steps before place_before kept.known.guarded.tree shown,
+        (place_law free c.top mid s.moved r.did r.calls (Some log) (Some now) f0 f1 m.steps place_before).0,
+      )
+
+  reported : TreeDone (seen_tree did) (passed_by did passed) c.top new.at × IsInPlace c.top new.at
+  reported = by s.passes
+    where
+      by : OrPassedOver c.skips r s.moved new.at (step_result did count) → TreeDone (seen_tree did) (passed_by did passed) c.top new.at × IsInPlace c.top new.at
+      by (inl (none, same, at)) =
+          let did_is : did ≡ r.did = ap (λ (x : StepResult). x.did) same in (
+            subst (λ d. TreeDone (seen_tree d) (passed_by d passed) c.top new.at) (sym did_is) (subst (TreeDone (seen_tree r.did) (passed_by r.did passed) c.top) (sym at) worked.0),
+            subst (IsInPlace c.top) (sym at) worked.1,
+          )
+      by (inr (cause, is, calls, skips)) =
+          let t = passed_trouble c.skips r.did cause is in
+          let h : TreeDone told.tree passed c.top s.moved = subst (λ d. TreeDone (seen_tree d) (passed_by d passed) c.top s.moved) t.1 worked.0 in
+          let place = worked.1 in
+          let moved = s.moved in (
+            subst (λ (w : View). TreeDone w (passed_by did passed) c.top new.at) (sym (passed_still now told.tree passed c.top did (skip_says moved.item cause moved new.at did skips)))
+                (skips_done told.tree passed c.top cause moved new.at did h moved.item refl place.item skips),
+            (let law = staying_law in law.skip c.top cause moved new.at did skips place),
+          )
+
+  pub tree_steps : TreeAccounts (passed_by did passed) (seen_tree did) new
+  tree_steps = record {
+    in_place = subst (λ (top : Pair). IsInPlace top new.at) (sym top_is) reported.1;
+    done = subst (λ (top : Pair). TreeDone (seen_tree did) (passed_by did passed) top new.at) (sym top_is) reported.0;
+  }
+    where
+      top_is : new.top ≡ c.top
+      top_is = ap (λ (x : SubtreeCopying). x.top) s.stands
+
+  -- a folder reports no end of the job
+  no_end : (report : FolderDid) (part : Option Route) → IsToldAs report (Ended Finished part) → ⊥
+  no_end (folder_did.Made path) part is = (let f : ⊥ = cc in f)
+  no_end (folder_did.Set path) part is = (let f : ⊥ = cc in f)
+  no_end folder_did.Barrier part is = (let f : ⊥ = cc in f)
+  no_end folder_did.Closed part is = is
+  no_end (folder_did.Troubled trouble) part is = (let f : ⊥ = cc in f)
+
+  -- the end comes where no name is left, and no folder is open but the outermost
+  abbrev IsAtEnd : Seen → Type 0
+  IsAtEnd x = (x.levels.inner.names.names ≡ []) × (x.levels.around ≡ [])
+
+  takes_end : (unclaimed : Route → Type 0) (old next : Seen) (part : Option Route) → TakesNext unclaimed old next (Ended Finished part) (Some log) (Some now) → IsAtEnd old
+  takes_end unclaimed old next part (inl t) = absurd (let e : Ended Finished part ≡ Troubled t.trouble = t.says in let f : ⊥ = cc in f)
+  takes_end unclaimed old next part (inr (inl t)) = (let w = t.works in let tells = w.tells in absurd (let e = tells.0 in let f : ⊥ = cc in f))
+  takes_end unclaimed old next part (inr (inr (inl t))) = (let w = t.works in absurd w.tells)
+  takes_end unclaimed old next part (inr (inr (inr (inl t)))) = (let w = t.works in absurd (no_end w.report part w.says))
+  takes_end unclaimed old next part (inr (inr (inr (inr (due, inl (debt, e)))))) = absurd (no_end e.report part e.says)
+  takes_end unclaimed old next part (inr (inr (inr (inr (due, inr (debt, f, same)))))) = (no_name old old.levels.inner.names.names due, f.last)
+
+  works_end : (unclaimed : Route → Type 0) (old next : Seen) (part : Option Route) (item : Item) → ItemDone told.tree passed c.top.target old.levels.inner item → WorksOn item unclaimed old next (Ended Finished part) (Some log) (Some now) → IsAtEnd old
+  works_end unclaimed old next part Next d (inl x) = absurd (no_end x.report part x.says)
+  works_end unclaimed old next part Next d (inr (clean, t)) = takes_end unclaimed old next part t
+  works_end unclaimed old next part (File f) d w = (let tells = w.tells in absurd (let e : progress file_stage.Decided ≡ UnderWay = sym (ap progress tells.0) ∙ d.0 in let f : ⊥ = cc in f))
+  works_end unclaimed old next part (Link l) d w = absurd w.tells
+  works_end unclaimed old next part (Stays left) d w = absurd w
+
+  -- nothing is pending then, so all is copied that is reached
+  copied_at : (x : Seen) → TreeDone told.tree passed c.top x → IsInPlace c.top x → IsAtEnd x → IsCopied c.top.source c.top.target passed told.tree
+  copied_at x h place end rest off reached = by (h.things rest off)
+    where
+      holds : HoldsTop c.top x.levels.inner
+      holds = subst (AreMoved c.top x.levels.inner) end.1 place.levels
+
+      nothing : IsDue x.levels.inner (rest ++ c.top.source) → ⊥
+      nothing (inl (name, among, below)) = subst (λ names. Among names name) end.0 among
+      nothing (inr (mode, owed, is)) = (let e : (let o : Option ℕ = None in o) ≡ Some mode = sym holds.keeps ∙ owed in let f : ⊥ = cc in f)
+
+      by : IsAccounted told.tree passed x.levels.inner x.levels.around (rest ++ c.top.source) (rest ++ c.top.target) → Rattle.outcome_laws.proofs.Accounts.IsCopy told.tree (rest ++ c.top.source) (rest ++ c.top.target)
+      by (inl covered) = covered_not passed (rest ++ c.top.source) reached covered
+      by (inr (inr copy)) = copy
+      by (inr (inl pending)) = absurd (nothing (subst (λ (xs : List Level). IsPending x.levels.inner xs (rest ++ c.top.source)) end.1 pending))
+
+  pub tree_ends : (part_left : Option Route) → did ≡ Ended Finished part_left → IsCopied c.top.source c.top.target passed told.tree
+  tree_ends part_left is = by s.passes
+    where
+      stepped : (m : CopySteps free mid s.moved r.did r.calls (Some log) (Some now) f0 f1) → did ≡ r.did → IsCopied c.top.source c.top.target passed told.tree
+      stepped m same =
+          let last = m.mid in
+          let h = leaves_done told.tree passed c.top m.folders mid last m.leaves before in
+          let place = leaves_all c.top m.folders mid last m.leaves place_before in
+          copied_at last h place (works_end (IsPartPlace free last) last s.moved part_left last.item h.item (subst (λ d. WorksOn last.item (IsPartPlace free last) last s.moved d (Some log) (Some now)) (sym same ∙ is) m.works))
+
+      worked_end : did ≡ r.did → ListSteps free mid s.moved r dirty dirty_after (Some log) (Some now) f0 f1 → IsCopied c.top.source c.top.target passed told.tree
+      worked_end same (inl out) = absurd (let e : Ended Finished part_left ≡ Troubled _ = sym is ∙ (same ∙ ap (λ (x : StepResult). x.did) out.says) in let f : ⊥ = cc in f)
+      worked_end same (inr m) = stepped m.steps same
+
+      not_passed : SaysPassed did → ⊥
+      not_passed (inl (path, cause, told_is)) = (let e : Ended Finished part_left ≡ Skipped path cause = sym is ∙ told_is in let f : ⊥ = cc in f)
+      not_passed (inr (trouble, told_is)) = (let e : Ended Finished part_left ≡ Troubled trouble = sym is ∙ told_is in let f : ⊥ = cc in f)
+
+      by : OrPassedOver c.skips r s.moved new.at (step_result did count) → IsCopied c.top.source c.top.target passed told.tree
+      by (inl (none, same, at)) = worked_end (ap (λ (x : StepResult). x.did) same) s.works
+      by (inr (cause, why, calls, skips)) = (let moved = s.moved in absurd (not_passed (skip_says moved.item cause moved new.at did skips)))
+
+-- something is passed over once that was answered
+pub tree_passed : (c new : SubtreeCopying) (cause why : Cause) (path : Route) (passed : List Route) (v : View) → SubtreeSkips cause c (Skipped path why) new → TreeAccounts passed v c → TreeAccounts (path ∷ passed) v new
+tree_passed c new cause why path passed v s a =
+    subst (TreeAccounts (path ∷ passed) v) (sym s.stands) (record {
+      in_place = (let law = staying_law in law.skip c.top cause c.at new.at (Skipped path why) s.skips a.in_place);
+      done = (let place = a.in_place in skips_done v passed c.top cause c.at new.at (Skipped path why) a.done c.at.item refl place.item s.skips);
+    })
+
+-- what was refused is taken up anew
+pub tree_taken : (c : SubtreeCopying) (passed : List Route) (v : View) → TreeAccounts passed v c → TreeAccounts passed v (retries c)
+tree_taken c passed v a = record {
+  in_place = (let law = staying_law in law.retry c.top c.at a.in_place);
+  done = (let place = a.in_place in retries_done v passed c.top c.at c.at.item refl place.item a.done);
+}
+
+-- a thing is the name in its folder
+named_is : (path : Route) → is_some (parent_of path) ≡ true → (let n = named_of path in n.name ∷ n.folder) ≡ path
+named_is [] is = absurd (false≢true is)
+named_is (name ∷ folder) is = refl
+
+-- a copy that begins has all to meet
+pub tree_begins : (id : ℕ) (top : Pair) (v : View) → is_some (parent_of top.source) ≡ true → is_some (parent_of top.target) ≡ true → TreeAccounts [] v (started id top)
+tree_begins id top v from to = record {
+  in_place = (let held = begins_held id top from to in held.in_place);
+  done = record {
+    things = λ rest off. inr (inl (inl (
+      (let n = named_of top.source in n.name),
+      inl refl,
+      subst (λ p. is_prefix p (rest ++ top.source) ≡ true) (sym (named_is top.source from)) (prefix_append top.source rest),
+    )));
+    folders = tt;
+    item = tt;
+  };
+}

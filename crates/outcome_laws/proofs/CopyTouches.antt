@@ -1,0 +1,78 @@
+-- What a step of a copy changes lies at or below its target.
+use Rattle.std.proofs.Common.{[], ◌≡◌, ◌⊎◌, ℕ, Bool, true, List, ◌∷◌, ◌++◌, refl, sym, ◌∙◌, ap, subst, inl, inr, Option, Some, None}
+use Rattle.mc_text.specs.Routes.{Route, is_prefix}
+use Rattle.tree_trait.specs.Change.{CallLog}
+use Rattle.job_reports.specs.declared.job.Pair.{Pair}
+use Rattle.job_reports.specs.declared.report.Did.{Did}
+use Rattle.job_reports.specs.declared.report.Did.TheVariants.{Began, Chunk, Placed, Removed, Made, Set, Kept, Skipped, Cleaned, Barrier, Troubled, Ended}
+use Rattle.job_reports.specs.declared.report.StepResult.{StepResult}
+use Rattle.session_history.specs.Named.{changed_by}
+use Rattle.file_copy.specs.Copying.{Copying, Tells}
+use Rattle.tree_copy.specs.InPlace.{IsInPlace, IsMoved, IsTargetOf, NamesTarget}
+use Rattle.tree_copy.specs.Standing.{Seen}
+use Rattle.tree_copy.proofs.InPlaces.{leaves_all, place_law}
+use Rattle.subtree_copy.specs.Passing.{OrPassedOver}
+use Rattle.subtree_copy.specs.Reporting.{MayTell}
+use Rattle.subtree_copy.specs.Standing.{SubtreeCopying}
+use Rattle.subtree_copy.specs.SubtreeSteps.{ListSteps, SubtreeSteps, step_result}
+use Rattle.history_laws.proofs.Intact.{prefix_append}
+use Rattle.history_laws.proofs.TreeMachine.{SaysPassed, skip_says}
+
+some_path : (p q : Route) → (let o : Option Route = Some p in o) ≡ Some q → p ≡ q
+some_path p q is = cc
+
+none_changed : {A : Type 0} (path : Route) → (let o : Option Route = None in o) ≡ Some path → A
+none_changed path is = absurd (let f : ⊥ = cc in f)
+
+pub copy_touches : (c new : Copying) (did : Did) (path : Route) → Tells c did new → changed_by did ≡ Some path → is_prefix c.target path ≡ true
+copy_touches c new (Placed placed) path (part, facts, stage, path_is, new_is) changed = subst (λ p. is_prefix c.target p ≡ true) (sym path_is ∙ some_path placed path changed) (prefix_append c.target [])
+copy_touches c new (Began part) path t changed = none_changed path changed
+copy_touches c new (Chunk count) path t changed = none_changed path changed
+copy_touches c new (Cleaned part) path t changed = none_changed path changed
+copy_touches c new Barrier path t changed = none_changed path changed
+copy_touches c new (Troubled trouble) path t changed = none_changed path changed
+copy_touches c new (Ended ending part) path t changed = none_changed path changed
+copy_touches c new (Removed gone) path t changed = absurd t
+copy_touches c new (Made made) path t changed = absurd t
+copy_touches c new (Set set) path t changed = absurd t
+copy_touches c new (Kept kept) path t changed = absurd t
+copy_touches c new (Skipped left cause) path t changed = absurd t
+
+is_target : (top : Pair) (named path : Route) → IsTargetOf top named → named ≡ path → is_prefix top.target path ≡ true
+is_target top named path target is = (let m : IsMoved top target.0 named = target.1 in subst (λ p. is_prefix top.target p ≡ true) (sym m.to ∙ is) (prefix_append top.target m.rest))
+
+by_names : (top : Pair) (did : Did) (path : Route) → MayTell did → NamesTarget top did → changed_by did ≡ Some path → is_prefix top.target path ≡ true
+by_names top (Placed placed) path may names changed = is_target top placed path names (some_path placed path changed)
+by_names top (Made made) path may names changed = is_target top made path names (some_path made path changed)
+by_names top (Set set) path may names changed = is_target top set path names (some_path set path changed)
+by_names top (Removed gone) path may names changed = absurd may
+by_names top (Began part) path may names changed = none_changed path changed
+by_names top (Chunk count) path may names changed = none_changed path changed
+by_names top (Kept kept) path may names changed = none_changed path changed
+by_names top (Skipped left cause) path may names changed = none_changed path changed
+by_names top (Cleaned part) path may names changed = none_changed path changed
+by_names top Barrier path may names changed = none_changed path changed
+by_names top (Troubled trouble) path may names changed = none_changed path changed
+by_names top (Ended ending part) path may names changed = none_changed path changed
+
+module _ (c new : SubtreeCopying) (did : Did) (path : Route) (free : Route → Bool) (count : ℕ) (dirty dirty_after : List Route) (before after : Option CallLog) (f0 f1 : ℕ)
+    (s : SubtreeSteps free c new did count dirty dirty_after before after f0 f1) (in_place : IsInPlace c.top c.at) (may : MayTell did) (changed : changed_by did ≡ Some path) where
+  abbrev r : StepResult
+  r = s.worked
+
+  of_works : did ≡ r.did → ListSteps free s.mid s.moved r dirty dirty_after before after f0 f1 → is_prefix c.top.target path ≡ true
+  of_works same (inl out) = none_changed path (sym (ap changed_by (same ∙ ap (λ (x : StepResult). x.did) out.says)) ∙ changed)
+  of_works same (inr m) =
+      let names = (place_law free c.top s.mid s.moved r.did r.calls before after f0 f1 m.steps (let l = s.leaves in leaves_all c.top l.0 c.at s.mid l.1 in_place)).1 in
+      by_names c.top did path may (subst (NamesTarget c.top) (sym same) names) changed
+
+  of_skip : SaysPassed did → is_prefix c.top.target path ≡ true
+  of_skip (inl (left, cause, is)) = none_changed path (sym (ap changed_by is) ∙ changed)
+  of_skip (inr (trouble, is)) = none_changed path (sym (ap changed_by is) ∙ changed)
+
+  of_passes : OrPassedOver c.skips r s.moved new.at (step_result did count) → is_prefix c.top.target path ≡ true
+  of_passes (inl (none, same, at)) = of_works (ap (λ (x : StepResult). x.did) same) s.works
+  of_passes (inr (cause, is, calls, skips)) = (let moved : Seen = s.moved in of_skip (skip_says moved.item cause moved new.at did skips))
+
+  pub tree_touches : is_prefix c.top.target path ≡ true
+  tree_touches = of_passes s.passes

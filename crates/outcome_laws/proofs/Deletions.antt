@@ -1,0 +1,462 @@
+-- What a deletion knows of what it leaves, and how each step of its machine keeps that.
+use Rattle.std.proofs.Common.{◌≡◌, ◌⊎◌, ℕ, ◌≤◌, ◌||◌, Bool, true, false, List, [], ◌∷◌, ◌++◌, length, refl, sym, ◌∙◌, ap, subst, inl, inr, Option, Some, None, Ok, Err, cond}
+use Rattle.std.specs.Prelude.{⊤, ◌+◌, if◌then◌else◌}
+use Rattle.std.specs.Option.{option_map}
+use Rattle.std.proofs.lemmas.Bool.{both_ways, false≢true, or_right, true≢false}
+use Rattle.mc_text.specs.Routes.{Route, is_prefix, same_path}
+use Rattle.tree_trait.specs.declared.file_system.FileSystem.{FileSystem}
+use Rattle.tree_trait.specs.declared.calls.TreeError.{TreeError}
+use Rattle.tree_trait.specs.declared.calls.Children.{Children}
+use Rattle.tree_trait.specs.FileSystem.{Spot, Value, View, find, node, value, value_at, visible_tree}
+use Rattle.tree_trait.specs.Shape.{IsTree}
+use Rattle.tree_trait.specs.Calls.{Call, RemoveFile, RemoveFolder, SyncFolder}
+use Rattle.tree_trait.specs.Change.{CallLog, Nothing, Removes, Syncs, current, found, torn_write, with_change}
+use Rattle.tree_trait.specs.CrashImages.{Among, same_name}
+use Rattle.tree_trait.specs.Answers.{IsListing, Performs}
+use Rattle.tree_trait.proofs.Finding.{same_name-self}
+use Rattle.tree_trait.proofs.Visible.{same_path-self}
+use Rattle.crash_law.proofs.Guarding.{find_same, said}
+use Rattle.crash_law.proofs.Tops.{none_below, not_longer, under_removed}
+use Rattle.job_reports.specs.declared.report.Cause.{Cause}
+use Rattle.job_reports.specs.declared.report.Ending.TheVariants.{Finished, Aborted, Killed, NoMemory}
+use Rattle.job_reports.specs.declared.report.StepResult.{StepResult}
+use Rattle.job_reports.specs.declared.report.Did.{Did}
+use Rattle.job_reports.specs.declared.report.Did.TheVariants.{Began, Chunk, Placed, Removed, Made, Set, Kept, Skipped, Cleaned, Barrier, Troubled, Ended}
+use Rattle.job_reports.proofs.CallAnswers.{done_call, some_log}
+use Rattle.subtree_walk.specs.Places.{IsLeft, OpenFolder, Place, is_outermost, noted, opened, passed as passed_on, without_next}
+use Rattle.tree_deletion.specs.declared.deletion.Depth.{Depth}
+use Rattle.tree_deletion.specs.declared.deletion.Depth.TheVariants.{Top, Inside}
+use Rattle.tree_deletion.specs.declared.deletion.Stage.{Stage}
+use Rattle.tree_deletion.specs.declared.deletion.Stage.TheVariants.{Begin, Going, Sync}
+use Rattle.tree_deletion.specs.declared.deletion.Deletion.{Deletion}
+use Rattle.tree_deletion.specs.Standing.{Decides, End, IsDone, Item, Leaves, Thing, after_item, at_barrier, item, item_at, item_of, worked}
+use Rattle.tree_deletion.specs.Descending.{Descends, Enters, IsAt, IsOpened, opened_at}
+use Rattle.tree_deletion.specs.Steps.{IsBare, IsProgress, IsSpared as IsLeftIn, IsTooLong, KeepsRest, LeavesFolder, Skips as MachineSkips, SyncSteps, Syncs as SyncsOne, TakesOff, WorkCalls, Working, Works, path_of, removal_of}
+use Rattle.copy_move.specs.Deletions.{Deleting, Tells, machine_of, passed_cause}
+use Rattle.copy_move.specs.DeletionSteps.{Goes, OrPassedOver, Passes, step_result}
+use Rattle.job_answers.specs.declared.skips.Skips.{Skips}
+use Rattle.history_laws.proofs.Deleted.{IsRemoval, folder_removed, removal_done}
+use Rattle.history_laws.proofs.Intact.{prefix_append, prefix_way}
+use Rattle.outcome_laws.proofs.StepViews.{still_same}
+use Rattle.history_laws.proofs.Refused.{refused_still}
+use Rattle.outcome_laws.specs.Outcomes.{IsGone, IsWhollyReached, passed_by}
+use Rattle.outcome_laws.proofs.MadeThings.{Unless}
+use Rattle.outcome_laws.proofs.Walked.{AreHonest, AreNested, IsAhead, IsHonest, IsSpared, IsWalked, Stand, inside_apart, nested_longer, opens_inside, opens_top, passes_folder, passes_thing, passes_top, spared_more}
+
+-- the walk, once the thing itself was gone into
+abbrev pub WalkAt : Depth → Route → Place → List Route → FileSystem → Type 0
+WalkAt Top top place passed s = place.around ≡ []
+WalkAt Inside top place passed s = IsWalked passed s top place.inner place.around
+
+-- once all is decided nothing is left but what was passed over
+abbrev pub DoneAt : Stage → Depth → Route → Place → List Route → FileSystem → Type 0
+DoneAt Begin depth top place passed s = WalkAt depth top place passed s
+DoneAt Going depth top place passed s = WalkAt depth top place passed s
+DoneAt Sync depth top place passed s = Stand s top (IsSpared passed)
+
+abbrev pub MachineDone : List Route → FileSystem → Deletion → Type 0
+MachineDone passed s d = DoneAt d.stage d.depth d.path d.walk.place passed s
+
+abbrev pub DeletionDone : List Route → FileSystem → Deleting → Type 0
+DeletionDone passed s d = DoneAt d.stage d.depth d.path d.place passed s
+
+walk_of : (stage : Stage) (depth : Depth) (top : Route) (place : Place) (passed : List Route) (s : FileSystem) → at_barrier stage ≡ false → DoneAt stage depth top place passed s → WalkAt depth top place passed s
+walk_of Begin depth top place passed s off k = k
+walk_of Going depth top place passed s off k = k
+walk_of Sync depth top place passed s off k = absurd (true≢false off)
+
+of_walk : (stage : Stage) (depth : Depth) (top : Route) (place : Place) (passed : List Route) (s : FileSystem) → at_barrier stage ≡ false → WalkAt depth top place passed s → DoneAt stage depth top place passed s
+of_walk Begin depth top place passed s off k = k
+of_walk Going depth top place passed s off k = k
+of_walk Sync depth top place passed s off k = absurd (true≢false off)
+
+-- only the room of the walk is another
+at_same : (passed : List Route) (s : FileSystem) (old new : Deletion) → IsAt old new → MachineDone passed s old → MachineDone passed s new
+at_same passed s old new at k =
+    subst (λ x. DoneAt x new.depth new.path new.walk.place passed s) (sym at.stage_is)
+    (subst (λ x. DoneAt old.stage x new.path new.walk.place passed s) (sym at.depth_is)
+    (subst (λ x. DoneAt old.stage old.depth x new.walk.place passed s) (sym at.path_is)
+    (subst (λ x. DoneAt old.stage old.depth old.path x passed s) (sym at.place) k)))
+
+-- a folder is gone into
+enters_walk : (log : CallLog) (passed : List Route) (depth : Depth) (top folder : Route) (place : Place) (names : List (List ℕ)) (children : Children) → item_at depth top place ≡ Thing folder
+    → IsListing (current log) (found (current log) folder) children → place.inner.names ≡ names → WalkAt depth top place passed (current log) → WalkAt Inside top (opened_at depth folder children.names place) passed (current log)
+enters_walk log passed Top top folder place names children takes listing is k =
+    let same : top ≡ folder = cc in
+    subst (λ (around : List OpenFolder). IsWalked passed (current log) top (opened folder children.names) around) (sym k)
+    (subst (λ (f : Route). IsWalked passed (current log) top (opened f children.names) []) same
+    (opens_top passed (current log) top children (subst (λ (f : Route). IsListing (current log) (found (current log) f) children) (sym same) listing)))
+enters_walk log passed Inside top folder place [] children takes listing is k =
+    absurd (let e : item_of [] place.inner.path (worked top place) ≡ Thing folder = subst (λ xs. item_of xs place.inner.path (worked top place) ≡ Thing folder) is takes in let f : ⊥ = cc in f)
+enters_walk log passed Inside top folder place (name ∷ names) children takes listing is k =
+    let same : name ∷ place.inner.path ≡ folder = (let e : item_of (name ∷ names) place.inner.path (worked top place) ≡ Thing folder = subst (λ xs. item_of xs place.inner.path (worked top place) ≡ Thing folder) is takes in cc) in
+    subst (λ f. IsWalked passed (current log) top (opened f children.names) (without_next place.inner ∷ place.around)) same
+    (opens_inside passed (current log) top place.inner place.around name names children is (subst (λ f. IsListing (current log) (found (current log) f) children) (sym same) listing) k)
+
+enters_done : (log : CallLog) (passed : List Route) (old new : Deletion) (folder : Route) → Enters (Some log) old folder new → MachineDone passed (current log) old → MachineDone passed (current log) new
+enters_done log passed old new folder e k =
+    let o : IsOpened old folder (let c : Children = e.children in c.names) new = e.opened_is in
+    subst (λ x. DoneAt x new.depth new.path new.walk.place passed (current log)) (sym o.stage_is)
+    (subst (λ x. DoneAt old.stage x new.path new.walk.place passed (current log)) (sym o.depth_is)
+    (subst (λ x. DoneAt old.stage Inside x new.walk.place passed (current log)) (sym o.path_is)
+    (subst (λ x. DoneAt old.stage Inside old.path x passed (current log)) (sym o.place) (by old.stage k))))
+  where
+    walk : WalkAt old.depth old.path old.walk.place passed (current log) → WalkAt Inside old.path (opened_at old.depth folder (let c : Children = e.children in c.names) old.walk.place) passed (current log)
+    walk k = enters_walk log passed old.depth old.path folder old.walk.place (let p : Place = old.walk.place in p.inner.names) e.children e.takes (e.lists log refl).1 refl k
+
+    by : (stage : Stage) → DoneAt stage old.depth old.path old.walk.place passed (current log) → DoneAt stage Inside old.path (opened_at old.depth folder (let c : Children = e.children in c.names) old.walk.place) passed (current log)
+    by Begin k = walk k
+    by Going k = walk k
+    by Sync k = k
+
+descends_done : (log : CallLog) (passed : List Route) (old new : Deletion) (entered : List Route) → Descends (Some log) old entered new → MachineDone passed (current log) old → MachineDone passed (current log) new × (new.stage ≡ old.stage)
+descends_done log passed old new [] at k = (at_same passed (current log) old new at k, at.stage_is)
+descends_done log passed old new (folder ∷ before) (mid, descends, enters) k =
+    let m = descends_done log passed old mid before descends k in
+    let o = enters.opened_is in (enters_done log passed mid new folder enters m.0, o.stage_is ∙ m.1)
+
+-- what leads somewhere after a removal led there before, and nothing leads to what was removed
+module _ (log : CallLog) (tree : IsTree (current log)) (up : Route) (name : List ℕ) (f k : ℕ) (at : find (current log) up ≡ Some f) where
+  abbrev later : CallLog
+  later = with_change log (Removes f name k)
+
+  way : find (current later) up ≡ Some f
+  way = elim (find_same log (Removes f name k) up) [
+    | inl same ↦ same ∙ at
+    | inr under ↦ let u = under_removed log tree up f at name k up under in absurd (not_longer u.0 name up u.1)
+  ]
+
+  gone_at : find (current later) (name ∷ up) ≡ None
+  gone_at = rw way (said log (Removes f name k) f name None (ap (λ (b : Bool). let o : Option (Option ℕ) = cond b (Some None) None in o) (same_name-self f name)))
+
+  led_before : (p : Route) (i : ℕ) → find (current later) p ≡ Some i → (j : ℕ) × (find (current log) p ≡ Some j)
+  led_before p i is = elim (find_same log (Removes f name k) p) [
+    | inl same ↦ (i, sym same ∙ is)
+    | inr under ↦
+        let u = under_removed log tree up f at name k p under in
+        let none : find (current later) p ≡ None = ap (find (current later)) u.1 ∙ none_below later u.0 (name ∷ up) gone_at in
+        absurd (let e : (let o : Option ℕ = Some i in o) ≡ None = sym is ∙ none in let x : ⊥ = cc in x)
+  ]
+
+-- where nothing stands nothing stands below
+nothing_below : (log : CallLog) (path p : Route) (i : ℕ) → find (current log) path ≡ None → is_prefix path p ≡ true → find (current log) p ≡ Some i → ⊥
+nothing_below log path p i gone within at =
+    let w = prefix_way path p within in
+    let none : find (current log) p ≡ None = ap (find (current log)) w.1 ∙ none_below log w.0 path gone in
+    let e : (let o : Option ℕ = Some i in o) ≡ None = sym at ∙ none in let x : ⊥ = cc in x
+
+prefix_up : (rest : Route) (name : List ℕ) (up : Route) → is_prefix up (rest ++ name ∷ up) ≡ true
+prefix_up [] name up = or_right (same_path up (name ∷ up)) (is_prefix up up) (prefix_append up [])
+prefix_up (n ∷ rest) name up = or_right (same_path up (n ∷ (rest ++ name ∷ up))) (is_prefix up (rest ++ name ∷ up)) (prefix_up rest name up)
+
+up_of : (path up q : Route) (name : List ℕ) → path ≡ name ∷ up → is_prefix path q ≡ true → is_prefix up q ≡ true
+up_of path up q name is within =
+    let w = prefix_way path q within in
+    subst (λ (x : Route). is_prefix up x ≡ true) (sym (w.1 ∙ ap (λ (x : Route). w.0 ++ x) is)) (prefix_up w.0 name up)
+
+-- what was taken up is decided: all that stands in it is spared
+module _ (passed more : List Route) (s after : FileSystem) (grows : (q : Route) → Among passed q → Among more q) (fewer : (p : Route) (i : ℕ) → find after p ≡ Some i → (j : ℕ) × (find s p ≡ Some j)) where
+  abbrev GoneAt : OpenFolder → Item → Type 0
+  GoneAt inner (Thing path) = (p : Route) (i : ℕ) → is_prefix path p ≡ true → find after p ≡ Some i → IsSpared more p
+  GoneAt inner (End folder) = (p : Route) (i : ℕ) → IsAhead inner p → find after p ≡ Some i → IsSpared more p
+
+  abbrev Seen : Bool → Route → Type 0
+  Seen left path = left ≡ true → (q : Route) × Among more q × (is_prefix path q ≡ true)
+
+  ended : (depth : Depth) (top path : Route) (place : Place) (stage : Stage) → path ≡ top → Stand after top (IsSpared more) → DoneAt (after_item top path stage) depth top place more after
+  ended depth top path place stage is stand =
+      subst (λ (q : Route). DoneAt (after_item top q stage) depth top place more after) (sym is)
+      (subst (λ b. DoneAt (if b then Sync else stage) depth top place more after) (sym (same_path-self top)) stand)
+
+  goes_on : (depth : Depth) (top path : Route) (place : Place) (stage : Stage) → same_path path top ≡ false → at_barrier stage ≡ false → WalkAt depth top place more after → DoneAt (after_item top path stage) depth top place more after
+  goes_on depth top path place stage apart off walk =
+      subst (λ b. DoneAt (if b then Sync else stage) depth top place more after) (sym apart) (of_walk stage depth top place more after off walk)
+
+  -- the folder that is worked is left
+  leaves : (top path : Route) (inner : OpenFolder) (around : List OpenFolder) (old new : Place) (left : Bool) (stage : Stage) → inner ≡ old.inner → around ≡ old.around → path ≡ worked top old → Leaves left old new → at_barrier stage ≡ false
+      → ((p : Route) (i : ℕ) → IsAhead inner p → find after p ≡ Some i → IsSpared more p) → Seen left path → IsWalked passed s top inner around → DoneAt (after_item top path stage) Inside top new more after
+  leaves top path inner [] old new left stage inner_is is path_is (inl l) off gone seen w = absurd (let e : (let xs : List OpenFolder = [] in xs) ≡ l.outer ∷ new.around = is ∙ l.was in let f : ⊥ = cc in f)
+  leaves top path inner [] old new left stage inner_is is path_is (inr (none, same)) off gone seen w =
+      ended Inside top path new stage (path_is ∙ ap (λ (around : List OpenFolder). if Rattle.subtree_walk.specs.Places.is_empty around then top else old.inner.path) none) (passes_top passed more s after top grows fewer inner gone w)
+  leaves top path inner (outer ∷ around) old new left stage inner_is is path_is (inr (none, same)) off gone seen w = absurd (let e : (let xs : List OpenFolder = [] in xs) ≡ outer ∷ around = sym none ∙ sym is in let f : ⊥ = cc in f)
+  leaves top path inner (outer ∷ around) old new left stage inner_is is path_is (inl l) off gone seen w =
+      let both : outer ∷ around ≡ l.outer ∷ new.around = is ∙ l.was in
+      let first : outer ≡ l.outer = cc in
+      let others : around ≡ new.around = cc in
+      let nest = (w.nested).0 in
+      let path_inner : path ≡ inner.path =
+      path_is ∙ (ap (λ (a : List OpenFolder). if Rattle.subtree_walk.specs.Places.is_empty a then top else old.inner.path) (sym is) ∙ ap (λ (f : OpenFolder). f.path) (sym inner_is)) in
+      let lies : path ≡ nest.0 ∷ outer.path = path_inner ∙ nest.1 in
+      goes_on Inside top path new stage (subst (λ (q : Route). same_path q top ≡ false) (sym lies) (inside_apart top outer.path nest.0 (nested_longer top outer around (w.nested).1))) off
+      (subst (λ (a : List OpenFolder). IsWalked more after top new.inner a) others
+      (subst (λ (x : OpenFolder). IsWalked more after top x around) (sym (l.inner ∙ ap (noted left) (sym first)))
+      (passes_folder passed more s after top grows fewer inner outer around left gone (λ is_left. let x = seen is_left in (x.0, x.1, up_of path outer.path x.0 nest.0 lies x.2)) w)))
+
+  decided : (depth : Depth) (top path : Route) (old new : Place) (names : List (List ℕ)) (left : Bool) (stage : Stage) → old.inner.names ≡ names → path ≡ path_of (item_at depth top old) → IsDone depth (item_at depth top old) left old new → at_barrier stage ≡ false
+      → GoneAt old.inner (item_at depth top old) → Seen left path → WalkAt depth top old passed s → DoneAt (after_item top path stage) depth top new more after
+  decided Top top path old new names left stage is path_is done off gone seen w = ended Top top path new stage path_is gone
+  decided Inside top path old new [] left stage is path_is done off gone seen w =
+      let as_end : item_at Inside top old ≡ End (worked top old) = ap (λ xs. item_of xs old.inner.path (worked top old)) is in
+      leaves top path old.inner old.around old new left stage refl refl (path_is ∙ ap path_of as_end) (subst (λ (x : Item). IsDone Inside x left old new) as_end done) off (subst (GoneAt old.inner) as_end gone) seen w
+  decided Inside top path old new (name ∷ names) left stage is path_is done off gone seen w =
+      let as_thing : item_at Inside top old ≡ Thing (name ∷ old.inner.path) = ap (λ xs. item_of xs old.inner.path (worked top old)) is in
+      let lies : path ≡ name ∷ old.inner.path = path_is ∙ ap path_of as_thing in
+      let moved : new ≡ passed_on left old = subst (λ (x : Item). IsDone Inside x left old new) as_thing done in
+      goes_on Inside top path new stage (subst (λ (q : Route). same_path q top ≡ false) (sym lies) (inside_apart top old.inner.path name (nested_longer top old.inner old.around w.nested))) off
+      (subst (λ (x : Place). IsWalked more after top x.inner x.around) (sym moved)
+      (passes_thing passed more s after top grows fewer old.inner old.around name names left is (subst (GoneAt old.inner) as_thing gone) (λ is_left. let x = seen is_left in (x.0, x.1, up_of path old.inner.path x.0 name lies x.2)) w))
+
+worked_is : (top : Route) (inner : OpenFolder) (around : List OpenFolder) → AreNested top inner around → (if Rattle.subtree_walk.specs.Places.is_empty around then top else inner.path) ≡ inner.path
+worked_is top inner [] nested = sym nested
+worked_is top inner (outer ∷ around) nested = refl
+
+below_ahead : (folder : OpenFolder) (p : Route) → IsAhead folder p → is_prefix folder.path p ≡ true
+below_ahead folder p (inl same) = subst (λ (q : Route). is_prefix folder.path q ≡ true) (sym same) (prefix_append folder.path [])
+below_ahead folder p (inr (n, among, within)) = up_of (n ∷ folder.path) folder.path p n refl within
+
+inner_honest : (passed : List Route) (inner : OpenFolder) (around : List OpenFolder) → AreHonest passed inner around → IsHonest passed inner
+inner_honest passed inner [] h = h
+inner_honest passed inner (outer ∷ around) h = h.0
+
+module _ (passed more : List Route) (s after : FileSystem) (grows : (q : Route) → Among passed q → Among more q) (fewer : (p : Route) (i : ℕ) → find after p ≡ Some i → (j : ℕ) × (find s p ≡ Some j)) where
+  -- all that stands at or below the path is spared
+  abbrev Clear : Route → Type 0
+  Clear path = (p : Route) (i : ℕ) → is_prefix path p ≡ true → find after p ≡ Some i → IsSpared more p
+
+  gone_of : (depth : Depth) (top path : Route) (old : Place) (names : List (List ℕ)) → old.inner.names ≡ names → path ≡ path_of (item_at depth top old) → WalkAt depth top old passed s → Clear path
+      → GoneAt passed more s after grows fewer old.inner (item_at depth top old)
+  gone_of Top top path old names is path_is w c = λ p i within at. c p i (subst (λ (q : Route). is_prefix q p ≡ true) (sym path_is) within) at
+  gone_of Inside top path old [] is path_is w c =
+      let as_end : item_at Inside top old ≡ End (worked top old) = ap (λ xs. item_of xs old.inner.path (worked top old)) is in
+      subst (GoneAt passed more s after grows fewer old.inner) (sym as_end)
+      (λ p i ahead at. c p i (subst (λ (q : Route). is_prefix q p ≡ true) (sym (path_is ∙ (ap path_of as_end ∙ worked_is top old.inner old.around w.nested))) (below_ahead old.inner p ahead)) at)
+  gone_of Inside top path old (name ∷ names) is path_is w c =
+      let as_thing : item_at Inside top old ≡ Thing (name ∷ old.inner.path) = ap (λ xs. item_of xs old.inner.path (worked top old)) is in
+      subst (GoneAt passed more s after grows fewer old.inner) (sym as_thing) (λ p i within at. c p i (subst (λ (q : Route). is_prefix q p ≡ true) (sym (path_is ∙ ap path_of as_thing)) within) at)
+
+  of_decides : (old new : Deletion) (left : Bool) (path : Route) (stage : Stage) → Decides old left path stage new → path ≡ path_of (item old) → at_barrier stage ≡ false → GoneAt passed more s after grows fewer old.walk.place.inner (item old)
+      → Seen passed more s after grows fewer left path → WalkAt old.depth old.path old.walk.place passed s → MachineDone more after new
+  of_decides old new left path stage d path_is off gone seen w =
+      subst (λ x. DoneAt x new.depth new.path new.walk.place more after) (sym d.stage_is)
+      (subst (λ x. DoneAt (after_item old.path path stage) x new.path new.walk.place more after) (sym d.depth_is)
+      (subst (λ x. DoneAt (after_item old.path path stage) old.depth x new.walk.place more after) (sym d.path_is)
+      (decided passed more s after grows fewer old.depth old.path path old.walk.place new.walk.place (let p : Place = old.walk.place in p.inner.names) left stage refl path_is d.place off gone seen w)))
+
+-- a folder in which something was left stays
+kept_of : (passed : List Route) (s after : FileSystem) (grows : (q : Route) → Among passed q → Among passed q) (fewer : (p : Route) (i : ℕ) → find after p ≡ Some i → (j : ℕ) × (find s p ≡ Some j)) (depth : Depth) (top path : Route) (old : Place) (names : List (List ℕ))
+    → old.inner.names ≡ names → path ≡ path_of (item_at depth top old) → IsLeftIn (item_at depth top old) old.inner.spared → WalkAt depth top old passed s
+    → GoneAt passed passed s after grows fewer old.inner (item_at depth top old) × Seen passed passed s after grows fewer true path
+kept_of passed s after grows fewer Top top path old names is path_is left w = absurd left
+kept_of passed s after grows fewer Inside top path old [] is path_is left w =
+    let as_end : item_at Inside top old ≡ End (worked top old) = ap (λ xs. item_of xs old.inner.path (worked top old)) is in
+    let spared : old.inner.spared ≡ true = subst (λ (x : Item). IsLeftIn x old.inner.spared) as_end left in
+    let h = inner_honest passed old.inner old.around w.honest spared in (
+      subst (GoneAt passed passed s after grows fewer old.inner) (sym as_end) (λ p i ahead at. elim ahead [
+        | inl same ↦ (h.0, h.1, inr (subst (λ (q : Route). is_prefix q h.0 ≡ true) (sym same) h.2))
+        | inr below ↦ absurd (subst (λ xs. Among xs below.0) is below.1)
+      ]),
+      λ is_left. (h.0, h.1, subst (λ (q : Route). is_prefix q h.0 ≡ true) (sym (path_is ∙ (ap path_of as_end ∙ worked_is top old.inner old.around w.nested))) h.2),
+    )
+kept_of passed s after grows fewer Inside top path old (name ∷ names) is path_is left w =
+    let as_thing : item_at Inside top old ≡ Thing (name ∷ old.inner.path) = ap (λ xs. item_of xs old.inner.path (worked top old)) is in
+    absurd (subst (λ (x : Item). IsLeftIn x old.inner.spared) as_thing left)
+
+removal_at : (log now : CallLog) → IsTree (current log) → (it : Item) → Performs {A = Unit {0}} log (removal_of it) (Ok tt) (Some now) → IsRemoval log now (path_of it)
+removal_at log now tree (Thing path) done = removal_done log now path tree done
+removal_at log now tree (End folder) done = folder_removed log now folder tree done
+
+refused_at : (log now : CallLog) (it : Item) (e : TreeError) → Performs {A = Unit {0}} log (removal_of it) (Err e) (Some now) → current now ≡ current log
+refused_at log now (Thing path) e refused = refused_still log now (RemoveFile path) e (λ left. refl) refused
+refused_at log now (End folder) e refused = refused_still log now (RemoveFolder folder) e (λ left. refl) refused
+
+-- what works on an item keeps what is known
+work_done : (log now : CallLog) (passed : List Route) (old new : Deletion) (did : Did) → IsTree (current log) → (IsProgress did ≡ true → at_barrier old.stage ≡ false) → Works old did new → WorkCalls old did log (Some now)
+    → MachineDone passed (current log) old → MachineDone passed (current now) new
+work_done log now passed old new (Removed path) tree off (path_is, bare, d) (seen, done) k =
+    let it = removal_at log now tree (item old) done in
+    let fewer : (p : Route) (i : ℕ) → find (current now) p ≡ Some i → (j : ℕ) × (find (current log) p ≡ Some j) =
+    subst (λ (l : CallLog). (p : Route) (i : ℕ) → find (current l) p ≡ Some i → (j : ℕ) × (find (current log) p ≡ Some j)) (sym it.now_is) (led_before log tree it.r.up it.r.name it.r.f it.k it.r.folder) in
+    let gone : find (current now) path ≡ None =
+    ap (find (current now)) (path_is ∙ it.r.path_is) ∙ (ap (λ (l : CallLog). find (current l) (it.r.name ∷ it.r.up)) it.now_is ∙ gone_at log tree it.r.up it.r.name it.r.f it.k it.r.folder) in
+    let w = walk_of old.stage old.depth old.path old.walk.place passed (current log) (off refl) k in
+    of_decides passed passed (current log) (current now) (λ q among. among) fewer old new false path Going d path_is refl
+    (gone_of passed passed (current log) (current now) (λ q among. among) fewer old.depth old.path path old.walk.place (let p : Place = old.walk.place in p.inner.names) refl path_is w (λ p i within at. absurd (nothing_below now path p i gone within at)))
+    (λ left. absurd (false≢true left)) w
+work_done log now passed old new (Kept path) tree off (path_is, left, d) same k =
+    let still : current now ≡ current log = ap current (some_log now log same) in
+    let w = walk_of old.stage old.depth old.path old.walk.place passed (current log) (off refl) k in
+    subst (λ (s : FileSystem). MachineDone passed s new) (sym still)
+    (let both = kept_of passed (current log) (current log) (λ q among. among) (λ p i at. (i, at)) old.depth old.path path old.walk.place (let p : Place = old.walk.place in p.inner.names) refl path_is left w in
+    of_decides passed passed (current log) (current log) (λ q among. among) (λ p i at. (i, at)) old new true path old.stage d path_is (off refl) both.0 both.1 w)
+work_done log now passed old new (Troubled trouble) tree off (barrier, at) calls k =
+    subst (λ (s : FileSystem). MachineDone passed s new) (sym (by calls)) (at_same passed (current log) old new at k)
+  where
+    by : WorkCalls old (Troubled trouble) log (Some now) → current now ≡ current log
+    by (inl stops) = ap current (some_log now log stops.0)
+    by (inr refused) = refused_at log now (item old) refused.0 refused.3
+work_done log now passed old new (Began part) tree off t calls k = absurd t
+work_done log now passed old new (Chunk count) tree off t calls k = absurd t
+work_done log now passed old new (Placed path) tree off t calls k = absurd t
+work_done log now passed old new (Made path) tree off t calls k = absurd t
+work_done log now passed old new (Set path) tree off t calls k = absurd t
+work_done log now passed old new (Skipped path why) tree off t calls k = absurd t
+work_done log now passed old new (Cleaned part) tree off t calls k = absurd t
+work_done log now passed old new Barrier tree off t calls k = absurd t
+work_done log now passed old new (Ended ending part) tree off t calls k = absurd t
+
+-- something is passed over
+module _ (passed : List Route) (s : FileSystem) (old mid : Deletion) (path : Route) where
+  abbrev Skipped_on : Type 0
+  Skipped_on = DoneAt (after_item old.path path old.stage) mid.depth mid.path mid.walk.place (path ∷ passed) s
+
+  rest_is : KeepsRest old mid → DoneAt (after_item old.path path old.stage) old.depth old.path mid.walk.place (path ∷ passed) s → Skipped_on
+  rest_is r k =
+      subst (λ x. DoneAt (after_item old.path path old.stage) x mid.path mid.walk.place (path ∷ passed) s) (sym r.depth_is)
+      (subst (λ x. DoneAt (after_item old.path path old.stage) old.depth x mid.walk.place (path ∷ passed) s) (sym r.path_is) k)
+
+  here : (p : Route) → is_prefix path p ≡ true → IsSpared (path ∷ passed) p
+  here p within = (path, inl refl, inl within)
+
+  takes_off : TakesOff path old mid → at_barrier old.stage ≡ false → WalkAt old.depth old.path old.walk.place passed s → Skipped_on
+  takes_off (inl (path_is, (done, rest))) off w =
+      rest_is rest (decided passed (path ∷ passed) s s (λ q among. inr among) (λ p i at. (i, at)) old.depth old.path path old.walk.place mid.walk.place (let p : Place = old.walk.place in p.inner.names) true old.stage refl path_is done off
+      (gone_of passed (path ∷ passed) s s (λ q among. inr among) (λ p i at. (i, at)) old.depth old.path path old.walk.place (let p : Place = old.walk.place in p.inner.names) refl path_is w (λ p i within at. here p within))
+      (λ left. (path, inl refl, prefix_append path [])) w)
+  takes_off (inr (long, folder)) off w = rest_is folder.rest (by old.depth w)
+    where
+      by : (depth : Depth) → WalkAt depth old.path old.walk.place passed s → DoneAt (after_item old.path path old.stage) depth old.path mid.walk.place (path ∷ passed) s
+      by Top none =
+          ended passed (path ∷ passed) s s (λ q among. inr among) (λ p i at. (i, at)) Top old.path path mid.walk.place old.stage
+          (folder.path_is ∙ ap (λ (around : List OpenFolder). if Rattle.subtree_walk.specs.Places.is_empty around then old.path else old.walk.place.inner.path) none)
+          (λ p i within at. here p (subst (λ (q : Route). is_prefix q p ≡ true) (sym (folder.path_is ∙ ap (λ (around : List OpenFolder). if Rattle.subtree_walk.specs.Places.is_empty around then old.path else old.walk.place.inner.path) none)) within))
+      by Inside walk =
+          leaves passed (path ∷ passed) s s (λ q among. inr among) (λ p i at. (i, at)) old.path path old.walk.place.inner old.walk.place.around old.walk.place mid.walk.place true old.stage refl refl folder.path_is folder.place off
+          (λ p i ahead at. here p (subst (λ (q : Route). is_prefix q p ≡ true) (sym (folder.path_is ∙ worked_is old.path old.walk.place.inner old.walk.place.around walk.nested)) (below_ahead old.walk.place.inner p ahead)))
+          (λ left. (path, inl refl, prefix_append path [])) walk
+
+  skipped_on : (stage : Stage) → old.stage ≡ stage → TakesOff path old mid → MachineDone passed s old → Skipped_on
+  skipped_on Begin is t k = takes_off t (ap at_barrier is) (subst (λ x. DoneAt x old.depth old.path old.walk.place passed s) is k)
+  skipped_on Going is t k = takes_off t (ap at_barrier is) (subst (λ x. DoneAt x old.depth old.path old.walk.place passed s) is k)
+  skipped_on Sync is t k =
+      rest_is (rest t) (subst (λ x. DoneAt (after_item old.path path x) old.depth old.path mid.walk.place (path ∷ passed) s) (sym is)
+      (by (same_path path old.path) (λ p i within at. spared_more passed (path ∷ passed) p (λ q among. inr among) (subst (λ x. DoneAt x old.depth old.path old.walk.place passed s) is k p i within at))))
+    where
+      rest : TakesOff path old mid → KeepsRest old mid
+      rest (inl (path_is, (done, r))) = r
+      rest (inr (long, folder)) = folder.rest
+
+      by : (b : Bool) → Stand s old.path (IsSpared (path ∷ passed)) → DoneAt (if b then Sync else Sync) old.depth old.path mid.walk.place (path ∷ passed) s
+      by true h = h
+      by false h = h
+
+skips_machine : (passed : List Route) (s : FileSystem) (cause : Cause) (old new : Deletion) (did : Did) → MachineSkips cause old did new → MachineDone passed s old → Unless did (MachineDone (passed_by did passed) s new)
+skips_machine passed s cause old new did (inl (path, did_is, (mid, takes, new_is))) k =
+    subst (λ (x : Did). Unless x (MachineDone (passed_by x passed) s new)) (sym did_is)
+    (subst (λ (x : Deletion). MachineDone (path ∷ passed) s x) (sym new_is) (skipped_on passed s old mid path old.stage refl takes k))
+skips_machine passed s cause old new did (inr (did_is, new_is)) k =
+    subst (λ (x : Did). Unless x (MachineDone (passed_by x passed) s new)) (sym did_is) (subst (λ (x : Deletion). MachineDone passed s x) (sym new_is) k)
+
+pub deletion_skips : (d new : Deleting) (cause : Cause) (did : Did) (passed : List Route) (s : FileSystem) → Passes cause d did new → DeletionDone passed s d → Unless did (DeletionDone (passed_by did passed) s new)
+deletion_skips d new cause did passed s (spare, spare_after, skips) k = skips_machine passed s cause (machine_of d spare) (machine_of new spare_after) did skips k
+
+off_of : (d new : Deleting) (did : Did) → Tells d did new → IsProgress did ≡ true → at_barrier d.stage ≡ false
+off_of d new (Removed path) t is = t.0
+off_of d new (Kept path) t is = t.0
+off_of d new (Skipped path why) t is = absurd (false≢true is)
+off_of d new (Troubled trouble) t is = absurd (false≢true is)
+off_of d new Barrier t is = absurd (false≢true is)
+off_of d new (Ended ending part) t is = absurd (false≢true is)
+off_of d new (Began part) t is = absurd (false≢true is)
+off_of d new (Chunk count) t is = absurd (false≢true is)
+off_of d new (Placed path) t is = absurd (false≢true is)
+off_of d new (Made path) t is = absurd (false≢true is)
+off_of d new (Set path) t is = absurd (false≢true is)
+off_of d new (Cleaned part) t is = absurd (false≢true is)
+
+-- what is passed over is no progress
+no_progress : {A : Type 0} (skips : Skips) (did : Did) (cause : Cause) → passed_cause skips did ≡ Some cause → IsProgress did ≡ true → A
+no_progress skips (Removed path) cause is progress = absurd (let f : ⊥ = cc in f)
+no_progress skips (Kept path) cause is progress = absurd (let f : ⊥ = cc in f)
+no_progress skips (Skipped path why) cause is progress = absurd (false≢true progress)
+no_progress skips (Troubled trouble) cause is progress = absurd (false≢true progress)
+no_progress skips Barrier cause is progress = absurd (false≢true progress)
+no_progress skips (Ended ending part) cause is progress = absurd (false≢true progress)
+no_progress skips (Began part) cause is progress = absurd (false≢true progress)
+no_progress skips (Chunk count) cause is progress = absurd (false≢true progress)
+no_progress skips (Placed path) cause is progress = absurd (false≢true progress)
+no_progress skips (Made path) cause is progress = absurd (false≢true progress)
+no_progress skips (Set path) cause is progress = absurd (false≢true progress)
+no_progress skips (Cleaned part) cause is progress = absurd (false≢true progress)
+
+-- what works passes nothing over
+unless_works : (d mid : Deletion) (did : Did) (passed : List Route) (s : FileSystem) (new : Deletion) → Works d did mid → MachineDone passed s new → Unless did (MachineDone (passed_by did passed) s new)
+unless_works d mid (Removed path) passed s new t k = k
+unless_works d mid (Kept path) passed s new t k = k
+unless_works d mid (Troubled trouble) passed s new t k = k
+unless_works d mid (Skipped path why) passed s new t k = absurd t
+unless_works d mid Barrier passed s new t k = absurd t
+unless_works d mid (Ended ending part) passed s new t k = absurd t
+unless_works d mid (Began part) passed s new t k = absurd t
+unless_works d mid (Chunk count) passed s new t k = absurd t
+unless_works d mid (Placed path) passed s new t k = absurd t
+unless_works d mid (Made path) passed s new t k = absurd t
+unless_works d mid (Set path) passed s new t k = absurd t
+unless_works d mid (Cleaned part) passed s new t k = absurd t
+
+-- a sync changes nothing that can be seen
+syncs_done : (d : Deletion) (did : Did) (folders folders_after : List Route) (log now : CallLog) (passed : List Route) → SyncsOne d did folders folders_after (Some log) (Some now) → MachineDone passed (current log) d
+    → Unless did (MachineDone (passed_by did passed) (current now) d)
+syncs_done d Barrier folders folders_after log now passed (folder, own, is, done) k =
+    let c = done_call log (SyncFolder folder) now (done log refl) in
+    subst (λ (s : FileSystem). MachineDone passed s d) (sym (still_same log now (Syncs (found (current log) folder), c.is, inr (found (current log) folder, refl)))) k
+syncs_done d (Troubled trouble) folders folders_after log now passed (e, folder, own, trouble_is, is, refused) k =
+    subst (λ (s : FileSystem). MachineDone passed s d) (sym (refused_still log now (SyncFolder folder) e (λ left. refl) (refused log refl))) k
+syncs_done d (Ended ending part) folders folders_after log now passed t k = tt
+syncs_done d (Removed path) folders folders_after log now passed t k = absurd t
+syncs_done d (Kept path) folders folders_after log now passed t k = absurd t
+syncs_done d (Skipped path why) folders folders_after log now passed t k = absurd t
+syncs_done d (Began part) folders folders_after log now passed t k = absurd t
+syncs_done d (Chunk count) folders folders_after log now passed t k = absurd t
+syncs_done d (Placed path) folders folders_after log now passed t k = absurd t
+syncs_done d (Made path) folders folders_after log now passed t k = absurd t
+syncs_done d (Set path) folders folders_after log now passed t k = absurd t
+syncs_done d (Cleaned part) folders folders_after log now passed t k = absurd t
+
+pub deletion_steps : (d new : Deleting) (did : Did) (calls : ℕ) (dirty dirty_after : List Route) (log now : CallLog) (faults faults_after : ℕ) (passed : List Route) → IsTree (current log) → Tells d did new
+    → Goes d new did calls dirty dirty_after (Some log) (Some now) faults faults_after → DeletionDone passed (current log) d → Unless did (DeletionDone (passed_by did passed) (current now) new)
+deletion_steps d new did calls dirty dirty_after log now faults faults_after passed tree t (inr (spare, syncs, new_is)) k =
+    subst (λ (x : Deleting). Unless did (DeletionDone (passed_by did passed) (current now) x)) (sym new_is) (syncs_done (machine_of d spare) did dirty dirty_after log now passed syncs.syncs k)
+deletion_steps d new did calls dirty dirty_after log now faults faults_after passed tree t (inl (worked_did, mid, spare, spare_after, w, or_passed)) k = by or_passed
+  where
+    start : MachineDone passed (current log) w.mid × ((let m : Deletion = w.mid in m.stage) ≡ d.stage)
+    start = descends_done log passed (machine_of d spare) w.mid w.entered w.descends k
+
+    works : Works w.mid worked_did mid
+    works = (let x = w.working in x.works)
+
+    calls_of : WorkCalls w.mid worked_did log (Some now)
+    calls_of = (let x = w.working in x.called log refl)
+
+    at_mid : (IsProgress worked_did ≡ true → at_barrier d.stage ≡ false) → MachineDone passed (current now) mid
+    at_mid off = work_done log now passed w.mid mid worked_did tree (λ p. ap at_barrier start.1 ∙ off p) works calls_of start.0
+
+    by : OrPassedOver d.skips (step_result worked_did calls) mid (machine_of new spare_after) (step_result did calls) → Unless did (DeletionDone (passed_by did passed) (current now) new)
+    by (inl (none, same, stands)) =
+        let did_is : did ≡ worked_did = ap (λ (r : StepResult). r.did) same in
+        subst (λ (x : Did). Unless x (DeletionDone (passed_by x passed) (current now) new)) (sym did_is)
+        (unless_works w.mid mid worked_did passed (current now) (machine_of new spare_after) works
+        (subst (λ (x : Deletion). MachineDone passed (current now) x) (sym stands) (at_mid (λ p. off_of d new did t (ap IsProgress did_is ∙ p)))))
+    by (inr (cause, is, calls_is, skips)) = skips_machine passed (current now) cause mid (machine_of new spare_after) did skips (at_mid (λ p. no_progress d.skips worked_did cause is p))
+
+pub deletion_ends : (d : Deleting) (passed : List Route) (s : FileSystem) (v : View) → d.stage ≡ Sync → ((p : Route) → visible_tree s p ≡ v p) → DeletionDone passed s d → IsGone d.path passed v
+deletion_ends d passed s v stage shows k rest reached =
+    sym (ap (λ (x : Spot). x.value) (shows (rest ++ d.path))) ∙ by (find s (rest ++ d.path)) refl
+  where
+    left : Stand s d.path (IsSpared passed)
+    left = subst (λ x. DoneAt x d.depth d.path d.place passed s) stage k
+
+    by : (o : Option ℕ) → find s (rest ++ d.path) ≡ o → value_at s (rest ++ d.path) ≡ None
+    by None is = ap (option_map (λ i. value (node s i))) is
+    by (Some i) is =
+        let spared = left (rest ++ d.path) i (prefix_append d.path rest) is in
+        elim spared.2 [ inl within ↦ absurd (both_ways _ (reached.0 spared.0 spared.1) within) | inr within ↦ absurd (both_ways _ (reached.1 spared.0 spared.1) within) ]

@@ -1,0 +1,301 @@
+-- What a job knows of what it leaves, and how each step keeps that.
+use Rattle.std.proofs.Common.{◌≡◌, ℕ, Bool, true, false, List, [], ◌∷◌, refl, sym, ◌∙◌, ap, subst, inl, inr, Option, Some, None}
+use Rattle.std.specs.Prelude.{⊤, ◌&&◌, is_some, nat_le, if◌then◌else◌, map, ◌==◌}
+use Rattle.std.specs.Option.{option_map}
+use Rattle.mc_text.specs.Routes.{Route, parent_of}
+use Rattle.tree_trait.specs.declared.file_system.FileSystem.{FileSystem}
+use Rattle.tree_trait.specs.FileSystem.{Spot, Value, View, find, node, value}
+use Rattle.tree_trait.specs.Calls.{SetMode as Sets_mode}
+use Rattle.tree_trait.specs.Change.{CallLog, current, found}
+use Rattle.crash_law.specs.Guarded.{Marks}
+use Rattle.job_reports.specs.declared.job.Pair.{Pair}
+use Rattle.job_reports.specs.declared.job.Job.{Job}
+use Rattle.job_reports.specs.declared.job.Job.TheVariants as plan
+use Rattle.job_reports.specs.declared.report.Cause.{Cause}
+use Rattle.job_reports.specs.declared.report.Did.{Did}
+use Rattle.job_reports.specs.declared.report.Did.TheVariants.{Began, Chunk, Placed, Removed, Made, Set, Kept, Skipped, Cleaned, Barrier, Troubled, Ended}
+use Rattle.job_reports.specs.declared.report.Ending.TheVariants.{Finished}
+use Rattle.job_reports.specs.declared.answer.Answer.{Answer}
+use Rattle.job_reports.specs.declared.answer.Answer.TheVariants.{Retry, Skip, SkipAll, Abort}
+use Rattle.job_reports.specs.Jobs.{Removes, Sets, is_link_text}
+use Rattle.job_reports.specs.CallRuns.{AllDone}
+use Rattle.job_reports.specs.Stops.{out_of_memory_at}
+use Rattle.job_reports.proofs.CallAnswers.{one_done, some_log}
+use Rattle.session_history.specs.declared.history.JobOrder.{JobOrder}
+use Rattle.session_history.specs.declared.history.JobOrder.TheVariants.{Answered}
+use Rattle.mode_setting.specs.Settings.{Setting}
+use Rattle.mode_setting.specs.SettingSteps.{SettingCalls}
+use Rattle.copy_move.specs.declared.new_thing.NewThing.{NewThing}
+use Rattle.copy_move.specs.declared.new_thing.NewThing.TheVariants as thing
+use Rattle.copy_move.specs.declared.run.Course.{Course}
+use Rattle.copy_move.specs.declared.run.Course.TheVariants.{GoesOn, InTrouble, OwedSyncFailed, Skips, Ends}
+use Rattle.copy_move.specs.declared.work.Work.{Work}
+use Rattle.copy_move.specs.declared.work.Work.TheVariants.{Copy, CopyTree, Delete, Make, SetMode}
+use Rattle.copy_move.specs.Jobs.{Running, CallsOn, PassesOver, TellsOn, WorkCalls, WorkTells, answered, answered_on, closed_course, closed_job, course_after, first_work, taken_anew, with_skips}
+use Rattle.copy_move.specs.Jobs as works
+use Rattle.copy_move.specs.Steps.{SkipWalks, Walks, WalksOn}
+use Rattle.copy_move.specs.Told.{running}
+use Rattle.history_laws.specs.Replayed.{replayed_step}
+use Rattle.history_laws.specs.Traces.{IsUnclaimed, WorkLeads, before_others, ordered, unless_ended}
+use Rattle.history_laws.proofs.Calming.{mode_finds}
+use Rattle.history_laws.proofs.JobKnows.{WorkKnows}
+use Rattle.history_laws.proofs.Knowing.{IsKept, Said}
+use Rattle.history_laws.proofs.Sources.{item_in}
+use Rattle.outcome_laws.specs.Outcomes.{IsOutcome, passed_by}
+use Rattle.outcome_laws.proofs.CopyOutcome.{FileAccounts, TreeAccounts, file_passed, file_steps, file_taken, tree_begins, tree_passed, tree_steps, tree_taken}
+use Rattle.outcome_laws.proofs.MadeThings.{MakingDone, SettingDone, Unless, making_ends, making_skips, making_steps, setting_ends, setting_skips, setting_steps, unless_of}
+use Rattle.outcome_laws.proofs.Deletions.{DeletionDone, deletion_ends, deletion_skips, deletion_steps}
+
+abbrev pub WorkDone : List Route → View → FileSystem → Work → Type 0
+WorkDone passed v s (Copy c) = FileAccounts passed v c
+WorkDone passed v s (CopyTree c) = TreeAccounts passed v c
+WorkDone passed v s (Delete d) = DeletionDone passed s d
+WorkDone passed v s (Make m) = MakingDone passed v m
+WorkDone passed v s (SetMode w) = SettingDone passed v w
+
+-- a job that makes its last steps is never finished
+abbrev pub CourseDone : Course → List Route → View → FileSystem → Work → Type 0
+CourseDone GoesOn passed v s work = WorkDone passed v s work
+CourseDone (InTrouble halt) passed v s work = WorkDone passed v s work
+CourseDone (OwedSyncFailed cause) passed v s work = WorkDone passed v s work
+CourseDone (Skips cause) passed v s work = WorkDone passed v s work
+CourseDone (Ends ending) passed v s work = ⊤
+
+abbrev pub JobDone : List Route → View → FileSystem → Running → Type 0
+JobDone passed v s job = CourseDone job.course passed v s job.work
+
+-- at most one job is live
+abbrev pub JobsDone : (ℕ → List Route) → View → FileSystem → List Running → Type 0
+JobsDone passed v s [] = ⊤
+JobsDone passed v s (job ∷ jobs) = JobDone (passed job.id) v s job
+
+on_course : (did : Did) (passed : List Route) (v : View) (s : FileSystem) (work : Work) → Unless did (WorkDone passed v s work) → Unless did (CourseDone (course_after did) passed v s work)
+on_course (Ended ending part) passed v s work h = tt
+on_course (Began part) passed v s work h = h
+on_course (Chunk count) passed v s work h = h
+on_course (Placed path) passed v s work h = h
+on_course (Removed path) passed v s work h = h
+on_course (Made made) passed v s work h = h
+on_course (Set path) passed v s work h = h
+on_course (Kept kept) passed v s work h = h
+on_course (Skipped path cause) passed v s work h = h
+on_course (Cleaned part) passed v s work h = h
+on_course Barrier passed v s work h = h
+on_course (Troubled trouble) passed v s work h = h
+
+-- of the jobs after a report
+pub jobs_after : (did : Did) (passed : ℕ → List Route) (v : View) (s : FileSystem) (new : Running) → Unless did (JobDone (passed new.id) v s new) → JobsDone passed v s (before_others (unless_ended did new) [])
+jobs_after (Ended ending part) passed v s new h = tt
+jobs_after (Began part) passed v s new h = h
+jobs_after (Chunk count) passed v s new h = h
+jobs_after (Placed path) passed v s new h = h
+jobs_after (Removed path) passed v s new h = h
+jobs_after (Made made) passed v s new h = h
+jobs_after (Set path) passed v s new h = h
+jobs_after (Kept kept) passed v s new h = h
+jobs_after (Skipped path cause) passed v s new h = h
+jobs_after (Cleaned part) passed v s new h = h
+jobs_after Barrier passed v s new h = h
+jobs_after (Troubled trouble) passed v s new h = h
+
+-- something is passed over
+skips_work : (old new : Work) (cause : Cause) (path : Route) (passed : List Route) (v : View) (s : FileSystem) → PassesOver old path new → SkipWalks cause old (Skipped path cause) new → WorkDone passed v s old → WorkDone (path ∷ passed) v s new
+skips_work (Copy c) (Copy new) cause path passed v s (path_is, new_is) w k = file_passed c new path passed v path_is new_is k
+skips_work (CopyTree c) (CopyTree new) cause path passed v s p w k = tree_passed c new cause cause path passed v w k
+skips_work (Delete d) (Delete new) cause path passed v s p w k = deletion_skips d new cause (Skipped path cause) passed s w k
+skips_work (Make m) (Make new) cause path passed v s (path_is, new_is) w k = making_skips m new path passed v path_is new_is k
+skips_work (SetMode t) (SetMode new) cause path passed v s (path_is, new_is) w k = setting_skips t new path passed v path_is new_is k
+skips_work (Copy c) (CopyTree new) cause path passed v s p w k = absurd p
+skips_work (Copy c) (Delete new) cause path passed v s p w k = absurd p
+skips_work (Copy c) (Make new) cause path passed v s p w k = absurd p
+skips_work (Copy c) (SetMode new) cause path passed v s p w k = absurd p
+skips_work (CopyTree c) (Copy new) cause path passed v s p w k = absurd p
+skips_work (CopyTree c) (Delete new) cause path passed v s p w k = absurd p
+skips_work (CopyTree c) (Make new) cause path passed v s p w k = absurd p
+skips_work (CopyTree c) (SetMode new) cause path passed v s p w k = absurd p
+skips_work (Delete d) (Copy new) cause path passed v s p w k = absurd p
+skips_work (Delete d) (CopyTree new) cause path passed v s p w k = absurd p
+skips_work (Delete d) (Make new) cause path passed v s p w k = absurd p
+skips_work (Delete d) (SetMode new) cause path passed v s p w k = absurd p
+skips_work (Make m) (Copy new) cause path passed v s p w k = absurd p
+skips_work (Make m) (CopyTree new) cause path passed v s p w k = absurd p
+skips_work (Make m) (Delete new) cause path passed v s p w k = absurd p
+skips_work (Make m) (SetMode new) cause path passed v s p w k = absurd p
+skips_work (SetMode t) (Copy new) cause path passed v s p w k = absurd p
+skips_work (SetMode t) (CopyTree new) cause path passed v s p w k = absurd p
+skips_work (SetMode t) (Delete new) cause path passed v s p w k = absurd p
+skips_work (SetMode t) (Make new) cause path passed v s p w k = absurd p
+
+module _ (told : Said) (dirty dirty_after : List Route) (marks : Marks) (log now : CallLog) (kept : IsKept told dirty marks log) where
+  abbrev Then : List Route → Did → Work → Work → Type 0
+  Then passed did old new = Unless did (WorkDone (passed_by did passed) (replayed_step now did (Some (item_in old)) told.tree) (current now) new)
+
+  -- where a mode is set something stands
+  stands : (s : Setting) (did : Did) → WorkKnows told dirty marks log GoesOn (SetMode s) → SettingCalls s did log (Some now) → (path : Route) → did ≡ Set path → (x : Value) × ((told.tree s.path).value ≡ Some x)
+  stands s did (name, none) called path is =
+      let done : AllDone log (Sets_mode s.path s.mode ∷ []) (Some now) = subst (λ (x : Did). SettingCalls s x log (Some now)) is called in
+      let d = one_done log (Sets_mode s.path s.mode) now done in (
+        value (node (current log) (found (current log) s.path)),
+        ap (λ (x : Spot). x.value) (sym (kept.known.shows s.path (λ part. let e : (let o : Option Route = None in o) ≡ Some s.path = sym none ∙ part in let x : ⊥ = cc in x)))
+            ∙ ap (option_map (λ k. value (node (current log) k))) (mode_finds (current log) s.path s.mode d.permits),
+      )
+
+  work_steps : (old new : Work) (did : Did) (calls faults faults_after : ℕ) (passed : List Route) → WorkKnows told dirty marks log GoesOn old → WorkTells old did new → WorkCalls IsUnclaimed old did new log (Some now)
+      → Walks IsUnclaimed old new did calls dirty dirty_after (Some log) (Some now) faults faults_after → WorkDone passed told.tree (current log) old → Then passed did old new
+  work_steps (Copy c) (Copy new) did calls faults faults_after passed knows t called walks k =
+      unless_of did (WorkDone (passed_by did passed) (replayed_step now did (Some (item_in (Copy c))) told.tree) (current now) (Copy new))
+      (file_steps told dirty marks log now kept c new passed IsUnclaimed GoesOn did (Some now) knows t called k)
+  work_steps (CopyTree c) (CopyTree new) did calls faults faults_after passed knows t called walks k =
+      unless_of did (WorkDone (passed_by did passed) (replayed_step now did (Some (item_in (CopyTree c))) told.tree) (current now) (CopyTree new))
+      (tree_steps told dirty dirty_after marks log now kept c new did passed GoesOn walks.free calls walks.since faults_after knows.part walks.steps k)
+  work_steps (Delete d) (Delete new) did calls faults faults_after passed knows t called walks k = deletion_steps d new did calls dirty dirty_after log now faults faults_after passed kept.known.guarded.tree t walks k
+  work_steps (Make m) (Make new) did calls faults faults_after passed knows t called walks k = making_steps m new did now passed told.tree t k
+  work_steps (SetMode s) (SetMode new) did calls faults faults_after passed knows t called walks k = setting_steps s new did now passed told.tree t (stands s did knows called) k
+  work_steps (Copy c) (CopyTree new) did calls faults faults_after passed knows t called walks k = absurd t
+  work_steps (Copy c) (Delete new) did calls faults faults_after passed knows t called walks k = absurd t
+  work_steps (Copy c) (Make new) did calls faults faults_after passed knows t called walks k = absurd t
+  work_steps (Copy c) (SetMode new) did calls faults faults_after passed knows t called walks k = absurd t
+  work_steps (CopyTree c) (Copy new) did calls faults faults_after passed knows t called walks k = absurd t
+  work_steps (CopyTree c) (Delete new) did calls faults faults_after passed knows t called walks k = absurd t
+  work_steps (CopyTree c) (Make new) did calls faults faults_after passed knows t called walks k = absurd t
+  work_steps (CopyTree c) (SetMode new) did calls faults faults_after passed knows t called walks k = absurd t
+  work_steps (Delete d) (Copy new) did calls faults faults_after passed knows t called walks k = absurd t
+  work_steps (Delete d) (CopyTree new) did calls faults faults_after passed knows t called walks k = absurd t
+  work_steps (Delete d) (Make new) did calls faults faults_after passed knows t called walks k = absurd t
+  work_steps (Delete d) (SetMode new) did calls faults faults_after passed knows t called walks k = absurd t
+  work_steps (Make m) (Copy new) did calls faults faults_after passed knows t called walks k = absurd t
+  work_steps (Make m) (CopyTree new) did calls faults faults_after passed knows t called walks k = absurd t
+  work_steps (Make m) (Delete new) did calls faults faults_after passed knows t called walks k = absurd t
+  work_steps (Make m) (SetMode new) did calls faults faults_after passed knows t called walks k = absurd t
+  work_steps (SetMode s) (Copy new) did calls faults faults_after passed knows t called walks k = absurd t
+  work_steps (SetMode s) (CopyTree new) did calls faults faults_after passed knows t called walks k = absurd t
+  work_steps (SetMode s) (Delete new) did calls faults faults_after passed knows t called walks k = absurd t
+  work_steps (SetMode s) (Make new) did calls faults faults_after passed knows t called walks k = absurd t
+
+  abbrev Later : List Route → Did → Running → Running → Type 0
+  Later passed did job new = Unless did (JobDone (passed_by did passed) (replayed_step now did (Some (item_in job.work)) told.tree) (current now) new)
+
+  course_steps : (job new : Running) (did : Did) (course : Course) (calls faults faults_after : ℕ) (passed : List Route) → job.course ≡ course → WorkKnows told dirty marks log course job.work → TellsOn course job did new
+      → CallsOn IsUnclaimed course job did new log (Some now) → WalksOn IsUnclaimed course job.work new.work did calls dirty dirty_after (Some log) (Some now) faults faults_after → CourseDone course passed told.tree (current log) job.work
+      → Later passed did job new
+  course_steps job new did GoesOn calls faults faults_after passed is knows (work, t, new_is) called walks k =
+      subst (λ c. Unless did (CourseDone c (passed_by did passed) (replayed_step now did (Some (item_in job.work)) told.tree) (current now) new.work)) (sym (ap (λ (x : Running). x.course) new_is))
+      (on_course did (passed_by did passed) (replayed_step now did (Some (item_in job.work)) told.tree) (current now) new.work
+      (work_steps job.work new.work did calls faults faults_after passed knows (subst (WorkTells job.work did) (sym (ap (λ (x : Running). x.work) new_is)) t) called walks k))
+  course_steps job new did (InTrouble halt) calls faults faults_after passed is knows t called walks k = absurd t
+  course_steps job new did (OwedSyncFailed cause) calls faults faults_after passed is knows t called walks k = absurd t
+  course_steps job new did (Skips cause) calls faults faults_after passed is knows (inl (path, work, did_is, passes, new_is)) called walks k =
+      let w = ap (λ (x : Running). x.work) new_is in
+      subst (λ (d : Did). Later passed d job new) (sym did_is)
+      (subst (λ c. CourseDone c (path ∷ passed) told.tree (current now) new.work) (sym (ap (λ (x : Running). x.course) new_is))
+      (subst (λ (l : CallLog). WorkDone (path ∷ passed) told.tree (current l) new.work) (sym (some_log now log called))
+      (skips_work job.work new.work cause path passed told.tree (current log) (subst (PassesOver job.work path) (sym w) passes) (subst (λ (d : Did). SkipWalks cause job.work d new.work) did_is walks) k)))
+  course_steps job new did (Skips cause) calls faults faults_after passed is knows (inr (apart, did_is, new_is)) called walks k =
+      subst (λ (d : Did). Later passed d job new) (sym did_is)
+      (subst (λ (x : Running). JobDone passed told.tree (current now) x) (sym new_is)
+      (subst (λ (l : CallLog). WorkDone passed told.tree (current l) job.work) (sym (some_log now log called)) k))
+  course_steps job new did (Ends ending) calls faults faults_after passed is knows (work, winds, new_is) called walks k =
+      subst (λ c. Unless did (CourseDone c (passed_by did passed) (replayed_step now did (Some (item_in job.work)) told.tree) (current now) new.work)) (sym (ap (λ (x : Running). x.course) new_is ∙ is))
+      (unless_of did ⊤ tt)
+
+  pub leads_done : (job new : Running) (did : Did) (passed : List Route) → WorkKnows told dirty marks log job.course job.work → WorkLeads job did new dirty dirty_after log now → JobDone passed told.tree (current log) job → Later passed did job new
+  leads_done job new did passed knows w k = let x = w.walks in course_steps job new did job.course x.0 x.1 x.2 passed refl knows w.tells w.called x.3 k
+
+-- an answer, and the close of a session
+module _ (passed : List Route) (v : View) (s : FileSystem) where
+  anew_done : (work : Work) → WorkDone passed v s work → WorkDone passed v s (taken_anew work)
+  anew_done (Copy c) k = file_taken c passed v k
+  anew_done (CopyTree c) k = tree_taken c passed v k
+  anew_done (Delete d) k = k
+  anew_done (Make m) k = k
+  anew_done (SetMode t) k = k
+
+  skips_done : (cause : Cause) (work : Work) → WorkDone passed v s work → WorkDone passed v s (with_skips cause work)
+  skips_done cause (Copy c) k = k
+  skips_done cause (CopyTree c) k = record { in_place = k.in_place; done = k.done }
+  skips_done cause (Delete d) k = k
+  skips_done cause (Make m) k = k
+  skips_done cause (SetMode t) k = k
+
+  answer_done : (course : Course) (answer : Answer) (job : Running) → job.course ≡ course → JobDone passed v s job → JobDone passed v s (answered_on course answer job)
+  answer_done (InTrouble halt) Retry job is k = anew_done job.work (subst (λ c. CourseDone c passed v s job.work) is k)
+  answer_done (InTrouble halt) Skip job is k = subst (λ c. CourseDone c passed v s job.work) is k
+  answer_done (InTrouble halt) SkipAll job is k = skips_done halt.cause job.work (subst (λ c. CourseDone c passed v s job.work) is k)
+  answer_done (InTrouble halt) Abort job is k = tt
+  answer_done (OwedSyncFailed cause) Retry job is k = anew_done job.work (subst (λ c. CourseDone c passed v s job.work) is k)
+  answer_done (OwedSyncFailed cause) Skip job is k = k
+  answer_done (OwedSyncFailed cause) SkipAll job is k = k
+  answer_done (OwedSyncFailed cause) Abort job is k = tt
+  answer_done GoesOn answer job is k = k
+  answer_done (Skips cause) answer job is k = k
+  answer_done (Ends ending) answer job is k = k
+
+  order_by : (b : Bool) (answer : Answer) (job : Running) → JobDone passed v s job → JobDone passed v s (if b then answered answer job else job)
+  order_by true answer job k = answer_done job.course answer job refl k
+  order_by false answer job k = k
+
+  close_by : (course : Course) (work : Work) → CourseDone course passed v s work → CourseDone (closed_course course) passed v s work
+  close_by GoesOn work k = k
+  close_by (InTrouble halt) work k = tt
+  close_by (OwedSyncFailed cause) work k = tt
+  close_by (Skips cause) work k = k
+  close_by (Ends ending) work k = k
+
+answered_id : (course : Course) (answer : Answer) (job : Running) → (let x : Running = answered_on course answer job in x.id) ≡ job.id
+answered_id (InTrouble halt) Retry job = refl
+answered_id (InTrouble halt) Skip job = refl
+answered_id (InTrouble halt) SkipAll job = refl
+answered_id (InTrouble halt) Abort job = refl
+answered_id (OwedSyncFailed cause) Retry job = refl
+answered_id (OwedSyncFailed cause) Skip job = refl
+answered_id (OwedSyncFailed cause) SkipAll job = refl
+answered_id (OwedSyncFailed cause) Abort job = refl
+answered_id GoesOn answer job = refl
+answered_id (Skips cause) answer job = refl
+answered_id (Ends ending) answer job = refl
+
+ordered_id : (id : ℕ) (order : JobOrder) (job : Running) → (let x : Running = ordered id order job in x.id) ≡ job.id
+ordered_id id (Answered answer) job = by (job.id == id)
+  where
+    by : (b : Bool) → (let x : Running = if b then answered answer job else job in x.id) ≡ job.id
+    by true = answered_id job.course answer job
+    by false = refl
+
+module _ (passed : ℕ → List Route) (v : View) (s : FileSystem) where
+  order_done : (id : ℕ) (order : JobOrder) (job : Running) → JobDone (passed job.id) v s job → JobDone (passed job.id) v s (ordered id order job)
+  order_done id (Answered answer) job k = order_by (passed job.id) v s (job.id == id) answer job k
+
+  pub orders_done : (id : ℕ) (order : JobOrder) (jobs : List Running) → JobsDone passed v s jobs → JobsDone passed v s (map (ordered id order) jobs)
+  orders_done id order [] k = tt
+  orders_done id order (job ∷ jobs) k = subst (λ n. JobDone (passed n) v s (ordered id order job)) (sym (ordered_id id order job)) (order_done id order job k)
+
+  pub closed_done : (jobs : List Running) → JobsDone passed v s jobs → JobsDone passed v s (map closed_job jobs)
+  closed_done [] k = tt
+  closed_done (job ∷ jobs) k = close_by (passed job.id) v s job.course job.work k
+
+-- a job that begins
+some_if : (P : Work → Type 0) (b : Bool) (x w : Work) → P x → (if b then Some x else None) ≡ Some w → P w
+some_if P true x w k is = subst P (let e : x ≡ w = cc in e) k
+some_if P false x w k is = absurd (let f : ⊥ = cc in f)
+
+some_and : (P : Work → Type 0) (a b : Bool) (x w : Work) → (a ≡ true → b ≡ true → P x) → (if a && b then Some x else None) ≡ Some w → P w
+some_and P true true x w k is = subst P (let e : x ≡ w = cc in e) (k refl refl)
+some_and P true false x w k is = absurd (let f : ⊥ = cc in f)
+some_and P false b x w k is = absurd (let f : ⊥ = cc in f)
+
+module _ (v : View) (s : FileSystem) where
+  pub first_done : (id : ℕ) (job : Job) (w : Work) → first_work id job ≡ Some w → WorkDone [] v s w
+  first_done id (plan.Delete []) w is = absurd (let f : ⊥ = cc in f)
+  first_done id (plan.Delete (path ∷ [])) w is = some_if (WorkDone [] v s) (is_some (parent_of path)) (works.deletes path) w refl is
+  first_done id (plan.Delete (path ∷ more ∷ paths)) w is = absurd (let f : ⊥ = cc in f)
+  first_done id (plan.Copy []) w is = absurd (let f : ⊥ = cc in f)
+  first_done id (plan.Copy (pair ∷ [])) w is = some_if (WorkDone [] v s) (is_some (parent_of pair.source) && is_some (parent_of pair.target)) (works.copies id pair.source pair.target) w tt is
+  first_done id (plan.Copy (pair ∷ more ∷ pairs)) w is = absurd (let f : ⊥ = cc in f)
+  first_done id (plan.CopyTree []) w is = absurd (let f : ⊥ = cc in f)
+  first_done id (plan.CopyTree (pair ∷ [])) w is = some_and (WorkDone [] v s) (is_some (parent_of pair.source)) (is_some (parent_of pair.target)) (works.copies_tree id pair) w (λ from to. tree_begins id pair v from to) is
+  first_done id (plan.CopyTree (pair ∷ more ∷ pairs)) w is = absurd (let f : ⊥ = cc in f)
+  first_done id (plan.MakeFolder path) w is = some_if (WorkDone [] v s) (is_some (parent_of path)) (works.makes thing.Folder path) w tt is
+  first_done id (plan.MakeLink path text) w is = some_if (WorkDone [] v s) (is_some (parent_of path) && is_link_text text) (works.makes (thing.Link text) path) w tt is
+  first_done id (plan.SetMode [] mode) w is = absurd (let f : ⊥ = cc in f)
+  first_done id (plan.SetMode (path ∷ []) mode) w is = some_if (WorkDone [] v s) (is_some (parent_of path) && nat_le mode 0o7777) (works.sets path mode) w tt is
+  first_done id (plan.SetMode (path ∷ more ∷ paths) mode) w is = absurd (let f : ⊥ = cc in f)

@@ -1,0 +1,112 @@
+-- What a finished job leaves: all that it was to do, but for what it passed over; in the words of the history alone. Histories stand newest
+-- first here.
+use Rattle.std.specs.Prelude.{◌≡◌, ℕ, ◌==◌, true, false, if◌then◌else◌, List, [], ◌∷◌, ◌++◌, Option, Some, None}
+use Rattle.std.specs.Option.{option_map}
+use Rattle.mc_text.specs.Routes.{Route, is_prefix}
+use Rattle.mc_text.specs.declared.kind.Kind.{Kind}
+use Rattle.mc_text.specs.declared.kind.Kind.TheVariants.{File, Folder, Link, Other}
+use Rattle.tree_trait.specs.FileSystem.{Value, View}
+use Rattle.tree_trait.specs.Shape.{IsTree}
+use Rattle.tree_trait.specs.Change.{CallLog, current}
+use Rattle.tree_trait.specs.CrashImages.{Among, all_settled}
+use Rattle.job_reports.specs.declared.report.Did.{Did}
+use Rattle.job_reports.specs.declared.report.Did.TheVariants.{Began, Chunk, Placed, Removed, Made, Set, Kept, Skipped, Cleaned, Barrier, Troubled, Ended}
+use Rattle.job_reports.specs.declared.report.Ending.TheVariants.{Finished}
+use Rattle.job_reports.specs.Jobs.{Item, Copies, Removes, Makes, MakesLink, Sets}
+use Rattle.session_history.specs.declared.history.Event.{Event}
+use Rattle.session_history.specs.declared.history.Event.TheVariants.{Key, Look, Sought, Order, Step, Closed}
+use Rattle.session_history.specs.declared.history.Event.TheVariants as event
+use Rattle.session_history.specs.declared.history.Entry.{Entry}
+use Rattle.session_history.specs.Entries.{IsMoment}
+use Rattle.session_history.specs.LiveJobs.{live_jobs, live_item}
+use Rattle.history_laws.specs.Replayed.{new_folder, new_link, placed_copy, replayed_tree}
+use Rattle.history_laws.specs.Traces.{IsTraced, Stand}
+
+-- what was passed over once a job has reported this
+abbrev pub passed_by : Did → List Route → List Route
+passed_by (Skipped path cause) before = path ∷ before
+passed_by (Began part) before = before
+passed_by (Chunk count) before = before
+passed_by (Placed path) before = before
+passed_by (Removed path) before = before
+passed_by (Made made) before = before
+passed_by (Set path) before = before
+passed_by (Kept kept) before = before
+passed_by (Cleaned part) before = before
+passed_by Barrier before = before
+passed_by (Troubled trouble) before = before
+passed_by (Ended ending part) before = before
+
+abbrev pub passed_after : ℕ → Event → List Route → List Route
+passed_after id (event.Began number plan background) before = if number == id then [] else before
+passed_after id (Step number did) before = if number == id then passed_by did before else before
+passed_after id (Key key now refusals lost) before = before
+passed_after id (Look refusals) before = before
+passed_after id Sought before = before
+passed_after id (Order number order) before = before
+passed_after id Closed before = before
+
+-- the paths that the job that was begun last with this number has passed over
+abbrev pub passed_over : ℕ → List Entry → List Route
+passed_over id [] = []
+passed_over id (e ∷ older) = passed_after id e.what (passed_over id older)
+
+-- neither the path nor a folder above it was passed over
+abbrev pub IsReached : List Route → Route → Type 0
+IsReached passed path = (left : Route) → Among passed left → is_prefix left path ≡ false
+
+-- nor was anything in it
+abbrev pub IsWhollyReached : List Route → Route → Type 0
+IsWhollyReached passed path = IsReached passed path × ((left : Route) → Among passed left → is_prefix path left ≡ false)
+
+-- the copy of a thing: a file with its bytes and its mode, a link with its text, or a folder with its mode
+abbrev pub copied_as : Kind → Value → Value
+copied_as Folder v = record new_folder { mode = v.mode }
+copied_as File v = placed_copy v
+copied_as Link v = placed_copy v
+copied_as Other v = placed_copy v
+
+abbrev pub as_copied : Value → Value
+as_copied v = copied_as v.kind v
+
+-- At the target, and as far below it, stands a copy of what stands at the source, and nothing where nothing stands there; but for what
+-- was passed over, and, where the target lies in the source, the copy itself.
+abbrev pub IsCopied : Route → Route → List Route → View → Type 0
+IsCopied source target passed v =
+    (rest : Route) → is_prefix target (rest ++ source) ≡ false → IsReached passed (rest ++ source) → (v (rest ++ target)).value ≡ option_map as_copied (v (rest ++ source)).value
+
+-- Nothing stands at the path or below it, but what was passed over, what lies in that, and the folders around it.
+abbrev pub IsGone : Route → List Route → View → Type 0
+IsGone top passed v = (rest : Route) → IsWhollyReached passed (rest ++ top) → (v (rest ++ top)).value ≡ None
+
+-- what was made stands there
+abbrev pub IsMade : Route → Value → List Route → View → Type 0
+IsMade path made passed v = IsReached passed path → (v path).value ≡ Some made
+
+-- what stands there has this mode
+abbrev pub IsSet : Route → ℕ → List Route → View → Type 0
+IsSet path mode passed v = IsReached passed path → option_map (λ x. x.mode) (v path).value ≡ Some mode
+
+-- All that a job was to do with its item is done in this tree, but for what it passed over.
+abbrev pub IsOutcome : Item → List Route → View → Type 0
+IsOutcome (Copies source target) passed v = IsCopied source target passed v
+IsOutcome (Removes path) passed v = IsGone path passed v
+IsOutcome (Makes path) passed v = IsMade path new_folder passed v
+IsOutcome (MakesLink path text) passed v = IsMade path (new_link text) passed v
+IsOutcome (Sets path mode) passed v = IsSet path mode passed v
+
+-- This entry, after the older ones, is the report of the job with this number that it is finished, which works on this item.
+pub record Finishes (e : Entry) (older : List Entry) (id : ℕ) (item : Item) : Type 0 where
+  pub part : Option Route
+  pub ended : e.what ≡ Step id (Ended Finished part)
+  pub its : live_item id (live_jobs older) ≡ Some item
+
+-- Wherever in a history a job reports that it is finished, the tree that the history makes then is such an outcome.
+abbrev pub Leaves : (Item → List Route → View → Type 0) → CallLog → CallLog → List Entry → Type 0
+Leaves Outcome opening now newest =
+    (e : Entry) (older : List Entry) (id : ℕ) (item : Item)
+    → Finishes e older id item → IsMoment newest (e ∷ older) (e ∷ older) e.calls → Outcome item (passed_over id older) (replayed_tree opening now older)
+
+abbrev pub OutcomeLaw : Type 0
+OutcomeLaw = (opening now : CallLog) (newest : List Entry) (stand : Stand)
+    → IsTree (current opening) → all_settled opening.changes ≡ true → IsTraced opening newest stand now → Leaves IsOutcome opening now newest

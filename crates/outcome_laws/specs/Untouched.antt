@@ -1,0 +1,48 @@
+-- While a job is live nothing changes but what it may touch; in the words of the history alone. Histories stand newest first here.
+use Rattle.std.specs.Prelude.{◌≡◌, ℕ, ◌==◌, Bool, true, false, if◌then◌else◌, List, [], ◌∷◌}
+use Rattle.mc_text.specs.Routes.{Route, is_prefix, same_path}
+use Rattle.tree_trait.specs.FileSystem.{View, visible_tree}
+use Rattle.tree_trait.specs.Shape.{IsTree}
+use Rattle.tree_trait.specs.Change.{CallLog, current}
+use Rattle.tree_trait.specs.CrashImages.{all_settled}
+use Rattle.job_reports.specs.Jobs.{Item, Copies, Removes, Makes, MakesLink, Sets}
+use Rattle.session_history.specs.declared.history.Event.{Event}
+use Rattle.session_history.specs.declared.history.Event.TheVariants.{Key, Look, Sought, Order, Step, Closed}
+use Rattle.session_history.specs.declared.history.Event.TheVariants as event
+use Rattle.session_history.specs.declared.history.Entry.{Entry}
+use Rattle.session_history.specs.Entries.{IsMoment}
+use Rattle.history_laws.specs.Replayed.{replayed_tree}
+use Rattle.history_laws.specs.Traces.{IsTraced, Stand}
+use Rattle.outcome_laws.specs.Outcomes.{Finishes}
+
+-- a path that a job may change: what it makes, deletes or gives a mode; where it copies or deletes, also what lies in that
+abbrev pub touches : Item → Route → Bool
+touches (Copies source target) path = is_prefix target path
+touches (Removes top) path = is_prefix top path
+touches (Makes made) path = same_path path made
+touches (MakesLink made text) path = same_path path made
+touches (Sets thing mode) path = same_path path thing
+
+abbrev pub begun_after : ℕ → Event → View → View → View
+begun_after id (event.Began number plan background) now before = if number == id then now else before
+begun_after id (Step number did) now before = before
+begun_after id (Key key time refusals lost) now before = before
+begun_after id (Look refusals) now before = before
+begun_after id Sought now before = before
+begun_after id (Order number order) now before = before
+begun_after id Closed now before = before
+
+-- the tree as the history makes it where the job with this number was begun last
+abbrev pub tree_begun : CallLog → CallLog → ℕ → List Entry → View
+tree_begun opening now id [] = visible_tree (current opening)
+tree_begun opening now id (e ∷ older) = begun_after id e.what (replayed_tree opening now older) (tree_begun opening now id older)
+
+-- Wherever in a history a job reports that it is finished, each path that it doesn't touch shows what it showed where the job was begun.
+abbrev pub LeavesAlone : CallLog → CallLog → List Entry → Type 0
+LeavesAlone opening now newest =
+    (e : Entry) (older : List Entry) (id : ℕ) (item : Item) (path : Route)
+    → Finishes e older id item → IsMoment newest (e ∷ older) (e ∷ older) e.calls → touches item path ≡ false → replayed_tree opening now older path ≡ tree_begun opening now id older path
+
+abbrev pub UntouchedLaw : Type 0
+UntouchedLaw = (opening now : CallLog) (newest : List Entry) (stand : Stand)
+    → IsTree (current opening) → all_settled opening.changes ≡ true → IsTraced opening newest stand now → LeavesAlone opening now newest
