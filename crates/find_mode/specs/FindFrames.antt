@@ -1,13 +1,12 @@
 -- What is painted over a screen while things are sought: the line that asks, or the list of the found paths. Own.
-use Rattle.std.specs.Prelude.{ℕ, Bool, ◌==◌, if◌then◌else◌, List, [], ◌∷◌, ◌++◌, length, map, take, drop, Option, Some, None, is_some, codes}
+use Rattle.std.specs.Prelude.{ℕ, Bool, ◌==◌, if◌then◌else◌, List, [], ◌++◌, length, map, take, drop, Option, Some, None, is_some, codes}
 use Rattle.std.specs.Fmt.{decimal}
 use Rattle.mc_text.specs.Routes.{path_text}
-use Rattle.key_screen.specs.declared.cells.Attr.TheVariants.{Plain}
 use Rattle.key_screen.specs.Grids.{CellGrid}
 use Rattle.mc_dialogs.specs.declared.frame.Line.{Line}
 use Rattle.mc_dialogs.specs.Boxes.{with_box}
 use Rattle.mc_dialogs.specs.InputField.{with_input}
-use Rattle.mc_dialogs.specs.ListKeys.{rows_shown}
+use Rattle.mc_dialogs.specs.ListKeys.{titled_rows}
 use Rattle.find_mode.specs.declared.asking.Asking.{Asking}
 use Rattle.find_mode.specs.Tellings.{FindingsState}
 use Rattle.find_mode.specs.Listings.{ListingState}
@@ -36,7 +35,7 @@ list_title l = found_title l.findings ++ searching_words (is_some l.search)
 -- its lines: the title, and so many paths from the first one shown on, the current one in reverse
 abbrev pub found_lines : ℕ → ListingState → List Line
 found_lines page l =
-    record { text = list_title l; attr = Plain } ∷ rows_shown l.first l.current (map path_text (take page (drop l.first l.findings.found)))
+    titled_rows (list_title l) l.first l.current (map path_text (take page (drop l.first l.findings.found)))
 
 -- over a screen
 abbrev pub painted : Option Asking → ℕ → ListingState → CellGrid → CellGrid

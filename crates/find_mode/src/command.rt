@@ -1,6 +1,6 @@
 //! The keys of the list.
 ghost use Rattle.std.specs.Prelude.{◌≡◌};
-ghost use Rattle.find_mode.specs.FindKeys.{base_command, character_command, find_command, function_command};
+ghost use Rattle.find_mode.specs.FindKeys.{find_command};
 
 use key_screen::{Base, Key};
 
@@ -21,44 +21,14 @@ pub enum FindCommand {
 pub fn find_command(key: Key) -> FindCommand
     ensures { result ≡ find_command key }
 {
-    if key.meta {
-        return FindCommand::Nothing;
-    }
-    base_command(key.base)
-}
-
-fn base_command(base: Base) -> FindCommand
-    ensures { result ≡ base_command base }
-{
-    match base {
-        Base::Up => FindCommand::Move(Base::Up),
-        Base::Down => FindCommand::Move(Base::Down),
-        Base::PgUp => FindCommand::Move(Base::PgUp),
-        Base::PgDn => FindCommand::Move(Base::PgDn),
-        Base::Home => FindCommand::Move(Base::Home),
-        Base::End => FindCommand::Move(Base::End),
+    match key.base {
+        _ if key.meta => FindCommand::Nothing,
+        Base::Up | Base::Down | Base::PgUp | Base::PgDn | Base::Home | Base::End => {
+            FindCommand::Move(key.base)
+        }
         Base::Enter => FindCommand::Choose,
-        Base::Escape => FindCommand::Leave,
-        Base::F(number) => function_command(number),
-        Base::Char(character) => character_command(character),
-        _ => FindCommand::Nothing,
-    }
-}
-
-fn function_command(number: u8) -> FindCommand
-    ensures { result ≡ function_command number }
-{
-    match number {
-        10 => FindCommand::Leave,
-        _ => FindCommand::Nothing,
-    }
-}
-
-fn character_command(character: char) -> FindCommand
-    ensures { result ≡ character_command character }
-{
-    match character {
-        's' => FindCommand::Stop,
+        Base::Escape | Base::F(10) => FindCommand::Leave,
+        Base::Char('s') => FindCommand::Stop,
         _ => FindCommand::Nothing,
     }
 }

@@ -1,14 +1,13 @@
 -- The list of the live jobs: where its cursor stands, what a key comes to, and what it shows. Own, after the listboxes of mc(1).
-use Rattle.std.specs.Prelude.{ℕ, ◌-◌, min, List, ◌∷◌, length, map, take, drop, Option, Some, None, slice_get, codes}
+use Rattle.std.specs.Prelude.{ℕ, ◌-◌, min, List, length, map, take, drop, Option, Some, None, slice_get, codes}
 use Rattle.job_reports.specs.declared.report.Trouble.{Trouble}
 use Rattle.job_reports.specs.declared.row.JobRow.{JobRow}
-use Rattle.key_screen.specs.declared.cells.Attr.TheVariants.{Plain}
 use Rattle.key_screen.specs.declared.keys.Base.{Base}
 use Rattle.key_screen.specs.declared.keys.Key.{Key}
 use Rattle.key_screen.specs.Grids.{CellGrid}
 use Rattle.mc_dialogs.specs.declared.frame.Line.{Line}
 use Rattle.mc_dialogs.specs.Boxes.{with_box}
-use Rattle.mc_dialogs.specs.ListKeys.{moved_to, rows_shown, scrolled_to}
+use Rattle.mc_dialogs.specs.ListKeys.{moved_to, scrolled_to, titled_rows}
 use Rattle.job_list.specs.declared.act.JobsAct.{JobsAct}
 use Rattle.job_list.specs.declared.act.JobsAct.TheVariants.{Stays, Opens, Leaves}
 use Rattle.job_list.specs.declared.command.JobsCommand.{JobsCommand}
@@ -76,7 +75,7 @@ list_by rows l key = list_of (jobs_command key) rows l
 
 -- the lines over these rows from the first one shown on: the title, and so many of them, the current one in reverse
 abbrev pub lines_from : List JobRow → JobList → List Line
-lines_from rows l = record { text = codes "Jobs"; attr = Plain } ∷ rows_shown l.first l.current (map job_line (take (page_of l) (drop l.first rows)))
+lines_from rows l = titled_rows (codes "Jobs") l.first l.current (map job_line (take (page_of l) (drop l.first rows)))
 
 -- its lines while these jobs are live
 abbrev pub jobs_lines : List JobRow → JobList → List Line

@@ -82,7 +82,10 @@ rows_shown position current [] = []
 rows_shown position current (row ∷ rows) =
     record { text = row; attr = (if position == current then Reverse else Plain) } ∷ rows_shown (position + 1) current rows
 
+-- the lines of a list: its title, and some of its rows, of which the first has this position
+abbrev pub titled_rows : List ℕ → ℕ → ℕ → List (List ℕ) → List Line
+titled_rows title first current rows = record { text = title; attr = Plain } ∷ rows_shown first current rows
+
 -- the lines of a list box: its title, and the rows that it shows
 abbrev pub list_lines : ListState → List Line
-list_lines s =
-    record { text = s.title; attr = Plain } ∷ rows_shown s.first s.current (take (page_of s) (drop s.first s.rows))
+list_lines s = titled_rows s.title s.first s.current (take (page_of s) (drop s.first s.rows))

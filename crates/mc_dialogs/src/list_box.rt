@@ -1,12 +1,12 @@
 //! The box that lists rows.
-ghost use Rattle.std.specs.Prelude.{◌≡◌, ℕ, ◌-◌, ◌+◌, ◌<◌, ◌≤◌, ◌^◌, ◌==◌, ◌++◌, if◌then◌else◌, Some, None, length, take, drop, IfOk, IfSome, OnOk};
+ghost use Rattle.std.specs.Prelude.{◌≡◌, ℕ, ◌-◌, ◌+◌, ◌<◌, ◌≤◌, ◌^◌, ◌==◌, if◌then◌else◌, Some, None, length, IfOk, IfSome, OnOk};
 ghost use Rattle.std.specs.Str.{chars};
-ghost use Rattle.mc_dialogs.specs.ListKeys.{moved_to, scrolled_to, first_is, chosen_by, chosen_row, list_closed, list_after, list_lines, list_shut, rows_shown};
+ghost use Rattle.mc_dialogs.specs.ListKeys.{moved_to, scrolled_to, first_is, chosen_by, chosen_row, list_closed, list_after, list_lines, list_shut};
 ghost use Rattle.mc_dialogs.specs.Boxes.{with_box};
 
-use crate::frame::{Line, paint_box};
+use crate::list_painting::{paint_list, rows_from};
 use crate::shut::{Reply, Shut};
-use key_screen::{Attr, Base, Grid, Key};
+use key_screen::{Base, Grid, Key};
 use mc_text::{NoMemory, Rows, Text};
 use std::alloc::Global;
 use std::convert::AsStr;
@@ -99,15 +99,16 @@ impl ListBox {
     pub fn paint(&self, alloc: Global, grid: &mut Grid) -> Result<(), NoMemory>
         ensures { OnOk result (grid.new ≡ with_box grid.old (list_lines self.now)) }
     {
-        let mut lines = Vec::new(alloc);
-        lines.push(Line {
-            text: self.title.copy(alloc)?,
-            attr: Attr::Plain,
-        })?;
         let page = usize::from(self.lines).saturating_sub(6);
         let rows = rows_from(self.rows.as_slice(), self.first, page);
-        push_rows(&mut lines, alloc, rows, self.first, self.current)?;
-        paint_box(grid, alloc, &lines)
+        paint_list(
+            grid,
+            alloc,
+            self.title.as_str(),
+            rows,
+            self.first,
+            self.current,
+        )
     }
 
     /// What it answers to a key without meta.
@@ -141,48 +142,6 @@ impl ListBox {
             return Reply::Cancel;
         }
         Reply::Chosen(self.current)
-    }
-}
-
-/// At most so many rows from a position on.
-fn rows_from(rows: &[Text], first: usize, page: usize) -> &[Text]
-    ensures value { result.now ≡ take page (drop first rows.now) }
-    ensures bound { length result.now ≤ page }
-{
-    let (_, rest) = rows.split_at(first.min(rows.len()));
-    let (shown, _) = rest.split_at(page.min(rest.len()));
-    shown
-}
-
-/// Adds the lines of some rows, of which the first has this position.
-fn push_rows(
-    lines: &mut Vec<Line>,
-    alloc: Global,
-    rows: &[Text],
-    first: usize,
-    current: usize,
-) -> Result<(), NoMemory>
-    requires { first < 2 ^ 60 }
-    ensures lines { OnOk result (lines.new.items ≡ lines.old.items ++ rows_shown first current rows.now) }
-    ensures count { OnOk result (length lines.new.items ≡ length lines.old.items + length rows.now) }
-{
-    for (index, row) in rows.iter().enumerate() {
-        lines.push(Line {
-            text: row.copy(alloc)?,
-            attr: look_of(first + index, current),
-        })?;
-    }
-    Ok(())
-}
-
-/// How a row looks.
-fn look_of(position: usize, current: usize) -> Attr
-    ensures { result ≡ (if position == current then Attr.Reverse else Attr.Plain) }
-{
-    if position == current {
-        Attr::Reverse
-    } else {
-        Attr::Plain
     }
 }
 

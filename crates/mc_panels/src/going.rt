@@ -59,7 +59,12 @@ impl Panel {
     {
         match self.way() {
             Way::Nowhere => Ok(Going::NoFolder),
-            Way::Up => self.go_up(alloc, tree, page),
+            Way::Up => {
+                let above = above(alloc, &self.folder)?;
+                let left = last_name(alloc, &self.folder)?;
+                self.change_to(alloc, tree, page, above, left)?;
+                Ok(Going::Went)
+            }
             Way::Into => self.go_into(alloc, tree, page),
         }
     }
@@ -150,28 +155,6 @@ impl Panel {
             None if self.cursor < self.listing.len() => Way::Up,
             None => Way::Nowhere,
         }
-    }
-
-    /// Goes to the folder above, with the cursor on the folder that is left.
-    fn go_up<T: ReadTree>(
-        &mut self,
-        alloc: Global,
-        tree: &mut T,
-        page: usize,
-    ) -> Result<Going, ResolveError>
-        requires { page < 2 ^ 16 }
-        ensures done { IfOk result (Enters Way.Up page self.old self.new) }
-        ensures refused { OnErr result (self.new ≡ self.old) }
-        ensures answer { IfKnown (T.contents tree.old) (λ log. Reads Way.Up log self.old (outcome result self.new)) }
-        ensures same { T.contents tree.new ≡ T.contents tree.old }
-        ensures cause { HasCause ResolveError.Fault (T.fault_count tree.old) (T.fault_count tree.new) result }
-        ensures counts { T.fault_count tree.new ≡ count_told (T.fault_count tree.old) result }
-        ensures carried { IfErr result CarriesCause }
-    {
-        let above = above(alloc, &self.folder)?;
-        let left = last_name(alloc, &self.folder)?;
-        self.change_to(alloc, tree, page, above, left)?;
-        Ok(Going::Went)
     }
 
     /// Goes into the folder of the current row, or along its link.

@@ -12,3 +12,4 @@ pub mod StepLemmas
 pub mod PassingLemmas
 pub mod PlaceLemmas
 pub mod SeekLemmas
+pub mod WayLemmas

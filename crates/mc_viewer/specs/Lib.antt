@@ -4,4 +4,5 @@ pub mod Viewing
 pub mod Pages
 pub mod Windows
 pub mod Steps
+pub mod Ways
 pub mod Searches

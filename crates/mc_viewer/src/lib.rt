@@ -19,6 +19,7 @@ mod text;
 mod units;
 mod viewer;
 mod walking;
+mod way;
 mod window;
 
 pub use error::ViewError;

@@ -1,9 +1,10 @@
 //! Where each step leads.
-ghost use Rattle.std.specs.Prelude.{◌≡◌, ◌+◌, ◌-◌, ◌<◌, ◌≤◌, ◌^◌, length, IsOk, IfOk, IfErr, true};
+ghost use Rattle.std.specs.Prelude.{◌≡◌, ◌-◌, ◌<◌, ◌≤◌, ◌^◌, length, IsOk, IfOk, IfErr, true};
 ghost use Rattle.tree_trait.specs.Answers.{IfKnown, HasCause};
 ghost use Rattle.mc_viewer.specs.Viewing.{held, IfHeld, IsReadError, AsTheTreeSays, is_output};
-ghost use Rattle.mc_viewer.specs.Rows.{all_rows, IsRow, rows_down, rows_up, line_behind};
-ghost use Rattle.mc_viewer.specs.Steps.{after_step, to_byte, down, up, to_end, NeedsNoLook};
+ghost use Rattle.mc_viewer.specs.Rows.{all_rows, IsRow, rows_down, rows_up};
+ghost use Rattle.mc_viewer.specs.Steps.{after_step, NeedsNoLook};
+ghost use Rattle.mc_viewer.specs.Ways.{start_byte, to_row};
 
 use crate::above::row_above;
 use crate::error::ViewError;
@@ -17,6 +18,7 @@ use crate::state::{
 };
 use crate::subject::Subject;
 use crate::walking::{row_below, row_holding};
+use crate::way::{Start, Way};
 use std::alloc::Global;
 use tree_trait::{ReadTree, TreeError};
 
@@ -39,33 +41,50 @@ pub fn moved<T: ReadTree>(
     ensures apart { is_output subject.now ≡ true → tree.new ≡ tree.old }
     ensures cause { HasCause (ViewError.Tree TreeError.Fault) (T.fault_count tree.old) (T.fault_count tree.new) result }
 {
+    let top = Start::Byte(state.top);
+    let page = page_lines(state);
     match step {
-        ViewStep::Down => down(alloc, tree, subject, state, 1),
-        ViewStep::Up => up(alloc, tree, subject, state, 1),
-        ViewStep::PageDown => down(alloc, tree, subject, state, page_lines(state)),
-        ViewStep::PageUp => up(alloc, tree, subject, state, page_lines(state)),
+        ViewStep::Down => to_row(alloc, tree, subject, state, top, Way::Down(1)),
+        ViewStep::Up => to_row(alloc, tree, subject, state, top, Way::Up(1)),
+        ViewStep::PageDown => to_row(alloc, tree, subject, state, top, Way::Down(page)),
+        ViewStep::PageUp => to_row(alloc, tree, subject, state, top, Way::Up(page)),
         ViewStep::Home => Ok(with_top(state, 0)),
-        ViewStep::End => to_end(alloc, tree, subject, state),
+        ViewStep::End => {
+            let above = page.saturating_sub(1);
+            to_row(alloc, tree, subject, state, Start::End, Way::Up(above))
+        }
         ViewStep::Left => Ok(to_left(state)),
         ViewStep::Right => Ok(to_right(state)),
-        ViewStep::Line(line) => to_line(alloc, tree, subject, state, line.saturating_sub(1)),
-        ViewStep::Byte(byte) => to_byte(alloc, tree, subject, state, byte),
-        ViewStep::Wrap => to_byte(alloc, tree, subject, with_wrap_turned(state), state.top),
-        ViewStep::Hex => to_byte(alloc, tree, subject, with_hex_turned(state), state.top),
+        ViewStep::Line(line) => {
+            let start = Start::Line(line.saturating_sub(1));
+            to_row(alloc, tree, subject, state, start, Way::Nowhere)
+        }
+        ViewStep::Byte(byte) => {
+            to_row(alloc, tree, subject, state, Start::Byte(byte), Way::Nowhere)
+        }
+        ViewStep::Wrap => {
+            let turned = with_wrap_turned(state);
+            to_row(alloc, tree, subject, turned, top, Way::Nowhere)
+        }
+        ViewStep::Hex => {
+            let turned = with_hex_turned(state);
+            to_row(alloc, tree, subject, turned, top, Way::Nowhere)
+        }
     }
 }
 
-/// The row that holds a byte becomes the top.
-fn to_byte<T: ReadTree>(
+/// A row becomes the top: the one so far from that which holds a place.
+fn to_row<T: ReadTree>(
     alloc: Global,
     tree: &mut T,
     subject: &Subject,
     state: State,
-    byte: u64,
+    start: Start,
+    way: Way,
 ) -> Result<State, ViewError>
     requires wide { 1 ≤ state.columns }
     ensures shown { IfKnown (held (T.contents tree.old) subject.now) (λ bytes.
-        IfOk result (λ new. new ≡ to_byte bytes state byte)) }
+        IfOk result (λ new. new ≡ to_row bytes state start way)) }
     ensures screen { IfOk result (λ new. (new.columns ≡ state.columns) × (new.lines ≡ state.lines)) }
     ensures refused { IfKnown (T.contents tree.old) (λ log. IfErr result (AsTheTreeSays log subject.now)) }
     ensures kinds { IfErr result IsReadError }
@@ -74,109 +93,44 @@ fn to_byte<T: ReadTree>(
     ensures cause { HasCause (ViewError.Tree TreeError.Fault) (T.fault_count tree.old) (T.fault_count tree.new) result }
 {
     let size = size_of(alloc, tree, subject)?;
+    let byte = start_byte(alloc, tree, subject, size, start)?;
     let layout = layout_of(state);
-    let top = row_holding(alloc, tree, subject, layout, size, byte)?;
-    Ok(with_top(state, top))
+    let from = row_holding(alloc, tree, subject, layout, size, byte)?;
+    match way {
+        Way::Nowhere => Ok(with_top(state, from)),
+        Way::Down(count) => {
+            let row = rows_down(alloc, tree, subject, layout, size, from, count)?;
+            Ok(with_top(state, row))
+        }
+        Way::Up(count) => {
+            let row = rows_up(alloc, tree, subject, layout, size, from, count)?;
+            Ok(with_top(state, row))
+        }
+    }
 }
 
-/// The top moves so many rows down.
-fn down<T: ReadTree>(
+/// The byte at a place.
+fn start_byte<T: ReadTree>(
     alloc: Global,
     tree: &mut T,
     subject: &Subject,
-    state: State,
-    count: u16,
-) -> Result<State, ViewError>
-    requires wide { 1 ≤ state.columns }
-    ensures shown { IfKnown (held (T.contents tree.old) subject.now) (λ bytes.
-        IfOk result (λ new. new ≡ down bytes state count)) }
-    ensures screen { IfOk result (λ new. (new.columns ≡ state.columns) × (new.lines ≡ state.lines)) }
+    size: u64,
+    start: Start,
+) -> Result<u64, ViewError>
+    requires small { size ≤ 2 ^ 63 }
+    ensures shown { IfHeld (T.contents tree.old) subject.now size (λ bytes.
+        IfOk result (λ byte. byte ≡ start_byte bytes start)) }
     ensures refused { IfKnown (T.contents tree.old) (λ log. IfErr result (AsTheTreeSays log subject.now)) }
     ensures kinds { IfErr result IsReadError }
     ensures same { T.contents tree.new ≡ T.contents tree.old }
     ensures apart { is_output subject.now ≡ true → tree.new ≡ tree.old }
     ensures cause { HasCause (ViewError.Tree TreeError.Fault) (T.fault_count tree.old) (T.fault_count tree.new) result }
 {
-    let size = size_of(alloc, tree, subject)?;
-    let layout = layout_of(state);
-    let top = row_holding(alloc, tree, subject, layout, size, state.top)?;
-    let row = rows_down(alloc, tree, subject, layout, size, top, count)?;
-    Ok(with_top(state, row))
-}
-
-/// The top moves so many rows up.
-fn up<T: ReadTree>(
-    alloc: Global,
-    tree: &mut T,
-    subject: &Subject,
-    state: State,
-    count: u16,
-) -> Result<State, ViewError>
-    requires wide { 1 ≤ state.columns }
-    ensures shown { IfKnown (held (T.contents tree.old) subject.now) (λ bytes.
-        IfOk result (λ new. new ≡ up bytes state count)) }
-    ensures screen { IfOk result (λ new. (new.columns ≡ state.columns) × (new.lines ≡ state.lines)) }
-    ensures refused { IfKnown (T.contents tree.old) (λ log. IfErr result (AsTheTreeSays log subject.now)) }
-    ensures kinds { IfErr result IsReadError }
-    ensures same { T.contents tree.new ≡ T.contents tree.old }
-    ensures apart { is_output subject.now ≡ true → tree.new ≡ tree.old }
-    ensures cause { HasCause (ViewError.Tree TreeError.Fault) (T.fault_count tree.old) (T.fault_count tree.new) result }
-{
-    let size = size_of(alloc, tree, subject)?;
-    let layout = layout_of(state);
-    let top = row_holding(alloc, tree, subject, layout, size, state.top)?;
-    let row = rows_up(alloc, tree, subject, layout, size, top, count)?;
-    Ok(with_top(state, row))
-}
-
-/// The last rows become the page.
-fn to_end<T: ReadTree>(
-    alloc: Global,
-    tree: &mut T,
-    subject: &Subject,
-    state: State,
-) -> Result<State, ViewError>
-    requires wide { 1 ≤ state.columns }
-    ensures shown { IfKnown (held (T.contents tree.old) subject.now) (λ bytes.
-        IfOk result (λ new. new ≡ to_end bytes state)) }
-    ensures screen { IfOk result (λ new. (new.columns ≡ state.columns) × (new.lines ≡ state.lines)) }
-    ensures refused { IfKnown (T.contents tree.old) (λ log. IfErr result (AsTheTreeSays log subject.now)) }
-    ensures kinds { IfErr result IsReadError }
-    ensures same { T.contents tree.new ≡ T.contents tree.old }
-    ensures apart { is_output subject.now ≡ true → tree.new ≡ tree.old }
-    ensures cause { HasCause (ViewError.Tree TreeError.Fault) (T.fault_count tree.old) (T.fault_count tree.new) result }
-{
-    let size = size_of(alloc, tree, subject)?;
-    let layout = layout_of(state);
-    let last = row_holding(alloc, tree, subject, layout, size, size)?;
-    let above = page_lines(state).saturating_sub(1);
-    let row = rows_up(alloc, tree, subject, layout, size, last, above)?;
-    Ok(with_top(state, row))
-}
-
-/// The row becomes the top where a line begins that so many others stand before, or else the last row.
-fn to_line<T: ReadTree>(
-    alloc: Global,
-    tree: &mut T,
-    subject: &Subject,
-    state: State,
-    lines: u64,
-) -> Result<State, ViewError>
-    requires wide { 1 ≤ state.columns }
-    ensures shown { IfKnown (held (T.contents tree.old) subject.now) (λ bytes.
-        IfOk result (λ new. new ≡ to_byte bytes state (line_behind lines bytes 0))) }
-    ensures screen { IfOk result (λ new. (new.columns ≡ state.columns) × (new.lines ≡ state.lines)) }
-    ensures refused { IfKnown (T.contents tree.old) (λ log. IfErr result (AsTheTreeSays log subject.now)) }
-    ensures kinds { IfErr result IsReadError }
-    ensures same { T.contents tree.new ≡ T.contents tree.old }
-    ensures apart { is_output subject.now ≡ true → tree.new ≡ tree.old }
-    ensures cause { HasCause (ViewError.Tree TreeError.Fault) (T.fault_count tree.old) (T.fault_count tree.new) result }
-{
-    let size = size_of(alloc, tree, subject)?;
-    let start = line_behind(alloc, tree, subject, size, lines)?;
-    let layout = layout_of(state);
-    let top = row_holding(alloc, tree, subject, layout, size, start)?;
-    Ok(with_top(state, top))
+    match start {
+        Start::Byte(byte) => Ok(byte),
+        Start::Line(lines) => line_behind(alloc, tree, subject, size, lines),
+        Start::End => Ok(size),
+    }
 }
 
 /// So many rows down.

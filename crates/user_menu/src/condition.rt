@@ -54,9 +54,7 @@ pub struct Joined {
 
 /// Terms, joined from left to right. Without terms it asks nothing. Contracts see the list of them.
 #[derive(Drop)]
-pub struct Condition {
-    terms: Vec<Joined>,
-}
+pub struct Condition(pub Vec<Joined>);
 
 impl Model for Condition {
     ghost use Rattle.std.specs.Prelude.{List};
@@ -64,21 +62,14 @@ impl Model for Condition {
 
     ghost Value = { List Joined };
 
-    ghost view = { λ c. c.terms.items };
+    ghost view = { λ c. c.0.items };
 }
 
 impl Condition {
-    /// The condition of these terms.
-    pub fn of(terms: Vec<Joined>) -> Condition
-        ensures { result ≡ terms.items }
-    {
-        Condition { terms }
-    }
-
     /// The terms in their order.
     pub fn terms(&self) -> &[Joined]
         ensures { result.now ≡ self.now }
     {
-        self.terms.as_slice()
+        self.0.as_slice()
     }
 }

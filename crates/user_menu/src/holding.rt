@@ -1,23 +1,24 @@
 //! Whether a condition holds.
-ghost use Rattle.std.specs.Prelude.{◌≡◌, ◌⊎◌, [], ◌∷◌, ◌++◌, true, map, IfOk, IfErr, OnOk};
+ghost use Rattle.std.specs.Prelude.{◌≡◌, ◌⊎◌, true, IfOk, IfErr};
 ghost use Rattle.tree_trait.specs.declared.file_system.FileSystem.{FileSystem};
 ghost use Rattle.tree_trait.specs.Answers.{HasCause};
 ghost use Rattle.mc_text.specs.Routes.{path_text};
 ghost use Rattle.tagging.specs.Patterns.{is_found};
 ghost use Rattle.user_menu.specs.Facts.{fact_of, is_true, IsAskedOf, AsksNoTree};
-ghost use Rattle.user_menu.specs.Holding.{is_met, joined, folded, value_of, holds_in, EachTest};
+ghost use Rattle.user_menu.specs.Holding.{is_met, joined, folded, holds_in, EachTest};
 
 use crate::condition::{Condition, Joint, Panel, Sense, Term, Test};
 use crate::fact::Fact;
 use crate::program::is_program;
+use crate::pushing::push;
 use crate::types::has_one_type;
 use mc_text::{NoMemory, Path};
-use std::alloc::{AllocError, Global};
+use std::alloc::Global;
 use std::convert::AsStr;
 use tagging::Pattern;
 use tree_trait::{ReadTree, TreeError};
 
-/// Whether a condition holds of two panels: its terms, taken from left to right.
+/// Whether a condition holds of two panels: its terms are asked one by one, and then taken from left to right.
 pub fn holds<T: ReadTree>(
     alloc: Global,
     tree: &mut T,
@@ -27,12 +28,19 @@ pub fn holds<T: ReadTree>(
 ) -> Result<bool, TreeError>
     ensures answer { (s : FileSystem) → EachTest (IsAskedOf (T.contents tree.old) s) condition.now
         → IfOk result (λ holds. holds ≡ holds_in s condition.now here.now other.now) }
-    ensures same { T.contents tree.new ≡ T.contents tree.old }
     ensures unasked { EachTest AsksNoTree condition.now → tree.new ≡ tree.old }
+    ensures same { T.contents tree.new ≡ T.contents tree.old }
     ensures cause { HasCause TreeError.Fault (T.fault_count tree.old) (T.fault_count tree.new) result }
     ensures refused { IfErr result (λ e. (e ≡ TreeError.Memory) ⊎ (e ≡ TreeError.Fault)) }
 {
-    let values = values_of(alloc, tree, condition, here, other)?;
+    let mut values = Vec::new(alloc);
+    let mut terms = condition.terms();
+    while let Some((first, more)) = terms.split_first() {
+        let is_met = is_met(alloc, tree, &first.term, here, other)?;
+        let joint = first.joint;
+        push(&mut values, Value { joint, is_met })?;
+        terms = more;
+    }
     Ok(folded(values.as_slice()))
 }
 
@@ -62,41 +70,6 @@ fn joined(joint: Joint, so_far: bool, next: bool) -> bool
         Joint::And => so_far && next,
         Joint::Or => so_far || next,
     }
-}
-
-/// The value of each term of a condition.
-fn values_of<T: ReadTree>(
-    alloc: Global,
-    tree: &mut T,
-    condition: &Condition,
-    here: &Fact,
-    other: &Fact,
-) -> Result<Vec<Value>, TreeError>
-    ensures answer { (s : FileSystem) → EachTest (IsAskedOf (T.contents tree.old) s) condition.now
-        → IfOk result (λ values. values.items ≡ map (value_of s here.now other.now) condition.now) }
-    ensures same { T.contents tree.new ≡ T.contents tree.old }
-    ensures unasked { EachTest AsksNoTree condition.now → tree.new ≡ tree.old }
-    ensures cause { HasCause TreeError.Fault (T.fault_count tree.old) (T.fault_count tree.new) result }
-    ensures refused { IfErr result (λ e. (e ≡ TreeError.Memory) ⊎ (e ≡ TreeError.Fault)) }
-{
-    let mut values = Vec::new(alloc);
-    let mut terms = condition.terms();
-    while let Some((first, more)) = terms.split_first() {
-        let is_met = is_met(alloc, tree, &first.term, here, other)?;
-        let joint = first.joint;
-        push_value(&mut values, Value { joint, is_met })?;
-        terms = more;
-    }
-    Ok(values)
-}
-
-/// Puts a value behind others. Want of memory is the tree's error.
-fn push_value(values: &mut Vec<Value>, value: Value) -> Result<(), TreeError>
-    ensures pushed { OnOk result (values.new.items ≡ values.old.items ++ value ∷ []) }
-    ensures refused { IfErr result (λ e. e ≡ TreeError.Memory) }
-{
-    values.push(value).map_err(AllocError::from)?;
-    Ok(())
 }
 
 /// Whether a term is met: its test holds, or doesn't.

@@ -10,6 +10,7 @@ mod holding;
 mod line;
 mod menu;
 mod program;
+mod pushing;
 mod reading;
 mod showing;
 mod standing;

@@ -21,7 +21,7 @@ pub fn read_condition(
     ensures { IfOk result (λ condition. condition ≡ condition_of kind text.now) }
 {
     match first_word(text) {
-        None => Ok(Some(Condition::of(Vec::new(alloc)))),
+        None => Ok(Some(Condition(Vec::new(alloc)))),
         Some(_) => read_terms(alloc, kind, text),
     }
 }
@@ -42,7 +42,7 @@ fn read_terms(alloc: Global, kind: PatternKind, text: &str) -> Result<Option<Con
     let mut rest = text;
     'terms: loop {
         match take_term(alloc, kind, &mut terms, joint, rest)? {
-            Course::Ends => return Ok(Some(Condition::of(terms))),
+            Course::Ends => return Ok(Some(Condition(terms))),
             Course::GoesOn(next, behind) => {
                 joint = next;
                 rest = behind;

@@ -1,5 +1,5 @@
 //! Which entries of a menu are shown, and which one is the default.
-ghost use Rattle.std.specs.Prelude.{◌≡◌, ◌⊎◌, ◌∷◌, ◌++◌, [], map, IfOk, IfErr, OnOk};
+ghost use Rattle.std.specs.Prelude.{◌≡◌, ◌⊎◌, map, IfOk, IfErr};
 ghost use Rattle.tree_trait.specs.declared.file_system.FileSystem.{FileSystem};
 ghost use Rattle.tree_trait.specs.Answers.{HasCause};
 ghost use Rattle.user_menu.specs.Facts.{IsAskedOf, AsksNoTree};
@@ -8,9 +8,10 @@ ghost use Rattle.user_menu.specs.ShownEntries.{standing_of, shown_entries, EachT
 use crate::choosing::{Standing, chosen};
 use crate::fact::Fact;
 use crate::menu::{Entry, Menu, Shown};
+use crate::pushing::push;
 use crate::standing::standing_of;
 use mc_text::NoMemory;
-use std::alloc::{AllocError, Global};
+use std::alloc::Global;
 use tree_trait::{ReadTree, TreeError};
 
 /// Which entries of a menu are shown, opened in the panel `here`, and the first of these that is to be the default. The
@@ -58,17 +59,8 @@ fn standings_of<T: ReadTree>(
     let mut entries = menu.entries();
     while let Some((entry, more)) = entries.split_first() {
         let standing = standing_of(alloc, tree, entry, here, other)?;
-        push_standing(&mut standings, standing)?;
+        push(&mut standings, standing)?;
         entries = more;
     }
     Ok(standings)
-}
-
-/// Puts one behind others. Want of memory is the tree's error.
-fn push_standing(standings: &mut Vec<Standing>, standing: Standing) -> Result<(), TreeError>
-    ensures pushed { OnOk result (standings.new.items ≡ standings.old.items ++ standing ∷ []) }
-    ensures refused { IfErr result (λ e. e ≡ TreeError.Memory) }
-{
-    standings.push(standing).map_err(AllocError::from)?;
-    Ok(())
 }

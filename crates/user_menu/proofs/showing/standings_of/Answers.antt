@@ -31,7 +31,7 @@ loop-entry-preserved g c =
           let stands = standing_of s c.args.here.now c.args.other.now in
           let before = c.loop-entry.standings.items in
           ap (λ items. items ++ map stands more)
-          (c.in_ok-push_standing.ensures.pushed ∙ ap (λ standing. before ++ standing ∷ []) (one.answer s asked))
+          (c.in_ok-push.ensures.pushed ∙ ap (λ standing. before ++ standing ∷ []) (one.answer s asked))
           ∙ append_assoc before (stands entry ∷ []) (map stands more)
           ∙ ap (λ entries. before ++ map stands entries) (sym left)
           ∙ all.standings_are s told;

@@ -4,7 +4,7 @@ use Rattle.user_menu.specs.declared.condition.Joined.{Joined}
 use Rattle.user_menu.specs.declared.holding.Value.{Value}
 use Rattle.user_menu.specs.Facts.{IsAskedOf, AsksNoTree}
 use Rattle.user_menu.specs.Holding.{value_of, EachTest}
-use Rattle.user_menu.proofs.holding.values_of.Goals as goal
+use Rattle.user_menu.proofs.holding.holds.Goals as goal
 
 pub loop-first-preserved : goal.loop-first-preserved
 loop-first-preserved g c =
@@ -32,7 +32,7 @@ loop-first-preserved g c =
           let valued = value_of s c.args.here.now c.args.other.now in
           let before = c.loop-first.values.items in
           ap (λ items. items ++ map valued more)
-          (c.in_ok-push_value.ensures.pushed
+          (c.in_ok-push.ensures.pushed
           ∙ ap (λ is. before ++ (let value : Value = record { joint = first.joint; is_met = is } in value) ∷ []) (one.answer s asked))
           ∙ append_assoc before (valued first ∷ []) (map valued more)
           ∙ ap (λ terms. before ++ map valued terms) (sym left)

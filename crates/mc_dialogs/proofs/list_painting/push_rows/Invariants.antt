@@ -1,6 +1,6 @@
 use Rattle.std.proofs.Common.{◌≡◌, ◌+◌, ◌++◌, drop, length}
 use Rattle.mc_dialogs.specs.ListKeys.{rows_shown}
-use Rattle.mc_dialogs.proofs.list_box.push_rows.Given as goal
+use Rattle.mc_dialogs.proofs.list_painting.push_rows.Given as goal
 
 abbrev pub invariant-loop-index : goal.invariant-loop-index
 invariant-loop-index l =

@@ -3,7 +3,7 @@ use Rattle.std.proofs.Common.{◌≡◌, ◌≤◌, ◌++◌, map, length}
 use Rattle.tree_trait.specs.declared.file_system.FileSystem.{FileSystem}
 use Rattle.user_menu.specs.Facts.{IsAskedOf, AsksNoTree}
 use Rattle.user_menu.specs.Holding.{value_of, EachTest}
-use Rattle.user_menu.proofs.holding.values_of.Given as goal
+use Rattle.user_menu.proofs.holding.holds.Given as goal
 
 abbrev pub invariant-loop-first : goal.invariant-loop-first
 invariant-loop-first g l = record {
