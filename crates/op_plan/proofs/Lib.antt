@@ -3,6 +3,8 @@ pub mod Sorted
 pub mod Twos
 mod Siblings
 mod ApartLemmas
+mod DigestLemmas
+mod BesideLemmas
 pub mod MaskLemmas
 pub mod CheckLemmas
 pub mod SplitLemmas

@@ -1,25 +1,23 @@
 -- Paths in one folder: two meet where their last names are one.
-use Rattle.std.proofs.Common.{◌≡◌, ℕ, suc, ◌<◌, Bool, true, false, List, [], ◌∷◌, ◌++◌, ◌+◌, Option, Some, None, Ok, length, map, get_or, refl, sym, ap, ◌∙◌, inl, inr, arith}
+use Rattle.std.proofs.Common.{◌≡◌, ℕ, Bool, true, false, List, [], ◌∷◌, ◌++◌, ◌+◌, Option, Some, None, Ok, length, map, refl, sym, ap, ◌∙◌, inl, inr, arith}
 use Rattle.std.specs.Prelude.{◌||◌, option_map, IfSome}
 use Rattle.std.specs.List.{list_any}
 use Rattle.std.specs.Str.{bytes_eq}
-use Rattle.std.specs.Ordering.{is_lt, is_eq, ordering_then}
+use Rattle.std.specs.Ordering.{is_lt, ordering_then}
 use Rattle.std.specs.declared.cmp.Ordering.{Ordering}
 use Rattle.std.specs.declared.cmp.Ordering.TheVariants.{Less, Equal, Greater}
 use Rattle.std.specs.List.Sorted.{IsPermutation, IsSorted}
-use Rattle.std.proofs.lemmas.Bool.{false≢true, or_cases, or_left}
-use Rattle.std.proofs.lemmas.Cmp.{nat_list_cmp_total}
-use Rattle.std.proofs.lemmas.Map.Text.{is_eq-slice_cmp}
+use Rattle.std.proofs.lemmas.Bool.{or_cases, or_left}
 use Rattle.std.proofs.lemmas.List.{length-append}
 use Rattle.std.proofs.lemmas.List.Sorted.{IsPermutation-map}
 use Rattle.mc_text.specs.Routes.{Route, is_prefix, last_of}
 use Rattle.tree_trait.specs.Answers.{name_cmp}
 use Rattle.op_plan.specs.Meeting.{meet, has_two}
-use Rattle.op_plan.specs.Sorting.{route_cmp, has_neighbours, AreSiblings}
+use Rattle.op_plan.specs.Sorting.{route_cmp, has_neighbours}
 use Rattle.op_plan.proofs.Paths.{bool_same, prefix-way, prefix-from, same_name, same_name-from}
-use Rattle.op_plan.proofs.Sorted.{less_turned, neighbours-all, neighbours-sorted, neighbours-map, sorted-map}
+use Rattle.op_plan.proofs.Sorted.{neighbours-sorted, neighbours-map, sorted-map}
 use Rattle.op_plan.specs.declared.job.Pair.{Pair}
-use Rattle.op_plan.specs.Checks.{sources_in, targets_from, none_twice}
+use Rattle.op_plan.specs.Checks.{targets_from, none_twice}
 use Rattle.op_plan.proofs.CheckLemmas.{twice-none}
 use Rattle.op_plan.proofs.Twos.{list_any-same, two-map, two-permutation}
 
@@ -49,7 +47,7 @@ meet-siblings folder a b = bool_same (meet (a ∷ folder) (b ∷ folder)) (bytes
     from : bytes_eq a b ≡ true → meet (a ∷ folder) (b ∷ folder) ≡ true
     from h = or_left (is_prefix (a ∷ folder) (b ∷ folder)) (is_prefix (b ∷ folder) (a ∷ folder)) (prefix-siblings folder a b ∙ h)
 
-two-same : {X : Type 0} (f g : X → X → Bool) (xs : List X) → ((x y : X) → f x y ≡ g x y) → has_two f xs ≡ has_two g xs
+pub two-same : {X : Type 0} (f g : X → X → Bool) (xs : List X) → ((x y : X) → f x y ≡ g x y) → has_two f xs ≡ has_two g xs
 two-same f g [] same = refl
 two-same f g (x ∷ xs) same =
     ap (λ (b : Bool). b || has_two f xs) (list_any-same (f x) (g x) xs (same x)) ∙ ap (λ (b : Bool). list_any (g x) xs || b) (two-same f g xs same)
@@ -67,7 +65,7 @@ single_lt Less = refl
 single_lt Equal = refl
 single_lt Greater = refl
 
-neighbours-same : {X : Type 0} (f g : X → X → Bool) (xs : List X) → ((x y : X) → f x y ≡ g x y) → has_neighbours f xs ≡ has_neighbours g xs
+pub neighbours-same : {X : Type 0} (f g : X → X → Bool) (xs : List X) → ((x y : X) → f x y ≡ g x y) → has_neighbours f xs ≡ has_neighbours g xs
 neighbours-same f g [] same = refl
 neighbours-same f g (a ∷ []) same = refl
 neighbours-same f g (a ∷ b ∷ xs) same =
@@ -89,28 +87,6 @@ names-twice names sorted moved up =
     ∙ (sym (siblings-two [] sorted)
     ∙ (sym (two-permutation (map in_root names) (map in_root sorted) (IsPermutation-map in_root names sorted moved)) ∙ siblings-two [] names))
 
-less_differs : (o : Ordering) → is_lt o ≡ true → is_eq o ≡ false
-less_differs Less h = refl
-less_differs Equal h = absurd (false≢true h)
-less_differs Greater h = refl
-
--- each comes before the next one, so no two are one
-pub rising-once : (names : List (List ℕ)) → ((k : ℕ) (d : List ℕ) → k + 1 < length names → is_lt (name_cmp (get_or names k d) (get_or names (k + 1) d)) ≡ true)
-    → has_two bytes_eq names ≡ false
-rising-once names up =
-    let sorted : IsSorted name_cmp names = λ k d low high.
-    ap is_lt (nat_list_cmp_total.antisymm (get_or names (k + 1) d) (get_or names k d))
-    ∙ less_turned (name_cmp (get_or names k d) (get_or names (k + 1) d)) (up k d (omega (arith, high))) in
-    names_sorted names sorted
-    ∙ neighbours-all bytes_eq names (length names) (omega arith)
-    (λ k d below.
-    let a = get_or names k d in
-    let b = get_or names (k + 1) d in
-    sym (is_eq-slice_cmp a b) ∙ less_differs (name_cmp a b) (up k d (omega (arith, below))))
-
-pub siblings_meet : (paths : List Route) (names : List (List ℕ)) → AreSiblings paths names → has_two bytes_eq names ≡ has_two meet paths
-siblings_meet paths names s = sym (ap (has_two meet) s.paths_are ∙ siblings-two s.folder names)
-
 -- a path one name longer than a folder that it begins with
 pub child-of : {X : Type 0} (folder path : Route) (text : X → List ℕ) (last : Option X) → is_prefix folder path ≡ true → length path ≡ length folder + 1
     → option_map text last ≡ last_of path → IfSome last (λ name. path ≡ text name ∷ folder)
@@ -125,14 +101,6 @@ child-of {X} folder path text last h size e = go (prefix-way folder path h).0 (p
         way ∙ ap (λ (n : List ℕ). n ∷ folder) is
     go (r ∷ q ∷ rest) way (Some name) e = absurd (let same = ap length way in let more = length-append (r ∷ q ∷ rest) folder in omega (arith, same, more, size))
 
-pub are-siblings : {X : Type 0} (folder : Route) (paths : List Route) (text : X → List ℕ) (names : List X) → paths ≡ map (λ name. text name ∷ folder) names
-    → AreSiblings paths (map text names)
-are-siblings {X} folder paths text names e = record { folder = folder; paths_are = e ∙ sym (maps names) }
-  where
-    maps : (names : List X) → map (λ name. name ∷ folder) (map text names) ≡ map (λ name. text name ∷ folder) names
-    maps [] = refl
-    maps (name ∷ names) = ap (λ l. (text name ∷ folder) ∷ l) (maps names)
-
 -- targets in one folder, of which no two are one
 pub targets_apart : (names : List (List ℕ)) (pairs : List Pair) → ((folder : Route) × (targets_from pairs ≡ map (λ name. name ∷ folder) names))
     → has_two bytes_eq names ≡ false → has_two meet (targets_from pairs) ≡ false
@@ -141,22 +109,3 @@ targets_apart names pairs (folder, e) h = ap (has_two meet) e ∙ (siblings-two 
 pub none_twice_apart : (names : List (List ℕ)) (pairs : List Pair) → ((folder : Route) × (targets_from pairs ≡ map (λ name. name ∷ folder) names))
     → has_two bytes_eq names ≡ false → none_twice pairs ≡ Ok tt
 none_twice_apart names pairs e h = twice-none pairs (targets_apart names pairs e h)
-
--- ---- names that targets have of their sources
-
-sources_kept : (folder : Route) (names : List (List ℕ)) (pairs : List Pair) → length names ≡ length pairs
-    → ((k : ℕ) (d : Pair) (n : List ℕ) → k < length names → (get_or pairs k d).source ≡ get_or names k n ∷ folder)
-    → sources_in pairs ≡ map (λ name. name ∷ folder) names
-sources_kept folder [] [] size at = refl
-sources_kept folder [] (pair ∷ pairs) size at = absurd (omega (arith, size))
-sources_kept folder (name ∷ names) [] size at = absurd (omega (arith, size))
-sources_kept folder (name ∷ names) (pair ∷ pairs) size at =
-    ap (λ (r : Route). r ∷ sources_in pairs) (at 0 pair name (omega arith))
-    ∙ ap (λ (l : List Route). (name ∷ folder) ∷ l) (sources_kept folder names pairs (omega (arith, size)) (λ k d n below. at (suc k) d n (omega arith)))
-
--- the sources lie in one folder under these names, and no two meet
-pub kept-apart : (folder : Route) (names : List (List ℕ)) (pairs : List Pair) → length names ≡ length pairs
-    → ((k : ℕ) (d : Pair) (n : List ℕ) → k < length names → (get_or pairs k d).source ≡ get_or names k n ∷ folder)
-    → has_two meet (sources_in pairs) ≡ false → has_two bytes_eq names ≡ false
-kept-apart folder names pairs size at apart =
-    sym (siblings-two folder names) ∙ (sym (ap (has_two meet) (sources_kept folder names pairs size at)) ∙ apart)

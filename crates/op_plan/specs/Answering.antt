@@ -1,11 +1,13 @@
 -- What an answer may be besides that of the definition, and checks that follow one another.
-use Rattle.std.specs.Prelude.{◌≡◌, ◌≢◌, ⊤, ℕ, ◌≤◌, Bool, true, false, ◌||◌, Option, Some, None, Result, Ok, Err, IfErr}
+use Rattle.std.specs.Prelude.{◌≡◌, ◌≢◌, ⊤, ℕ, ◌≤◌, Bool, true, false, ◌||◌, List, Option, Some, None, Result, Ok, Err, IfErr}
 use Rattle.tree_trait.specs.declared.calls.TreeError.{TreeError}
 use Rattle.tree_trait.specs.declared.calls.TreeError.TheVariants as tree
 use Rattle.tree_trait.specs.Answers.{HasRisen}
 use Rattle.resolving.specs.declared.error.ResolveError.{ResolveError}
 use Rattle.resolving.specs.declared.error.ResolveError.TheVariants as resolving
 use Rattle.resolving.specs.Errors.{CarriesCause}
+use Rattle.mc_text.specs.Routes.{Route}
+use Rattle.op_plan.specs.declared.sources.Sources.{Sources}
 use Rattle.op_plan.specs.declared.error.PlanError.{PlanError}
 use Rattle.op_plan.specs.declared.error.PlanError.TheVariants.{NoSelection, Nested, Source, BadMask, Target, TargetThere, SameFile, IntoItself, TwoToOne, BadLinkText, Memory}
 
@@ -47,6 +49,11 @@ IsPlaceError BadLinkText = ⊥
 abbrev pub Plans : {A : Type 0} → Result A PlanError → Result A PlanError → Type 0
 Plans expected (Ok x) = expected ≡ Ok x
 Plans expected (Err e) = (is_fault e || is_memory e) ≡ false → expected ≡ Err e
+
+-- the sources of an answer are the expected ones, unless the device failed or no memory was left
+abbrev pub PlansSources : Result (List Route) PlanError → Result Sources PlanError → Type 0
+PlansSources expected (Ok left) = expected ≡ Ok left.paths
+PlansSources expected (Err e) = (is_fault e || is_memory e) ≡ false → expected ≡ Err e
 
 -- What a refusal says of a path is a cause: no want of memory, which is an error of its own, and in the target's folder no
 -- fault, which names no path there.

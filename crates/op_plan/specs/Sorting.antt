@@ -1,6 +1,6 @@
 -- Paths in an order in which each comes directly before all that lies below it: by their names from the root on, which are
 -- compared byte by byte.
-use Rattle.std.specs.Prelude.{◌≡◌, ℕ, ◌<◌, Bool, false, not, ◌&&◌, ◌||◌, List, [], ◌∷◌, length, map, take, reverse, Option, Some, None}
+use Rattle.std.specs.Prelude.{◌≡◌, ℕ, ◌<◌, Bool, false, not, ◌&&◌, ◌||◌, List, [], ◌∷◌, length, take, reverse, Option, Some, None}
 use Rattle.std.specs.List.{position, slice_get}
 use Rattle.std.specs.Cmp.Lexicographic.{slice_cmp}
 use Rattle.std.specs.Ordering.{is_lt}
@@ -36,8 +36,3 @@ pub record AreFirst (paths : List Route) (first last : ℕ) : Type 0 where
 abbrev pub IsFirstMeeting : List Route → Option (ℕ × ℕ) → Type 0
 IsFirstMeeting paths None = has_two meet paths ≡ false
 IsFirstMeeting paths (Some (first, last)) = AreFirst paths first last
-
--- paths with these last names, all directly in one folder
-pub record AreSiblings (paths : List Route) (names : List (List ℕ)) : Type 0 where
-  pub folder : Route
-  pub paths_are : paths ≡ map (λ name. name ∷ folder) names

@@ -1,5 +1,5 @@
 -- Which jobs may be begun.
-use Rattle.std.specs.Prelude.{◌≡◌, ◌≢◌, ◌≤◌, false, List, []}
+use Rattle.std.specs.Prelude.{◌≡◌, ◌≢◌, ◌≤◌, false, List, [], IfSome}
 use Rattle.std.specs.List.{list_any}
 use Rattle.mc_text.specs.Routes.{Route}
 use Rattle.tree_trait.specs.Answers.{IsLinkText}
@@ -8,6 +8,8 @@ use Rattle.op_plan.specs.declared.request.Request.TheVariants as asked
 use Rattle.op_plan.specs.declared.job.Pair.{Pair}
 use Rattle.op_plan.specs.declared.job.Job.{Job}
 use Rattle.op_plan.specs.declared.job.Job.TheVariants.{Copy, Move, Delete, MakeFolder, SetMode, MakeLink, Save}
+use Rattle.op_plan.specs.declared.sources.Sources.{Sources}
+use Rattle.op_plan.specs.Digests.{LieApart}
 use Rattle.op_plan.specs.Meeting.{meet, has_two}
 use Rattle.op_plan.specs.Checks.{sources_in, targets_from}
 
@@ -15,6 +17,10 @@ use Rattle.op_plan.specs.Checks.{sources_in, targets_from}
 pub record AreApart (paths : List Route) : Type 0 where
   pub some : paths ≢ []
   pub apart : has_two meet paths ≡ false
+
+-- the folder that is named is that in which all sources lie
+abbrev pub IsHeld : Sources → Type 0
+IsHeld sources = IfSome sources.holder (λ folder. LieApart folder sources.paths)
 
 -- at least one pair; no source is or holds another, no target is or holds another, and no source is, holds or lies in a target
 pub record ArePairsApart (pairs : List Pair) : Type 0 where

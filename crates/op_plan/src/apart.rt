@@ -1,28 +1,26 @@
 //! Sources with their targets: none is or holds another.
 ghost use Rattle.std.specs.Prelude.{◌≡◌, ◌≢◌, ◌<◌, ◌||◌, ℕ, length, List, [], ◌∷◌, true, false, map, option_map, IfOk, IfErr, IfSome, OnOk};
-ghost use Rattle.std.specs.List.{list_any, position};
+ghost use Rattle.std.specs.List.{All, list_any, position};
 ghost use Rattle.std.specs.Option.{option_map_or};
-ghost use Rattle.std.specs.Bool.{OnTrue};
-ghost use Rattle.std.specs.Ordering.{is_lt};
 ghost use Rattle.std.specs.Str.{bytes_eq};
 ghost use Rattle.std.specs.BTreeSet.{contains_text};
 ghost use Rattle.mc_text.specs.Routes.{Route, is_prefix, same_path};
-ghost use Rattle.tree_trait.specs.Answers.{name_cmp};
 ghost use Rattle.op_plan.specs.declared.job.Pair.{Pair};
 ghost use Rattle.op_plan.specs.Answering.{Plans, is_fault, CarriesPlanCause, IsPlaceError};
 ghost use Rattle.op_plan.specs.Meeting.{meet, has_two};
-ghost use Rattle.op_plan.specs.Checks.{none_same, none_across, none_into, none_twice, is_too_long, targets_in, targets_from, sources_in, paired, child_above};
+ghost use Rattle.op_plan.specs.Digests.{name_of, IsChild, LieBeside};
+ghost use Rattle.op_plan.specs.Checks.{none_same, none_across, none_into, none_twice, is_too_long, targets_in, targets_from, sources_in, pair, paired, child_above};
 ghost use Rattle.op_plan.specs.Planning.{pairs_into};
 ghost use Rattle.op_plan.specs.Soundness.{ArePairsApart};
 
 use crate::claim::meet;
+use crate::digest::are_told_apart;
 use crate::error::PlanError;
 use crate::job::{Pair, Pairs};
-use crate::meeting::{any_twice, child_name, first_meeting};
+use crate::meeting::{first_meeting, last_name};
 use mc_text::{Name, NoMemory, Path, PathError, Paths};
 use resolving::ResolveError;
 use std::alloc::Global;
-use std::cmp::Ordering;
 use std::collections::BTreeSet;
 
 /// The sources, each with its target of this name in the folder, where none is or holds another.
@@ -47,6 +45,58 @@ pub fn pairs_into(
     refuse_into(alloc, folder, names, pairs.as_slice())?;
     refuse_twice(alloc, names, pairs.as_slice())?;
     Ok(pairs)
+}
+
+/// The sources, each with the target of its own name in the folder. They lie side by side in another one, beside this.
+pub fn pairs_beside(alloc: Global, folder: &Path, sources: Paths) -> Result<Pairs, PlanError>
+    requires some { sources ≢ [] }
+    requires beside { LieBeside folder.now sources }
+    ensures answer { Plans (pairs_into folder.now sources (map name_of sources)) result }
+    ensures apart { IfOk result ArePairsApart }
+    ensures sources { IfOk result (λ pairs. sources_in pairs ≡ sources) }
+    ensures placed { IfOk result (λ pairs. targets_from pairs ≡ map (λ name. name ∷ folder.now) (map name_of sources)) }
+    ensures no_fault { IfErr result (λ e. is_fault e ≡ false) }
+    ensures carried { IfErr result CarriesPlanCause }
+{
+    kept_pairs(alloc, folder, sources)
+}
+
+/// The sources, each with the target of its own name in the folder.
+fn kept_pairs(alloc: Global, folder: &Path, sources: Paths) -> Result<Pairs, PlanError>
+    requires { (holder : Route) × All (IsChild holder) sources }
+    ensures made { IfOk result (λ pairs. pairs ≡ map (λ source. pair source (name_of source ∷ folder.now)) sources) }
+    ensures fits { OnOk result (list_any (is_too_long folder.now) (map name_of sources) ≡ false) }
+    ensures too_long { IfErr result (λ e. e ≢ PlanError.Memory
+        → (e ≡ PlanError.Target ResolveError.TooLong) × (list_any (is_too_long folder.now) (map name_of sources) ≡ true)) }
+    ensures no_fault { IfErr result (λ e. is_fault e ≡ false) }
+    ensures carried { IfErr result CarriesPlanCause }
+{
+    let Paths(sources) = sources;
+    let mut pairs = Vec::with_capacity(alloc, sources.len())?;
+    for source in sources {
+        match kept_target(alloc, folder, &source) {
+            Ok(target) => pairs.push(Pair { source, target })?,
+            Err(error) => return Err(error),
+        }
+    }
+    Ok(Pairs(pairs))
+}
+
+/// The target of the same name in the folder.
+#[tactic(auto, using(crate::proofs::BesideLemmas::name_last, crate::proofs::BesideLemmas::no_last))]
+fn kept_target(alloc: Global, folder: &Path, source: &Path) -> Result<Path, PlanError>
+    requires { source.now ≢ [] }
+    ensures joined { IfOk result (λ target. target ≡ name_of source.now ∷ folder.now) }
+    ensures fits { OnOk result (is_too_long folder.now (name_of source.now) ≡ false) }
+    ensures too_long { IfErr result (λ e. e ≢ PlanError.Memory
+        → (e ≡ PlanError.Target ResolveError.TooLong) × (is_too_long folder.now (name_of source.now) ≡ true)) }
+    ensures no_fault { IfErr result (λ e. is_fault e ≡ false) }
+    ensures carried { IfErr result CarriesPlanCause }
+{
+    match last_name(source) {
+        Some(name) => target_in(alloc, folder, name),
+        None => unreachable!(),
+    }
 }
 
 /// The paths of these names in a folder.
@@ -228,93 +278,10 @@ fn refuse_twice(alloc: Global, names: &[Name], pairs: &[Pair]) -> Result<(), Pla
     ensures no_fault { IfErr result (λ e. is_fault e ≡ false) }
     ensures carried { IfErr result CarriesPlanCause }
 {
-    if !any_name_twice(alloc, names, pairs)? {
+    if are_told_apart(alloc, names)? {
         return Ok(());
     }
     refuse_meeting_targets(alloc, pairs)
-}
-
-/// Whether two of the names are one. Where each comes before the next one, as in a listing, none is, and none where they are those
-/// of the sources, which lie in one folder, since no source is another.
-fn any_name_twice(alloc: Global, names: &[Name], pairs: &[Pair]) -> Result<bool, NoMemory>
-    requires { has_two meet (sources_in pairs.now) ≡ false }
-    ensures { IfOk result (λ found. found ≡ has_two bytes_eq names.now) }
-{
-    if names_rise(names) || are_kept(alloc, names, pairs)? {
-        return Ok(false);
-    }
-    Ok(any_twice(texts_of(alloc, names)?))
-}
-
-/// Whether each name comes before the next one, so that no two are one.
-fn names_rise(names: &[Name]) -> bool
-    ensures { OnTrue result (has_two bytes_eq names.now ≡ false) }
-{
-    for i in 1..names.len() {
-        if !comes_before(&names[i - 1], &names[i]) {
-            return false;
-        }
-    }
-    true
-}
-
-/// Whether a name comes before another in the order of their bytes.
-fn comes_before(name: &Name, next: &Name) -> bool
-    ensures { result ≡ is_lt (name_cmp name.now next.now) }
-{
-    name.order(next) == Ordering::Less
-}
-
-/// Whether the names are those of the sources, which lie in one folder.
-fn are_kept(alloc: Global, names: &[Name], pairs: &[Pair]) -> Result<bool, NoMemory>
-    requires { has_two meet (sources_in pairs.now) ≡ false }
-    ensures { IfOk result (λ kept. OnTrue kept (has_two bytes_eq names.now ≡ false)) }
-{
-    let Some(first) = pairs.first() else {
-        return Ok(false);
-    };
-    match first.source.parent(alloc)? {
-        Some(folder) => Ok(lie_in(&folder, names, pairs)),
-        None => Ok(false),
-    }
-}
-
-/// Whether the sources lie in the folder under these names, of which no two are one then.
-fn lie_in(folder: &Path, names: &[Name], pairs: &[Pair]) -> bool
-    requires { has_two meet (sources_in pairs.now) ≡ false }
-    ensures { OnTrue result (has_two bytes_eq names.now ≡ false) }
-{
-    if names.len() != pairs.len() {
-        return false;
-    }
-    for i in 0..names.len() {
-        if !is_child(folder, &names[i], &pairs[i].source) {
-            return false;
-        }
-    }
-    true
-}
-
-/// Whether a path is that of this name in the folder.
-#[tactic(auto, using(crate::proofs::Paths::same_name))]
-fn is_child(folder: &Path, name: &Name, path: &Path) -> bool
-    ensures { OnTrue result (path.now ≡ name.now ∷ folder.now) }
-{
-    match child_name(folder, path) {
-        Some(last) => last == name.text(),
-        None => false,
-    }
-}
-
-/// The texts of names.
-fn texts_of<'a>(alloc: Global, names: &'a [Name]) -> Result<Vec<&'a str>, NoMemory>
-    ensures { IfOk result (λ texts. map (λ text. text.now) texts.items ≡ names.now) }
-{
-    let mut texts = Vec::with_capacity(alloc, names.len())?;
-    for name in names {
-        texts.push(name.text())?;
-    }
-    Ok(texts)
 }
 
 /// Refuses two sources of which the target of one is or holds that of the other.

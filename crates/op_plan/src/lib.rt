@@ -5,6 +5,7 @@ mod apart;
 mod claim;
 mod claiming;
 mod destination;
+mod digest;
 mod error;
 mod job;
 mod mask;

@@ -1,15 +1,17 @@
 //! Paths of which one is the other or lies below it, found by sorting: the number of paths is never squared.
-ghost use Rattle.std.specs.Prelude.{◌≡◌, ◌+◌, ◌<◌, ◌∷◌, true, false, IfOk, IfSome, map, take, length};
+ghost use Rattle.std.specs.Prelude.{◌≡◌, ◌+◌, ◌<◌, ◌∷◌, true, false, None, IfOk, IfSome, map, option_map, take, length};
 ghost use Rattle.std.specs.List.{position};
 ghost use Rattle.std.specs.Cmp.Lexicographic.{slice_cmp};
 ghost use Rattle.std.specs.List.Sorted.{IsPermutation, IsSorted};
 ghost use Rattle.tree_trait.specs.Answers.{name_cmp};
 ghost use Rattle.op_plan.specs.Meeting.{meet, has_two};
-ghost use Rattle.std.specs.Str.{bytes_eq};
+ghost use Rattle.mc_text.specs.Names.{name_fault};
+ghost use Rattle.mc_text.specs.Routes.{last_of};
 ghost use Rattle.std.specs.Bool.{OnTrue};
-ghost use Rattle.op_plan.specs.Sorting.{comes_apart, route_cmp, has_neighbours, neighbours_meet, IsFirstMeeting, AreSiblings};
+ghost use Rattle.op_plan.specs.Sorting.{comes_apart, route_cmp, neighbours_meet, IsFirstMeeting};
 
 use crate::claim::meet;
+use crate::digest::folder_of_all;
 use mc_text::{Name, NoMemory, Path};
 use std::alloc::Global;
 use std::cmp::Ordering;
@@ -58,14 +60,12 @@ fn comes_apart(path: &Path, next: &Path) -> bool
     order(path, next) == Ordering::Less && !path.is_prefix_of(next)
 }
 
-/// Whether two of the paths meet. In one folder two meet where their names are one. Else they are sorted: two neighbours meet
-/// then.
-#[tactic(auto, using(crate::proofs::Siblings::siblings_meet))]
+/// Whether two of the paths meet. None do that lie side by side in one folder. Else they are sorted: two neighbours meet then.
 fn scattered_meet(alloc: Global, paths: &[Path]) -> Result<bool, NoMemory>
     ensures { IfOk result (λ found. found ≡ has_two meet paths.now) }
 {
-    match names_in_one_folder(alloc, paths)? {
-        Some(names) => Ok(any_twice(names)),
+    match folder_of_all(alloc, paths)? {
+        Some(_) => Ok(false),
         None => sorted_meet(alloc, paths),
     }
 }
@@ -78,70 +78,34 @@ fn sorted_meet(alloc: Global, paths: &[Path]) -> Result<bool, NoMemory>
     Ok(neighbours_meet(sorted.as_slice()))
 }
 
-/// The last names of the paths, if all of them lie directly in one folder.
-fn names_in_one_folder<'a>(
-    alloc: Global,
-    paths: &'a [Path],
-) -> Result<Option<Vec<&'a str>>, NoMemory>
-    ensures { IfOk result (λ found. IfSome found (λ names. AreSiblings paths.now (map (λ name. name.now) names.items))) }
-{
-    let Some(first) = paths.first() else {
-        return Ok(None);
-    };
-    match first.parent(alloc)? {
-        Some(folder) => names_in(alloc, &folder, paths),
-        None => Ok(None),
-    }
-}
-
-/// The last names of the paths, if all of them lie directly in the folder.
-fn names_in<'a>(
-    alloc: Global,
-    folder: &Path,
-    paths: &'a [Path],
-) -> Result<Option<Vec<&'a str>>, NoMemory>
-    ensures { IfOk result (λ found. IfSome found (λ names. AreSiblings paths.now (map (λ name. name.now) names.items))) }
-{
-    let mut names = Vec::with_capacity(alloc, paths.len())?;
-    for path in paths {
-        match child_name(folder, path) {
-            Some(name) => names.push(name)?,
-            None => return Ok(None),
-        }
-    }
-    Ok(Some(names))
-}
-
 /// The last name of a path, if it lies directly in the folder.
 pub fn child_name<'a>(folder: &Path, path: &'a Path) -> Option<&'a str>
-    ensures { IfSome result (λ name. path.now ≡ name.now ∷ folder.now) }
+    ensures joined { IfSome result (λ name. path.now ≡ name.now ∷ folder.now) }
+    ensures sound { IfSome result (λ name. name_fault name.now ≡ None) }
 {
     if path.names().len() == folder.names().len() + 1 && folder.is_prefix_of(path) {
-        path.last()
+        last_text(path)
     } else {
         None
     }
 }
 
-/// Whether two of the names are one. Once they are sorted, two neighbours are then.
-pub fn any_twice(names: Vec<&str>) -> bool
-    ensures { result ≡ has_two bytes_eq (map (λ name. name.now) names.entry.items) }
+/// The last name of a path.
+fn last_text(path: &Path) -> Option<&str>
+    ensures last { option_map (λ name. name.now) result ≡ last_of path.now }
+    ensures sound { IfSome result (λ name. name_fault name.now ≡ None) }
 {
-    let mut sorted = names;
-    sorted.sort_unstable();
-    neighbours_same(sorted.as_slice())
+    match last_name(path) {
+        Some(name) => Some(name.text()),
+        None => None,
+    }
 }
 
-/// Whether a name is the one before it.
-fn neighbours_same(sorted: &[&str]) -> bool
-    ensures { result ≡ has_neighbours bytes_eq (map (λ name. name.now) sorted.now) }
+/// The last name of a path. The root has none.
+pub fn last_name(path: &Path) -> Option<&Name>
+    ensures { option_map (λ name. name.now) result ≡ last_of path.now }
 {
-    for i in 1..sorted.len() {
-        if sorted[i - 1] == sorted[i] {
-            return true;
-        }
-    }
-    false
+    path.names().last()
 }
 
 /// The paths in their order by names.

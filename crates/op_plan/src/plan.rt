@@ -1,28 +1,32 @@
 //! A plan is made of a request: the first check that stands refuses it.
-ghost use Rattle.std.specs.Prelude.{◌≡◌, ◌≢◌, ◌≤◌, ◌==◌, false, All, Ok, IfOk, IfErr, Some, [], ◌∷◌};
+ghost use Rattle.std.specs.Prelude.{◌≡◌, ◌≢◌, ◌≤◌, ◌==◌, not, false, All, Ok, IfOk, IfErr, Some, [], ◌∷◌};
 ghost use Rattle.tree_trait.specs.Change.{current};
 ghost use Rattle.tree_trait.specs.Answers.{IfKnown};
-ghost use Rattle.op_plan.specs.Answering.{Plans, and_then, is_fault, HasPlanCause, CarriesPlanCause, IsPlaceError};
+ghost use Rattle.op_plan.specs.Answering.{Plans, PlansSources, and_then, is_fault, HasPlanCause, CarriesPlanCause, IsPlaceError};
 ghost use Rattle.std.specs.Bool.{OnTrue, OnFalse};
 ghost use Rattle.std.specs.List.{list_any};
+ghost use Rattle.std.specs.Option.{option_map_or};
+ghost use Rattle.op_plan.specs.Meeting.{meet};
 ghost use Rattle.tree_trait.specs.Answers.{IsLinkText};
 ghost use Rattle.tree_trait.specs.Calls.{Stat};
 ghost use Rattle.tree_trait.specs.Refusals.{refusal_of};
 ghost use Rattle.op_plan.specs.Planning.{plan_of, pairs_of, sources_of, folder_for, placed_there, placed_masked, place_of, nothing_there, is_link_text, link_of};
-ghost use Rattle.op_plan.specs.Soundness.{AreApart, ArePairsApart, IsSound, HasMode};
+ghost use Rattle.op_plan.specs.Soundness.{AreApart, ArePairsApart, IsHeld, IsSound, HasMode};
 ghost use Rattle.op_plan.specs.Asking.{ArePlaced, ArePairsFor, IsJobFor};
 ghost use Rattle.op_plan.specs.Destinations.{last_part};
 ghost use Rattle.op_plan.specs.Checks.{sources_in};
 ghost use Rattle.mc_text.specs.Routes.{last_of};
 
-use crate::apart::{pairs_into, target_in};
+use crate::apart::{pairs_beside, pairs_into, target_in};
+use crate::claim::meet;
 use crate::destination::{folder_at, folder_there, split_last};
+use crate::digest::folder_of_all;
 use crate::error::PlanError;
 use crate::job::{Job, Pairs};
 use crate::mask::{Mask, MaskPiece};
 use crate::naming::{choose, name_in, names_for, read_pattern};
 use crate::request::Request;
-use crate::sources::{look_at_all, refuse_nested};
+use crate::sources::{Sources, look_at_all, refuse_nested_unless};
 use mc_text::{Path, Paths, Text};
 use resolving::ResolveError;
 use std::alloc::Global;
@@ -78,7 +82,7 @@ fn plan_deletion<T: ReadTree>(alloc: Global, tree: &mut T, sources: Paths) -> Re
     ensures sound { IfOk result IsSound }
     ensures asked { IfOk result (IsJobFor (Request.Delete sources)) }
 {
-    Ok(Job::Delete(plan_sources(alloc, tree, sources)?))
+    Ok(Job::Delete(plan_sources(alloc, tree, sources)?.paths))
 }
 
 /// The setting of a mode.
@@ -95,7 +99,7 @@ fn plan_mode<T: ReadTree>(
     ensures sound { IfOk result IsSound }
     ensures asked { IfOk result (IsJobFor (Request.SetMode sources mode)) }
 {
-    Ok(Job::SetMode(plan_sources(alloc, tree, sources)?, mode))
+    Ok(Job::SetMode(plan_sources(alloc, tree, sources)?.paths, mode))
 }
 
 /// The making of a folder.
@@ -137,7 +141,7 @@ fn plan_pairs<T: ReadTree>(
     let mask = Mask::parse(alloc, last)?;
     match folder_for(alloc, tree, &mask, from, to)? {
         Some(folder) => plan_into(alloc, &pattern, sources, &folder),
-        None => plan_masked(alloc, tree, &pattern, sources, &mask, from, front),
+        None => plan_masked(alloc, tree, &pattern, sources.paths, &mask, from, front),
     }
 }
 
@@ -160,8 +164,41 @@ fn folder_for<T: ReadTree>(
 }
 
 /// The sources, each with the target of its own name in a folder.
-#[tactic(auto, using(crate::proofs::AskingLemmas::placed_pairs))]
 fn plan_into(
+    alloc: Global,
+    pattern: &Option<ShellPattern>,
+    sources: Sources,
+    folder: &Path,
+) -> Result<Pairs, PlanError>
+    requires apart { AreApart sources.paths }
+    requires held { IsHeld sources }
+    ensures answer { Plans (placed_there pattern.now sources.paths folder.now) result }
+    ensures apart { IfOk result ArePairsApart }
+    ensures sources { IfOk result (λ pairs. sources_in pairs ≡ sources.paths) }
+    ensures placed { IfOk result (ArePlaced pattern.now (MaskPiece.Star ∷ [])) }
+    ensures no_fault { IfErr result (λ e. is_fault e ≡ false) }
+    ensures carried { IfErr result CarriesPlanCause }
+{
+    if pattern.is_some() && lie_beside(&sources.holder, folder) {
+        pairs_beside(alloc, folder, sources.paths)
+    } else {
+        plan_named(alloc, pattern, sources.paths, folder)
+    }
+}
+
+/// Whether the sources lie in one folder, which neither is nor holds this one, nor lies in it.
+fn lie_beside(holder: &Option<Path>, folder: &Path) -> bool
+    ensures { result ≡ option_map_or (λ held. not (meet held folder.now)) holder.now false }
+{
+    match holder {
+        Some(holder) => !meet(holder, folder),
+        None => false,
+    }
+}
+
+/// The sources, each with the target of its own name in a folder, wherever they lie.
+#[tactic(auto, using(crate::proofs::AskingLemmas::placed_pairs))]
+fn plan_named(
     alloc: Global,
     pattern: &Option<ShellPattern>,
     sources: Paths,
@@ -209,19 +246,24 @@ fn plan_sources<T: ReadTree>(
     alloc: Global,
     tree: &mut T,
     sources: Paths,
-) -> Result<Paths, PlanError>
-    ensures answer { IfKnown (T.contents tree.old) (λ log. Plans (sources_of (current log) sources) result) }
+) -> Result<Sources, PlanError>
+    ensures answer { IfKnown (T.contents tree.old) (λ log. PlansSources (sources_of (current log) sources) result) }
     ensures same { T.contents tree.new ≡ T.contents tree.old }
     ensures cause { HasPlanCause (T.fault_count tree.old) (T.fault_count tree.new) result }
-    ensures left { IfOk result (λ left. left ≡ sources) }
-    ensures apart { IfOk result AreApart }
+    ensures left { IfOk result (λ left. left.paths ≡ sources) }
+    ensures apart { IfOk result (λ left. AreApart left.paths) }
+    ensures held { IfOk result IsHeld }
 {
     if sources.as_slice().is_empty() {
         return Err(PlanError::NoSelection);
     }
-    refuse_nested(alloc, sources.as_slice())?;
+    let holder = folder_of_all(alloc, sources.as_slice())?;
+    refuse_nested_unless(alloc, &holder, sources.as_slice())?;
     look_at_all(alloc, tree, sources.as_slice())?;
-    Ok(sources)
+    Ok(Sources {
+        paths: sources,
+        holder,
+    })
 }
 
 /// The path that a text leads to, at which nothing stands yet.

@@ -1,19 +1,27 @@
 //! What is asked of sources: that none lies in another, and that each is there.
-ghost use Rattle.std.specs.Prelude.{◌≡◌, false, IfErr, OnOk};
+ghost use Rattle.std.specs.Prelude.{◌≡◌, false, IfErr, IfSome, OnOk};
 ghost use Rattle.tree_trait.specs.Change.{current};
 ghost use Rattle.tree_trait.specs.Answers.{IfKnown};
 ghost use Rattle.op_plan.specs.Answering.{Plans, is_fault, HasPlanCause, CarriesPlanCause};
 ghost use Rattle.op_plan.specs.Meeting.{meet, has_two};
+ghost use Rattle.op_plan.specs.Digests.{LieApart};
 ghost use Rattle.op_plan.specs.Checks.{none_nested, all_there};
 
 use crate::error::PlanError;
 use crate::meeting::first_meeting;
-use mc_text::Path;
+use mc_text::{Path, Paths};
 use std::alloc::Global;
 use tree_trait::{ReadTree, TreeError};
 
+/// Sources, and the folder in which all of them lie, where it was seen that they lie in one.
+#[derive(Debug, Drop)]
+pub struct Sources {
+    pub paths: Paths,
+    pub holder: Option<Path>,
+}
+
 /// Refuses sources of which one is another or lies in it.
-pub fn refuse_nested(alloc: Global, sources: &[Path]) -> Result<(), PlanError>
+fn refuse_nested(alloc: Global, sources: &[Path]) -> Result<(), PlanError>
     ensures answer { Plans (none_nested sources.now) result }
     ensures apart { OnOk result (has_two meet sources.now ≡ false) }
     ensures no_fault { IfErr result (λ e. is_fault e ≡ false) }
@@ -25,6 +33,24 @@ pub fn refuse_nested(alloc: Global, sources: &[Path]) -> Result<(), PlanError>
             sources[first].copy(alloc)?,
             sources[second].copy(alloc)?,
         )),
+    }
+}
+
+/// Refuses sources of which one is another or lies in it, where it isn't known that they lie side by side.
+pub fn refuse_nested_unless(
+    alloc: Global,
+    holder: &Option<Path>,
+    sources: &[Path],
+) -> Result<(), PlanError>
+    requires { IfSome holder.now (λ folder. LieApart folder sources.now) }
+    ensures answer { Plans (none_nested sources.now) result }
+    ensures apart { OnOk result (has_two meet sources.now ≡ false) }
+    ensures no_fault { IfErr result (λ e. is_fault e ≡ false) }
+    ensures carried { IfErr result CarriesPlanCause }
+{
+    match holder {
+        Some(_) => Ok(()),
+        None => refuse_nested(alloc, sources),
     }
 }
 

@@ -1,6 +1,0 @@
--- The texts of the names so far.
-use Rattle.std.proofs.Common.{◌≡◌, map, take}
-use Rattle.op_plan.proofs.apart.texts_of.Given as goal
-
-abbrev pub invariant-loop-name : goal.invariant-loop-name
-invariant-loop-name l = map (λ text. text.now) l.texts.items ≡ take l.name-index l.names
