@@ -41,11 +41,24 @@ pub enum Course {
 }
 
 /// A job that is worked.
-#[derive(Debug, Drop)]
+#[derive(Debug)]
 pub struct Run {
     id: u32,
     work: Work,
     course: Course,
+}
+
+/// Written by hand, so that it is a call wherever a job is let go of: the prover would look through a derived one there, with all that
+/// each kind of work holds.
+impl Drop for Run {
+    fn drop(self) {
+        let Run {
+            id: _,
+            work,
+            course: _,
+        } = self;
+        drop(work);
+    }
 }
 
 impl Model for Run {

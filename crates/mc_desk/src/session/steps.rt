@@ -15,7 +15,7 @@ use super::Session;
 use crate::claims::NoClaims;
 use crate::log::plain;
 use crate::replies::{Ended, StepReply};
-use crate::standing::{Standing, closed};
+use crate::standing::closed;
 use crate::tag::Tag;
 use copy_move::Run;
 use job_reports::{Did, Ending, StepResult, is_end};
@@ -131,10 +131,10 @@ impl<N: Tag, T: Tree, S: Sink, P: Spawner> Session<N, T, S, P> {
             tree,
             terminal,
             spawner,
-            keys: _,
-            ui: _,
+            keys,
+            ui,
             standing,
-            dirty: _,
+            dirty,
             log,
             taken: _,
             of: _,
@@ -142,7 +142,11 @@ impl<N: Tag, T: Tree, S: Sink, P: Spawner> Session<N, T, S, P> {
         let (screen, failed) = terminal.into_parts();
         let quit = standing.quit;
         let lost = standing.lost;
-        let_go(standing);
+        // Calls, since the prover looks through what a function lets go of itself.
+        drop(keys);
+        drop(ui);
+        drop(standing);
+        drop(dirty);
         Ended {
             tree,
             screen,
@@ -161,11 +165,6 @@ fn put_back(place: &mut Option<Run>, job: Option<Run>)
 {
     *place = job;
 }
-
-/// Lets go of where a session stood, in a function of its own for the same reason.
-fn let_go(_standing: Standing)
-    ensures { true ≡ true }
-{}
 
 /// The reply where no job can be stepped.
 fn idle(is_closed: bool) -> StepReply
