@@ -1,12 +1,13 @@
 -- The lines of the boxes that stand over the panels.
 use Rattle.std.specs.Prelude.{ℕ, ◌%◌, Bool, true, false, List, [], ◌∷◌, ◌++◌, Option, Some, None, codes}
 use Rattle.std.specs.Option.{option_map_or}
+use Rattle.std.specs.Fmt.{decimal}
 use Rattle.mc_text.specs.Routes.{Route, path_text, spelled}
 use Rattle.job_reports.specs.declared.report.Trouble.{Trouble}
 use Rattle.resolving.specs.declared.error.ResolveError.{ResolveError}
 use Rattle.resolving.specs.declared.error.ResolveError.TheVariants as resolve
 use Rattle.session_history.specs.declared.refusal.PlanError.{PlanError}
-use Rattle.session_history.specs.declared.refusal.PlanError.TheVariants.{NoSelection, Source, BadMask, Target, TargetThere, SameFile, IntoItself, BadLinkText}
+use Rattle.session_history.specs.declared.refusal.PlanError.TheVariants.{NoSelection, Nested, Source, BadMask, Target, TargetThere, SameFile, IntoItself, TwoToOne, BadLinkText}
 use Rattle.session_history.specs.declared.refusal.Refusal.{Refusal}
 use Rattle.session_history.specs.declared.refusal.Refusal.TheVariants.{Tree, Read, Resolve, Plan, Begin, Typed}
 use Rattle.mc_dialogs.specs.InputKeys.{InputState}
@@ -27,12 +28,14 @@ resolve_path resolve.Memory = None
 -- the path that a plan was refused for, if it was for one: the first, where it was for two
 abbrev pub plan_path : PlanError → Option Route
 plan_path NoSelection = None
+plan_path (Nested first second) = Some first
 plan_path (Source path e) = Some path
 plan_path BadMask = None
 plan_path (Target e) = resolve_path e
 plan_path (TargetThere path) = Some path
 plan_path (SameFile path) = Some path
 plan_path (IntoItself source target) = Some source
+plan_path (TwoToOne first second) = Some first
 plan_path BadLinkText = None
 
 -- the path that a refusal speaks of, if it speaks of one
@@ -66,9 +69,9 @@ message_lines Help =
     ∷ codes "F6 move  F7 mkdir  F8 delete  F9 options  F10 quit"
     ∷ []
 
--- the lines of the box that asks whether to delete one thing
-abbrev pub delete_lines : List (List ℕ)
-delete_lines = codes "Delete 1 things?" ∷ codes "y Delete  g Background  n No" ∷ []
+-- the lines of the box that asks whether to delete so many things
+abbrev pub delete_lines : ℕ → List (List ℕ)
+delete_lines count = (codes "Delete " ++ (decimal count ++ codes " things?")) ∷ codes "y Delete  g Background  n No" ∷ []
 
 -- the letters that answer a trouble, with their words: at a barrier nothing can be skipped
 abbrev pub trouble_letter_words : Bool → List ℕ

@@ -44,12 +44,14 @@ resolve_words resolve.Memory = codes "out of memory"
 -- what is said of a plan that can't be made
 abbrev pub plan_words : PlanError → List ℕ
 plan_words plan.NoSelection = codes "nothing selected"
+plan_words (plan.Nested first second) = codes "one lies in the other"
 plan_words (plan.Source path e) = cause_words e
 plan_words plan.BadMask = codes "bad mask"
 plan_words (plan.Target e) = resolve_words e
 plan_words (plan.TargetThere path) = codes "already there"
 plan_words (plan.SameFile path) = codes "same file"
 plan_words (plan.IntoItself source target) = codes "inside itself"
+plan_words (plan.TwoToOne first second) = codes "two files, one target"
 plan_words plan.BadLinkText = codes "bad link text"
 
 -- what is said of a job that can't be begun

@@ -1,3 +1,4 @@
 pub mod BoxKeys
 pub mod BoxLines
 pub mod Causes
+pub mod Chosen

@@ -24,12 +24,12 @@ const KEYS: &str = "F1 help  F2 menu  F3 view  F4 edit  F5 copy";
 
 const MORE_KEYS: &str = "F6 move  F7 mkdir  F8 delete  F9 options  F10 quit";
 
-/// The lines of the box that asks whether to delete one thing.
-pub fn delete_lines(alloc: Global) -> Result<Rows, NoMemory>
-    ensures { IfOk result (λ lines. lines ≡ lines_of_deletion) }
+/// The lines of the box that asks whether to delete so many things.
+pub fn delete_lines(alloc: Global, count: usize) -> Result<Rows, NoMemory>
+    ensures { IfOk result (λ lines. lines ≡ lines_of_deletion count) }
 {
     let mut lines = Rows::new(alloc);
-    lines.push(Text::from_str(alloc, "Delete 1 things?")?)?;
+    lines.push(Text(format!(in alloc; "Delete {count} things?")?))?;
     lines.push(Text::from_str(alloc, "y Delete  g Background  n No")?)?;
     Ok(lines)
 }
@@ -99,12 +99,14 @@ fn plan_lines(alloc: Global, words: Text, error: &PlanError) -> Result<Rows, NoM
 {
     match error {
         PlanError::NoSelection => words_alone(alloc, words),
+        PlanError::Nested(first, _) => words_and_path(alloc, words, first),
         PlanError::Source(path, _) => words_and_path(alloc, words, path),
         PlanError::BadMask => words_alone(alloc, words),
         PlanError::Target(error) => resolve_lines(alloc, words, error),
         PlanError::TargetThere(path) => words_and_path(alloc, words, path),
         PlanError::SameFile(path) => words_and_path(alloc, words, path),
         PlanError::IntoItself(source, _) => words_and_path(alloc, words, source),
+        PlanError::TwoToOne(first, _) => words_and_path(alloc, words, first),
         PlanError::BadLinkText => words_alone(alloc, words),
     }
 }

@@ -50,12 +50,14 @@ fn plan_text(error: &PlanError) -> &'static str
 {
     match error {
         PlanError::NoSelection => "nothing selected",
+        PlanError::Nested(_, _) => "one lies in the other",
         PlanError::Source(_, error) => cause_text(*error),
         PlanError::BadMask => "bad mask",
         PlanError::Target(error) => resolve_text(error),
         PlanError::TargetThere(_) => "already there",
         PlanError::SameFile(_) => "same file",
         PlanError::IntoItself(_, _) => "inside itself",
+        PlanError::TwoToOne(_, _) => "two files, one target",
         PlanError::BadLinkText => "bad link text",
     }
 }

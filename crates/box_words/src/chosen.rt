@@ -1,13 +1,13 @@
-//! A thing that was chosen for a job.
-ghost use Rattle.std.specs.Prelude.{◌≡◌, true, is_some};
-ghost use Rattle.mc_text.specs.Routes.{parent_of};
+//! The things that were chosen for a job.
+ghost use Rattle.std.specs.Prelude.{◌≡◌, true};
+ghost use Rattle.box_words.specs.Chosen.{can_be_chosen};
 
-use mc_text::{Kind, Path};
+use mc_text::{Kind, Paths};
 
-/// A thing that was chosen, and what it is. It lies in a folder.
+/// The things that were chosen, as they are listed: at least one, and each lies in a folder. Of one alone it says what it is.
 #[derive(Debug, Drop)]
 pub struct Chosen {
-    pub path: Path,
-    pub kind: Kind,
-    ghost within: { is_some (parent_of path) ≡ true },
+    pub paths: Paths,
+    pub kind: Option<Kind>,
+    ghost within: { can_be_chosen paths ≡ true },
 }

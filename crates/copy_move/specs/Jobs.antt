@@ -1,10 +1,11 @@
 -- A live job: what it does, how far it is, and whether it goes on; what a step of it may report, and what that says of the
 -- tree's calls.
-use Rattle.std.specs.Prelude.{◌≡◌, ◌⊎◌, ℕ, ⊤, Bool, true, false, ◌&&◌, nat_le, is_some, [], ◌∷◌, Option, Some, None, if◌then◌else◌}
+use Rattle.std.specs.Prelude.{◌≡◌, ◌⊎◌, ℕ, ⊤, Bool, true, false, ◌&&◌, nat_le, is_some, List, [], ◌∷◌, Option, Some, None, if◌then◌else◌}
 use Rattle.mc_text.specs.Routes.{Route, parent_of}
 use Rattle.tree_trait.specs.Change.{CallLog}
 use Rattle.job_reports.specs.declared.report.Cause.{Cause}
-use Rattle.job_answers.specs.Skipping.{kind_in, with_kind}
+use Rattle.job_answers.specs.Skipping.{kind_in, no_skips, with_kind}
+use Rattle.job_answers.specs.declared.skips.Skips.{Skips as SkippedKinds}
 use Rattle.job_reports.specs.declared.report.Trouble.{Trouble}
 use Rattle.job_reports.specs.declared.report.Ending.{Ending}
 use Rattle.job_reports.specs.declared.report.Ending.TheVariants.{Aborted}
@@ -78,8 +79,8 @@ makes new path = Make (record { path = path; thing = new; stage = making.Make })
 abbrev pub sets : Route → ℕ → Work
 sets path mode = SetMode (setting path mode Give)
 
--- The work of a job of one item. Other plans aren't worked yet; and the root, which no folder holds, is neither copied, deleted, made
--- nor given a mode. A mode has twelve bits.
+-- The work of the plan of one source. The root, which no folder holds, is neither copied, deleted, made nor given a mode. A mode has
+-- twelve bits.
 abbrev pub first_work : ℕ → Job → Option Work
 first_work id (plan.Delete []) = None
 first_work id (plan.Delete (path ∷ [])) = if is_some (parent_of path) then Some (deletes path) else None
@@ -96,6 +97,11 @@ first_work id (plan.MakeLink path text) = if is_some (parent_of path) && is_link
 first_work id (plan.SetMode [] mode) = None
 first_work id (plan.SetMode (path ∷ []) mode) = if is_some (parent_of path) && nat_le mode 0o7777 then Some (sets path mode) else None
 first_work id (plan.SetMode (path ∷ more ∷ paths) mode) = None
+
+-- the work with which a job begins: that of the first of its sources
+abbrev pub begun_work : ℕ → List Job → Option Work
+begun_work id [] = None
+begun_work id (source ∷ more) = first_work id source
 
 -- what the work does, and to what
 abbrev pub kind_of : Work → JobKind
@@ -162,6 +168,22 @@ with_skips cause (CopyTree c) = CopyTree (record c { skips = with_kind (kind_in 
 with_skips cause (Delete d) = Delete (record d { skips = with_kind (kind_in cause) d.skips })
 with_skips cause (Make m) = Make m
 with_skips cause (SetMode s) = SetMode s
+
+-- the kinds of troubles that the work passes over without a question
+abbrev pub skips_of : Work → SkippedKinds
+skips_of (Copy c) = no_skips
+skips_of (CopyTree c) = c.skips
+skips_of (Delete d) = d.skips
+skips_of (Make m) = no_skips
+skips_of (SetMode s) = no_skips
+
+-- the work where these kinds are passed over
+abbrev pub passing_over : SkippedKinds → Work → Work
+passing_over skips (Copy c) = Copy c
+passing_over skips (CopyTree c) = CopyTree (record c { skips = skips })
+passing_over skips (Delete d) = Delete (record d { skips = skips })
+passing_over skips (Make m) = Make m
+passing_over skips (SetMode s) = SetMode s
 
 -- the part that stands
 abbrev pub part_of : Work → Option Route

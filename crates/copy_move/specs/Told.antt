@@ -3,8 +3,10 @@
 use Rattle.std.specs.Prelude.{◌≡◌, ◌⊎◌, ℕ, Bool, true, false, ◌&&◌, Option, Some, None, if◌then◌else◌}
 use Rattle.std.specs.Option.{option_map}
 use Rattle.mc_text.specs.Routes.{Route}
+use Rattle.job_reports.specs.declared.job.Job.{Job}
 use Rattle.job_reports.specs.declared.report.Trouble.{Trouble}
-use Rattle.job_reports.specs.declared.report.Ending.TheVariants.{NoMemory}
+use Rattle.job_reports.specs.Jobs.{is_workable}
+use Rattle.job_reports.specs.declared.report.Ending.TheVariants.{Finished, NoMemory}
 use Rattle.job_reports.specs.declared.report.Did.{Did}
 use Rattle.job_reports.specs.declared.report.Did.TheVariants.{Began, Chunk, Placed, Removed, Made, Set, Kept, Skipped, Cleaned, Barrier, Troubled, Ended}
 use Rattle.file_copy.specs.declared.stage.SourceFacts.{SourceFacts}
@@ -29,7 +31,7 @@ use Rattle.mode_setting.specs.declared.setting.Stage.TheVariants as setting
 use Rattle.mode_setting.specs.Settings as settings
 use Rattle.copy_move.specs.TreeCopies as trees
 use Rattle.subtree_copy.specs.Standing.{SubtreeCopying}
-use Rattle.copy_move.specs.Jobs.{Running, JobTells, closed_job, halt_of, is_fresh, part_of, waits_on}
+use Rattle.copy_move.specs.Jobs.{Running, JobTells, closed_job, first_work, halt_of, is_fresh, part_of, passing_over, skips_of, waits_on}
 
 -- what no history tells
 abbrev pub untold_facts : SourceFacts
@@ -161,6 +163,10 @@ after_step (Ended ending part) job = None
 abbrev pub running : ℕ → Work → Running
 running id work = record { id = id; work = work; course = GoesOn }
 
+-- The job goes on with its next source, of which this is the plan. What was to be skipped of all that meets the same goes on to be.
+abbrev pub turned : Job → Running → Option Running
+turned plan job = option_map (λ work. running job.id (passing_over (skips_of job.work) work)) (first_work job.id plan)
+
 abbrev pub if_closed : Bool → Option Running → Option Running
 if_closed true job = option_map closed_job job
 if_closed false job = job
@@ -168,6 +174,10 @@ if_closed false job = job
 -- some job of which the history tells this much may report it
 abbrev pub Reports : Running → Did → Type 0
 Reports job did = (old : Running) × (new : Running) × (told old ≡ job) × JobTells old did new
+
+-- a job goes on with a next source where some job of which the history tells this much may report that it is finished
+abbrev pub MayTurn : Running → Job → Type 0
+MayTurn job plan = (job.course ≡ GoesOn) × Reports job (Ended Finished None) × (is_workable plan ≡ true)
 
 -- any job that waits for nothing may end out of memory, and names the part that stands then
 abbrev pub EndsWithoutMemory : Running → Did → Type 0

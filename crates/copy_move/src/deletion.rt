@@ -71,6 +71,20 @@ impl TreeDeletion {
         self.skips.insert(kind_of(cause));
     }
 
+    /// The kinds of troubles that are passed over.
+    pub fn skips(&self) -> Skips
+        ensures { result ≡ self.now.skips }
+    {
+        self.skips
+    }
+
+    /// Troubles of these kinds are passed over.
+    pub fn pass_over(&mut self, skips: Skips)
+        ensures { self.new ≡ record self.old { skips = skips } }
+    {
+        self.skips = skips;
+    }
+
     /// What is in trouble is not deleted.
     pub fn skip(&mut self, alloc: Global, cause: Cause) -> Did
         ensures { DeletionSkips cause self.old result self.new }

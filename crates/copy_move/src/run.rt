@@ -4,12 +4,12 @@ ghost use Rattle.std.specs.Prelude.{◌≡◌, IfOk, Some, false, option_map, tr
 ghost use Rattle.job_reports.specs.Jobs.{is_workable};
 ghost use Rattle.copy_move.specs.Jobs.{first_work, kind_of, part_of, path_of, waits_on};
 ghost use Rattle.copy_move.specs.Steps.{RunStep};
-ghost use Rattle.copy_move.specs.Told.{running};
+ghost use Rattle.copy_move.specs.Told.{running, turned};
 
 mod answering;
 mod stepping;
 
-use crate::starting::{copy_of, deletion_of, folder_of, link_of, setting_of, tree_copy_of};
+use crate::starting::begun_work;
 use crate::work::Work;
 use file_copy::PartTest;
 use job_reports::{Cause, Ending, Job, JobKind, StepResult};
@@ -73,22 +73,30 @@ impl Model for Run {
 }
 
 impl Run {
-    /// Starts a job of one item, which isn't the root.
+    /// Starts a job with the plan of one source, which isn't the root.
     pub fn start(alloc: Global, job: &Job, id: u32) -> Result<Run, NoMemory>
         requires sound { is_workable job.now ≡ true }
         ensures id { IfOk result (λ run. run.id ≡ id) }
         ensures started { IfOk result (λ run. option_map (running id) (first_work id job.now) ≡ Some run) }
     {
-        let work = match job {
-            Job::Copy(pairs) => copy_of(alloc, pairs, id)?,
-            Job::CopyTree(pairs) => tree_copy_of(alloc, pairs, id)?,
-            Job::Delete(paths) => deletion_of(alloc, paths)?,
-            Job::MakeFolder(path) => folder_of(alloc, path)?,
-            Job::MakeLink(path, text) => link_of(alloc, path, text)?,
-            Job::SetMode(paths, mode) => setting_of(alloc, paths, *mode)?,
-        };
+        let work = begun_work(alloc, job, id)?;
         Ok(Run {
             id,
+            work,
+            course: Course::GoesOn,
+        })
+    }
+
+    /// The job as it goes on with its next source, of which this is the plan: under its number, and what was to be skipped of all that meets
+    /// the same goes on to be.
+    pub fn turn(&self, alloc: Global, next: &Job) -> Result<Run, NoMemory>
+        requires sound { is_workable next.now ≡ true }
+        ensures turned { IfOk result (λ run. turned next.now self.now ≡ Some run) }
+    {
+        let mut work = begun_work(alloc, next, self.id)?;
+        work.pass_over(self.work.skips());
+        Ok(Run {
+            id: self.id,
             work,
             course: Course::GoesOn,
         })

@@ -1,6 +1,6 @@
 //! The work of a job that starts.
 ghost use Rattle.std.specs.Prelude.{◌≡◌, IfOk, Some, true};
-ghost use Rattle.job_reports.specs.declared.job.Job.{Job};
+ghost use Rattle.job_reports.specs.declared.job.Job.TheVariants as plan;
 ghost use Rattle.job_reports.specs.Jobs.{is_workable};
 ghost use Rattle.copy_move.specs.Jobs.{IsGoing, first_work};
 
@@ -9,16 +9,31 @@ use crate::making::ThingMaking;
 use crate::new_thing::NewThing;
 use crate::work::Work;
 use file_copy::FileCopy;
-use job_reports::{Pair, Pairs};
+use job_reports::{Job, Pair, Pairs};
 use mc_text::{NoMemory, Path, Paths, Text};
 use mode_setting::ModeSetting;
 use std::alloc::Global;
 use subtree_copy::SubtreeCopy;
 
+/// The work of the plan of one source.
+pub(crate) fn begun_work(alloc: Global, source: &Job, id: u32) -> Result<Work, NoMemory>
+    requires { is_workable source.now ≡ true }
+    ensures { IfOk result (λ work. (first_work id source.now ≡ Some work) × IsGoing work) }
+{
+    match source {
+        Job::Copy(pairs) => copy_of(alloc, pairs, id),
+        Job::CopyTree(pairs) => tree_copy_of(alloc, pairs, id),
+        Job::Delete(paths) => deletion_of(alloc, paths),
+        Job::MakeFolder(path) => folder_of(alloc, path),
+        Job::MakeLink(path, text) => link_of(alloc, path, text),
+        Job::SetMode(paths, mode) => setting_of(alloc, paths, *mode),
+    }
+}
+
 /// The copy of one file.
-pub(crate) fn copy_of(alloc: Global, pairs: &Pairs, id: u32) -> Result<Work, NoMemory>
-    requires { is_workable (Job.Copy pairs.now) ≡ true }
-    ensures { IfOk result (λ work. (first_work id (Job.Copy pairs.now) ≡ Some work) × IsGoing work) }
+fn copy_of(alloc: Global, pairs: &Pairs, id: u32) -> Result<Work, NoMemory>
+    requires { is_workable (plan.Copy pairs.now) ≡ true }
+    ensures { IfOk result (λ work. (first_work id (plan.Copy pairs.now) ≡ Some work) × IsGoing work) }
 {
     let [pair] = pairs.0.as_slice() else {
         unreachable!()
@@ -35,9 +50,9 @@ pub(crate) fn copy_of(alloc: Global, pairs: &Pairs, id: u32) -> Result<Work, NoM
 }
 
 /// The copy of one thing with all that lies in it.
-pub(crate) fn tree_copy_of(alloc: Global, pairs: &Pairs, id: u32) -> Result<Work, NoMemory>
-    requires { is_workable (Job.CopyTree pairs.now) ≡ true }
-    ensures { IfOk result (λ work. (first_work id (Job.CopyTree pairs.now) ≡ Some work) × IsGoing work) }
+fn tree_copy_of(alloc: Global, pairs: &Pairs, id: u32) -> Result<Work, NoMemory>
+    requires { is_workable (plan.CopyTree pairs.now) ≡ true }
+    ensures { IfOk result (λ work. (first_work id (plan.CopyTree pairs.now) ≡ Some work) × IsGoing work) }
 {
     let [pair] = pairs.0.as_slice() else {
         unreachable!()
@@ -50,9 +65,9 @@ pub(crate) fn tree_copy_of(alloc: Global, pairs: &Pairs, id: u32) -> Result<Work
 }
 
 /// The deletion of one thing.
-pub(crate) fn deletion_of(alloc: Global, paths: &Paths) -> Result<Work, NoMemory>
-    requires { is_workable (Job.Delete paths.now) ≡ true }
-    ensures { IfOk result (λ work. (first_work 0 (Job.Delete paths.now) ≡ Some work) × IsGoing work) }
+fn deletion_of(alloc: Global, paths: &Paths) -> Result<Work, NoMemory>
+    requires { is_workable (plan.Delete paths.now) ≡ true }
+    ensures { IfOk result (λ work. (first_work 0 (plan.Delete paths.now) ≡ Some work) × IsGoing work) }
 {
     let [path] = paths.as_slice() else {
         unreachable!()
@@ -64,9 +79,9 @@ pub(crate) fn deletion_of(alloc: Global, paths: &Paths) -> Result<Work, NoMemory
 }
 
 /// The setting of the mode of one thing.
-pub(crate) fn setting_of(alloc: Global, paths: &Paths, mode: u16) -> Result<Work, NoMemory>
-    requires { is_workable (Job.SetMode paths.now mode) ≡ true }
-    ensures { IfOk result (λ work. (first_work 0 (Job.SetMode paths.now mode) ≡ Some work) × IsGoing work) }
+fn setting_of(alloc: Global, paths: &Paths, mode: u16) -> Result<Work, NoMemory>
+    requires { is_workable (plan.SetMode paths.now mode) ≡ true }
+    ensures { IfOk result (λ work. (first_work 0 (plan.SetMode paths.now mode) ≡ Some work) × IsGoing work) }
 {
     let [path] = paths.as_slice() else {
         unreachable!()
@@ -78,9 +93,9 @@ pub(crate) fn setting_of(alloc: Global, paths: &Paths, mode: u16) -> Result<Work
 }
 
 /// The making of one folder.
-pub(crate) fn folder_of(alloc: Global, path: &Path) -> Result<Work, NoMemory>
-    requires { is_workable (Job.MakeFolder path.now) ≡ true }
-    ensures { IfOk result (λ work. (first_work 0 (Job.MakeFolder path.now) ≡ Some work) × IsGoing work) }
+fn folder_of(alloc: Global, path: &Path) -> Result<Work, NoMemory>
+    requires { is_workable (plan.MakeFolder path.now) ≡ true }
+    ensures { IfOk result (λ work. (first_work 0 (plan.MakeFolder path.now) ≡ Some work) × IsGoing work) }
 {
     let Some(folder) = path.parent(alloc)? else {
         unreachable!()
@@ -89,9 +104,9 @@ pub(crate) fn folder_of(alloc: Global, path: &Path) -> Result<Work, NoMemory>
 }
 
 /// The making of one link.
-pub(crate) fn link_of(alloc: Global, path: &Path, text: &Text) -> Result<Work, NoMemory>
-    requires { is_workable (Job.MakeLink path.now text.now) ≡ true }
-    ensures { IfOk result (λ work. (first_work 0 (Job.MakeLink path.now text.now) ≡ Some work) × IsGoing work) }
+fn link_of(alloc: Global, path: &Path, text: &Text) -> Result<Work, NoMemory>
+    requires { is_workable (plan.MakeLink path.now text.now) ≡ true }
+    ensures { IfOk result (λ work. (first_work 0 (plan.MakeLink path.now text.now) ≡ Some work) × IsGoing work) }
 {
     let Some(folder) = path.parent(alloc)? else {
         unreachable!()

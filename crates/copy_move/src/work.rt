@@ -1,7 +1,7 @@
 //! What a job does: it copies a file, or a thing with all that lies in it, deletes a thing with all that lies in it, makes a folder or a
 //! link, or sets a thing's mode. One machine for each.
 ghost use Rattle.std.specs.Prelude.{◌≡◌, false, option_map, true};
-ghost use Rattle.copy_move.specs.Jobs.{IsGoing, at_barrier, is_fresh, kind_of, part_of, path_of, taken_anew as anew, with_skips};
+ghost use Rattle.copy_move.specs.Jobs.{IsGoing, at_barrier, is_fresh, kind_of, part_of, passing_over, path_of, skips_of, taken_anew as anew, with_skips};
 ghost use Rattle.copy_move.specs.Settling.{changed_folder, is_owed_anywhere};
 ghost use Rattle.copy_move.specs.Steps.{WorkSkips, WorkSteps, WorkWindsUp};
 
@@ -11,6 +11,7 @@ use crate::dirty_making::{step_making, wind_up_making};
 use crate::dirty_setting::{step_setting, wind_up_setting};
 use crate::making::ThingMaking;
 use file_copy::{FileCopy, PartTest};
+use job_answers::Skips;
 use job_reports::{Cause, Did, Ending, JobKind, LastStepResult, StepResult};
 use mc_text::Path;
 use mode_setting::ModeSetting;
@@ -79,6 +80,34 @@ impl Work {
             Work::Copy(_) => {}
             Work::CopyTree(copy) => copy.skip_all(cause),
             Work::Delete(deletion) => deletion.skip_all(cause),
+            Work::Make(_) => {}
+            Work::SetMode(_) => {}
+        }
+    }
+
+    /// The kinds of troubles that are passed over without a question.
+    pub(crate) fn skips(&self) -> Skips
+        ensures { result ≡ skips_of self.now }
+    {
+        match self {
+            Work::Copy(_) => Skips::new(),
+            Work::CopyTree(copy) => copy.skips(),
+            Work::Delete(deletion) => deletion.skips(),
+            Work::Make(_) => Skips::new(),
+            Work::SetMode(_) => Skips::new(),
+        }
+    }
+
+    /// Troubles of these kinds are passed over without a question.
+    pub(crate) fn pass_over(&mut self, skips: Skips)
+        requires going { IsGoing self.old }
+        ensures passes { self.new ≡ passing_over skips self.old }
+        ensures going { IsGoing self.new }
+    {
+        match self {
+            Work::Copy(_) => {}
+            Work::CopyTree(copy) => copy.pass_over(skips),
+            Work::Delete(deletion) => deletion.pass_over(skips),
             Work::Make(_) => {}
             Work::SetMode(_) => {}
         }

@@ -119,7 +119,7 @@ ended_traced : IsTraced (log []) ended_entries (stand [] []) synced_log
 ended_traced = (stand [] [], synced_log, finished_traced, record { after = stand [] []; leads = record { after_is = refl; now_is = refl }; stand_is = refl; counts = refl })
 
 abbrev has_finished : (path : Route) → may_change_path (jobs.Copies source target) path ≡ true → HasFinished end synced_entries path
-has_finished path within = record { id = 1; part = None; item = jobs.Copies source target; ended = refl; changed = refl; its = refl; within = within }
+has_finished path within = record { id = 1; item = jobs.Copies source target; ended = refl; changed = refl; its = refl; within = within }
 
 stays_there : (image : FileSystem) → IsCrashImage synced_log 4 image → value_at image target ≡ Some (value shut)
 stays_there image left =

@@ -1,5 +1,5 @@
 -- How a folder is copied that its owner may not change, step by step: it is made, brought onto the disk, given the mode of its source, and synced.
-use Rattle.std.proofs.Common.{◌≡◌, ℕ, ◌≤◌, pos, Bool, true, false, List, [], ◌∷◌, refl, sym, ap, subst, inl, inr, Option, Some, None, arith}
+use Rattle.std.proofs.Common.{◌≡◌, ℕ, ◌≤◌, pos, Bool, true, List, [], ◌∷◌, refl, sym, ap, subst, inl, inr, Option, Some, None, arith}
 use Rattle.std.proofs.lemmas.Bool.{false≢true}
 use Rattle.mc_text.specs.Routes.{Route}
 use Rattle.mc_text.specs.declared.kind.Kind.TheVariants.{Folder}

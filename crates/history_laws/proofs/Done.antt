@@ -1,5 +1,5 @@
--- What a finished job did stays done, in the words of the history: its entry tells of the job that was live then.
-use Rattle.std.proofs.Common.{◌≡◌, ℕ, ◌+◌, Bool, true, false, List, [], ◌∷◌, ◌++◌, length, refl, sym, ◌∙◌, ap, subst, inl, inr, Option, Some, None, arith, append-nil, append_assoc}
+-- What a job did stays done once it is done with a source, in the words of the history: its entry tells of the job that was live then.
+use Rattle.std.proofs.Common.{◌≡◌, ◌⊎◌, ℕ, ◌+◌, Bool, true, false, List, [], ◌∷◌, ◌++◌, length, refl, sym, ◌∙◌, ap, subst, inl, inr, Option, Some, None, arith, append-nil, append_assoc}
 use Rattle.std.specs.Prelude.{is_some, if◌then◌else◌}
 use Rattle.std.proofs.lemmas.Bool.{eq-eqb}
 use Rattle.mc_text.specs.Routes.{Route, same_path}
@@ -10,9 +10,10 @@ use Rattle.tree_trait.specs.Change.{Change, CallLog, current}
 use Rattle.tree_trait.specs.CrashImages.{Among, IsCrashImage, all_settled}
 use Rattle.job_reports.specs.declared.report.Ending.TheVariants.{Finished}
 use Rattle.job_reports.specs.declared.report.Did.TheVariants.{Ended}
+use Rattle.job_reports.specs.declared.job.Job.{Job}
 use Rattle.job_reports.specs.Paths.{folder_of}
 use Rattle.job_reports.specs.Jobs.{Item}
-use Rattle.session_history.specs.declared.history.Event.TheVariants.{Step}
+use Rattle.session_history.specs.declared.history.Event.TheVariants.{Next, Step}
 use Rattle.session_history.specs.declared.history.Entry.{Entry}
 use Rattle.copy_move.specs.Jobs.{Running}
 use Rattle.copy_move.specs.declared.work.Work.{Work}
@@ -21,12 +22,13 @@ use Rattle.copy_move.specs.Steps.{SyncsOwed}
 use Rattle.history_laws.specs.Doubt.{is_unsettled}
 use Rattle.history_laws.specs.Owed.{IsNoMatter, is_own_path}
 use Rattle.session_history.specs.LiveJobs.{LiveJob, live_item, live_jobs}
+use Rattle.session_history.specs.Sources.{IsDoneWith}
 use Rattle.session_history.specs.Named.{has_changed, named_after, named_parts, IsUnnamedSince, names_path}
 use Rattle.history_laws.specs.Replayed.{log_prefix, replayed_tree}
 use Rattle.session_history.specs.Entries.{IsMoment, calls_in}
 use Rattle.history_laws.specs.Safe.{IsPart}
 use Rattle.history_laws.specs.Staying.{DoneLaw, HasFinished, IsNoMatterOf, may_change_path}
-use Rattle.history_laws.specs.Traces.{EventLeads, IsTraced, Stand, StepLeads, WorkLeads}
+use Rattle.history_laws.specs.Traces.{EventLeads, IsJob, IsTraced, Stand, StepLeads, WorkLeads}
 use Rattle.history_laws.proofs.Prefixes.{told_of}
 use Rattle.history_laws.proofs.Going.{only_job}
 use Rattle.history_laws.proofs.Histories.{enters, traced_reached}
@@ -38,6 +40,7 @@ use Rattle.history_laws.proofs.Sources.{item_in, making_item}
 use Rattle.copy_move.specs.declared.new_thing.NewThing.{NewThing}
 use Rattle.copy_move.specs.declared.new_thing.NewThing.TheVariants as thing
 use Rattle.history_laws.proofs.Stepped.{more}
+use Rattle.history_laws.proofs.Turns.{done_with}
 use Rattle.history_laws.proofs.Unnamed.{replayed_since}
 
 -- what is unnamed since an entry is unnamed since those before it, where the entry doesn't name it
@@ -110,14 +113,14 @@ module _ (opening : CallLog) (tree : IsTree (current opening)) (settled : all_se
       let n = enters opening g x.calls was before (traced_reached opening tree settled g was before traced) x.what f.after now f.leads f.counts in
       found_moment path g standing coming was calls before (n.made ++ rest) traced (end_is ∙ (ap (λ (l : CallLog). more l rest) n.now_is ∙ ap (log_of before) (append_assoc before.changes n.made rest))) earlier since
 
-  -- the job that has ended
-  pub record IsEnder (was after : Stand) (before now : CallLog) (part : Option Route) (id : ℕ) (item : Item) (path : Route) : Type 0 where
+  -- the job that is done with a source
+  pub record IsEnder (was after : Stand) (before now : CallLog) (id : ℕ) (item : Item) : Type 0 where
+    pub part : Option Route
     pub job : Running
     pub new : Running
     pub jobs_is : was.jobs ≡ job ∷ []
     pub id_is : job.id ≡ id
     pub works : WorkLeads job (Ended Finished part) new was.dirty after.dirty before now
-    pub within : is_own_path job.work path ≡ true
     pub same : item_in job.work ≡ item
 
   -- the item that the history tells of is that of the live job
@@ -150,36 +153,41 @@ module _ (opening : CallLog) (tree : IsTree (current opening)) (settled : all_se
       by (thing.Link text) = h
   no_matter (SetMode s) log path h = absurd h
 
-  ender : (path : Route) (h : HasFinished e older path) (f : IsFound) → IsEnder f.was f.after f.before f.now h.part h.id h.item path
-  ender path h f = by (subst (λ w. EventLeads f.was w f.after f.before f.now) h.ended f.leads)
+  pub ender : (id : ℕ) (item : Item) → IsDoneWith id e.what → live_item id (live_jobs older) ≡ Some item → (f : IsFound) → IsEnder f.was f.after f.before f.now id item
+  ender id item done tells f = by (done_with id e.what done)
     where
-      of_job : (job new : Running) → WorkLeads job (Ended Finished h.part) new f.was.dirty f.after.dirty f.before f.now → Rattle.history_laws.specs.Traces.IsJob h.id f.was.jobs job → IsEnder f.was f.after f.before f.now h.part h.id h.item path
-      of_job job new works its =
+      of_job : (part : Option Route) (job new : Running) → WorkLeads job (Ended Finished part) new f.was.dirty f.after.dirty f.before f.now → IsJob id f.was.jobs job → IsEnder f.was f.after f.before f.now id item
+      of_job part job new works its =
           let r = traced_reached opening tree settled older f.was f.before f.traced in
-          let one = only_job h.id f.was.jobs job (told_of opening f.before older r.part) f.was.dirty r.marks f.before its r.knows in
-          let same = same_item job (live_jobs older) r.part h.item (subst (λ js. HasLive (live_jobs older) js r.part) one.0 r.live) (subst (λ n. live_item n (live_jobs older) ≡ Some h.item) (sym one.1) h.its) in
+          let one = only_job id f.was.jobs job (told_of opening f.before older r.part) f.was.dirty r.marks f.before its r.knows in
           record {
+            part = part;
             job = job;
             new = new;
             jobs_is = one.0;
             id_is = one.1;
             works = works;
-            within = own_changed job.work path (subst (λ i. may_change_path i path ≡ true) (sym same) h.within);
-            same = same;
+            same = same_item job (live_jobs older) r.part item (subst (λ js. HasLive (live_jobs older) js r.part) one.0 r.live) (subst (λ n. live_item n (live_jobs older) ≡ Some item) (sym one.1) tells);
           }
 
-      none : (job new : Running) (synced : Route) → SyncsOwed job synced (Ended Finished h.part) new f.was.dirty f.after.dirty (Some f.before) (Some f.now) → IsEnder f.was f.after f.before f.now h.part h.id h.item path
-      none job new synced (inl s) = absurd (let is = s.did_is in let no : ⊥ = cc in no)
-      none job new synced (inr s) = absurd (let is = s.did_is in let no : ⊥ = cc in no)
+      none : (part : Option Route) (job new : Running) (synced : Route) → SyncsOwed job synced (Ended Finished part) new f.was.dirty f.after.dirty (Some f.before) (Some f.now) → ⊥
+      none part job new synced (inl s) = let is = s.did_is in let no : ⊥ = cc in no
+      none part job new synced (inr s) = let is = s.did_is in let no : ⊥ = cc in no
 
-      of_step : (job : Running) (after : Option Running) → Rattle.history_laws.specs.Traces.IsJob h.id f.was.jobs job → StepLeads job (Ended Finished h.part) after f.was.dirty f.after.dirty f.before f.now
-          → IsEnder f.was f.after f.before f.now h.part h.id h.item path
-      of_step job after its (inl (new, inl works, after_is)) = of_job job new works its
-      of_step job after its (inl (new, inr syncs, after_is)) = none job new syncs.path syncs.synced
-      of_step job after its (inr (gives, after_is)) = absurd (let is = gives.did_is in let no : ⊥ = cc in no)
+      of_step : (part : Option Route) (job : Running) (after : Option Running) → IsJob id f.was.jobs job → StepLeads job (Ended Finished part) after f.was.dirty f.after.dirty f.before f.now → IsEnder f.was f.after f.before f.now id item
+      of_step part job after its (inl (new, inl works, after_is)) = of_job part job new works its
+      of_step part job after its (inl (new, inr syncs, after_is)) = absurd (none part job new syncs.path syncs.synced)
+      of_step part job after its (inr (gives, after_is)) = absurd (let is = gives.did_is in let no : ⊥ = cc in no)
 
-      by : EventLeads f.was (Step h.id (Ended Finished h.part)) f.after f.before f.now → IsEnder f.was f.after f.before f.now h.part h.id h.item path
-      by s = of_step s.job s.new s.its s.leads
+      ends : (part : Option Route) → EventLeads f.was (Step id (Ended Finished part)) f.after f.before f.now → IsEnder f.was f.after f.before f.now id item
+      ends part s = of_step part s.job s.new s.its s.leads
+
+      turns : (plan : Job) → EventLeads f.was (Next id plan) f.after f.before f.now → IsEnder f.was f.after f.before f.now id item
+      turns plan s = of_job None s.job s.over s.done s.its
+
+      by : ((plan : Job) × (e.what ≡ Next id plan)) ⊎ ((part : Option Route) × (e.what ≡ Step id (Ended Finished part))) → IsEnder f.was f.after f.before f.now id item
+      by (inl (plan, is)) = turns plan (subst (λ w. EventLeads f.was w f.after f.before f.now) is f.leads)
+      by (inr (part, is)) = ends part (subst (λ w. EventLeads f.was w f.after f.before f.now) is f.leads)
 
 module _ (opening now : CallLog) (newest : List Entry) (stand : Stand) (tree : IsTree (current opening)) (settled : all_settled opening.changes ≡ true) (traced : IsTraced opening newest stand now)
     (e : Entry) (older standing coming : List Entry) (calls : ℕ) (path : Route) (image : FileSystem) (h : HasFinished e older path) (bare : names_path e.what path ≡ false) (none : IsNoMatterOf h.item (log_prefix opening (calls_in older) now) path → ⊥)
@@ -194,13 +202,13 @@ module _ (opening now : CallLog) (newest : List Entry) (stand : Stand) (tree : I
   of_unnamed : (Among (named_parts older) path → ⊥) → Holds
   of_unnamed unnamed =
       let f = found in
-      let by = ender opening tree settled now e older path h f in
+      let by = ender opening tree settled now e older h.id h.item h.ended h.its f in
       let n = traced_count opening f.before older f.was f.traced in
       let at_start : log_prefix opening (calls_in older) now ≡ f.before = prefix_is opening now (calls_in older) f.before f.rest f.end_is (omega (arith, n)) in
-      finished_stays_law opening now f.now newest older standing coming f.was stand (let a : Stand = f.after in a.dirty) by.job by.new h.part calls path image tree settled traced
+      finished_stays_law opening now f.now newest older standing coming f.was stand (let a : Stand = f.after in a.dirty) by.job by.new by.part calls path image tree settled traced
       (subst (λ (l : CallLog). IsTraced opening older f.was l) (sym at_start) f.traced)
-      by.jobs_is (subst (λ (l : CallLog). WorkLeads by.job (Ended Finished h.part) by.new (let w : Stand = f.was in w.dirty) (let a : Stand = f.after in a.dirty) l f.now) (sym at_start) by.works)
-      (subst (λ i. has_changed i older ≡ true) (sym by.id_is) h.changed) by.within unnamed
+      by.jobs_is (subst (λ (l : CallLog). WorkLeads by.job (Ended Finished by.part) by.new (let w : Stand = f.was in w.dirty) (let a : Stand = f.after in a.dirty) l f.now) (sym at_start) by.works)
+      (subst (λ i. has_changed i older ≡ true) (sym by.id_is) h.changed) (own_changed opening tree settled now e older by.job.work path (subst (λ i. may_change_path i path ≡ true) (sym by.same) h.within)) unnamed
       (λ matter. none (subst (λ i. IsNoMatterOf i (log_prefix opening (calls_in older) now) path) by.same (no_matter opening tree settled now e older by.job.work (log_prefix opening (calls_in older) now) path matter))) moment (since_before e older standing path bare since) (since_before e older coming path bare later) left
 
   told_same : (replayed_tree opening now (e ∷ older) path) ≡ replayed_tree opening now older path
@@ -218,7 +226,10 @@ module _ (opening now : CallLog) (newest : List Entry) (stand : Stand) (tree : I
   of_gone none sure = holds_since opening now newest (e ∷ older) standing coming stand calls path image tree settled traced moment since later sure (inr none) left ∙ ap (λ (s : Spot). s.value) told_same
 
   still_named : Among (named_parts older) path → Among (named_parts (e ∷ older)) path
-  still_named named = subst (λ w. Among (named_after w (named_parts older)) path) (sym h.ended) named
+  still_named named = elim (done_with h.id e.what h.ended) [
+    | inl turns ↦ subst (λ w. Among (named_after w (named_parts older)) path) (sym turns.1) named
+    | inr ends ↦ subst (λ w. Among (named_after w (named_parts older)) path) (sym ends.1) named
+  ]
 
   by_part : (IsPart (e ∷ older) at_end path → ⊥) → (stands waits : Bool) → is_some (find (current at_end) path) ≡ stands → is_unsettled at_end path ≡ waits → Holds
   by_part no_part true waits stands_is waits_is = of_unnamed (λ named. no_part (record { named = still_named named; stays = inl stands_is }))

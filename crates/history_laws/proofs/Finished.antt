@@ -13,10 +13,11 @@ use Rattle.job_reports.specs.declared.report.Cause.{Cause}
 use Rattle.job_reports.specs.declared.report.Did.{Did}
 use Rattle.job_reports.specs.declared.report.Did.TheVariants.{Began, Chunk, Placed, Removed, Made, Set, Kept, Skipped, Cleaned, Barrier, Troubled, Ended}
 use Rattle.job_reports.specs.Jobs.{Item, folder_changed}
+use Rattle.job_reports.specs.declared.job.Job.{Job}
 use Rattle.job_reports.specs.declared.answer.Answer.{Answer}
 use Rattle.job_reports.specs.declared.answer.Answer.TheVariants.{Retry, Skip, SkipAll, Abort}
 use Rattle.session_history.specs.declared.history.Event.{Event}
-use Rattle.session_history.specs.declared.history.Event.TheVariants.{Key, Look, Sought, Order, Step, Closed}
+use Rattle.session_history.specs.declared.history.Event.TheVariants.{Key, Look, Sought, Order, Step, Next, Closed}
 use Rattle.session_history.specs.declared.history.Event.TheVariants as event
 use Rattle.session_history.specs.declared.history.JobOrder.{JobOrder}
 use Rattle.session_history.specs.declared.history.JobOrder.TheVariants.{Answered}
@@ -32,7 +33,7 @@ use Rattle.tree_copy.specs.Skipping.{retried_at}
 use Rattle.tree_copy.specs.Standing.{Seen, is_fresh}
 use Rattle.tree_copy.specs.Steps.{idle, settled}
 use Rattle.copy_move.specs.declared.work.Work.TheVariants.{Copy, CopyTree, Delete, Make, SetMode}
-use Rattle.copy_move.specs.Jobs.{Running, TellsOn, answered_on, closed_course, closed_job, course_after, first_work, taken_anew, unreported_skip, with_skips}
+use Rattle.copy_move.specs.Jobs.{Running, TellsOn, answered_on, begun_work, closed_course, closed_job, course_after, taken_anew, unreported_skip, with_skips}
 use Rattle.job_reports.specs.Reports.{ends}
 use Rattle.copy_move.specs.Settling.{changed_folder}
 use Rattle.job_reports.specs.Paths.{folder_of, without}
@@ -42,6 +43,7 @@ use Rattle.history_laws.specs.Staying.{may_change}
 use Rattle.session_history.specs.Named.{begins_change, changed_after, has_changed, names}
 use Rattle.session_history.specs.LiveJobs.{live_item, live_jobs}
 use Rattle.session_history.specs.Entries.{is_closed}
+use Rattle.session_history.specs.Sources.{sources_of}
 use Rattle.copy_move.specs.Told.{running}
 use Rattle.history_laws.specs.Traces.{EventLeads, IsTraced, Stand, SyncLeads, WorkLeads, before_others, if_closed, ordered, with_job}
 use Rattle.history_laws.proofs.Beginnings.{calm_stays, folder_stays}
@@ -55,7 +57,8 @@ use Rattle.history_laws.proofs.Sources.{folder_is, folder_same, item_in, tells_s
 use Rattle.history_laws.proofs.Prefixes.{calm_event, calm_told, folders_event, folders_told, told_of}
 use Rattle.history_laws.proofs.Staying.{event_still}
 use Rattle.history_laws.proofs.Stepped.{calm_by, folders_by}
-use Rattle.history_laws.proofs.Unchanged.{first_clean, has_begun, is_tree, step_clean, step_tree}
+use Rattle.history_laws.proofs.Turns.{Turned, begun_clean, one_turned, turned_clean, turned_id, turned_to}
+use Rattle.history_laws.proofs.Unchanged.{has_begun, is_tree, step_clean, step_tree}
 use Rattle.history_laws.proofs.Tidy.{IsGoing, IsTidy, TidyFolder, changed_by, neither, tidy_works}
 
 -- what is kept of the live job
@@ -207,16 +210,26 @@ module _ (opening : CallLog) (tree : IsTree (current opening)) (settled : all_se
     below = λ changed other name up within. ap (λ (l : CallLog). name_waits l (name ∷ up)) none ∙ t.below (sym (same job.id) ∙ changed) other name up within;
   }
 
-  begun_tidy : (g : List Entry) (now : CallLog) (dirty : List Route) (id : ℕ) (o : Option Work) → ((w : Work) → o ≡ Some w → has_begun w ≡ false) → has_changed id g ≡ false → AreTidy opening g now dirty (option_map_or (λ w. running id w ∷ []) o [])
-  begun_tidy g now dirty id None clean unchanged = tt
-  begun_tidy g now dirty id (Some w) clean unchanged = record {
+  -- a job that has changed nothing for the source at which it is
+  fresh_tidy : (g : List Entry) (now : CallLog) (dirty : List Route) (job : Running) → job.course ≡ GoesOn → has_begun job.work ≡ false → has_changed job.id g ≡ false → IsTidyJob opening g now dirty job
+  fresh_tidy g now dirty job goes clean unchanged = record {
     tidy = λ changed going. absurd (both_ways _ unchanged changed);
-    aborted = λ ending e. no_end GoesOn ending tt e;
-    clean = λ none. clean w refl;
+    aborted = λ ending e. no_end GoesOn ending tt (sym goes ∙ e);
+    clean = λ none. clean;
     stands = λ changed. absurd (both_ways _ unchanged changed);
     calm = λ changed other q own. absurd (both_ways _ unchanged changed);
     below = λ changed other name up within. absurd (both_ways _ unchanged changed);
   }
+
+  begun_tidy : (g : List Entry) (now : CallLog) (dirty : List Route) (id : ℕ) (o : Option Work) → ((w : Work) → o ≡ Some w → has_begun w ≡ false) → has_changed id g ≡ false → AreTidy opening g now dirty (option_map_or (λ w. running id w ∷ []) o [])
+  begun_tidy g now dirty id None clean unchanged = tt
+  begun_tidy g now dirty id (Some w) clean unchanged = fresh_tidy g now dirty (running id w) refl (clean w refl) unchanged
+
+  turned_tidy : (e : Entry) (older : List Entry) (now : CallLog) (dirty : List Route) (id : ℕ) (plan : Job) (job next : Running) → e.what ≡ Next id plan → job.id ≡ id → Turned plan job next → IsTidyJob opening (e ∷ older) now dirty next
+  turned_tidy e older now dirty id plan job next is id_is turn =
+      fresh_tidy (e ∷ older) now dirty next (ap (λ (x : Running). x.course) turn.next_is) (turned_clean plan job next turn)
+      (ap (λ w. changed_after next.id w (has_changed next.id older)) is
+      ∙ ap (λ b. if◌then◌else◌ b false (has_changed next.id older)) (eq-eqb id next.id (sym (turned_id plan job next turn ∙ id_is))))
 
   changed_same : (number id : ℕ) (before begins : Bool) → number ≡ id → (before || ((number == id) && begins)) ≡ (before || begins)
   changed_same number id before begins same = ap (λ b. before || (b && begins)) (eq-eqb number id same)
@@ -352,7 +365,11 @@ module _ (opening : CallLog) (tree : IsTree (current opening)) (settled : all_se
           ])
       by (event.Began id plan background) is s t r =
           subst (λ (x : Stand). AreTidy opening (e ∷ older) now x.dirty x.jobs) (sym s.after_is)
-          (begun_tidy (e ∷ older) now was.dirty id (first_work id plan) (first_clean id plan) (ap (λ w. changed_after id w (has_changed id older)) is ∙ ap (λ b. if◌then◌else◌ b false (has_changed id older)) (eq-eqb id id refl)))
+          (begun_tidy (e ∷ older) now was.dirty id (begun_work id (sources_of plan)) (begun_clean id (sources_of plan)) (ap (λ w. changed_after id w (has_changed id older)) is ∙ ap (λ b. if◌then◌else◌ b false (has_changed id older)) (eq-eqb id id refl)))
+      by (Next id plan) is s t r =
+          let one = only_job id was.jobs s.job (told_of opening before older (let x : IsReached opening older was before = r in x.part)) was.dirty r.marks before s.its r.knows in
+          let a : Stand = f.after in
+          subst (λ js. AreTidy opening (e ∷ older) now a.dirty js) (sym (one_turned id was.jobs s.job s.next a.jobs one.0 one.1 s.jobs_is)) (turned_tidy e older now a.dirty id plan s.job s.next is one.1 (turned_to plan s.job s.next s.next_is))
       by (Order id order) is s t r =
           subst (λ (x : Stand). AreTidy opening (e ∷ older) now x.dirty x.jobs) (sym s.after_is)
           (order_tidy (e ∷ older) now was.dirty id order was.jobs (same_tidy e older before now was.dirty was.jobs s.now_is (λ n. ap (λ w. changed_after n w (has_changed n older)) is) (ap (λ w. folders_event w (live_jobs older) (folders_told opening older)) is) (ap (λ w. calm_event w (live_jobs older) (calm_told older)) is) t))

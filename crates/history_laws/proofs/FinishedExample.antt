@@ -127,7 +127,6 @@ still_settled =
 abbrev has_finished : HasFinished end synced_entries another
 has_finished = record {
   id = 2;
-  part = None;
   item = jobs.Removes another;
   ended = refl;
   changed = refl;

@@ -30,7 +30,7 @@ use Rattle.copy_move.specs.Makings.{Making}
 use Rattle.copy_move.specs.Makings as makings
 use Rattle.mode_setting.specs.Settings.{Setting}
 use Rattle.mode_setting.specs.Settings as settings
-use Rattle.copy_move.specs.Jobs.{CallsOn, PassesOver, Running, TellsOn, WorkCalls, WorkTells, answered_on, closed_course, closed_job, course_after, first_work, is_fresh, taken_anew, with_skips}
+use Rattle.copy_move.specs.Jobs.{Running, TellsOn, WorkTells}
 use Rattle.copy_move.specs.Settling.{WorkLeaves, changed_folder, is_own}
 use Rattle.job_reports.specs.Paths.{folder_of}
 use Rattle.copy_move.specs.Steps.{LeavesDirty, Walks, WalksOn}
@@ -93,7 +93,7 @@ done_work (Delete d) (Delete new) (CopyTree next) part dirty dirty_after before 
 done_work (Delete d) (Delete new) (Make next) part dirty dirty_after before after t leaves other tidy q own among = leaves
 done_work (Delete d) (Delete new) (Delete next) part dirty dirty_after before after t leaves other tidy q own among = both_ways _ (leaves.0 q among) own
 
-wound_up : (ending : Ending) (old new : Work) (part : Option Route) → Rattle.copy_move.specs.Jobs.WorkWinds ending old (Ended Finished part) new → Finished ≡ ending
+pub wound_up : (ending : Ending) (old new : Work) (part : Option Route) → Rattle.copy_move.specs.Jobs.WorkWinds ending old (Ended Finished part) new → Finished ≡ ending
 wound_up ending (Copy c) (Copy new) part (none, synced, how_is, part_is, new_is) = how_is
 wound_up ending (Delete d) (Delete new) part (how_is, part_is, path_is, stage_is, skips_is) = how_is
 wound_up ending (Make m) (Make new) part (off, how_is, part_is, new_is) = how_is

@@ -9,23 +9,25 @@ use Rattle.tree_trait.specs.Change.{Change, CallLog, current}
 use Rattle.crash_law.specs.Guarded.{Marks}
 use Rattle.job_reports.specs.declared.report.Cause.{Cause}
 use Rattle.job_reports.specs.declared.report.Did.{Did}
-use Rattle.job_reports.specs.declared.report.Ending.TheVariants.{NoMemory}
+use Rattle.job_reports.specs.declared.report.Ending.TheVariants.{Finished, NoMemory}
 use Rattle.job_reports.specs.declared.report.Did.TheVariants.{Ended}
+use Rattle.job_reports.specs.declared.job.Job.{Job}
 use Rattle.job_reports.specs.declared.answer.Answer.{Answer}
 use Rattle.job_reports.specs.declared.answer.Answer.TheVariants.{Retry, Skip, SkipAll, Abort}
 use Rattle.session_history.specs.declared.history.Event.{Event}
-use Rattle.session_history.specs.declared.history.Event.TheVariants.{Key, Look, Sought, Began, Order, Step, Closed}
+use Rattle.session_history.specs.declared.history.Event.TheVariants.{Key, Look, Sought, Began, Order, Step, Next, Closed}
 use Rattle.session_history.specs.declared.history.JobOrder.{JobOrder}
 use Rattle.session_history.specs.declared.history.JobOrder.TheVariants.{Answered}
 use Rattle.copy_move.specs.declared.run.Course.{Course}
 use Rattle.copy_move.specs.declared.run.Course.TheVariants.{GoesOn, InTrouble, OwedSyncFailed, Skips, Ends}
 use Rattle.copy_move.specs.declared.work.Work.{Work}
 use Rattle.copy_move.specs.declared.work.Work.TheVariants.{Copy, CopyTree, Delete, Make, SetMode}
-use Rattle.copy_move.specs.Jobs.{Running, answered, answered_on, closed_course, closed_job, first_work, taken_anew, with_skips}
+use Rattle.copy_move.specs.Jobs.{Running, answered, answered_on, begun_work, closed_course, closed_job, taken_anew, with_skips}
 use Rattle.copy_move.specs.Told.{running}
-use Rattle.session_history.specs.LiveJobs.{LiveJob, after_event, after_report, live}
-use Rattle.history_laws.specs.Traces.{EventLeads, IsJob, Stand, StepLeads, begun, ordered, unless_ended, with_job}
-use Rattle.history_laws.proofs.JobKnows.{WorkKnows, work_course}
+use Rattle.session_history.specs.LiveJobs.{LiveJob, after_event, after_report, live, turned}
+use Rattle.session_history.specs.Sources.{sources_of}
+use Rattle.history_laws.specs.Traces.{EventLeads, IsJob, Stand, StepLeads, WorkLeads, begun, ordered, unless_ended, with_job}
+use Rattle.history_laws.proofs.JobKnows.{KnowsAfter, WorkKnows, work_course}
 use Rattle.history_laws.proofs.KnownParts.{stage_anew}
 use Rattle.job_answers.specs.Skipping.{kind_in, with_kind}
 use Rattle.history_laws.proofs.TreeKnown.{is_over, skips_kind}
@@ -33,9 +35,10 @@ use Rattle.history_laws.proofs.TreeSkipped.{retries_tree}
 use Rattle.history_laws.proofs.JobLeads.{sync_leads, work_leads}
 use Rattle.history_laws.proofs.JobSteps.{gives_up}
 use Rattle.history_laws.proofs.Knowing.{Said, IsKept}
-use Rattle.history_laws.proofs.Reports.{HasLive, JobsKnow, first_knows, knows_after, live_after, with_one}
-use Rattle.history_laws.proofs.Sources.{IsSame, answer_same, first_item, item_in, tells_same}
+use Rattle.history_laws.proofs.Reports.{HasLive, JobsKnow, knows_after, live_after, with_one}
+use Rattle.history_laws.proofs.Sources.{IsSame, answer_same, item_in, tells_same}
 use Rattle.history_laws.proofs.Stepped.{AreMids, Comes, more, part_after, said_after}
+use Rattle.history_laws.proofs.Turns.{Turned, begun_item, begun_knows, one_turned, turned_id, turned_item, turned_knows, turned_to}
 
 no_more : (log : CallLog) → log ≡ more log []
 no_more log = ap (λ xs. (let l : CallLog = record log { changes = xs } in l)) (sym (append-nil log.changes))
@@ -136,9 +139,10 @@ only_job id (first ∷ other ∷ jobs) job told dirty marks log is k = absurd k
 
 module _ (said : Said) (listed : List LiveJob) (was : Stand) (before : CallLog) (marks : Marks) (kept : IsKept said was.dirty marks before) (knows : JobsKnow said was.dirty marks before was.jobs)
     (is_live : HasLive listed was.jobs said.part) where
-  -- a step says what its report says of the item of the one live job; other events say nothing
+  -- a step says what its report says of the item of the one live job, and so does a job's turn to its next source, as the end of the one before; other events say nothing
   abbrev pub SaidThen : Event → CallLog → Said → Type 0
   SaidThen (Step id did) now said_then = (job : Running) × (was.jobs ≡ job ∷ []) × (job.id ≡ id) × (said_then ≡ said_after now did job.work said)
+  SaidThen (Next id plan) now said_then = (job : Running) × (was.jobs ≡ job ∷ []) × (job.id ≡ id) × (said_then ≡ said_after now (Ended Finished None) job.work said)
   SaidThen (Key key time refusals lost) now said_then = said_then ≡ said
   SaidThen (Look refusals) now said_then = said_then ≡ said
   SaidThen Sought now said_then = said_then ≡ said
@@ -229,8 +233,34 @@ module _ (said : Said) (listed : List LiveJob) (was : Stand) (before : CallLog) 
         ended left =
             ap (after_report id (Ended NoMemory left)) job_live ∙ ap (λ b. if◌then◌else◌ b [] ((let l : LiveJob = record { id = job.id; item = item_in job.work; part = said.part } in l) ∷ [])) (eq-eqb job.id id id_is)
 
+  -- a job goes on with its next source, where one is done
+  turns : (now : CallLog) (id : ℕ) (plan : Job) (job over next : Running) (jobs_is : was.jobs ≡ job ∷ []) (id_is : job.id ≡ id) (dirty_after : List Route) (jobs : List Running)
+      → WorkLeads job (Ended Finished None) over was.dirty dirty_after before now → Turned plan job next → jobs ≡ with_job id (Some next) was.jobs
+      → Goes (Next id plan) (let st : Stand = record { jobs = jobs; dirty = dirty_after } in st) now
+  turns now id plan job over next jobs_is id_is dirty_after jobs done turn is =
+      subst (λ js. Goes (Next id plan) (let st : Stand = record { jobs = js; dirty = dirty_after } in st) now) (sym (one_turned id was.jobs job next jobs jobs_is id_is is)) (record {
+        made = come.made;
+        now_is = come.now_is;
+        mids = come.mids;
+        said_then = ended;
+        then_is = (job, jobs_is, id_is, refl);
+        marks_then = come.marks;
+        kept_then = come.kept;
+        knows_then = turned_knows ended dirty_after come.marks now plan job next refl turn;
+        live_then = ap (λ o. option_map_or (λ item. map (turned id item) listed) o listed) (turned_item plan job next turn)
+            ∙ (ap (map (turned id (item_in next.work))) (job_live now id (Ended Finished None) job jobs_is id_is)
+            ∙ (ap (λ b. (if◌then◌else◌ b (live id (item_in next.work)) (let l : LiveJob = record { id = job.id; item = item_in job.work; part = said.part } in l)) ∷ []) (eq-eqb job.id id id_is)
+            ∙ ap (λ n. live n (item_in next.work) ∷ []) (sym (turned_id plan job next turn ∙ id_is))));
+      })
+    where
+      ended : Said
+      ended = said_after now (Ended Finished None) job.work said
+
+      come : Comes said ended dirty_after before now (KnowsAfter (Ended Finished None) ended dirty_after now over.course over.work)
+      come = work_leads said was.dirty dirty_after marks before now kept job over (Ended Finished None) (job_knows now id (Ended Finished None) job jobs_is id_is) done
+
   -- a job begins
-  begins : (id : ℕ) (plan : Rattle.job_reports.specs.declared.job.Job.Job) (background : Bool) → was.jobs ≡ [] → (o : Option Work) → first_work id plan ≡ o
+  begins : (id : ℕ) (plan : Job) (background : Bool) → was.jobs ≡ [] → (o : Option Work) → begun_work id (sources_of plan) ≡ o
       → Goes (Began id plan background) (record was { jobs = begun id plan }) before
   begins id plan background none o is = record {
     made = [];
@@ -241,7 +271,7 @@ module _ (said : Said) (listed : List LiveJob) (was : Stand) (before : CallLog) 
     marks_then = marks;
     kept_then = kept;
     knows_then = subst (λ x. JobsKnow said was.dirty marks before (option_map_or (λ w. running id w ∷ []) x [])) (sym is) (knows_of o is);
-    live_then = subst (λ x. HasLive (option_map_or (λ i. live id i ∷ listed) x listed) (begun id plan) said.part) (sym (first_item id plan))
+    live_then = subst (λ x. HasLive (option_map_or (λ i. live id i ∷ listed) x listed) (begun id plan) said.part) (sym (begun_item id (sources_of plan)))
         (subst (λ x. HasLive (option_map_or (λ i. live id i ∷ listed) (option_map item_in x) listed) (option_map_or (λ w. running id w ∷ []) x []) said.part) (sym is) (live_of o));
   }
     where
@@ -251,9 +281,9 @@ module _ (said : Said) (listed : List LiveJob) (was : Stand) (before : CallLog) 
       no_live : listed ≡ []
       no_live = subst (λ js. HasLive listed js said.part) none is_live
 
-      knows_of : (o : Option Work) → first_work id plan ≡ o → JobsKnow said was.dirty marks before (option_map_or (λ w. running id w ∷ []) o [])
+      knows_of : (o : Option Work) → begun_work id (sources_of plan) ≡ o → JobsKnow said was.dirty marks before (option_map_or (λ w. running id w ∷ []) o [])
       knows_of None is = no_part
-      knows_of (Some w) is = first_knows said was.dirty marks before no_part id plan w is
+      knows_of (Some w) is = begun_knows said was.dirty marks before no_part id (sources_of plan) w is
 
       live_of : (o : Option Work) → HasLive (option_map_or (λ i. live id i ∷ listed) (option_map item_in o) listed) (option_map_or (λ w. running id w ∷ []) o []) said.part
       live_of None = no_live
@@ -265,7 +295,10 @@ module _ (said : Said) (listed : List LiveJob) (was : Stand) (before : CallLog) 
       stepped now id did s.job one.0 one.1 after.dirty after.jobs s.new s.leads s.jobs_is
   event_goes (Began id plan background) after now s =
       subst (λ (l : CallLog). Goes (Began id plan background) after l) (sym s.now_is)
-      (subst (λ (x : Stand). Goes (Began id plan background) x before) (sym s.after_is) (begins id plan background s.none_live (first_work id plan) refl))
+      (subst (λ (x : Stand). Goes (Began id plan background) x before) (sym s.after_is) (begins id plan background s.none_live (begun_work id (sources_of plan)) refl))
+  event_goes (Next id plan) after now s =
+      let one = only_job id was.jobs s.job said was.dirty marks before s.its knows in
+      turns now id plan s.job s.over s.next one.0 one.1 after.dirty after.jobs s.done (turned_to plan s.job s.next s.next_is) s.jobs_is
   event_goes (Order id order) after now s =
       subst (λ (l : CallLog). Goes (Order id order) after l) (sym s.now_is)
       (subst (λ (x : Stand). Goes (Order id order) x before) (sym s.after_is)

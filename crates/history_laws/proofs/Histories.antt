@@ -13,20 +13,22 @@ use Rattle.crash_law.specs.Steps.{as_it_stands}
 use Rattle.crash_law.proofs.Others.{opening_law}
 use Rattle.crash_law.proofs.Guarding.{found_there}
 use Rattle.job_reports.specs.Jobs.{folder_changed}
+use Rattle.job_reports.specs.declared.job.Job.{Job}
+use Rattle.job_reports.specs.declared.report.Ending.TheVariants.{Finished}
 use Rattle.history_laws.specs.Doubt.{is_pending, way_waits}
 use Rattle.tree_trait.specs.FileSystem.{find}
 use Rattle.job_reports.specs.declared.report.Did.{Did}
 use Rattle.job_reports.specs.declared.report.Did.TheVariants.{Ended}
 use Rattle.job_reports.specs.declared.report.Did.TheVariants as reported
 use Rattle.session_history.specs.declared.history.Event.{Event}
-use Rattle.session_history.specs.declared.history.Event.TheVariants.{Key, Look, Sought, Began, Order, Step, Closed}
+use Rattle.session_history.specs.declared.history.Event.TheVariants.{Key, Look, Sought, Began, Order, Step, Next, Closed}
 use Rattle.session_history.specs.declared.history.Entry.{Entry}
 use Rattle.copy_move.specs.Jobs.{Running}
 use Rattle.session_history.specs.Entries.{is_closed}
 use Rattle.session_history.specs.LiveJobs.{after_event, live_jobs, live_item}
-use Rattle.history_laws.specs.Replayed.{earlier_tree, log_prefix, replayed_step, replayed_tree}
+use Rattle.history_laws.specs.Replayed.{earlier_tree, log_prefix, replayed_event, replayed_step, replayed_tree}
 use Rattle.history_laws.specs.Traces.{EventLeads, Follows, IsTraced, Stand, if_closed}
-use Rattle.history_laws.proofs.Prefixes.{AreWithin, calm_event, calm_told, earlier_more, folders_event, folders_told, replayed_more, said_by, told_of, told_with, within_more}
+use Rattle.history_laws.proofs.Prefixes.{AreWithin, calm_event, calm_told, earlier_more, folders_event, folders_told, replayed_more, said_by, told_more, told_of, told_with, within_more}
 use Rattle.history_laws.proofs.Going.{Goes, closed_know, closed_live, event_goes}
 use Rattle.history_laws.proofs.Knowing.{Said, IsKept, anywhere}
 use Rattle.history_laws.proofs.Pending.{pending_settled, within_settled}
@@ -125,15 +127,21 @@ module _ (opening : CallLog) (older : List Entry) (calls : ℕ) (was : Stand) (b
     item_is : live_item id (live_jobs older) ≡ Some (item_in job.work)
     item_is = ap (live_item id) job_live ∙ ap (λ b. if◌then◌else◌ b (Some (item_in job.work)) None) (eq-eqb job.id id id_is)
 
+    -- the history's tree with the step
+    pub step_view : (made : List Change) → now ≡ more before made
+        → replayed_event (log_prefix opening calls now) (Step id did) (live_jobs older) (replayed_tree opening now older) ≡ replayed_step now did (Some (item_in job.work)) (replayed_tree opening before older)
+    step_view made now_is =
+        let tree : replayed_tree opening now older ≡ replayed_tree opening before older = ap (λ l. replayed_tree opening l older) now_is ∙ replayed_more opening before made older r.within in
+        ap (λ l. replayed_step l did (live_item id (live_jobs older)) (replayed_tree opening now older)) at_end
+        ∙ (ap (λ w. replayed_step now did w (replayed_tree opening now older)) item_is ∙ ap (replayed_step now did (Some (item_in job.work))) tree)
+
     -- what the history says then is what the step comes to
     told_is : (made : List Change) → now ≡ more before made → told_with opening now older calls (Step id did) (part_after did r.part) ≡ said_after now did job.work told
     told_is made now_is =
         let tree : replayed_tree opening now older ≡ replayed_tree opening before older = ap (λ l. replayed_tree opening l older) now_is ∙ replayed_more opening before made older r.within in
         let earlier : earlier_tree opening now older ≡ earlier_tree opening before older = ap (λ l. earlier_tree opening l older) now_is ∙ earlier_more opening before made older r.within in
         ap (λ t. said_by (folders_event (Step id did) (live_jobs older) (folders_told opening older)) (calm_event (Step id did) (live_jobs older) (calm_told older)) t (Rattle.history_laws.specs.Replayed.keeping (Rattle.session_history.specs.Named.changed_by did) (replayed_tree opening now older) (earlier_tree opening now older)) (Rattle.session_history.specs.Named.named_by did (Rattle.session_history.specs.Named.named_parts older)) (part_after did r.part))
-        (ap (λ l. replayed_step l did (live_item id (live_jobs older)) (replayed_tree opening now older)) at_end
-        ∙ (ap (λ w. replayed_step now did w (replayed_tree opening now older)) item_is
-        ∙ ap (replayed_step now did (Some (item_in job.work))) tree))
+        (step_view made now_is)
         ∙ ap (λ t. said_by (folders_event (Step id did) (live_jobs older) (folders_told opening older)) (calm_event (Step id did) (live_jobs older) (calm_told older)) (replayed_step now did (Some (item_in job.work)) (replayed_tree opening before older)) t (Rattle.session_history.specs.Named.named_by did (Rattle.session_history.specs.Named.named_parts older)) (part_after did r.part))
         (ap (λ v. Rattle.history_laws.specs.Replayed.keeping (Rattle.session_history.specs.Named.changed_by did) v (earlier_tree opening now older)) tree
         ∙ ap (Rattle.history_laws.specs.Replayed.keeping (Rattle.session_history.specs.Named.changed_by did) (replayed_tree opening before older)) earlier)
@@ -145,12 +153,19 @@ module _ (opening : CallLog) (older : List Entry) (calls : ℕ) (was : Stand) (b
     stepped after n then_is =
         entered (Step id did) after now (part_after did r.part) n (sym (ap (λ (s : Said). s.part) then_is)) (told_is n.made n.now_is ∙ sym then_is)
 
+  -- a job goes on with its next source
+  turns : (now : CallLog) (id : ℕ) (plan : Job) (job : Running) (after : Stand) (n : Led (Next id plan) after now) → (let x : Led (Next id plan) after now = n in x.said_then) ≡ said_after now (Ended Finished None) job.work told
+      → Entered (Next id plan) after now
+  turns now id plan job after n then_is =
+      entered (Next id plan) after now None n (sym (ap (λ (s : Said). s.part) then_is)) ((ap (λ (l : CallLog). told_of opening l older None) n.now_is ∙ told_more opening before n.made older None r.within) ∙ sym then_is)
+
   pub enters : (what : Event) (after : Stand) (now : CallLog) → EventLeads was what after before now → length now.changes ≡ length opening.changes + calls → Entered what after now
   enters what after now leads counts = by what leads (event_goes told (live_jobs older) was before r.marks r.kept r.knows r.live what after now leads)
     where
       by : (what : Event) → EventLeads was what after before now → Led what after now → Entered what after now
       by (Step id did) s n = let t = n.then_is in stepped now id did counts t.0 t.1 t.2 after n t.3
       by (Began id plan background) s n = quiet (Began id plan background) after now s.now_is n n.then_is refl
+      by (Next id plan) s n = let t = n.then_is in turns now id plan t.0 after n t.3
       by (Order id order) s n = quiet (Order id order) after now s.now_is n n.then_is refl
       by (Key key time refusals lost) s n = quiet (Key key time refusals lost) after now s.now_is n n.then_is refl
       by (Look refusals) s n = quiet (Look refusals) after now s.now_is n n.then_is refl

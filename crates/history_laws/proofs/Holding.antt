@@ -13,7 +13,7 @@ use Rattle.tree_trait.proofs.Visible.{same_path-true}
 use Rattle.crash_law.specs.Guarded.{Marks}
 use Rattle.crash_law.specs.Possible.{IsImage}
 use Rattle.session_history.specs.declared.history.Event.{Event}
-use Rattle.session_history.specs.declared.history.Event.TheVariants.{Key, Look, Sought, Order, Step, Closed}
+use Rattle.session_history.specs.declared.history.Event.TheVariants.{Key, Look, Sought, Order, Step, Next, Closed}
 use Rattle.session_history.specs.declared.history.Event.TheVariants as event
 use Rattle.session_history.specs.declared.history.Entry.{Entry}
 use Rattle.session_history.specs.Entries.{IsMoment, calls_in, is_closed}
@@ -159,6 +159,7 @@ module _ (listed : List LiveJob) (was : Stand) (before : CallLog) (path : Route)
     ap (λ (s : Spot). s.value) (earlier_unnamed did said.tree said.earlier path unnamed) ∙ k.1,
     λ among. k.2 (named_step did said.named path unnamed among),
   )
+  keeps_then (Next id plan) now said_then unnamed (job, jobs_is, id_is, is) = subst (Keeps path v) (sym is) h.keeps
   keeps_then (event.Began id plan background) now said_then unnamed is = subst (Keeps path v) (sym is) h.keeps
   keeps_then (Order id order) now said_then unnamed is = subst (Keeps path v) (sym is) h.keeps
   keeps_then (Key key time refusals lost) now said_then unnamed is = subst (Keeps path v) (sym is) h.keeps

@@ -1,5 +1,5 @@
 -- What is known of a live job's part and target, by where its work stands.
-use Rattle.std.proofs.Common.{◌≡◌, ◌⊎◌, ℕ, ◌≤◌, Bool, true, false, ◌&&◌, ◌||◌, List, ◌∷◌, ◌++◌, refl, sym, ◌∙◌, ap, subst, inl, inr, Option, Some, None, cond}
+use Rattle.std.proofs.Common.{◌≡◌, ◌⊎◌, ℕ, Bool, true, false, ◌&&◌, ◌||◌, List, ◌∷◌, ◌++◌, refl, sym, ◌∙◌, ap, subst, inl, inr, Option, Some, None, cond}
 use Rattle.std.specs.Prelude.{is_some}
 use Rattle.std.proofs.lemmas.Bool.{both_ways}
 use Rattle.mc_text.specs.Routes.{Route}
@@ -122,7 +122,7 @@ work_course told dirty marks log course other (Make w) on over k = k
 work_course told dirty marks log course other (SetMode s) on over k = k
 
 -- a sync, and a call that was refused, leave the tree as it was
-still_same : (log now : CallLog) → IsStill log now → current now ≡ current log
+pub still_same : (log now : CallLog) → IsStill log now → current now ≡ current log
 still_same log now (c, is, how) = ap current is ∙ by c how
   where
     by : (c : Change) → (c ≡ Nothing) ⊎ ((f : ℕ) × (c ≡ Syncs f)) → current (with_change log c) ≡ current log

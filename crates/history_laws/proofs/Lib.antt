@@ -32,6 +32,7 @@ pub mod Finished
 pub mod FinishedExample
 pub mod FinishedPaths
 pub mod FolderExample
+pub mod FolderExampleSteps
 pub mod FoldersEnd
 pub mod FoldersLie
 pub mod FoldersMade
@@ -123,6 +124,7 @@ pub mod TreeTakesLink
 pub mod TreeTells
 pub mod TreeWinds
 pub mod TreeWorks
+pub mod Turns
 pub mod Unchanged
 pub mod Unnamed
 pub mod Untouched

@@ -1,16 +1,16 @@
--- A small session in which a mode is set, so the premises can be met: until the thing itself was synced a crash may bring the old mode back, and
--- once the job is finished none does.
-use Rattle.std.proofs.Common.{◌≡◌, ℕ, pos, true, false, List, [], ◌∷◌, refl, inl, inr, Some, None, true≢false, sym}
+-- A small session in which two files are given a mode, one after the other, so the premises can be met: until the first itself was synced a crash
+-- may bring its old mode back, and once the job has gone on with the second none does.
+use Rattle.std.proofs.Common.{◌≡◌, ℕ, pos, true, false, List, [], ◌∷◌, refl, inl, inr, Some, true≢false, sym}
+use Rattle.mc_text.specs.Routes.{Route}
 use Rattle.tree_trait.specs.declared.file_system.FileSystem.{FileSystem}
 use Rattle.tree_trait.specs.FileSystem.{value, value_at}
 use Rattle.tree_trait.specs.Change.{Change, Sets, Syncs, CallLog}
 use Rattle.tree_trait.specs.CrashImages.{IsCrashImage}
 use Rattle.crash_law.specs.Guarded.{with_mode}
-use Rattle.job_reports.specs.declared.report.Ending.TheVariants.{Finished}
-use Rattle.job_reports.specs.declared.report.Did.TheVariants.{Set, Barrier, Ended}
+use Rattle.job_reports.specs.declared.report.Did.TheVariants.{Set, Barrier}
 use Rattle.job_reports.specs.declared.job.Job.TheVariants as plan
 use Rattle.job_reports.specs.Jobs as jobs
-use Rattle.session_history.specs.declared.history.Event.TheVariants.{Began, Step}
+use Rattle.session_history.specs.declared.history.Event.TheVariants.{Began, Next, Step}
 use Rattle.session_history.specs.declared.history.Entry.{Entry}
 use Rattle.mode_setting.specs.declared.setting.Stage.{Stage}
 use Rattle.mode_setting.specs.declared.setting.Stage.TheVariants.{Give, Sync, Done}
@@ -23,21 +23,24 @@ use Rattle.history_laws.specs.Replayed.{earlier_tree, replayed_tree}
 use Rattle.history_laws.specs.Staying.{HasFinished}
 use Rattle.history_laws.specs.Traces.{IsTraced, nothing_live}
 use Rattle.history_laws.proofs.Done.{done_law}
-use Rattle.history_laws.proofs.Example.{log, small, small_tree, the_file}
+use Rattle.history_laws.proofs.Example.{another, log, small, small_tree, the_file}
 use Rattle.history_laws.proofs.ExampleParts.{entry, file, own_step, stand}
 
--- the job gives the file this mode, in place of 0o644
-abbrev mode : ℕ
+-- the job gives the files this mode, in place of 0o644
+abbrev pub mode : ℕ
 mode = 0o600
 
-abbrev given : Change
+abbrev pub given : Change
 given = Sets 1 mode
 
+abbrev pub gives : Route → Stage → Running
+gives path stage = record { id = 1; work = SetMode (setting path mode stage); course = GoesOn }
+
 abbrev job : Stage → Running
-job stage = record { id = 1; work = SetMode (setting the_file mode stage); course = GoesOn }
+job stage = gives the_file stage
 
 abbrev begun_entries : List Entry
-begun_entries = entry 0 (Began 1 (plan.SetMode (the_file ∷ []) mode) false) ∷ []
+begun_entries = entry 0 (Began 1 (plan.SetMode (the_file ∷ another ∷ []) mode) false) ∷ []
 
 begun_traced : IsTraced (log []) begun_entries (stand (job Give ∷ []) []) (log [])
 begun_traced = (nothing_live, log [], (refl, refl), record { after = stand (job Give ∷ []) []; leads = record { none_live = refl; after_is = refl; now_is = refl }; stand_is = refl; counts = refl })
@@ -65,8 +68,8 @@ in_doubt : (image : FileSystem) × IsCrashImage given_log 1 image × (is_unsettl
     × (value_at image the_file ≡ Some (value file)) × ((replayed_tree (log []) given_log given_entries the_file).value ≡ Some (value (with_mode mode file)))
 in_doubt = (small, inr (refl, (small, refl, refl)), refl, refl, refl, refl)
 
--- the file is synced, and the job is finished
-abbrev synced_entries : List Entry
+-- the file is synced, and the job goes on with the other one
+abbrev pub synced_entries : List Entry
 synced_entries = entry 2 (Step 1 Barrier) ∷ given_entries
 
 abbrev synced_log : CallLog
@@ -83,28 +86,44 @@ synced_traced =
       walks = (1, 0, 0, tt);
     }) refl refl refl
 
-abbrev end : Entry
-end = entry 2 (Step 1 (Ended Finished None))
+abbrev pub turn : Entry
+turn = entry 2 (Next 1 (plan.SetMode (another ∷ []) mode))
 
-abbrev finished_entries : List Entry
-finished_entries = end ∷ synced_entries
+abbrev pub turned_entries : List Entry
+turned_entries = turn ∷ synced_entries
 
-finished_traced : IsTraced (log []) finished_entries (stand [] []) synced_log
-finished_traced =
-    own_step (log []) 1 2 (Ended Finished None) synced_entries (stand (job Done ∷ []) []) (stand [] []) synced_log synced_log (job Done) (job Done) synced_traced (inl (refl, refl))
-    (record {
-      tells = (SetMode (setting the_file mode Done), (refl, refl, refl), refl);
-      called = refl;
-      settled = λ goes fresh. absurd (true≢false (sym fresh));
-      leaves = refl;
-      walks = (0, 0, 0, tt);
-    }) refl refl refl
+pub turned_traced : IsTraced (log []) turned_entries (stand (gives another Give ∷ []) []) synced_log
+turned_traced = (
+  stand (job Done ∷ []) [],
+  synced_log,
+  synced_traced,
+  record {
+    after = stand (gives another Give ∷ []) [];
+    leads = record {
+      job = job Done;
+      its = inl (refl, refl);
+      over = job Done;
+      done = record {
+        tells = (SetMode (setting the_file mode Done), (refl, refl, refl), refl);
+        called = refl;
+        settled = λ goes fresh. absurd (true≢false (sym fresh));
+        leaves = refl;
+        walks = (0, 0, 0, tt);
+      };
+      next = gives another Give;
+      next_is = refl;
+      jobs_is = refl;
+    };
+    stand_is = refl;
+    counts = refl;
+  },
+)
 
-abbrev has_finished : HasFinished end synced_entries the_file
-has_finished = record { id = 1; part = None; item = jobs.Sets the_file mode; ended = refl; changed = refl; its = refl; within = refl }
+abbrev is_done : HasFinished turn synced_entries the_file
+is_done = record { id = 1; item = jobs.Sets the_file mode; ended = refl; changed = refl; its = refl; within = refl }
 
--- then the mode is there after any crash
+-- then the first one's mode is there after any crash
 stays_set : (image : FileSystem) → IsCrashImage synced_log 2 image → value_at image the_file ≡ Some (value (with_mode mode file))
 stays_set image left =
-    done_law (log []) synced_log finished_entries (stand [] []) small_tree refl finished_traced end synced_entries finished_entries finished_entries 2 the_file image has_finished (λ part. part.named) refl (λ matter. matter)
+    done_law (log []) synced_log turned_entries (stand (gives another Give ∷ []) []) small_tree refl turned_traced turn synced_entries turned_entries turned_entries 2 the_file image is_done (λ part. part.named) refl (λ matter. matter)
     (inl (refl, refl, refl)) (inl refl) (inl refl) left

@@ -1,5 +1,5 @@
 -- A path at which no mode waits for a sync waits for none until an entry names it.
-use Rattle.std.proofs.Common.{◌≡◌, ℕ, Bool, true, false, ◌||◌, List, [], ◌∷◌, refl, sym, ◌∙◌, ap, subst, inl, inr, Option, append-nil}
+use Rattle.std.proofs.Common.{◌≡◌, ℕ, Bool, true, false, ◌||◌, List, [], ◌∷◌, refl, sym, ◌∙◌, ap, subst, inl, inr, Option, None, append-nil}
 use Rattle.std.proofs.lemmas.Bool.{both_ways, false_from_ne_true}
 use Rattle.mc_text.specs.Routes.{Route, same_path}
 use Rattle.tree_trait.specs.Shape.{IsTree}
@@ -8,8 +8,9 @@ use Rattle.tree_trait.specs.CrashImages.{Among, all_settled}
 use Rattle.crash_law.specs.Guarded.{Marks}
 use Rattle.job_reports.specs.declared.report.Did.{Did}
 use Rattle.job_reports.specs.declared.report.Did.TheVariants.{Began, Chunk, Placed, Removed, Made, Set, Kept, Skipped, Cleaned, Barrier, Troubled, Ended}
+use Rattle.job_reports.specs.declared.report.Ending.TheVariants.{Finished}
 use Rattle.session_history.specs.declared.history.Event.{Event}
-use Rattle.session_history.specs.declared.history.Event.TheVariants.{Key, Look, Sought, Order, Step, Closed}
+use Rattle.session_history.specs.declared.history.Event.TheVariants.{Key, Look, Sought, Order, Step, Next, Closed}
 use Rattle.session_history.specs.declared.history.Event.TheVariants as event
 use Rattle.session_history.specs.declared.history.Entry.{Entry}
 use Rattle.session_history.specs.Entries.{IsMoment, calls_in}
@@ -105,6 +106,8 @@ module _ (opening : CallLog) (older : List Entry) (was : Stand) (before : CallLo
   event_still (Step id did) after now s unnamed = step_still after.dirty now did s.job s.new (only_job id was.jobs s.job told was.dirty r.marks before s.its r.knows).0 unnamed s.leads
   event_still (event.Began id plan background) after now s unnamed = none_still now s.now_is
   event_still (Order id order) after now s unnamed = none_still now s.now_is
+  event_still (Next id plan) after now s unnamed =
+      step_still after.dirty now (Ended Finished None) s.job None (only_job id was.jobs s.job told was.dirty r.marks before s.its r.knows).0 refl (inl (s.over, inl s.done, refl))
   event_still (Key key time refusals lost) after now s unnamed = none_still now s.now_is
   event_still (Look refusals) after now s unnamed = none_still now s.now_is
   event_still Sought after now s unnamed = none_still now s.now_is
@@ -115,6 +118,7 @@ named_before : (what : Event) (parts : List Route) (path : Route) → names_path
 named_before (Step id did) parts path unnamed among = named_step did parts path unnamed among
 named_before (event.Began id plan background) parts path unnamed among = among
 named_before (Order id order) parts path unnamed among = among
+named_before (Next id plan) parts path unnamed among = among
 named_before (Key key time refusals lost) parts path unnamed among = among
 named_before (Look refusals) parts path unnamed among = among
 named_before Sought parts path unnamed among = among

@@ -37,7 +37,7 @@ use Rattle.session_history.specs.Named.{named_parts}
 use Rattle.session_history.specs.declared.history.Entry.{Entry}
 use Rattle.history_laws.proofs.Histories.{IsReached, traced_reached}
 use Rattle.history_laws.proofs.Intact.{own_folder}
-use Rattle.history_laws.proofs.Knowing.{IsCalmIn, IsKnown, Said, clean_now, mode_waits}
+use Rattle.history_laws.proofs.Knowing.{IsKnown, Said, clean_now, mode_waits}
 use Rattle.history_laws.proofs.Prefixes.{calm_told}
 
 -- a path of which a change waits lies in a dirty folder

@@ -1,6 +1,6 @@
 -- A full part is given its mode, synced, and gets the target's name; or one of these calls is refused.
 use Rattle.std.proofs.Common.{◌≡◌, ◌⊎◌, ℕ, ◌<◌, zero, suc, Bool, true, false, List, [], ◌∷◌, ◌++◌, take, refl, sym, ◌∙◌, ap, subst, inl, inr, Option, Some, None, Ok, arith}
-use Rattle.std.specs.Prelude.{◌==◌, unwrap_or, if◌then◌else◌, ℤ}
+use Rattle.std.specs.Prelude.{◌==◌, unwrap_or, if◌then◌else◌}
 use Rattle.std.specs.Option.{option_map, option_map_or}
 use Rattle.std.proofs.lemmas.Bool.{both_ways, false_from_ne_true, eqb-true, eq-eqb, or_left, or_right}
 use Rattle.std.proofs.Math.Seq.{take-length}

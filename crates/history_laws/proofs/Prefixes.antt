@@ -10,7 +10,7 @@ use Rattle.job_reports.specs.Jobs.{Item, folder_changed}
 use Rattle.tree_trait.specs.FileSystem.{View}
 use Rattle.tree_trait.specs.Change.{Change, CallLog, current}
 use Rattle.session_history.specs.declared.history.Event.{Event}
-use Rattle.session_history.specs.declared.history.Event.TheVariants.{Key, Look, Sought, Order, Step, Closed}
+use Rattle.session_history.specs.declared.history.Event.TheVariants.{Key, Look, Sought, Order, Step, Next, Closed}
 use Rattle.session_history.specs.declared.history.Event.TheVariants as event
 use Rattle.session_history.specs.declared.history.Entry.{Entry}
 use Rattle.session_history.specs.LiveJobs.{LiveJob, live_item, live_jobs}
@@ -29,6 +29,7 @@ folders_event (Look refusals) jobs before = before
 folders_event Sought jobs before = before
 folders_event (event.Began id plan background) jobs before = before
 folders_event (Order id order) jobs before = before
+folders_event (Next id plan) jobs before = before
 folders_event Closed jobs before = before
 
 -- after these entries: those that stood at the opening, too
@@ -44,6 +45,7 @@ calm_event (Look refusals) jobs before = before
 calm_event Sought jobs before = before
 calm_event (event.Began id plan background) jobs before = before
 calm_event (Order id order) jobs before = before
+calm_event (Next id plan) jobs before = before
 calm_event Closed jobs before = before
 
 -- after these entries: at the opening none waits
@@ -136,6 +138,7 @@ folders_more (Look refusals) jobs before p unnamed h = h
 folders_more Sought jobs before p unnamed h = h
 folders_more (event.Began id plan background) jobs before p unnamed h = h
 folders_more (Order id order) jobs before p unnamed h = h
+folders_more (Next id plan) jobs before p unnamed h = h
 folders_more Closed jobs before p unnamed h = h
 
 pub folders_since : (opening : CallLog) (older g : List Entry) (p : Route) → IsUnnamedSince older p g → folders_told opening older p ≡ true → folders_told opening g p ≡ true

@@ -1,6 +1,6 @@
 -- A path of which no change waits for a sync waits for none until an entry names it: each step is asked with what waits before it.
 use Rattle.std.proofs.Common.{◌≡◌, ℕ, ◌+◌, ◌≤◌, Bool, true, false, ◌||◌, List, [], ◌∷◌, ◌++◌, length, refl, sym, ◌∙◌, ap, subst, inl, inr, Option, Some, None, arith, append_assoc, append-nil}
-use Rattle.std.specs.Prelude.{◌==◌, if◌then◌else◌}
+use Rattle.std.specs.Prelude.{◌==◌, if◌then◌else◌, map}
 use Rattle.std.specs.Option.{option_map_or}
 use Rattle.std.proofs.lemmas.Bool.{true≢false, both_ways, false_from_ne_true}
 use Rattle.mc_text.specs.Routes.{Route, same_path}
@@ -12,18 +12,20 @@ use Rattle.job_reports.specs.Jobs.{Item, item_of}
 use Rattle.crash_law.specs.Guarded.{Marks}
 use Rattle.job_reports.specs.declared.report.Did.{Did}
 use Rattle.job_reports.specs.declared.report.Did.TheVariants.{Began, Chunk, Placed, Removed, Made, Set, Kept, Skipped, Cleaned, Barrier, Troubled, Ended}
+use Rattle.job_reports.specs.declared.report.Ending.TheVariants.{Finished}
 use Rattle.session_history.specs.declared.history.Event.{Event}
-use Rattle.session_history.specs.declared.history.Event.TheVariants.{Key, Look, Sought, Order, Step, Closed}
+use Rattle.session_history.specs.declared.history.Event.TheVariants.{Key, Look, Sought, Order, Step, Next, Closed}
 use Rattle.session_history.specs.declared.history.Event.TheVariants as event
 use Rattle.session_history.specs.declared.history.Entry.{Entry}
 use Rattle.copy_move.specs.declared.run.Course.{Course}
 use Rattle.copy_move.specs.declared.work.Work.{Work}
 use Rattle.copy_move.specs.Jobs.{Running}
 use Rattle.history_laws.specs.Doubt.{name_waits, node_waits}
-use Rattle.session_history.specs.LiveJobs.{IsLivePart, LiveJob, after_event, after_report, live, live_jobs, part_after}
+use Rattle.session_history.specs.LiveJobs.{IsLivePart, LiveJob, after_event, after_report, live, live_jobs, part_after, turned}
 use Rattle.history_laws.specs.Replayed.{log_prefix}
 use Rattle.session_history.specs.Entries.{IsMoment, calls_in}
 use Rattle.session_history.specs.Named.{IsUnnamedSince, names, names_path}
+use Rattle.session_history.specs.Sources.{first_item}
 use Rattle.history_laws.specs.Traces.{EventLeads, IsTraced, Stand, StepLeads}
 use Rattle.history_laws.proofs.Prefixes.{told_of}
 use Rattle.history_laws.proofs.Going.{only_job}
@@ -160,6 +162,8 @@ module _ (opening : CallLog) (older : List Entry) (was : Stand) (before : CallLo
   event_still (Step id did) after now s unnamed = step_still after.dirty now did s.job s.new (only_job id was.jobs s.job told was.dirty r.marks before s.its r.knows).0 unnamed s.leads
   event_still (event.Began id plan background) after now s unnamed = none_still now s.now_is
   event_still (Order id order) after now s unnamed = none_still now s.now_is
+  event_still (Next id plan) after now s unnamed =
+      step_still after.dirty now (Ended Finished None) s.job None (only_job id was.jobs s.job told was.dirty r.marks before s.its r.knows).0 refl (inl (s.over, inl s.done, refl))
   event_still (Key key time refusals lost) after now s unnamed = none_still now s.now_is
   event_still (Look refusals) after now s unnamed = none_still now s.now_is
   event_still Sought after now s unnamed = none_still now s.now_is
@@ -215,10 +219,25 @@ module _ (path : Route) where
   begun_part id jobs (Some item) (found, inl same, is) = let e : (let o : Option Route = None in o) ≡ Some path = ap (λ (l : LiveJob). l.part) (sym same) ∙ is in absurd (let f : ⊥ = cc in f)
   begun_part id jobs (Some item) (found, inr among, is) = (found, among, is)
 
+  -- no part of a source stands before it is worked
+  turned_among : (id : ℕ) (item : Item) (jobs : List LiveJob) → IsLivePart (map (turned id item) jobs) path → IsLivePart jobs path
+  turned_among id item [] h = h
+  turned_among id item (job ∷ jobs) (found, inl same, is) = by (job.id == id) (ap (λ (l : LiveJob). l.part) (sym same) ∙ is)
+    where
+      by : (b : Bool) → (let l : LiveJob = if◌then◌else◌ b (live id item) job in l.part) ≡ Some path → IsLivePart (job ∷ jobs) path
+      by true none = absurd (let f : ⊥ = cc in f)
+      by false is = (job, inl refl, is)
+  turned_among id item (job ∷ jobs) (found, inr among, is) = let k = turned_among id item jobs (found, among, is) in (k.0, inr k.1, k.2)
+
+  turned_part : (id : ℕ) (jobs : List LiveJob) (o : Option Item) → IsLivePart (option_map_or (λ item. map (turned id item) jobs) o jobs) path → IsLivePart jobs path
+  turned_part id jobs None h = h
+  turned_part id jobs (Some item) h = turned_among id item jobs h
+
   pub event_part : (what : Event) (jobs : List LiveJob) → names_path what path ≡ false → IsLivePart (after_event what jobs) path → IsLivePart jobs path
   event_part (Step id did) jobs unnamed h = report_part id did jobs unnamed h
-  event_part (event.Began id plan background) jobs unnamed h = begun_part id jobs (item_of plan) h
+  event_part (event.Began id plan background) jobs unnamed h = begun_part id jobs (first_item plan) h
   event_part (Order id order) jobs unnamed h = h
+  event_part (Next id plan) jobs unnamed h = turned_part id jobs (item_of plan) h
   event_part (Key key time refusals lost) jobs unnamed h = h
   event_part (Look refusals) jobs unnamed h = h
   event_part Sought jobs unnamed h = h

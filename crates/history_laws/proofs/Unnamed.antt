@@ -10,7 +10,7 @@ use Rattle.job_reports.specs.declared.report.Did.{Did}
 use Rattle.job_reports.specs.declared.report.Did.TheVariants.{Began, Chunk, Placed, Removed, Made, Set, Kept, Skipped, Cleaned, Barrier, Troubled, Ended}
 use Rattle.job_reports.specs.Jobs.{Item, Copies, Removes, Makes, MakesLink, Sets}
 use Rattle.session_history.specs.declared.history.Event.{Event}
-use Rattle.session_history.specs.declared.history.Event.TheVariants.{Key, Look, Sought, Order, Step, Closed}
+use Rattle.session_history.specs.declared.history.Event.TheVariants.{Key, Look, Sought, Order, Step, Next, Closed}
 use Rattle.session_history.specs.declared.history.Event.TheVariants as event
 use Rattle.session_history.specs.declared.history.Entry.{Entry}
 use Rattle.session_history.specs.LiveJobs.{LiveJob, live_jobs, live_item}
@@ -55,6 +55,7 @@ event_unnamed : (log : CallLog) (what : Event) (jobs : List LiveJob) (v : View) 
 event_unnamed log (Step id did) jobs v path unnamed = step_unnamed log did (live_item id jobs) v path unnamed
 event_unnamed log (event.Began id plan background) jobs v path unnamed = refl
 event_unnamed log (Order id order) jobs v path unnamed = refl
+event_unnamed log (Next id plan) jobs v path unnamed = refl
 event_unnamed log (Key key time refusals lost) jobs v path unnamed = refl
 event_unnamed log (Look refusals) jobs v path unnamed = refl
 event_unnamed log Sought jobs v path unnamed = refl

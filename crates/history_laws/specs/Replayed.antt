@@ -11,7 +11,7 @@ use Rattle.job_reports.specs.declared.report.Did.TheVariants.{Began, Chunk, Plac
 use Rattle.session_history.specs.Named.{changed_by}
 use Rattle.file_copy.specs.Copied.{copied}
 use Rattle.session_history.specs.declared.history.Event.{Event}
-use Rattle.session_history.specs.declared.history.Event.TheVariants.{Key, Look, Sought, Order, Step, Closed}
+use Rattle.session_history.specs.declared.history.Event.TheVariants.{Key, Look, Sought, Order, Step, Next, Closed}
 use Rattle.session_history.specs.declared.history.Event.TheVariants as event
 use Rattle.session_history.specs.declared.history.Entry.{Entry}
 use Rattle.job_reports.specs.Jobs.{Item, Copies, Removes, Makes, MakesLink, Sets, new_folder_mode}
@@ -110,6 +110,7 @@ replayed_event log (Look refusals) jobs v = v
 replayed_event log Sought jobs v = v
 replayed_event log (event.Began id plan background) jobs v = v
 replayed_event log (Order id order) jobs v = v
+replayed_event log (Next id plan) jobs v = v
 replayed_event log Closed jobs v = v
 
 -- the tree that can be seen after these entries, from the opening, over a tree that has come to this log
@@ -128,6 +129,7 @@ earlier_event (Look refusals) v before = before
 earlier_event Sought v before = before
 earlier_event (event.Began id plan background) v before = before
 earlier_event (Order id order) v before = before
+earlier_event (Next id plan) v before = before
 earlier_event Closed v before = before
 
 -- what each path showed before it was placed, removed, made or given a mode last; what none was stays as at the opening

@@ -10,13 +10,13 @@ use Rattle.tree_trait.specs.CrashImages.{Among, all_settled, IsCrashImage}
 use Rattle.job_reports.specs.declared.report.Did.TheVariants.{Ended}
 use Rattle.job_reports.specs.declared.report.Ending.TheVariants.{Finished}
 use Rattle.job_reports.specs.Paths.{folder_of}
-use Rattle.session_history.specs.declared.history.Event.TheVariants.{Step}
 use Rattle.session_history.specs.declared.history.Entry.{Entry}
 use Rattle.job_reports.specs.Jobs.{Item, Copies, Removes, Makes, MakesLink, Sets}
 use Rattle.copy_move.specs.Jobs.{Running}
 use Rattle.history_laws.specs.Owed.{IsNoMatter, is_own_path}
 use Rattle.history_laws.specs.Doubt.{IsMountInDoubt, name_waits, node_waits}
 use Rattle.session_history.specs.LiveJobs.{IsLivePart, live_jobs, live_item}
+use Rattle.session_history.specs.Sources.{IsDoneWith}
 use Rattle.session_history.specs.Named.{has_changed, named_parts, names_path, IsUnnamedSince}
 use Rattle.history_laws.specs.Replayed.{log_prefix, replayed_tree}
 use Rattle.session_history.specs.Entries.{IsMoment, calls_in}
@@ -66,18 +66,17 @@ abbrev pub IsNoMatterOf : Item → CallLog → Route → Type 0
 IsNoMatterOf (Sets thing mode) log path = ⊥
 IsNoMatterOf item log path = IsMountInDoubt log path
 
--- This entry, after the older ones, is the report of a job that it is finished, which has changed something, and which may have changed
--- this path.
+-- This entry, after the older ones, tells of a job that it is done with a source: it is finished, or goes on with the next one. There it has changed
+-- something, and it may have changed this path.
 pub record HasFinished (e : Entry) (older : List Entry) (path : Route) : Type 0 where
   pub id : ℕ
-  pub part : Option Route
   pub item : Item
-  pub ended : e.what ≡ Step id (Ended Finished part)
+  pub ended : IsDoneWith id e.what
   pub changed : has_changed id older ≡ true
   pub its : live_item id (live_jobs older) ≡ Some item
   pub within : may_change_path item path ≡ true
 
--- The same in the words of the history alone: once a job that has changed something has reported that it is finished, each
+-- The same in the words of the history alone: once a job that has changed something is done with a source, each
 -- path of its own holds after a crash at any later moment, inside a call too, what the history said then, until an entry
 -- names it; but for a part that still stood there then or whose last change wasn't on the disk, and a part that its end names. So a
 -- finished copy leaves none of the parts that it made, nothing that a finished deletion removed comes back, also where its folder

@@ -5,22 +5,23 @@ use Rattle.std.specs.Option.{option_map_or}
 use Rattle.mc_text.specs.Routes.{Route}
 use Rattle.tree_trait.specs.Change.{CallLog, current}
 use Rattle.tree_trait.specs.CrashImages.{Among}
-use Rattle.job_reports.specs.declared.report.Ending.TheVariants.{NoMemory}
+use Rattle.job_reports.specs.declared.report.Ending.TheVariants.{Finished, NoMemory}
 use Rattle.job_reports.specs.declared.report.Did.{Did}
 use Rattle.job_reports.specs.declared.report.Did.TheVariants.{Ended}
 use Rattle.job_reports.specs.declared.job.Job.{Job}
+use Rattle.session_history.specs.Sources.{sources_of}
 use Rattle.session_history.specs.declared.history.Event.{Event}
-use Rattle.session_history.specs.declared.history.Event.TheVariants.{Key, Look, Sought, Began, Order, Step, Closed}
+use Rattle.session_history.specs.declared.history.Event.TheVariants.{Key, Look, Sought, Began, Order, Step, Next, Closed}
 use Rattle.session_history.specs.declared.history.JobOrder.{JobOrder}
 use Rattle.session_history.specs.declared.history.JobOrder.TheVariants.{Answered}
 use Rattle.session_history.specs.declared.history.Entry.{Entry}
 use Rattle.copy_move.specs.declared.run.Course.TheVariants.{GoesOn}
-use Rattle.copy_move.specs.Jobs.{Running, JobTells, JobCalls, answered, closed_job, first_work, is_fresh, part_of}
+use Rattle.copy_move.specs.Jobs.{Running, JobTells, JobCalls, answered, begun_work, closed_job, is_fresh, part_of}
 use Rattle.job_reports.specs.Reports.{ends}
 use Rattle.copy_move.specs.Settling.{NoneOwed}
 use Rattle.copy_move.specs.Steps.{LeavesDirty, SyncsOwed, WalksOn}
 use Rattle.session_history.specs.Entries.{is_closed}
-use Rattle.copy_move.specs.Told.{running}
+use Rattle.copy_move.specs.Told.{running, turned}
 
 -- where a session stands: its live jobs, and the folders with a change of names that no sync has brought onto the disk
 pub record Stand : Type 0 where
@@ -81,7 +82,7 @@ StepLeads job did after dirty dirty_after log now =
 
 -- the job that a plan begins
 abbrev pub begun : ℕ → Job → List Running
-begun id plan = option_map_or (λ work. running id work ∷ []) (first_work id plan) []
+begun id plan = option_map_or (λ work. running id work ∷ []) (begun_work id (sources_of plan)) []
 
 -- an order to the job with this number
 abbrev pub ordered : ℕ → JobOrder → Running → Running
@@ -94,6 +95,17 @@ pub record JobSteps (was : Stand) (id : ℕ) (did : Did) (after : Stand) (log no
   pub new : Option Running
   pub leads : StepLeads job did new was.dirty after.dirty log now
   pub jobs_is : after.jobs ≡ with_job id new was.jobs
+
+-- The live job with this number is done with one of its sources, as its step would report at the job's end, and stands at the next one then,
+-- of which this is the plan.
+pub record JobTurns (was : Stand) (id : ℕ) (plan : Job) (after : Stand) (log now : CallLog) : Type 0 where
+  pub job : Running
+  pub its : IsJob id was.jobs job
+  pub over : Running
+  pub done : WorkLeads job (Ended Finished None) over was.dirty after.dirty log now
+  pub next : Running
+  pub next_is : turned plan job ≡ Some next
+  pub jobs_is : after.jobs ≡ with_job id (Some next) was.jobs
 
 -- a plan begins a job, where none is live
 pub record JobBegins (was : Stand) (id : ℕ) (plan : Job) (after : Stand) (log now : CallLog) : Type 0 where
@@ -109,6 +121,7 @@ pub record StandsAt (stand after : Stand) (log now : CallLog) : Type 0 where
 -- What an event says of where the session stands and of the tree's calls. Today one job is live at a time.
 abbrev pub EventLeads : Stand → Event → Stand → CallLog → CallLog → Type 0
 EventLeads was (Step id did) after log now = JobSteps was id did after log now
+EventLeads was (Next id plan) after log now = JobTurns was id plan after log now
 EventLeads was (Began id plan background) after log now = JobBegins was id plan after log now
 EventLeads was (Order id order) after log now = StandsAt (record was { jobs = map (ordered id order) was.jobs }) after log now
 EventLeads was (Key key time refusals lost) after log now = StandsAt was after log now

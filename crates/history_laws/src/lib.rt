@@ -29,7 +29,7 @@ pub fn what_a_first_change_leaves_in_doubt()
     ensures { FirstChangeLaw }
 {}
 
-/// The same in the words of the history alone: where a report of a job's first change stands, nothing on its mount is in doubt
+/// The same in the words of the history alone: where a report of a job's first change for one of its sources stands, nothing on its mount is in doubt
 /// but what that report names.
 pub fn what_a_first_change_calms()
     ensures { CalmLaw }
@@ -51,7 +51,7 @@ pub fn what_a_finished_job_did_stays()
     ensures { FinishedStaysLaw }
 {}
 
-/// The same in the words of the history alone, once the job has reported that it is finished.
+/// The same in the words of the history alone, once the job is done with a source: it goes on with the next one, or has reported that it is finished.
 pub fn what_was_finished_stays()
     ensures { DoneLaw }
 {}

@@ -10,27 +10,28 @@ use Rattle.job_boxes.specs.declared.job_box.JobBox.{JobBox}
 use Rattle.job_boxes.specs.declared.job_box.JobBox.TheVariants as box
 use Rattle.job_boxes.specs.declared.job_box.Surroundings.{Surroundings}
 
--- A box that asks whether to delete a thing, asks for the source mask of a copy or, with that mask, for its destination, for a new folder,
--- for what a new link is to say or, with that, for its name, or for a thing's mode, or tells of a job's trouble.
+-- A box that asks whether to delete things, asks for the source mask of a copy or, with that mask, for its destination, for a new folder,
+-- for what a new link is to say or, with that, for its name, or for the mode of things, or tells of a job's trouble. Of one thing alone the boxes
+-- of a copy keep its kind.
 pub data JobBoxState : Type 0 where
-  DeleteBox : (path : Route) → JobBoxState
-  MaskBox : (kind : Kind) → (path : Route) → (typed : InputState) → JobBoxState
-  TargetBox : (kind : Kind) → (path : Route) → (mask : List ℕ) → (typed : InputState) → JobBoxState
+  DeleteBox : (paths : List Route) → JobBoxState
+  MaskBox : (kind : Option Kind) → (paths : List Route) → (typed : InputState) → JobBoxState
+  TargetBox : (kind : Option Kind) → (paths : List Route) → (mask : List ℕ) → (typed : InputState) → JobBoxState
   FolderBox : (typed : InputState) → JobBoxState
   LinkTextBox : (typed : InputState) → JobBoxState
   LinkNameBox : (text : List ℕ) → (typed : InputState) → JobBoxState
-  NewModeBox : (path : Route) → (asked : ModeState) → JobBoxState
+  NewModeBox : (paths : List Route) → (asked : ModeState) → JobBoxState
   TroubleBox : (trouble : Trouble) → JobBoxState
 
 -- a box as it is seen
 abbrev pub seen : JobBox → JobBoxState
-seen (box.Delete chosen) = DeleteBox chosen.path
-seen (box.SourceMask chosen typed) = MaskBox chosen.kind chosen.path typed
-seen (box.CopyTo source typed) = TargetBox source.chosen.kind source.chosen.path source.mask typed
+seen (box.Delete chosen) = DeleteBox chosen.paths
+seen (box.SourceMask chosen typed) = MaskBox chosen.kind chosen.paths typed
+seen (box.CopyTo source typed) = TargetBox source.chosen.kind source.chosen.paths source.mask typed
 seen (box.MakeFolder typed) = FolderBox typed
 seen (box.LinkText typed) = LinkTextBox typed
 seen (box.LinkName text typed) = LinkNameBox text typed
-seen (box.Mode chosen asked) = NewModeBox chosen.path asked
+seen (box.Mode chosen asked) = NewModeBox chosen.paths asked
 seen (box.Trouble trouble) = TroubleBox trouble
 
 -- what a box goes by besides the tree: the live jobs, the folders of the current panel and of the other one, and HOME

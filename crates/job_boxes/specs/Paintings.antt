@@ -1,4 +1,5 @@
 -- How the boxes are painted over a screen.
+use Rattle.std.specs.Prelude.{length}
 use Rattle.key_screen.specs.Grids.{CellGrid}
 use Rattle.mc_dialogs.specs.Boxes.{with_box}
 use Rattle.mc_dialogs.specs.InputField.{with_input}
@@ -8,11 +9,11 @@ use Rattle.box_words.specs.BoxLines.{delete_lines, trouble_lines}
 use Rattle.job_boxes.specs.JobBoxes.{JobBoxState, DeleteBox, MaskBox, TargetBox, FolderBox, LinkTextBox, LinkNameBox, NewModeBox, TroubleBox}
 
 abbrev pub with_job_box : JobBoxState → CellGrid → CellGrid
-with_job_box (DeleteBox path) grid = with_box grid (plain_lines delete_lines)
-with_job_box (MaskBox kind path typed) grid = with_input grid typed
-with_job_box (TargetBox kind path mask typed) grid = with_input grid typed
+with_job_box (DeleteBox paths) grid = with_box grid (plain_lines (delete_lines (length paths)))
+with_job_box (MaskBox kind paths typed) grid = with_input grid typed
+with_job_box (TargetBox kind paths mask typed) grid = with_input grid typed
 with_job_box (FolderBox typed) grid = with_input grid typed
 with_job_box (LinkTextBox typed) grid = with_input grid typed
 with_job_box (LinkNameBox text typed) grid = with_input grid typed
-with_job_box (NewModeBox path asked) grid = with_box grid (mode_lines asked)
+with_job_box (NewModeBox paths asked) grid = with_box grid (mode_lines asked)
 with_job_box (TroubleBox trouble) grid = with_box grid (plain_lines (trouble_lines trouble))

@@ -7,7 +7,7 @@ use Rattle.tree_trait.specs.Change.{CallLog}
 use Rattle.key_screen.specs.declared.keys.Key.{Key}
 use Rattle.job_reports.specs.declared.job.Job.{Job}
 use Rattle.job_reports.specs.declared.row.JobRow.{JobRow}
-use Rattle.job_reports.specs.Jobs.{is_workable}
+use Rattle.session_history.specs.Sources.{are_workable}
 use Rattle.session_history.specs.declared.refusal.BeginError.TheVariants.{Full}
 use Rattle.session_history.specs.declared.refusal.Refusal.{Refusal}
 use Rattle.session_history.specs.declared.refusal.Refusal.TheVariants.{Begin}
@@ -64,17 +64,17 @@ OpensBox box (Begins job) = ⊥
 OpensBox box (Answers answer) = ⊥
 OpensBox box (Refuses refusal) = ⊥
 
--- whether to delete a thing
-abbrev pub delete_answer : List JobRow → Route → DeleteReply → JobReply
-delete_answer rows path delete.Stays = Stays
-delete_answer rows path delete.Shuts = Shuts
-delete_answer rows path delete.Deletes = begun_alone rows (delete_plan path)
+-- whether to delete things
+abbrev pub delete_answer : List JobRow → List Route → DeleteReply → JobReply
+delete_answer rows paths delete.Stays = Stays
+delete_answer rows paths delete.Shuts = Shuts
+delete_answer rows paths delete.Deletes = begun_alone rows (delete_plan paths)
 
 -- the source mask: with any mask that is typed the destination is asked for, at first the folder of the other panel
-abbrev pub MaskLeads : LineReply → Kind → Route → Route → JobReply → Type 0
-MaskLeads line.Stays kind path other reply = reply ≡ Stays
-MaskLeads line.Shuts kind path other reply = reply ≡ Shuts
-MaskLeads (line.Takes text) kind path other reply = OpensBox (TargetBox kind path text (target_line other)) reply
+abbrev pub MaskLeads : LineReply → Option Kind → List Route → Route → JobReply → Type 0
+MaskLeads line.Stays kind paths other reply = reply ≡ Stays
+MaskLeads line.Shuts kind paths other reply = reply ≡ Shuts
+MaskLeads (line.Takes text) kind paths other reply = OpensBox (TargetBox kind paths text (target_line other)) reply
 
 -- what a new link is to say: with any text that is typed its name is asked for
 abbrev pub LinkTextLeads : LineReply → JobReply → Type 0
@@ -89,10 +89,10 @@ PathLeads line.Shuts rows Leads reply = reply ≡ Shuts
 PathLeads (line.Takes text) rows Leads reply = PlansAlone rows (Leads text) reply
 
 -- a mode
-abbrev pub mode_answer : List JobRow → Route → ModeReply → JobReply
-mode_answer rows path asked.Stays = Stays
-mode_answer rows path asked.Shuts = Shuts
-mode_answer rows path (asked.Takes mode) = begun_alone rows (mode_plan path mode)
+abbrev pub mode_answer : List JobRow → List Route → ModeReply → JobReply
+mode_answer rows paths asked.Stays = Stays
+mode_answer rows paths asked.Shuts = Shuts
+mode_answer rows paths (asked.Takes mode) = begun_alone rows (mode_plan paths mode)
 
 -- a trouble, which is answered where the live job can be answered so
 abbrev pub trouble_answer : List JobRow → TroubleReply → JobReply
@@ -103,13 +103,13 @@ trouble_answer rows (trouble.Gives answer) = if can_answer rows answer then Answ
 -- KEYS
 
 -- What a key comes to in a box. A typed path leads from the folder of the current panel, with HOME in place of a tilde: the copy's destination,
--- of a thing that matches the mask, the new folder's path, and that of the link with its text.
+-- of those things that match the mask, the new folder's path, and that of the link with its text.
 abbrev pub BoxLeads : JobBoxState → Option CallLog → Around → Key → JobReply → Type 0
-BoxLeads (DeleteBox path) contents around key reply = reply ≡ delete_answer around.rows path (delete_reply_to key)
-BoxLeads (MaskBox kind path typed) contents around key reply = MaskLeads (line_reply (input_shut typed key)) kind path around.other reply
-BoxLeads (TargetBox kind path mask typed) contents around key reply =
+BoxLeads (DeleteBox paths) contents around key reply = reply ≡ delete_answer around.rows paths (delete_reply_to key)
+BoxLeads (MaskBox kind paths typed) contents around key reply = MaskLeads (line_reply (input_shut typed key)) kind paths around.other reply
+BoxLeads (TargetBox kind paths mask typed) contents around key reply =
     PathLeads (line_reply (input_shut typed key)) around.rows
-    (λ text planned. CopyLeads contents kind path mask around.current (with_home around.home text) planned) reply
+    (λ text planned. CopyLeads contents kind paths mask around.current (with_home around.home text) planned) reply
 BoxLeads (FolderBox typed) contents around key reply =
     PathLeads (line_reply (input_shut typed key)) around.rows
     (λ text planned. FolderLeads contents around.current (with_home around.home text) planned) reply
@@ -117,18 +117,18 @@ BoxLeads (LinkTextBox typed) contents around key reply = LinkTextLeads (line_rep
 BoxLeads (LinkNameBox text typed) contents around key reply =
     PathLeads (line_reply (input_shut typed key)) around.rows
     (λ name planned. LinkLeads contents around.current (with_home around.home name) text planned) reply
-BoxLeads (NewModeBox path typed) contents around key reply = reply ≡ mode_answer around.rows path (mode_reply (mode_shut typed key))
+BoxLeads (NewModeBox paths typed) contents around key reply = reply ≡ mode_answer around.rows paths (mode_reply (mode_shut typed key))
 BoxLeads (TroubleBox told) contents around key reply = reply ≡ trouble_answer around.rows (trouble_reply_to told.barrier key)
 
 -- a box after a key
 abbrev pub box_after : JobBoxState → Key → JobBoxState
-box_after (DeleteBox path) key = DeleteBox path
-box_after (MaskBox kind path typed) key = MaskBox kind path (input_after typed key)
-box_after (TargetBox kind path mask typed) key = TargetBox kind path mask (input_after typed key)
+box_after (DeleteBox paths) key = DeleteBox paths
+box_after (MaskBox kind paths typed) key = MaskBox kind paths (input_after typed key)
+box_after (TargetBox kind paths mask typed) key = TargetBox kind paths mask (input_after typed key)
 box_after (FolderBox typed) key = FolderBox (input_after typed key)
 box_after (LinkTextBox typed) key = LinkTextBox (input_after typed key)
 box_after (LinkNameBox text typed) key = LinkNameBox text (input_after typed key)
-box_after (NewModeBox path typed) key = NewModeBox path (mode_after typed key)
+box_after (NewModeBox paths typed) key = NewModeBox paths (mode_after typed key)
 box_after (TroubleBox told) key = TroubleBox told
 
 -- The box stays, and the key has worked in it. In all other cases it is as it was.
@@ -147,7 +147,7 @@ AsksNothing (Refuses refusal) = ⊥
 
 -- a job is begun while none is live, and is one that can be worked; a trouble is answered as it may be
 abbrev pub IsAllowed : List JobRow → JobReply → Type 0
-IsAllowed rows (Begins job) = (rows ≡ []) × (is_workable job ≡ true)
+IsAllowed rows (Begins job) = (rows ≡ []) × (are_workable job ≡ true)
 IsAllowed rows (Answers answer) = can_answer rows answer ≡ true
 IsAllowed rows Stays = ⊤
 IsAllowed rows Shuts = ⊤

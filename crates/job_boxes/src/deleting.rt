@@ -1,4 +1,4 @@
-//! Keys while it is asked whether to delete a thing.
+//! Keys while it is asked whether to delete things.
 ghost use Rattle.std.specs.Prelude.{◌≡◌, IfOk};
 ghost use Rattle.box_words.specs.BoxKeys.{delete_reply_to as deletes_by};
 ghost use Rattle.job_plans.specs.Copies.{delete_plan};
@@ -13,14 +13,14 @@ use key_screen::Key;
 use mc_text::NoMemory;
 use std::alloc::Global;
 
-/// A key while it is asked whether to delete a thing.
+/// A key while it is asked whether to delete things.
 pub(crate) fn key_in_delete(
     alloc: Global,
     rows: &JobRows,
     chosen: &Chosen,
     key: Key,
 ) -> Result<JobReply, NoMemory>
-    ensures leads { IfOk result (λ reply. reply ≡ delete_answer rows.now chosen.now.path (deletes_by key)) }
+    ensures leads { IfOk result (λ reply. reply ≡ delete_answer rows.now chosen.now.paths (deletes_by key)) }
     ensures allowed { IfOk result (IsAllowed rows.now) }
     ensures untold { IfOk result (λ reply. IsFullAtMost (reply_refusals reply)) }
 {
@@ -33,7 +33,7 @@ pub(crate) fn key_in_delete(
 
 /// The deletion is confirmed, which it can be while no job is live.
 fn confirm_deletion(alloc: Global, rows: &JobRows, chosen: &Chosen) -> Result<JobReply, NoMemory>
-    ensures leads { IfOk result (λ reply. reply ≡ begun_alone rows.now (delete_plan chosen.now.path)) }
+    ensures leads { IfOk result (λ reply. reply ≡ begun_alone rows.now (delete_plan chosen.now.paths)) }
     ensures allowed { IfOk result (IsAllowed rows.now) }
     ensures untold { IfOk result (λ reply. IsFullAtMost (reply_refusals reply)) }
 {

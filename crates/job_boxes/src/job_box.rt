@@ -5,21 +5,21 @@ use mc_dialogs::{InputLine, ModeBox};
 use mc_text::{Path, Text};
 use session_history::Refusal;
 
-/// A thing that is to be copied if its name matches the mask.
+/// Things of which those are to be copied whose names match the mask.
 #[derive(Debug, Drop)]
 pub struct MaskedSource {
     pub chosen: Chosen,
     pub mask: Text,
 }
 
-/// A box that asks of one job, or tells of its trouble.
+/// A box that asks of a job, or tells of its trouble.
 #[derive(Debug, Drop)]
 pub enum JobBox {
-    /// Asks whether to delete this thing.
+    /// Asks whether to delete these things.
     Delete(Chosen),
-    /// Asks which names of the source are copied, of a copy of this thing.
+    /// Asks which of these things are copied, by their names.
     SourceMask(Chosen, InputLine),
-    /// Asks where this thing is to be copied to.
+    /// Asks where these things are to be copied to.
     CopyTo(MaskedSource, InputLine),
     /// Asks where a new folder is to be made, and under which name.
     MakeFolder(InputLine),
@@ -27,7 +27,7 @@ pub enum JobBox {
     LinkText(InputLine),
     /// Asks where a new link that says this is to be made, and under which name.
     LinkName(Text, InputLine),
-    /// Asks which mode this thing is to have.
+    /// Asks which mode these things are to have.
     Mode(Chosen, ModeBox),
     /// Tells of a job's trouble, and takes an answer.
     Trouble(Trouble),

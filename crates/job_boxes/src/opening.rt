@@ -14,9 +14,9 @@ use std::alloc::Global;
 use std::convert::AsStr;
 
 impl JobBox {
-    /// The box on a thing, which has this mode.
+    /// The box on things, of which the first has this mode, where a mode is asked for.
     pub fn open(alloc: Global, opens: Opens, chosen: Chosen, mode: u16) -> Result<JobBox, NoMemory>
-        ensures { IfOk result (λ asks. seen asks ≡ box_of opens chosen.kind chosen.path mode) }
+        ensures { IfOk result (λ asks. seen asks ≡ box_of opens chosen.kind chosen.paths mode) }
     {
         match opens {
             Opens::Delete => Ok(JobBox::Delete(chosen)),

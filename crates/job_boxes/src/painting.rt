@@ -18,8 +18,8 @@ impl JobBox {
         ensures { OnOk result (grid.new ≡ with_job_box (seen self.now) grid.old) }
     {
         match self {
-            JobBox::Delete(_) => {
-                let lines = delete_lines(alloc)?;
+            JobBox::Delete(chosen) => {
+                let lines = delete_lines(alloc, chosen.paths.as_slice().len())?;
                 paint_lines(grid, alloc, lines)?;
                 Ok(())
             }

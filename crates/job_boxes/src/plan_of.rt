@@ -5,7 +5,7 @@ use mc_text::Text;
 /// What is planned where a typed path leads.
 #[derive(Drop)]
 pub(crate) enum PlanOf<'a> {
-    /// The copy of this, to there.
+    /// The copy of these, to there.
     Copy(&'a MaskedSource),
     /// A new folder there.
     Folder,

@@ -16,7 +16,7 @@ use mc_dialogs::ModeBox;
 use mc_text::NoMemory;
 use std::alloc::Global;
 
-/// A key while a thing's mode is asked for.
+/// A key while the mode of things is asked for.
 pub(crate) fn key_in_mode(
     alloc: Global,
     rows: &JobRows,
@@ -24,7 +24,7 @@ pub(crate) fn key_in_mode(
     asked: &mut ModeBox,
     key: Key,
 ) -> Result<JobReply, NoMemory>
-    ensures leads { IfOk result (λ reply. reply ≡ mode_answer rows.now chosen.now.path (mode_reply_of (mode_shut asked.old key))) }
+    ensures leads { IfOk result (λ reply. reply ≡ mode_answer rows.now chosen.now.paths (mode_reply_of (mode_shut asked.old key))) }
     ensures state { OnOk result (asked.new ≡ mode_after asked.old key) }
     ensures kept { IfOk result (λ reply. stays reply ≡ false → asked.new ≡ asked.old) }
     ensures lost { OnErr result (asked.new ≡ asked.old) }
@@ -46,7 +46,7 @@ fn confirm_mode(
     mode: u16,
 ) -> Result<JobReply, NoMemory>
     requires twelve_bits { mode < 4096 }
-    ensures leads { IfOk result (λ reply. reply ≡ begun_alone rows.now (mode_plan chosen.now.path mode)) }
+    ensures leads { IfOk result (λ reply. reply ≡ begun_alone rows.now (mode_plan chosen.now.paths mode)) }
     ensures allowed { IfOk result (IsAllowed rows.now) }
     ensures untold { IfOk result (λ reply. IsFullAtMost (reply_refusals reply)) }
 {

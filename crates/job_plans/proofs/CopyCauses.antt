@@ -1,7 +1,7 @@
--- What a plan of one source says of the tree where it is refused.
-use Rattle.std.proofs.Common.{◌≡◌, ◌≢◌, ◌⊎◌, inl, inr, ℕ, Bool, true, false, List, [], ◌∷◌, map, refl, ap, subst, Option, Some, None, Result, Ok, Err}
-use Rattle.std.specs.Prelude.{if◌then◌else◌, chars, filter, option_map}
-use Rattle.std.specs.List.{list_any}
+-- What a plan of copies says of the tree where it is refused.
+use Rattle.std.proofs.Common.{◌≡◌, ◌≢◌, inl, inr, ℕ, Bool, true, false, List, [], ◌∷◌, map, refl, subst, Option, Some, None, Result, Ok, Err}
+use Rattle.std.specs.Prelude.{if◌then◌else◌, chars, option_map}
+use Rattle.std.specs.List.{find, list_any}
 use Rattle.std.specs.Option.{option_map_or}
 use Rattle.mc_text.specs.Routes.{Route, same_path}
 use Rattle.tree_trait.specs.declared.calls.TreeError.{TreeError}
@@ -23,35 +23,16 @@ use Rattle.op_plan.specs.declared.error.PlanError.TheVariants as place
 use Rattle.op_plan.specs.declared.job.Pair.{Pair}
 use Rattle.op_plan.specs.declared.job.Job.TheVariants as planned
 use Rattle.op_plan.specs.Answering.{CarriesPlanCause, Plans, and_then, or_bad_mask, unless}
-use Rattle.op_plan.specs.Checks.{into_itself, is_too_long, none_across, none_into, none_twice, pair, paired, targets_in, there_or}
+use Rattle.op_plan.specs.Checks.{all_there, into_itself, is_too_long, nested, none_across, none_into, none_nested, none_same, none_twice, paired, some_source, sources_in, targets_from, targets_in, there_or, two_to_one}
 use Rattle.op_plan.specs.Destinations.{folder_at, front_of, in_target, last_part}
 use Rattle.op_plan.specs.Masks.{pieces_of}
-use Rattle.op_plan.specs.Meeting.{meet, with_first}
-use Rattle.op_plan.specs.Naming.{chosen, has_match, names_for, pattern_in}
+use Rattle.op_plan.specs.Meeting.{first_across, first_two, meet}
+use Rattle.op_plan.specs.Naming.{chosen, names_for, pattern_in}
 use Rattle.op_plan.specs.Planning.{apart, folder_for, pairs_into, pairs_of, placed_masked, placed_there, plan_of, sources_of}
 use Rattle.session_history.specs.Refusals.{IsSourceRefused, IsTargetRefused}
 use Rattle.job_plans.specs.CopyPlans.{IsPlanned, copy_request}
-use Rattle.job_plans.proofs.Refusing.{HasTreeCause, refused_in}
-
--- one source is left by a mask, or none
-matched : (pattern : List GlobPart) (path : Route) (b : Bool) → has_match pattern path ≡ b
-    → (filter (has_match pattern) (path ∷ []) ≡ path ∷ []) ⊎ (filter (has_match pattern) (path ∷ []) ≡ [])
-matched pattern path true is = inl (ap (λ (b : Bool). let l : List Route = if b then path ∷ [] else [] in l) is)
-matched pattern path false is = inr (ap (λ (b : Bool). let l : List Route = if b then path ∷ [] else [] in l) is)
-
-pub chosen_one : (pattern : Option (List GlobPart)) (path : Route) → (chosen pattern (path ∷ []) ≡ path ∷ []) ⊎ (chosen pattern (path ∷ []) ≡ [])
-chosen_one None path = inl refl
-chosen_one (Some pattern) path = matched pattern path (has_match pattern path) refl
-
--- the checks of one source, by what they ask
-abbrev one_source : Option TreeError → Route → Result (List Route) PlanError
-one_source told path = and_then (there_or told path (Ok tt)) (λ _. Ok (path ∷ []))
-
-abbrev same_by : Bool → Route → Route → Result (Unit {0}) PlanError
-same_by same path target = unless (option_map (λ (pair : Pair). place.SameFile pair.source) (if same then Some (pair path target) else None))
-
-abbrev across_by : Bool → Route → Route → Result (Unit {0}) PlanError
-across_by across path target = unless (option_map into_itself (with_first path (if across then Some target else None) None))
+use Rattle.job_plans.proofs.Firsts.{Each, across, each, each_of, each_paired, found, two}
+use Rattle.job_plans.proofs.Refusing.{HasTreeCause, after, refused_in}
 
 -- what an equation of a refused plan says: of a source what its look is refused as
 abbrev HasOwnCause : CallLog → PlanError → Type 0
@@ -67,62 +48,124 @@ HasOwnCause log (place.TwoToOne one second) = HasTreeCause log (place.TwoToOne o
 HasOwnCause log place.BadLinkText = HasTreeCause log place.BadLinkText
 HasOwnCause log place.Memory = HasTreeCause log place.Memory
 
-module _ (log : CallLog) (path : Route) (error : PlanError) where
+-- a source is there
+abbrev IsThere : CallLog → Route → Type 0
+IsThere log path = refusal_of (current log) (Stat path) ≡ None
+
+-- sources that pass the checks are there
+module _ (log : CallLog) where
+  looked_there : (told : Option TreeError) (source : Route) (rest : Result (Unit {0}) PlanError) (x : Unit {0}) → there_or told source rest ≡ Ok x → (told ≡ None) × (rest ≡ Ok x)
+  looked_there (Some e) source rest x h = absurd cc
+  looked_there None source rest x h = (refl, h)
+
+  all_are : (sources : List Route) (x : Unit {0}) → all_there (current log) sources ≡ Ok x → Each (IsThere log) sources
+  all_are [] x h = tt
+  all_are (source ∷ sources) x h =
+      let at = looked_there (refusal_of (current log) (Stat source)) source (all_there (current log) sources) x h in (at.0, all_are sources x at.1)
+
+  are_there : (sources left : List Route) → sources_of (current log) sources ≡ Ok left → Each (IsThere log) left
+  are_there sources left h =
+      let rest : Result (List Route) PlanError = and_then (none_nested sources) (λ _. and_then (all_there (current log) sources) (λ _. Ok sources)) in
+      let some = after (some_source sources) (λ _. rest) left h in
+      let apart = after (none_nested sources) (λ _. and_then (all_there (current log) sources) (λ _. Ok sources)) left some.2 in
+      let there = after (all_there (current log) sources) (λ _. Ok sources) left apart.2 in
+      let same : sources ≡ left = cc in
+      subst (λ (l : List Route). Each (IsThere log) l) same (all_are sources there.0 there.1)
+
+module _ (log : CallLog) (error : PlanError) where
   by_error : (other : PlanError) → HasOwnCause log other → other ≡ error → HasOwnCause log error
   by_error other cause is = subst (λ e. HasOwnCause log e) is cause
 
-  -- THE SOURCE
+  -- THE SOURCES
 
-  looked : (told : Option TreeError) → refusal_of (current log) (Stat path) ≡ told → one_source told path ≡ Err error → HasOwnCause log error
-  looked (Some e) is h = by_error (place.Source path e) is cc
-  looked None is h = absurd cc
+  some_cause : (sources : List Route) → some_source sources ≡ Err error → HasOwnCause log error
+  some_cause [] h = by_error place.NoSelection tt cc
+  some_cause (source ∷ sources) h = absurd cc
 
-  source_cause : (left : List Route) → (left ≡ path ∷ []) ⊎ (left ≡ []) → sources_of (current log) left ≡ Err error → HasOwnCause log error
-  source_cause left (inl one) h =
-      looked (refusal_of (current log) (Stat path)) refl (subst (λ (l : List Route). sources_of (current log) l ≡ Err error) one h)
-  source_cause left (inr none) h =
-      let nothing : sources_of (current log) [] ≡ Err error = subst (λ (l : List Route). sources_of (current log) l ≡ Err error) none h in
-      by_error place.NoSelection tt cc
+  met : (sources : List Route) (o : Option (Route × Route)) → first_two meet [] sources ≡ o → unless (option_map nested o) ≡ Err error → HasOwnCause log error
+  met sources None is h = absurd cc
+  met sources (Some (one, second)) is h =
+      by_error (place.Nested one second) (two (λ path. Unit {0}) meet [] sources one second is tt (each (λ path. Unit {0}) (λ path. tt) sources)).1 cc
 
-  -- THE TARGET
+  looked : (told : Option TreeError) (source : Route) (sources : List Route) → refusal_of (current log) (Stat source) ≡ told
+      → there_or told source (all_there (current log) sources) ≡ Err error → (all_there (current log) sources ≡ Err error → HasOwnCause log error)
+      → HasOwnCause log error
+  looked (Some e) source sources is h later = by_error (place.Source source e) is cc
+  looked None source sources is h later = later h
 
-  -- the source is there
-  module _ (there : refusal_of (current log) (Stat path) ≡ None) where
-    across : (target : Route) (b : Bool) → meet path target ≡ b → across_by b path target ≡ Err error → HasOwnCause log error
-    across target true is h = by_error (place.IntoItself path target) (there, is) cc
-    across target false is h = absurd cc
+  there_cause : (sources : List Route) → all_there (current log) sources ≡ Err error → HasOwnCause log error
+  there_cause [] h = absurd cc
+  there_cause (source ∷ sources) h = looked (refusal_of (current log) (Stat source)) source sources refl h (λ bad. there_cause sources bad)
 
-    apart_cause : (target : Route) (b : Bool) → and_then (same_by b path target) (λ _. none_across (pair path target ∷ [])) ≡ Err error → HasOwnCause log error
-    apart_cause target true h = by_error (place.SameFile path) there cc
-    apart_cause target false h = across target (meet path target) refl h
+  source_cause : (sources : List Route) → sources_of (current log) sources ≡ Err error → HasOwnCause log error
+  source_cause sources h =
+      refused_in (HasOwnCause log error) (some_source sources)
+      (λ _. and_then (none_nested sources) (λ _. and_then (all_there (current log) sources) (λ _. Ok sources))) error h
+      (λ bad. some_cause sources bad)
+      (λ _ is h. refused_in (HasOwnCause log error) (none_nested sources) (λ _. and_then (all_there (current log) sources) (λ _. Ok sources)) error h
+      (λ bad. met sources (first_two meet [] sources) refl bad)
+      (λ _ is h. refused_in (HasOwnCause log error) (all_there (current log) sources) (λ _. Ok sources) error h
+      (λ bad. there_cause sources bad)
+      (λ _ is h. absurd cc)))
 
-    paired_cause : (targets : List Route) → apart (paired (path ∷ []) targets) ≡ Err error → HasOwnCause log error
-    paired_cause [] h = absurd cc
-    paired_cause (target ∷ more) h =
-        refused_in (HasOwnCause log error) (none_into (pair path target ∷ []))
-        (λ _. and_then (none_twice (pair path target ∷ [])) (λ _. Ok (pair path target ∷ []))) error h
-        (λ bad. apart_cause target (same_path path target) bad)
-        (λ _ is h. absurd cc)
+  -- THE TARGETS
 
-    long_cause : (folder : Route) (names : List (List ℕ)) (long : Bool) (targets : List Route)
+  -- no source is its own target
+  same_cause : (pairs : List Pair) (o : Option Pair) → find (λ (pair : Pair). same_path pair.source pair.target) pairs ≡ o
+      → unless (option_map (λ (pair : Pair). place.SameFile pair.source) o) ≡ Err error → Each (λ (pair : Pair). IsThere log pair.source) pairs → HasOwnCause log error
+  same_cause pairs None is h there = absurd cc
+  same_cause pairs (Some pair) is h there =
+      by_error (place.SameFile pair.source) (found (λ (pair : Pair). IsThere log pair.source) (λ (pair : Pair). same_path pair.source pair.target) pairs pair is there).0 cc
+
+  across_cause : (pairs : List Pair) (o : Option (Route × Route)) → first_across meet (sources_in pairs) (targets_from pairs) ≡ o
+      → unless (option_map into_itself o) ≡ Err error → Each (λ (pair : Pair). IsThere log pair.source) pairs → HasOwnCause log error
+  across_cause pairs None is h there = absurd cc
+  across_cause pairs (Some (source, target)) is h there =
+      by_error (place.IntoItself source target)
+      (across (IsThere log) meet (sources_in pairs) (targets_from pairs) source target is (each_of (IsThere log) (λ (pair : Pair). pair.source) pairs there)) cc
+
+  into_self_cause : (pairs : List Pair) → none_into pairs ≡ Err error → Each (λ (pair : Pair). IsThere log pair.source) pairs → HasOwnCause log error
+  into_self_cause pairs h there =
+      refused_in (HasOwnCause log error) (none_same pairs) (λ _. none_across pairs) error h
+      (λ bad. same_cause pairs (find (λ (pair : Pair). same_path pair.source pair.target) pairs) refl bad there)
+      (λ _ is h. across_cause pairs (first_across meet (sources_in pairs) (targets_from pairs)) refl h there)
+
+  twice_cause : (pairs : List Pair) (o : Option (Pair × Pair)) → first_two (λ (a b : Pair). meet a.target b.target) [] pairs ≡ o
+      → unless (option_map two_to_one o) ≡ Err error → Each (λ (pair : Pair). IsThere log pair.source) pairs → HasOwnCause log error
+  twice_cause pairs None is h there = absurd cc
+  twice_cause pairs (Some (one, second)) is h there =
+      by_error (place.TwoToOne one.source second.source)
+      (two (λ (pair : Pair). IsThere log pair.source) (λ (a b : Pair). meet a.target b.target) [] pairs one second is tt there).0 cc
+
+  apart_cause : (pairs : List Pair) → apart pairs ≡ Err error → Each (λ (pair : Pair). IsThere log pair.source) pairs → HasOwnCause log error
+  apart_cause pairs h there =
+      refused_in (HasOwnCause log error) (none_into pairs) (λ _. and_then (none_twice pairs) (λ _. Ok pairs)) error h
+      (λ bad. into_self_cause pairs bad there)
+      (λ _ is h. refused_in (HasOwnCause log error) (none_twice pairs) (λ _. Ok pairs) error h
+      (λ bad. twice_cause pairs (first_two (λ (a b : Pair). meet a.target b.target) [] pairs) refl bad there)
+      (λ _ is h. absurd cc))
+
+  -- the sources are there
+  module _ (paths : List Route) (there : Each (IsThere log) paths) where
+    long_cause : (long : Bool) (targets : List Route)
         → (let r : Result (List Route) PlanError = if long then Err (place.Target resolve.TooLong) else Ok targets in r) ≡ Err error → HasOwnCause log error
-    long_cause folder names true targets h = by_error (place.Target resolve.TooLong) (inr (inr refl)) cc
-    long_cause folder names false targets h = absurd cc
+    long_cause true targets h = by_error (place.Target resolve.TooLong) (inr (inr refl)) cc
+    long_cause false targets h = absurd cc
 
-    into_cause : (folder : Route) (names : List (List ℕ)) → pairs_into folder (path ∷ []) names ≡ Err error → HasOwnCause log error
+    into_cause : (folder : Route) (names : List (List ℕ)) → pairs_into folder paths names ≡ Err error → HasOwnCause log error
     into_cause folder names h =
-        refused_in (HasOwnCause log error) (targets_in folder names) (λ targets. apart (paired (path ∷ []) targets)) error h
-        (λ long. long_cause folder names (list_any (is_too_long folder) names) (map (λ name. name ∷ folder) names) long)
-        (λ targets is h. paired_cause targets h)
+        refused_in (HasOwnCause log error) (targets_in folder names) (λ targets. apart (paired paths targets)) error h
+        (λ long. long_cause (list_any (is_too_long folder) names) (map (λ name. name ∷ folder) names) long)
+        (λ targets is h. apart_cause (paired paths targets) h (each_paired (IsThere log) paths targets there))
 
     mask_cause : (o : Option (List (List ℕ))) → or_bad_mask o ≡ Err error → HasOwnCause log error
     mask_cause (Some names) h = absurd cc
     mask_cause None h = by_error place.BadMask tt cc
 
-    there_cause : (pattern : Option (List GlobPart)) (folder : Route) → placed_there pattern (path ∷ []) folder ≡ Err error → HasOwnCause log error
-    there_cause pattern folder h =
-        refused_in (HasOwnCause log error) (or_bad_mask (names_for pattern (Star ∷ []) (path ∷ []))) (λ names. pairs_into folder (path ∷ []) names) error h
-        (λ bad. mask_cause (names_for pattern (Star ∷ []) (path ∷ [])) bad)
+    placed_cause : (pattern : Option (List GlobPart)) (folder : Route) → placed_there pattern paths folder ≡ Err error → HasOwnCause log error
+    placed_cause pattern folder h =
+        refused_in (HasOwnCause log error) (or_bad_mask (names_for pattern (Star ∷ []) paths)) (λ names. pairs_into folder paths names) error h
+        (λ bad. mask_cause (names_for pattern (Star ∷ []) paths) bad)
         (λ names is h. into_cause folder names h)
 
     answers : (from : Route) (front : List ℕ) (why : ResolveError) → resolved (current log) FolderAlone from front ≡ Err why
@@ -140,59 +183,47 @@ module _ (log : CallLog) (path : Route) (error : PlanError) where
     nowhere from front (Err why) is h = by_error (place.Target why) (inl (from, (front, answers from front why is))) cc
 
     masked_cause : (pattern : Option (List GlobPart)) (mask : List MaskPiece) (from : Route) (front : List ℕ)
-        → placed_masked (current log) pattern (path ∷ []) mask from front ≡ Err error → HasOwnCause log error
+        → placed_masked (current log) pattern paths mask from front ≡ Err error → HasOwnCause log error
     masked_cause pattern mask from front h =
-        refused_in (HasOwnCause log error) (or_bad_mask (names_for pattern mask (path ∷ [])))
-        (λ names. and_then (folder_at (current log) from front) (λ folder. pairs_into folder (path ∷ []) names)) error h
-        (λ bad. mask_cause (names_for pattern mask (path ∷ [])) bad)
-        (λ names is h. refused_in (HasOwnCause log error) (folder_at (current log) from front) (λ folder. pairs_into folder (path ∷ []) names) error h
+        refused_in (HasOwnCause log error) (or_bad_mask (names_for pattern mask paths))
+        (λ names. and_then (folder_at (current log) from front) (λ folder. pairs_into folder paths names)) error h
+        (λ bad. mask_cause (names_for pattern mask paths) bad)
+        (λ names is h. refused_in (HasOwnCause log error) (folder_at (current log) from front) (λ folder. pairs_into folder paths names) error h
         (λ lost. nowhere from front (resolved (current log) FolderAlone from front) refl lost)
         (λ folder is h. into_cause folder names h))
 
     target_cause : (pattern : Option (List GlobPart)) (mask : List MaskPiece) (from : Route) (front : List ℕ) (folder : Option Route)
-        → option_map_or (placed_there pattern (path ∷ [])) folder (placed_masked (current log) pattern (path ∷ []) mask from front) ≡ Err error
+        → option_map_or (placed_there pattern paths) folder (placed_masked (current log) pattern paths mask from front) ≡ Err error
         → HasOwnCause log error
-    target_cause pattern mask from front (Some folder) h = there_cause pattern folder h
+    target_cause pattern mask from front (Some folder) h = placed_cause pattern folder h
     target_cause pattern mask from front None h = masked_cause pattern mask from front h
-
-  -- a source that was found is there, and no other is left
-  found : (told : Option TreeError) (left : List Route) → one_source told path ≡ Ok left → (told ≡ None) × (left ≡ path ∷ [])
-  found (Some e) left h = absurd cc
-  found None left h = (refl, cc)
-
-  is_found : (chosen left : List Route) → (chosen ≡ path ∷ []) ⊎ (chosen ≡ []) → sources_of (current log) chosen ≡ Ok left
-      → (refusal_of (current log) (Stat path) ≡ None) × (left ≡ path ∷ [])
-  is_found chosen left (inl one) h =
-      found (refusal_of (current log) (Stat path)) left (subst (λ (l : List Route). sources_of (current log) l ≡ Ok left) one h)
-  is_found chosen left (inr none) h =
-      let nothing : sources_of (current log) [] ≡ Ok left = subst (λ (l : List Route). sources_of (current log) l ≡ Ok left) none h in absurd cc
 
   -- THE PLAN
 
-  own_cause : (mask : List ℕ) (from : Route) (typed : List ℕ) → pairs_of (current log) (path ∷ []) mask from typed ≡ Err error → HasOwnCause log error
-  own_cause mask from typed h =
+  own_cause : (paths : List Route) (mask : List ℕ) (from : Route) (typed : List ℕ) → pairs_of (current log) paths mask from typed ≡ Err error → HasOwnCause log error
+  own_cause paths mask from typed h =
       let pattern : Option (List GlobPart) = pattern_in mask in
       let pieces : List MaskPiece = pieces_of (chars (last_part typed)) in
       let rest : List Route → Result (List Pair) PlanError = λ left. option_map_or (placed_there pattern left)
       (folder_for (current log) pieces from typed) (placed_masked (current log) pattern left pieces from (front_of typed)) in
-      refused_in (HasOwnCause log error) (sources_of (current log) (chosen pattern (path ∷ []))) rest error h
-      (λ bad. source_cause (chosen pattern (path ∷ [])) (chosen_one pattern path) bad)
-      (λ left is h. let at = is_found (chosen pattern (path ∷ [])) left (chosen_one pattern path) is in
-      target_cause at.0 pattern pieces from (front_of typed) (folder_for (current log) pieces from typed)
-      (subst (λ (l : List Route). rest l ≡ Err error) at.1 h))
+      refused_in (HasOwnCause log error) (sources_of (current log) (chosen pattern paths)) rest error h
+      (λ bad. source_cause (chosen pattern paths) bad)
+      (λ left is h. let at = are_there log (chosen pattern paths) left is in
+      target_cause left at pattern pieces from (front_of typed) (folder_for (current log) pieces from typed) h)
 
-  plan_cause : (mask : List ℕ) (from : Route) (typed : List ℕ) → plan_of (current log) (copy_request path mask from typed) ≡ Err error → HasOwnCause log error
-  plan_cause mask from typed h =
-      refused_in (HasOwnCause log error) (pairs_of (current log) (path ∷ []) mask from typed) (λ pairs. Ok (planned.Copy pairs)) error h
-      (λ bad. own_cause mask from typed bad)
+  plan_cause : (paths : List Route) (mask : List ℕ) (from : Route) (typed : List ℕ) → plan_of (current log) (copy_request paths mask from typed) ≡ Err error
+      → HasOwnCause log error
+  plan_cause paths mask from typed h =
+      refused_in (HasOwnCause log error) (pairs_of (current log) paths mask from typed) (λ pairs. Ok (planned.Copy pairs)) error h
+      (λ bad. own_cause paths mask from typed bad)
       (λ pairs is h. absurd cc)
 
-module _ (log : CallLog) (path : Route) (mask : List ℕ) (from : Route) (typed : List ℕ) where
+module _ (log : CallLog) (paths : List Route) (mask : List ℕ) (from : Route) (typed : List ℕ) where
   abbrev Comes : PlanError → Type 0
-  Comes error = Plans (plan_of (current log) (copy_request path mask from typed)) (Err error)
+  Comes error = Plans (plan_of (current log) (copy_request paths mask from typed)) (Err error)
 
-  own : (error : PlanError) → plan_of (current log) (copy_request path mask from typed) ≡ Err error → HasOwnCause log error
-  own error h = plan_cause log path error mask from typed h
+  own : (error : PlanError) → plan_of (current log) (copy_request paths mask from typed) ≡ Err error → HasOwnCause log error
+  own error h = plan_cause log error paths mask from typed h
 
   of_source : (at : Route) (e : TreeError) → Comes (place.Source at e) → e ≢ tree.Memory → IsSourceRefused log at e
   of_source at tree.Fault known some = tt
@@ -219,18 +250,18 @@ module _ (log : CallLog) (path : Route) (mask : List ℕ) (from : Route) (typed 
 
   copy_cause : (error : PlanError) → Comes error → CarriesPlanCause error → HasTreeCause log error
   copy_cause place.NoSelection known carried = tt
-  copy_cause (place.Nested one second) known carried = tt
+  copy_cause (place.Nested one second) known carried = own (place.Nested one second) (known refl)
   copy_cause (place.Source at e) known carried = of_source at e known carried
   copy_cause place.BadMask known carried = tt
   copy_cause (place.Target e) known carried = of_target e known
   copy_cause (place.TargetThere at) known carried = own (place.TargetThere at) (known refl)
   copy_cause (place.SameFile at) known carried = own (place.SameFile at) (known refl)
   copy_cause (place.IntoItself source target) known carried = own (place.IntoItself source target) (known refl)
-  copy_cause (place.TwoToOne one second) known carried = tt
+  copy_cause (place.TwoToOne one second) known carried = own (place.TwoToOne one second) (known refl)
   copy_cause place.BadLinkText known carried = tt
   copy_cause place.Memory known carried = tt
 
 -- what a copy was refused has its cause in the tree
-pub copy_causes : (contents : Option CallLog) (path : Route) (mask : List ℕ) (from : Route) (typed : List ℕ) (error : PlanError)
-    → IsPlanned contents (copy_request path mask from typed) (Err error) → CarriesPlanCause error → IfKnown contents (λ log. HasTreeCause log error)
-copy_causes contents path mask from typed error known carried = λ log is. copy_cause log path mask from typed error (known log is) carried
+pub copy_causes : (contents : Option CallLog) (paths : List Route) (mask : List ℕ) (from : Route) (typed : List ℕ) (error : PlanError)
+    → IsPlanned contents (copy_request paths mask from typed) (Err error) → CarriesPlanCause error → IfKnown contents (λ log. HasTreeCause log error)
+copy_causes contents paths mask from typed error known carried = λ log is. copy_cause log paths mask from typed error (known log is) carried

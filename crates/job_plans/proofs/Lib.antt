@@ -1,6 +1,9 @@
-mod AnyKind
+mod Firsts
 mod Refusing
 mod NewPlaces
 mod CopyCauses
-mod OneCopies
+mod Within
+mod TargetLemmas
+mod CopiesLead
 mod Sights
+mod ChoiceLemmas

@@ -17,7 +17,7 @@ use Rattle.op_plan.specs.declared.error.PlanError.TheVariants as place
 use Rattle.op_plan.specs.Answering.{HasPlanCause, and_then, is_fault}
 use Rattle.session_history.specs.declared.refusal.Refusal.{Refusal}
 use Rattle.session_history.specs.declared.refusal.Refusal.TheVariants.{Plan}
-use Rattle.session_history.specs.declared.refusal.PlanError.TheVariants.{NoSelection, Source, BadMask, Target, TargetThere, SameFile, IntoItself}
+use Rattle.session_history.specs.declared.refusal.PlanError.TheVariants.{NoSelection, Nested, Source, BadMask, Target, TargetThere, SameFile, IntoItself, TwoToOne, BadLinkText}
 use Rattle.session_history.specs.Refusals.{AreRefused, HasCause, IsSourceRefused, IsTargetRefused}
 use Rattle.job_plans.specs.declared.copying.JobPlan.{JobPlan}
 use Rattle.job_plans.specs.declared.copying.JobPlan.TheVariants.{Begins, Refuses}
@@ -40,7 +40,7 @@ refused_in P (Err other) next e h first later = first cc
 -- what the tree has where a plan is refused so
 abbrev pub HasTreeCause : CallLog → PlanError → Type 0
 HasTreeCause log place.NoSelection = ⊤
-HasTreeCause log (place.Nested one second) = ⊤
+HasTreeCause log (place.Nested one second) = (is_prefix one second || is_prefix second one) ≡ true
 HasTreeCause log (place.Source path e) = IsSourceRefused log path e
 HasTreeCause log place.BadMask = ⊤
 HasTreeCause log (place.Target e) = IsTargetRefused log e
@@ -48,21 +48,21 @@ HasTreeCause log (place.TargetThere path) = refusal_of (current log) (Stat path)
 HasTreeCause log (place.SameFile path) = refusal_of (current log) (Stat path) ≡ None
 HasTreeCause log (place.IntoItself source target) =
     (refusal_of (current log) (Stat source) ≡ None) × ((is_prefix source target || is_prefix target source) ≡ true)
-HasTreeCause log (place.TwoToOne one second) = ⊤
+HasTreeCause log (place.TwoToOne one second) = (refusal_of (current log) (Stat one) ≡ None) × (refusal_of (current log) (Stat second) ≡ None)
 HasTreeCause log place.BadLinkText = ⊤
 HasTreeCause log place.Memory = ⊤
 
 told_cause : (log : CallLog) (error : PlanError) (refusal : Refusal) → HasTreeCause log error → told_as error ≡ Some refusal → HasCause log refusal
 told_cause log place.NoSelection refusal cause told = let is : Plan NoSelection ≡ refusal = cc in subst (HasCause log) is tt
-told_cause log (place.Nested one second) refusal cause told = absurd cc
+told_cause log (place.Nested one second) refusal cause told = let is : Plan (Nested one second) ≡ refusal = cc in subst (HasCause log) is cause
 told_cause log (place.Source path e) refusal cause told = let is : Plan (Source path e) ≡ refusal = cc in subst (HasCause log) is cause
 told_cause log place.BadMask refusal cause told = let is : Plan BadMask ≡ refusal = cc in subst (HasCause log) is tt
 told_cause log (place.Target e) refusal cause told = let is : Plan (Target e) ≡ refusal = cc in subst (HasCause log) is cause
 told_cause log (place.TargetThere path) refusal cause told = let is : Plan (TargetThere path) ≡ refusal = cc in subst (HasCause log) is cause
 told_cause log (place.SameFile path) refusal cause told = let is : Plan (SameFile path) ≡ refusal = cc in subst (HasCause log) is cause
 told_cause log (place.IntoItself source target) refusal cause told = let is : Plan (IntoItself source target) ≡ refusal = cc in subst (HasCause log) is cause
-told_cause log (place.TwoToOne one second) refusal cause told = absurd cc
-told_cause log place.BadLinkText refusal cause told = absurd cc
+told_cause log (place.TwoToOne one second) refusal cause told = let is : Plan (TwoToOne one second) ≡ refusal = cc in subst (HasCause log) is cause
+told_cause log place.BadLinkText refusal cause told = let is : Plan BadLinkText ≡ refusal = cc in subst (HasCause log) is tt
 told_cause log place.Memory refusal cause told = absurd cc
 
 told_called : (log : CallLog) (error : PlanError) (plan : JobPlan) → HasTreeCause log error → IsToldAs error plan → AreRefused log (plan_refusals plan)
@@ -99,7 +99,8 @@ target_fault resolve.Memory h = absurd cc
 told_fault : (error : PlanError) (refusal : Refusal) → told_as error ≡ Some refusal → has_fault (refusal ∷ []) ≡ true → is_fault error ≡ true
 told_fault place.NoSelection refusal told h =
     let none : has_fault (Plan NoSelection ∷ []) ≡ false = refl in no_fault place.NoSelection (Plan NoSelection) refusal none h cc
-told_fault (place.Nested one second) refusal told h = absurd cc
+told_fault (place.Nested one second) refusal told h =
+    let none : has_fault (Plan (Nested one second) ∷ []) ≡ false = refl in no_fault (place.Nested one second) (Plan (Nested one second)) refusal none h cc
 told_fault (place.Source path e) refusal told h =
     let is : refusal ≡ Plan (Source path e) = cc in source_fault path e (subst (λ r. has_fault (r ∷ []) ≡ true) is h)
 told_fault place.BadMask refusal told h =
@@ -111,8 +112,10 @@ told_fault (place.SameFile path) refusal told h =
     let none : has_fault (Plan (SameFile path) ∷ []) ≡ false = refl in no_fault (place.SameFile path) (Plan (SameFile path)) refusal none h cc
 told_fault (place.IntoItself source target) refusal told h =
     let none : has_fault (Plan (IntoItself source target) ∷ []) ≡ false = refl in no_fault (place.IntoItself source target) (Plan (IntoItself source target)) refusal none h cc
-told_fault (place.TwoToOne one second) refusal told h = absurd cc
-told_fault place.BadLinkText refusal told h = absurd cc
+told_fault (place.TwoToOne one second) refusal told h =
+    let none : has_fault (Plan (TwoToOne one second) ∷ []) ≡ false = refl in no_fault (place.TwoToOne one second) (Plan (TwoToOne one second)) refusal none h cc
+told_fault place.BadLinkText refusal told h =
+    let none : has_fault (Plan BadLinkText ∷ []) ≡ false = refl in no_fault place.BadLinkText (Plan BadLinkText) refusal none h cc
 told_fault place.Memory refusal told h = absurd cc
 
 risen : {A : Type 0} (f0 f1 : ℕ) (error : PlanError) (plan : JobPlan) → HasPlanCause {A = A} f0 f1 (Err error) → IsToldAs error plan

@@ -1,5 +1,5 @@
 -- What a look at a tree says of what can be seen of it.
-use Rattle.std.proofs.Common.{◌≡◌, ℕ, ◌≤◌, Bool, true, false, ◌&&◌, length, refl, sym, ◌∙◌, ap, subst, Option, Some, None, IsSome, IfOk, IfErr, Result, Ok, Err, arith}
+use Rattle.std.proofs.Common.{◌≡◌, ℕ, ◌≤◌, Bool, true, false, ◌&&◌, List, length, refl, sym, ◌∙◌, ap, subst, Option, Some, None, IsSome, IfOk, IfErr, Result, Ok, Err, arith}
 use Rattle.std.proofs.lemmas.Bool.{false≢true}
 use Rattle.std.specs.Prelude.{nat_le}
 use Rattle.std.specs.Option.{option_map, option_map_or}
@@ -16,6 +16,7 @@ use Rattle.tree_trait.specs.Answers.{IsMeta, IfKnown, Reads}
 use Rattle.tree_trait.proofs.Walking.{stat-found}
 use Rattle.job_reports.proofs.PermittedCalls.{stat_missing}
 use Rattle.job_plans.specs.declared.choosing.Opens.{Opens}
+use Rattle.job_plans.specs.Choices.{HasSeenMode, first_of}
 use Rattle.job_plans.specs.Copies.{HasKind, HasMode, IsTaken, IsVacant, MayAsk, is_spot_of, may_open}
 use Rattle.job_plans.specs.Reading.{sight}
 
@@ -56,7 +57,7 @@ has_mode (Some log) path meta reads =
 -- and is of the kind that the look tells
 has_kind : (contents : Option CallLog) (path : Route) (meta : Meta)
     → IfKnown contents (λ log. Reads log (Stat path) (let r : Result Meta TreeError = Ok meta in r) (IsMeta (current log) path))
-    → HasKind (sight contents) path meta.kind
+    → HasKind (sight contents) path (Some meta.kind)
 has_kind None path meta reads = tt
 has_kind (Some log) path meta reads =
     let r = reads log refl in
@@ -64,16 +65,22 @@ has_kind (Some log) path meta reads =
     subst (λ (i : Option ℕ). option_map (λ (v : Value). v.kind) (option_map (λ i. value (node (current log) i)) i) ≡ Some meta.kind) (sym at)
     (ap (λ (kind : Kind). Some kind) (sym r.1.kind))
 
+-- what a look at a thing says of it
 pub thing_look : (box : Opens) (contents : Option CallLog) (wanted path : Route) (meta : Meta) → path ≡ wanted → length (spelled wanted) ≤ 4096
     → IfKnown contents (λ log. Reads log (Stat path) (let r : Result Meta TreeError = Ok meta in r) (IsMeta (current log) path)) → may_open box meta.kind ≡ true
-    → MayAsk box (sight contents) wanted true × HasMode (sight contents) wanted meta.mode × HasKind (sight contents) wanted meta.kind × (path ≡ wanted)
+    → MayAsk box (sight contents) wanted true × HasMode (sight contents) wanted meta.mode × HasKind (sight contents) wanted (Some meta.kind)
 thing_look box contents wanted path meta same close reads kind =
     let near : length (spelled path) ≤ 4096 = subst (λ (q : Route). length (spelled q) ≤ 4096) (sym same) close in (
       subst (λ q. MayAsk box (sight contents) q true) same (may_ask box contents path meta true near reads kind),
       subst (λ q. HasMode (sight contents) q meta.mode) same (has_mode contents path meta reads),
-      subst (λ q. HasKind (sight contents) q meta.kind) same (has_kind contents path meta reads),
-      same,
+      subst (λ q. HasKind (sight contents) q (Some meta.kind)) same (has_kind contents path meta reads),
     )
+
+-- the mode of the first of some things, as the look at it tells
+pub first_mode : (contents : Option CallLog) (paths : List Route) (path : Route) (meta : Meta) → first_of paths ≡ Some path
+    → IfKnown contents (λ log. Reads log (Stat path) (let r : Result Meta TreeError = Ok meta in r) (IsMeta (current log) path))
+    → HasSeenMode (sight contents) (first_of paths) meta.mode
+first_mode contents paths path meta is reads = subst (λ (o : Option Route). HasSeenMode (sight contents) o meta.mode) (sym is) (has_mode contents path meta reads)
 
 -- something stands where a look was answered
 pub taken : (contents : Option CallLog) (path : Route) (result : Result Meta TreeError)

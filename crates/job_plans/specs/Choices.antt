@@ -1,52 +1,102 @@
--- What choosing the thing that is selected comes to, and what a copy to a target does.
-use Rattle.std.specs.Prelude.{◌≡◌, ◌≢◌, ℕ, true, false, List, [], ◌∷◌, Option}
+-- What choosing the things that are selected comes to.
+use Rattle.std.specs.Prelude.{◌≡◌, ⊤, ℕ, Bool, true, false, List, [], ◌∷◌, length, map, nat_lt, Option, Some, None}
+use Rattle.std.specs.List.{list_any}
 use Rattle.mc_text.specs.declared.kind.Kind.{Kind}
-use Rattle.mc_text.specs.Routes.{Route}
-use Rattle.tree_trait.specs.declared.calls.TreeError.{TreeError}
-use Rattle.tree_trait.specs.declared.calls.TreeError.TheVariants.{Missing, Memory}
+use Rattle.mc_text.specs.Routes.{Route, spelled}
+use Rattle.tree_trait.specs.declared.calls.Meta.{Meta}
 use Rattle.tree_trait.specs.FileSystem.{View}
-use Rattle.job_reports.specs.Jobs.{is_workable}
+use Rattle.session_history.specs.declared.refusal.PlanError.TheVariants as plan
 use Rattle.session_history.specs.declared.refusal.Refusal.{Refusal}
-use Rattle.session_history.specs.declared.refusal.Refusal.TheVariants.{Tree}
+use Rattle.session_history.specs.declared.refusal.Refusal.TheVariants.{Plan, Tree}
 use Rattle.job_plans.specs.declared.choosing.Opens.{Opens}
+use Rattle.job_plans.specs.declared.choosing.Opens.TheVariants as opens
 use Rattle.job_plans.specs.declared.choosing.Choice.{Choice}
-use Rattle.job_plans.specs.declared.choosing.Choice.TheVariants.{NoSelection, Nothing, Thing, Refused}
+use Rattle.job_plans.specs.declared.choosing.Choice.TheVariants.{NoSelection, Nothing, Things, Refused}
 use Rattle.job_plans.specs.declared.copying.JobPlan.{JobPlan}
 use Rattle.job_plans.specs.declared.copying.JobPlan.TheVariants.{Begins, Refuses}
-use Rattle.job_plans.specs.Copies.{HasKind, HasMode, IsVacant, MayAsk, copy_plan}
-use Rattle.job_plans.specs.CopyPlans.{IsBlocked}
+use Rattle.job_plans.specs.Copies.{HasKind, HasMode, MayAsk}
 
--- a thing may be asked of by a box, and has this mode and is of this kind, or may not, or the look at it was refused
-abbrev pub IsLook : Opens → Option View → Route → Choice → Type 0
-IsLook box tree path NoSelection = ⊥
-IsLook box tree path Nothing = MayAsk box tree path false
-IsLook box tree path (Thing chosen mode) = MayAsk box tree path true × HasMode tree path mode × HasKind tree path chosen.kind × (chosen.path ≡ path)
-IsLook box tree path (Refused refused e) = refused ≡ path
+-- the things of these names in a folder
+abbrev pub paths_in : Route → List (List ℕ) → List Route
+paths_in folder = map (λ name. name ∷ folder)
 
--- of what is selected in a folder: there is nothing; or one thing, which is looked at; or there are several
+-- a path of more than 4,096 bytes
+abbrev pub is_too_long : Route → Bool
+is_too_long path = nat_lt 4096 (length (spelled path))
+
+abbrev pub are_several : {X : Type 0} → List X → Bool
+are_several [] = false
+are_several (one ∷ []) = false
+are_several (one ∷ other ∷ more) = true
+
+-- what is looked at before a box asks: one thing, and of several the first, where a mode is asked for
+abbrev pub looked_at : Opens → List Route → Option Route
+looked_at box [] = None
+looked_at box (path ∷ []) = Some path
+looked_at opens.Delete (path ∷ other ∷ more) = None
+looked_at opens.SourceMask (path ∷ other ∷ more) = None
+looked_at opens.Mode (path ∷ other ∷ more) = Some path
+
+-- what was looked at has this mode
+abbrev pub HasSeenMode : Option View → Option Route → ℕ → Type 0
+HasSeenMode tree None mode = ⊤
+HasSeenMode tree (Some path) mode = HasMode tree path mode
+
+-- A box may ask of these things: of one, where one of its kinds stands there, which is told, too; of several, whatever they are.
+abbrev pub MayAskOf : Opens → Option View → List Route → Option Kind → ℕ → Type 0
+MayAskOf box tree [] kind mode = ⊥
+MayAskOf box tree (path ∷ []) kind mode = MayAsk box tree path true × HasMode tree path mode × HasKind tree path kind
+MayAskOf box tree (path ∷ other ∷ more) kind mode =
+    (list_any is_too_long (path ∷ other ∷ more) ≡ false) × HasSeenMode tree (looked_at box (path ∷ other ∷ more)) mode × (kind ≡ None)
+
+-- or it may not: of one, where no such thing stands there or its path is too long; of several, where some path is too long
+abbrev pub MayNotAskOf : Opens → Option View → List Route → Type 0
+MayNotAskOf box tree [] = ⊥
+MayNotAskOf box tree (path ∷ []) = MayAsk box tree path false
+MayNotAskOf box tree (path ∷ other ∷ more) = list_any is_too_long (path ∷ other ∷ more) ≡ true
+
+-- of these things: there are none; the box may ask of them, or may not; or the look at one was refused
+abbrev pub IsChoiceOf : Opens → Option View → List Route → Choice → Type 0
+IsChoiceOf box tree paths NoSelection = paths ≡ []
+IsChoiceOf box tree paths Nothing = MayNotAskOf box tree paths
+IsChoiceOf box tree paths (Things chosen mode) = MayAskOf box tree paths chosen.kind mode × (chosen.paths ≡ paths)
+IsChoiceOf box tree paths (Refused refused e) = looked_at box paths ≡ Some refused
+
+-- of what is selected in a folder
 abbrev pub IsChoice : Opens → Option View → Route → List (List ℕ) → Choice → Type 0
-IsChoice box tree folder [] choice = choice ≡ NoSelection
-IsChoice box tree folder (name ∷ []) choice = IsLook box tree (name ∷ folder) choice
-IsChoice box tree folder (name ∷ other ∷ more) choice = choice ≡ Nothing
+IsChoice box tree folder names choice = IsChoiceOf box tree (paths_in folder names) choice
 
--- what the look at the thing was refused
+-- what was refused: nothing was selected, or the look at a thing
 abbrev pub choice_refusals : Choice → List Refusal
-choice_refusals NoSelection = []
+choice_refusals NoSelection = Plan plan.NoSelection ∷ []
 choice_refusals Nothing = []
-choice_refusals (Thing chosen mode) = []
+choice_refusals (Things chosen mode) = []
 choice_refusals (Refused path e) = Tree path e ∷ []
 
--- what a copy to a target comes to: the plan, where nothing stands there, or why it is refused
-abbrev pub PlanLeads : Option View → Kind → Route → Route → JobPlan → Type 0
-PlanLeads tree kind path target (Begins plan) = IsVacant tree target × (plan ≡ copy_plan kind path target) × (is_workable plan ≡ true)
-PlanLeads tree kind path target (Refuses refusal) = IsBlocked tree target refusal
+-- one thing, as a look at it told
+abbrev pub IsThing : Route → Meta → Choice → Type 0
+IsThing path meta (Things chosen mode) = (chosen.paths ≡ path ∷ []) × (chosen.kind ≡ Some meta.kind) × (mode ≡ meta.mode)
+IsThing path meta NoSelection = ⊥
+IsThing path meta Nothing = ⊥
+IsThing path meta (Refused refused e) = ⊥
 
--- what it was refused
+-- the first of some things was looked at
+abbrev pub first_of : List Route → Option Route
+first_of [] = None
+first_of (path ∷ paths) = Some path
+
+abbrev pub IsLookAtFirst : Option View → List Route → Option Kind → Choice → Type 0
+IsLookAtFirst tree paths kind (Things chosen mode) = HasSeenMode tree (first_of paths) mode × (chosen.paths ≡ paths) × (chosen.kind ≡ kind)
+IsLookAtFirst tree paths kind (Refused refused e) = first_of paths ≡ Some refused
+IsLookAtFirst tree paths kind NoSelection = ⊥
+IsLookAtFirst tree paths kind Nothing = ⊥
+
+-- the paths of things in a folder, where none is too long
+abbrev pub ArePathsIn : Route → List (List ℕ) → Option (List Route) → Type 0
+ArePathsIn folder names None = list_any is_too_long (paths_in folder names) ≡ true
+ArePathsIn folder names (Some paths) = (list_any is_too_long (paths_in folder names) ≡ false) × (paths ≡ paths_in folder names)
+
+-- what a plan was refused
 abbrev pub plan_refusals : JobPlan → List Refusal
 plan_refusals (Begins plan) = []
 plan_refusals (Refuses refusal) = refusal ∷ []
-
--- what comes of a look at the target that was refused so
-abbrev pub AfterLook : TreeError → Kind → Route → Route → JobPlan → Type 0
-AfterLook e kind path target (Begins plan) = (e ≡ Missing) × (plan ≡ copy_plan kind path target) × (is_workable plan ≡ true)
-AfterLook e kind path target (Refuses refusal) = (refusal ≡ Tree target e) × (e ≢ Missing) × (e ≢ Memory)

@@ -1,13 +1,16 @@
 -- What a box may ask of, and the plans that it confirms.
-use Rattle.std.specs.Prelude.{◌≡◌, ℕ, Bool, true, false, ◌&&◌, nat_le, ⊤, List, [], ◌∷◌, length, IsSome, Option, Some, None}
+use Rattle.std.specs.Prelude.{◌≡◌, ℕ, Bool, true, false, ◌&&◌, nat_le, ⊤, List, [], ◌∷◌, length, map, IsSome, Option, Some, None}
+use Rattle.std.specs.List.{list_all}
 use Rattle.std.specs.Option.{option_map, option_map_or}
 use Rattle.mc_text.specs.declared.kind.Kind.{Kind}
 use Rattle.mc_text.specs.declared.kind.Kind.TheVariants.{File, Folder, Link, Other}
 use Rattle.mc_text.specs.Routes.{Route, spelled}
 use Rattle.tree_trait.specs.FileSystem.{Spot, Value, View}
+use Rattle.op_plan.specs.declared.job.Pair.{Pair as PlannedPair}
 use Rattle.job_reports.specs.declared.job.Job.{Job}
 use Rattle.job_reports.specs.declared.job.Job.TheVariants as plan
 use Rattle.job_reports.specs.declared.job.Pair.{Pair}
+use Rattle.box_words.specs.Chosen.{is_within}
 use Rattle.job_plans.specs.declared.choosing.Opens.{Opens}
 use Rattle.job_plans.specs.declared.choosing.Opens.TheVariants as opens
 
@@ -39,26 +42,39 @@ HasMode None path mode = ⊤
 HasMode (Some view) path mode = option_map (λ (v : Value). v.mode) (view path).value ≡ Some mode
 
 -- the thing at a path is of a kind, as far as the tree can be seen
-abbrev pub HasKind : Option View → Route → Kind → Type 0
+abbrev pub HasKind : Option View → Route → Option Kind → Type 0
 HasKind None path kind = ⊤
-HasKind (Some view) path kind = option_map (λ (v : Value). v.kind) (view path).value ≡ Some kind
+HasKind (Some view) path kind = option_map (λ (v : Value). v.kind) (view path).value ≡ kind
 
--- the plans of one thing
-abbrev pub delete_plan : Route → Job
-delete_plan path = plan.Delete (path ∷ [])
+-- the plans of some things
+abbrev pub delete_plan : List Route → Job
+delete_plan paths = plan.Delete paths
 
--- a file's copy, or that of another thing with all that lies in it
-abbrev pub copies : Kind → List Pair → Job
-copies File pairs = plan.Copy pairs
-copies Folder pairs = plan.CopyTree pairs
-copies Link pairs = plan.CopyTree pairs
-copies Other pairs = plan.CopyTree pairs
+abbrev pub mode_plan : List Route → ℕ → Job
+mode_plan paths mode = plan.SetMode paths mode
 
-abbrev pub copy_plan : Kind → Route → Route → Job
-copy_plan kind source target = copies kind (record { source = source; target = target } ∷ [])
+-- the copy of one thing that is a file, or of things with all that lies in them
+abbrev pub copies : Option Kind → List Pair → Job
+copies (Some File) pairs = plan.Copy pairs
+copies (Some Folder) pairs = plan.CopyTree pairs
+copies (Some Link) pairs = plan.CopyTree pairs
+copies (Some Other) pairs = plan.CopyTree pairs
+copies None pairs = plan.CopyTree pairs
 
-abbrev pub mode_plan : Route → ℕ → Job
-mode_plan path mode = plan.SetMode (path ∷ []) mode
+-- sources with their targets, as jobs have them
+abbrev pub reported : List PlannedPair → List Pair
+reported = map (λ (pair : PlannedPair). record { source = pair.source; target = pair.target })
+
+abbrev pub copy_plan : Option Kind → List PlannedPair → Job
+copy_plan kind pairs = copies kind (reported pairs)
+
+-- at least one source with its target, of which each lies in a folder
+abbrev pub lie_within : PlannedPair → Bool
+lie_within pair = is_within pair.source && is_within pair.target
+
+abbrev pub can_be_copied : List PlannedPair → Bool
+can_be_copied [] = false
+can_be_copied (pair ∷ pairs) = list_all lie_within (pair ∷ pairs)
 
 -- something stands at a path, as far as the tree can be seen
 abbrev pub IsTaken : Option View → Route → Type 0

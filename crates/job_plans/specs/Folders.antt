@@ -4,7 +4,7 @@ use Rattle.mc_text.specs.Routes.{Route}
 use Rattle.tree_trait.specs.Change.{CallLog}
 use Rattle.job_reports.specs.declared.job.Job.{Job}
 use Rattle.job_reports.specs.declared.job.Job.TheVariants as plan
-use Rattle.job_reports.specs.Jobs.{is_workable}
+use Rattle.session_history.specs.Sources.{are_workable}
 use Rattle.job_plans.specs.declared.copying.JobPlan.{JobPlan}
 use Rattle.job_plans.specs.declared.copying.JobPlan.TheVariants.{Begins, Refuses}
 use Rattle.job_plans.specs.Places.{IsNewPlace, PlaceRefused}
@@ -16,5 +16,5 @@ folder_plan path = plan.MakeFolder path
 -- what planning it comes to: the plan, where a new thing may be made, or why it is refused
 abbrev pub FolderLeads : Option CallLog → Route → List ℕ → JobPlan → Type 0
 FolderLeads contents from typed (Begins plan) =
-    (path : Route) × IsNewPlace contents from typed path × (plan ≡ folder_plan path) × (is_workable plan ≡ true)
+    (path : Route) × IsNewPlace contents from typed path × (plan ≡ folder_plan path) × (are_workable plan ≡ true)
 FolderLeads contents from typed (Refuses refusal) = PlaceRefused contents from typed refusal

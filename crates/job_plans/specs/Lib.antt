@@ -6,4 +6,5 @@ pub mod Links
 pub mod Places
 pub mod Reading
 pub mod Refused
+pub mod Targets
 pub mod Told

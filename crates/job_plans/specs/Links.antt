@@ -4,7 +4,8 @@ use Rattle.mc_text.specs.Routes.{Route}
 use Rattle.tree_trait.specs.Change.{CallLog}
 use Rattle.job_reports.specs.declared.job.Job.{Job}
 use Rattle.job_reports.specs.declared.job.Job.TheVariants as plan
-use Rattle.job_reports.specs.Jobs.{is_link_text, is_workable}
+use Rattle.job_reports.specs.Jobs.{is_link_text}
+use Rattle.session_history.specs.Sources.{are_workable}
 use Rattle.session_history.specs.declared.refusal.PlanError.TheVariants.{BadLinkText}
 use Rattle.session_history.specs.declared.refusal.Refusal.{Refusal}
 use Rattle.session_history.specs.declared.refusal.Refusal.TheVariants.{Plan}
@@ -35,10 +36,10 @@ LinkRefused contents from typed text refusal = PlaceRefused contents from typed 
 -- what planning it comes to: the plan, or why it is refused
 abbrev pub LinkLeads : Option CallLog → Route → List ℕ → List ℕ → JobPlan → Type 0
 LinkLeads contents from typed text (Begins plan) =
-    (path : Route) × IsNewLink contents from typed text path × (plan ≡ link_plan path text) × (is_workable plan ≡ true)
+    (path : Route) × IsNewLink contents from typed text path × (plan ≡ link_plan path text) × (are_workable plan ≡ true)
 LinkLeads contents from typed text (Refuses refusal) = LinkRefused contents from typed text refusal
 
 -- what comes of a path at which a new thing may be made
 abbrev pub IsLinkAt : Route → List ℕ → JobPlan → Type 0
-IsLinkAt path text (Begins plan) = (is_link_text text ≡ true) × (plan ≡ link_plan path text) × (is_workable plan ≡ true)
+IsLinkAt path text (Begins plan) = (is_link_text text ≡ true) × (plan ≡ link_plan path text) × (are_workable plan ≡ true)
 IsLinkAt path text (Refuses refusal) = (is_link_text text ≡ false) × (refusal ≡ Plan BadLinkText)

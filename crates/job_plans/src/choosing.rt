@@ -1,17 +1,18 @@
-//! The look at the thing that is selected.
-ghost use Rattle.std.specs.Prelude.{◌≡◌, ◌∷◌, IfOk};
+//! The look at the things that are selected.
+ghost use Rattle.std.specs.Prelude.{◌≡◌, ◌∷◌, [], true, None, IfOk};
 ghost use Rattle.mc_panels.specs.Selections.{selection};
-ghost use Rattle.job_plans.specs.Choices.{IsChoice, IsLook, choice_refusals};
+ghost use Rattle.box_words.specs.Chosen.{can_be_chosen};
+ghost use Rattle.job_plans.specs.Choices.{ArePathsIn, IsChoice, IsLookAtFirst, IsThing, are_several, choice_refusals, looked_at, paths_in};
 ghost use Rattle.job_plans.specs.Copies.{may_open};
 ghost use Rattle.job_plans.specs.Reading.{ReadsTree, sight};
 
 use box_words::Chosen;
 use mc_panels::Panel;
-use mc_text::{Kind, Name, NoMemory, Path, PathError};
+use mc_text::{Kind, Name, NoMemory, Path, PathError, Paths};
 use std::alloc::Global;
-use tree_trait::{ReadTree, TreeError};
+use tree_trait::{Meta, ReadTree, TreeError};
 
-/// Which box is opened on the thing that is selected.
+/// Which box is opened on the things that are selected.
 #[derive(Clone, Copy, Debug, Drop, PartialEq, Eq)]
 pub enum Opens {
     Delete,
@@ -19,21 +20,21 @@ pub enum Opens {
     Mode,
 }
 
-/// What choosing the thing that is selected comes to.
+/// What choosing the things that are selected comes to.
 #[derive(Debug, Drop)]
 pub enum Choice {
     /// There is nothing: no name is tagged, and the cursor stands on `..`, or on no row.
     NoSelection,
-    /// It is nothing that the box may ask of, it can't be reached, or there are several.
+    /// It is nothing that the box may ask of, or a path is too long.
     Nothing,
-    /// A thing that the box may ask of, and its mode.
-    Thing(Chosen, u16),
-    /// A look at it was refused.
+    /// Things that the box may ask of, and the mode that the first has, where it was looked at.
+    Things(Chosen, u16),
+    /// The look at this one was refused.
     Refused(Path, TreeError),
 }
 
-/// Looks at the thing that is selected, of which a box may ask: the one that is tagged, or else the one under the cursor. It goes
-/// over the shown names once.
+/// Chooses the things that are selected, if a box may ask of them: those that are tagged, or else the one under the cursor. One thing is
+/// looked at; of several the first, where a mode is asked for. It goes over the shown names once.
 pub fn choose<T: ReadTree>(
     alloc: Global,
     tree: &mut T,
@@ -41,26 +42,27 @@ pub fn choose<T: ReadTree>(
     opens: Opens,
 ) -> Result<Choice, NoMemory>
     ensures chosen { IfOk result (IsChoice opens (sight (T.contents tree.old)) panel.now.folder (selection panel.now)) }
+    ensures still { looked_at opens (paths_in panel.now.folder (selection panel.now)) ≡ None → tree.new ≡ tree.old }
     ensures reads { ReadsTree choice_refusals result (T.contents tree.old) (T.contents tree.new)
         (T.fault_count tree.old) (T.fault_count tree.new) }
 {
     let names = panel.selection(alloc)?;
     match names.as_slice() {
         [] => Ok(Choice::NoSelection),
-        [name] => look_at_thing(alloc, tree, panel.folder(), name, opens),
-        [_, _, ..] => Ok(Choice::Nothing),
+        [name] => choose_one(alloc, tree, panel.folder(), name, opens),
+        [_, _, ..] => choose_several(alloc, tree, panel.folder(), names.as_slice(), opens),
     }
 }
 
 /// Looks at a thing in a folder.
-fn look_at_thing<T: ReadTree>(
+fn choose_one<T: ReadTree>(
     alloc: Global,
     tree: &mut T,
     folder: &Path,
     name: &Name,
     opens: Opens,
 ) -> Result<Choice, NoMemory>
-    ensures chosen { IfOk result (IsLook opens (sight (T.contents tree.old)) (name.now ∷ folder.now)) }
+    ensures chosen { IfOk result (IsChoice opens (sight (T.contents tree.old)) folder.now (name.now ∷ [])) }
     ensures reads { ReadsTree choice_refusals result (T.contents tree.old) (T.contents tree.new)
         (T.fault_count tree.old) (T.fault_count tree.new) }
 {
@@ -72,13 +74,7 @@ fn look_at_thing<T: ReadTree>(
     match tree.stat(alloc, &path) {
         Ok(meta) => {
             if may_ask_of(opens, meta.kind) {
-                Ok(Choice::Thing(
-                    Chosen {
-                        path,
-                        kind: meta.kind,
-                    },
-                    meta.mode,
-                ))
+                one_thing(alloc, path, meta)
             } else {
                 Ok(Choice::Nothing)
             }
@@ -86,6 +82,80 @@ fn look_at_thing<T: ReadTree>(
         Err(TreeError::Memory) => Err(NoMemory),
         Err(error) => Ok(Choice::Refused(path, error)),
     }
+}
+
+/// One thing, and what was seen of it.
+fn one_thing(alloc: Global, path: Path, meta: Meta) -> Result<Choice, NoMemory>
+    requires within { can_be_chosen (path ∷ []) ≡ true }
+    ensures { IfOk result (IsThing path meta) }
+{
+    let mut paths = Paths::new(alloc);
+    paths.push(path)?;
+    let chosen = Chosen {
+        paths,
+        kind: Some(meta.kind),
+    };
+    Ok(Choice::Things(chosen, meta.mode))
+}
+
+/// Chooses several things in a folder. Only for a mode the first is looked at.
+fn choose_several<T: ReadTree>(
+    alloc: Global,
+    tree: &mut T,
+    folder: &Path,
+    names: &[Name],
+    opens: Opens,
+) -> Result<Choice, NoMemory>
+    requires several { are_several names.now ≡ true }
+    ensures chosen { IfOk result (IsChoice opens (sight (T.contents tree.old)) folder.now names.now) }
+    ensures still { looked_at opens (paths_in folder.now names.now) ≡ None → tree.new ≡ tree.old }
+    ensures reads { ReadsTree choice_refusals result (T.contents tree.old) (T.contents tree.new)
+        (T.fault_count tree.old) (T.fault_count tree.new) }
+{
+    let Some(paths) = paths_in(alloc, folder, names)? else {
+        return Ok(Choice::Nothing);
+    };
+    let chosen = Chosen { paths, kind: None };
+    match opens {
+        Opens::Delete => Ok(Choice::Things(chosen, 0)),
+        Opens::SourceMask => Ok(Choice::Things(chosen, 0)),
+        Opens::Mode => with_first_mode(alloc, tree, chosen),
+    }
+}
+
+/// Things, of which the first is looked at.
+fn with_first_mode<T: ReadTree>(
+    alloc: Global,
+    tree: &mut T,
+    chosen: Chosen,
+) -> Result<Choice, NoMemory>
+    ensures chosen { IfOk result (IsLookAtFirst (sight (T.contents tree.old)) chosen.paths chosen.kind) }
+    ensures reads { ReadsTree choice_refusals result (T.contents tree.old) (T.contents tree.new)
+        (T.fault_count tree.old) (T.fault_count tree.new) }
+{
+    match chosen.paths.as_slice() {
+        [] => unreachable!(),
+        [first, ..] => match tree.stat(alloc, first) {
+            Ok(meta) => Ok(Choice::Things(chosen, meta.mode)),
+            Err(TreeError::Memory) => Err(NoMemory),
+            Err(error) => Ok(Choice::Refused(first.copy(alloc)?, error)),
+        },
+    }
+}
+
+/// The paths of things in a folder, if none is too long.
+fn paths_in(alloc: Global, folder: &Path, names: &[Name]) -> Result<Option<Paths>, NoMemory>
+    ensures { IfOk result (ArePathsIn folder.now names.now) }
+{
+    let mut paths = Vec::with_capacity(alloc, names.len())?;
+    for name in names {
+        match folder.join(alloc, name) {
+            Ok(path) => paths.push(path)?,
+            Err(PathError::TooLong(_)) => return Ok(None),
+            Err(_) => return Err(NoMemory),
+        }
+    }
+    Ok(Some(Paths(paths)))
 }
 
 /// Whether a box may ask of a thing of this kind: a file, a folder or a link may be copied, and anything deleted or given a mode.

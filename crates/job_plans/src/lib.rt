@@ -1,4 +1,4 @@
-//! The thing that is selected, and the plan of the job that a box confirms.
+//! The things that are selected, and the plan of the job that a box confirms.
 #![tactic(auto)]
 
 mod choosing;
@@ -8,6 +8,7 @@ mod new_folder;
 mod new_link;
 mod new_place;
 mod refused;
+mod targets;
 
 pub use choosing::{Choice, Opens, choose};
 pub use copying::{JobPlan, deletion_of, mode_setting_of, plan_copy};

@@ -11,7 +11,7 @@ use Rattle.job_reports.specs.CallRuns.{HasMore}
 use Rattle.job_reports.specs.declared.report.Did.{Did}
 use Rattle.job_reports.specs.declared.report.Did.TheVariants.{Began as BeganPart, Chunk, Placed, Removed, Made, Set, Kept, Skipped, Cleaned, Barrier, Troubled, Ended}
 use Rattle.job_reports.specs.declared.report.Trouble.{Trouble}
-use Rattle.job_reports.specs.declared.report.Ending.TheVariants.{NoMemory}
+use Rattle.job_reports.specs.declared.report.Ending.TheVariants.{Finished, Aborted, Killed, NoMemory}
 use Rattle.session_history.specs.declared.history.Entry.{Entry}
 use Rattle.session_history.specs.declared.history.Event.{Event}
 use Rattle.session_history.specs.declared.history.Event.TheVariants.{Key, Look, Sought, Began, Order, Step, Closed}
@@ -19,7 +19,7 @@ use Rattle.session_history.specs.declared.history.JobOrder.TheVariants.{Answered
 use Rattle.job_reports.specs.declared.answer.Answer.{Answer}
 use Rattle.job_reports.specs.declared.job.Job.{Job}
 use Rattle.session_history.specs.declared.refusal.Refusal.{Refusal}
-use Rattle.copy_move.specs.Jobs.{Running, answered, closed_job, first_work, part_of, waits_on}
+use Rattle.copy_move.specs.Jobs.{Running, answered, begun_work, closed_job, part_of, waits_on}
 use Rattle.job_reports.specs.Reports.{ends}
 use Rattle.copy_move.specs.Told.{after_step, if_closed, running, told}
 use Rattle.copy_move.specs.declared.work.Work.{Work}
@@ -32,7 +32,7 @@ use Rattle.copy_move.proofs.StillTelling.{StillTells, step_tells}
 use Rattle.copy_move.proofs.Telling.{answered_told, began_told, closed_told, fresh_told, step_told, sync_told}
 use Rattle.history_laws.proofs.Owing.{step_law}
 use Rattle.history_laws.proofs.Reports.{with_one}
-use Rattle.job_reports.specs.Jobs.{is_workable}
+use Rattle.session_history.specs.Sources.{IsInTurn, are_workable, later as rest_of, sources_of}
 use Rattle.job_boxes.specs.LiveJobs.{takes_answer}
 use Rattle.mc_ui.specs.Screens.{Begins, Answers, Ends, LookLeads, Screen}
 use Rattle.job_plans.specs.Refused.{has_fault}
@@ -44,6 +44,7 @@ use Rattle.mc_ui.specs.Seekings.{is_seeking}
 use Rattle.mc_desk.specs.Searches.{HasSought}
 use Rattle.mc_desk.specs.Shown.{DrawsFrame, PutsNothing, frame_due, none_before}
 use Rattle.mc_desk.specs.Sessions.{MayEnd, StepFault}
+use Rattle.mc_desk.specs.Turning.{finishes}
 use Rattle.mc_desk.proofs.Answering.{part_told, waits_told}
 use Rattle.mc_desk.proofs.Keeping.{Adds, Leads, before}
 
@@ -62,11 +63,11 @@ pub unasked_screen : (desk : Seen) → desk.quit ≡ false → noted desk ≡ de
 unasked_screen desk unasked = ap (λ b. with_end b desk.screen) unasked
 
 -- what is noted stays
-same_noted : (old new : Seen) → new.screen ≡ old.screen → new.quit ≡ old.quit → noted new ≡ noted old
+pub same_noted : (old new : Seen) → new.screen ≡ old.screen → new.quit ≡ old.quit → noted new ≡ noted old
 same_noted old new screen quit = ap (λ b. with_end b new.screen) quit ∙ ap (with_end old.quit) screen
 
 -- nothing else waits than the end
-may_end : (desk : Seen) → desk.screen.planned ≡ None → MayEnd (noted desk).planned
+pub may_end : (desk : Seen) → desk.screen.planned ≡ None → MayEnd (noted desk).planned
 may_end desk settled = go desk.quit
   where
     go : (b : Bool) → MayEnd (with_end b desk.screen).planned
@@ -105,14 +106,37 @@ module _ (contents contents_after : Option CallLog) (same : contents_after ≡ c
   leads_still old new e calls dirty leads job = leads_on old new e old.job calls (λ log known. leads log (ap (stand_with old.job) dirty)) job
 
 -- a job that was begun is the one that is live
-begins : (id : ℕ) (plan : Job) (run : Running) (old new : Seen) → option_map (running id) (first_work id plan) ≡ Some run → new.dirty ≡ old.dirty
+begins : (id : ℕ) (plan : Job) (run : Running) (old new : Seen) → option_map (running id) (begun_work id (sources_of plan)) ≡ Some run → new.dirty ≡ old.dirty
     → stand_with (Some run) new.dirty ≡ record (stand_of old) { jobs = begun id plan }
 begins id plan run old new started dirty =
-    ap (stand_with (Some run)) dirty ∙ ap (λ jobs. let s : Stand = record { jobs = jobs; dirty = old.dirty } in s) (sym (one (first_work id plan) started))
+    ap (stand_with (Some run)) dirty ∙ ap (λ jobs. let s : Stand = record { jobs = jobs; dirty = old.dirty } in s) (sym (one (begun_work id (sources_of plan)) started))
   where
     one : (work : Option Work) → option_map (running id) work ≡ Some run → option_map_or (λ w. running id w ∷ []) work [] ≡ run ∷ []
     one None is = absurd cc
     one (Some work) is = let same : running id work ≡ run = cc in ap (λ j. j ∷ []) same
+
+-- it is told whole
+began_first : (id : ℕ) (sources : List Job) → option_map told (option_map (running id) (begun_work id sources)) ≡ option_map (running id) (begun_work id sources)
+began_first id [] = refl
+began_first id (source ∷ more) = began_told id source
+
+-- a job is told to be finished only where no source is left
+in_turn : (id : ℕ) (did : Did) (left : List Job) → (finishes did ≡ true → left ≡ []) → IsInTurn (Step id did) left
+in_turn id (Ended Finished part) left h = h refl
+in_turn id (Ended Aborted part) left h = tt
+in_turn id (Ended Killed part) left h = tt
+in_turn id (Ended NoMemory part) left h = tt
+in_turn id (BeganPart part) left h = tt
+in_turn id (Chunk bytes) left h = tt
+in_turn id (Set path) left h = tt
+in_turn id (Placed path) left h = tt
+in_turn id (Removed path) left h = tt
+in_turn id (Made made) left h = tt
+in_turn id (Kept kept) left h = tt
+in_turn id (Skipped path cause) left h = tt
+in_turn id (Cleaned part) left h = tt
+in_turn id Barrier left h = tt
+in_turn id (Troubled trouble) left h = tt
 
 -- the live job is the one that was ordered
 answers : (answer : Answer) (live : Running) (old new : Seen) → old.job ≡ Some live → new.dirty ≡ old.dirty
@@ -138,10 +162,12 @@ module _ (contents contents_after : Option CallLog) (faults : ℕ) (old new : Se
   pub adds_key : (key : KeyType) (now : ℕ) (refusals : List Refusal) → new.newest ≡ entry seat old.tally.calls count shown (Key key now refusals false) ∷ old.newest → new.tally ≡ old.tally → new.job ≡ old.job
       → new.tally.job ≡ option_map told new.job → old.tally.closed ≡ false → old.tally.due ≡ None → is_seeking old.screen ≡ false → old.tally.lost ≡ false → old.screen.planned ≡ None → contents_after ≡ contents
       → faults_in faults old.newest ≤ count → (has_fault refusals ≡ true → HasRisen (faults_in faults old.newest) count) → IfKnown contents (λ log. AreRefused log refusals)
-      → KeyWorks contents (rows_told old.newest) (next_id old.tally.last) now key refusals (noted old) (noted new) → old.quit ≡ false → new.dirty ≡ old.dirty
+      → KeyWorks contents (rows_told old.newest) (next_id old.tally.last) now key refusals (noted old) (noted new) → old.quit ≡ false → new.dirty ≡ old.dirty → new.later ≡ old.later
       → DrawsFrame (none_before old.newest) (frame_due (noted new) (next_id old.tally.last) (rows_told old.newest)) shown old.out.put new.out.put
       → Adds contents contents_after faults old new (entry seat old.tally.calls count shown (Key key now refusals false))
-  adds_key key now refusals more tally job tells unclosed looked sought unlost settled same later fault refused leads unasked dirty draws = record {
+  adds_key key now refusals more tally job tells unclosed looked sought unlost settled same later fault refused leads unasked dirty left draws = record {
+    turn = tt;
+    left = left;
     draws = draws;
     more = more;
     tally = tally ∙ open_tally old.tally unclosed;
@@ -159,9 +185,11 @@ module _ (contents contents_after : Option CallLog) (faults : ℕ) (old new : Se
   pub adds_lost : (key : KeyType) (now : ℕ) → new.newest ≡ entry seat old.tally.calls count shown (Key key now [] true) ∷ old.newest
       → new.tally ≡ record old.tally { lost = true } → new.job ≡ old.job → new.tally.job ≡ option_map told new.job
       → old.tally.closed ≡ false → old.tally.due ≡ None → is_seeking old.screen ≡ false → old.tally.lost ≡ false → old.screen.planned ≡ None → contents_after ≡ contents
-      → faults_in faults old.newest ≤ count → new.screen ≡ old.screen → new.quit ≡ old.quit → old.quit ≡ false → new.dirty ≡ old.dirty → PutsNothing shown old.out.put new.out.put
+      → faults_in faults old.newest ≤ count → new.screen ≡ old.screen → new.quit ≡ old.quit → old.quit ≡ false → new.dirty ≡ old.dirty → new.later ≡ old.later → PutsNothing shown old.out.put new.out.put
       → Adds contents contents_after faults old new (entry seat old.tally.calls count shown (Key key now [] true))
-  adds_lost key now more tally job tells unclosed looked sought unlost settled same later screen quit unasked dirty put = record {
+  adds_lost key now more tally job tells unclosed looked sought unlost settled same later screen quit unasked dirty left put = record {
+    turn = tt;
+    left = left;
     draws = put;
     more = more;
     tally = tally ∙ ap (λ b. let r : Tally = record old.tally { job = if_closed b old.tally.job; lost = true } in r) (sym unclosed);
@@ -180,10 +208,12 @@ module _ (contents contents_after : Option CallLog) (faults : ℕ) (old new : Se
       → new.tally ≡ record old.tally { has_unseen_end = false; due = if can_step old.tally.job then old.tally.due else None } → new.job ≡ old.job → new.tally.job ≡ option_map told new.job
       → old.tally.closed ≡ false → IsSome old.tally.due → old.screen.planned ≡ None → contents_after ≡ contents
       → faults_in faults old.newest ≤ count → (has_fault refusals ≡ true → HasRisen (faults_in faults old.newest) count) → IfKnown contents (λ log. AreRefused log refusals)
-      → LookLeads contents (rows_told old.newest) old.tally.has_unseen_end (news_left old.newest) refusals old.screen new.screen → new.quit ≡ old.quit → old.quit ≡ false → new.dirty ≡ old.dirty
+      → LookLeads contents (rows_told old.newest) old.tally.has_unseen_end (news_left old.newest) refusals old.screen new.screen → new.quit ≡ old.quit → old.quit ≡ false → new.dirty ≡ old.dirty → new.later ≡ old.later
       → DrawsFrame (none_before old.newest) (frame_due (noted new) (next_id old.tally.last) (rows_told old.newest)) shown old.out.put new.out.put
       → Adds contents contents_after faults old new (entry seat old.tally.calls count shown (Look refusals))
-  adds_look refusals more tally job tells unclosed is_due settled same later fault refused leads quit unasked dirty draws = record {
+  adds_look refusals more tally job tells unclosed is_due settled same later fault refused leads quit unasked dirty left draws = record {
+    turn = tt;
+    left = left;
     draws = draws;
     more = more;
     tally = tally
@@ -206,10 +236,12 @@ module _ (contents contents_after : Option CallLog) (faults : ℕ) (old new : Se
   -- steps of a search
   pub adds_sought : new.newest ≡ entry seat old.tally.calls count shown Sought ∷ old.newest → new.tally ≡ old.tally → new.job ≡ old.job → new.tally.job ≡ option_map told new.job
       → old.tally.closed ≡ false → old.tally.due ≡ None → is_seeking old.screen ≡ true → old.screen.planned ≡ None → contents_after ≡ contents
-      → (from : ℕ) → faults_in faults old.newest ≤ from → from ≤ count → HasSought contents from count old.screen new.screen → new.quit ≡ old.quit → old.quit ≡ false → new.dirty ≡ old.dirty
+      → (from : ℕ) → faults_in faults old.newest ≤ from → from ≤ count → HasSought contents from count old.screen new.screen → new.quit ≡ old.quit → old.quit ≡ false → new.dirty ≡ old.dirty → new.later ≡ old.later
       → DrawsFrame (none_before old.newest) (frame_due (noted new) (next_id old.tally.last) (rows_told old.newest)) shown old.out.put new.out.put
       → Adds contents contents_after faults old new (entry seat old.tally.calls count shown Sought)
-  adds_sought more tally job tells unclosed looked seeking settled same from had later made quit unasked dirty draws = record {
+  adds_sought more tally job tells unclosed looked seeking settled same from had later made quit unasked dirty left draws = record {
+    turn = tt;
+    left = left;
     draws = draws;
     more = more;
     tally = tally ∙ open_tally old.tally unclosed;
@@ -230,16 +262,18 @@ module _ (contents contents_after : Option CallLog) (faults : ℕ) (old new : Se
 
   -- a job that was begun
   pub adds_began : (id : ℕ) (plan : Job) (background : Bool) (run : Running) → new.newest ≡ entry seat old.tally.calls count 0 (Began id plan background) ∷ old.newest
-      → option_map (running id) (first_work id plan) ≡ Some run → new.job ≡ Some run → new.tally ≡ record old.tally { job = Some (told run); last = id; due = Some id }
-      → old.tally.closed ≡ false → rows_told old.newest ≡ [] → is_workable plan ≡ true → old.screen.planned ≡ Some (Begins plan background) → contents_after ≡ contents → faults_in faults old.newest ≤ count
-      → next_id old.tally.last ≡ Some id → new.screen ≡ record old.screen { planned = None } → new.quit ≡ old.quit → old.quit ≡ false → old.job ≡ None → new.dirty ≡ old.dirty → new.out.put ≡ old.out.put
+      → option_map (running id) (begun_work id (sources_of plan)) ≡ Some run → new.job ≡ Some run → new.tally ≡ record old.tally { job = Some (told run); last = id; due = Some id }
+      → old.tally.closed ≡ false → rows_told old.newest ≡ [] → are_workable plan ≡ true → old.screen.planned ≡ Some (Begins plan background) → contents_after ≡ contents → faults_in faults old.newest ≤ count
+      → next_id old.tally.last ≡ Some id → new.screen ≡ record old.screen { planned = None } → new.quit ≡ old.quit → old.quit ≡ false → old.job ≡ None → new.dirty ≡ old.dirty → new.later ≡ rest_of (sources_of plan) → new.out.put ≡ old.out.put
       → Adds contents contents_after faults old new (entry seat old.tally.calls count 0 (Began id plan background))
-  adds_began id plan background run more started job tally unclosed idle workable planned same later id_is screen quit unasked none dirty put = record {
+  adds_began id plan background run more started job tally unclosed idle workable planned same later id_is screen quit unasked none dirty left put = record {
+    turn = tt;
+    left = left;
     draws = record { same = put; none = refl };
     more = more;
     tally = tally
         ∙ (ap (λ j. let r : Tally = record old.tally { job = j; last = id; due = Some id } in r) told_then
-        ∙ ap (λ b. let r : Tally = record old.tally { job = if_closed b (option_map (running id) (first_work id plan)); last = id; due = Some id } in r) (sym unclosed));
+        ∙ ap (λ b. let r : Tally = record old.tally { job = if_closed b (option_map (running id) (begun_work id (sources_of plan))); last = id; due = Some id } in r) (sym unclosed));
     told = ap (λ (t : Tally). t.job) tally ∙ sym (ap (option_map told) job);
     timely = tt;
     counts = record { seat = main; later = later; fault = λ h. absurd h; calls = omega arith; most = omega arith };
@@ -257,8 +291,8 @@ module _ (contents contents_after : Option CallLog) (faults : ℕ) (old new : Se
     unknown = still_unknown contents contents_after same;
   }
     where
-      told_then : Some (told run) ≡ option_map (running id) (first_work id plan)
-      told_then = sym (ap (option_map told) started) ∙ began_told id plan
+      told_then : Some (told run) ≡ option_map (running id) (begun_work id (sources_of plan))
+      told_then = sym (ap (option_map told) started) ∙ began_first id (sources_of plan)
 
   -- a trouble that was answered
   pub adds_order : (answer : Answer) (live : Running) → new.newest ≡ entry seat old.tally.calls count 0 (Order live.id (Answered answer)) ∷ old.newest
@@ -266,9 +300,11 @@ module _ (contents contents_after : Option CallLog) (faults : ℕ) (old new : Se
       → new.job ≡ Some (answered answer live)
       → new.tally ≡ record old.tally { job = Some (told (answered answer live)); due = Some live.id }
       → old.tally.closed ≡ false → old.screen.planned ≡ Some (Answers answer) → contents_after ≡ contents → faults_in faults old.newest ≤ count
-      → new.screen ≡ record old.screen { planned = None } → new.quit ≡ old.quit → old.quit ≡ false → new.dirty ≡ old.dirty → new.out.put ≡ old.out.put
+      → new.screen ≡ record old.screen { planned = None } → new.quit ≡ old.quit → old.quit ≡ false → new.dirty ≡ old.dirty → new.later ≡ old.later → new.out.put ≡ old.out.put
       → Adds contents contents_after faults old new (entry seat old.tally.calls count 0 (Order live.id (Answered answer)))
-  adds_order answer live more is rows takes tells job tally unclosed planned same later screen quit unasked dirty put = record {
+  adds_order answer live more is rows takes tells job tally unclosed planned same later screen quit unasked dirty left put = record {
+    turn = tt;
+    left = left;
     draws = record { same = put; none = refl };
     more = more;
     tally = tally
@@ -299,9 +335,11 @@ module _ (contents contents_after : Option CallLog) (faults : ℕ) (old new : Se
   -- the end of keys
   pub adds_closed : new.newest ≡ entry seat old.tally.calls count 0 Closed ∷ old.newest
       → new.tally ≡ record old.tally { job = option_map closed_job old.tally.job; closed = true; due = None } → new.job ≡ option_map closed_job old.job → new.tally.job ≡ option_map told new.job
-      → old.screen.planned ≡ None → contents_after ≡ contents → faults_in faults old.newest ≤ count → new.screen ≡ old.screen → new.quit ≡ old.quit → new.dirty ≡ old.dirty → new.out.put ≡ old.out.put
+      → old.screen.planned ≡ None → contents_after ≡ contents → faults_in faults old.newest ≤ count → new.screen ≡ old.screen → new.quit ≡ old.quit → new.dirty ≡ old.dirty → new.later ≡ old.later → new.out.put ≡ old.out.put
       → Adds contents contents_after faults old new (entry seat old.tally.calls count 0 Closed)
-  adds_closed more tally job tells settled same later screen quit dirty put = record {
+  adds_closed more tally job tells settled same later screen quit dirty left put = record {
+    turn = tt;
+    left = left;
     draws = record { same = put; none = refl };
     more = more;
     tally = tally;
@@ -359,10 +397,13 @@ module _ (contents contents_after : Option CallLog) (faults : ℕ) (old new : Se
       → new.job ≡ if_closed old.tally.closed (if ends did then None else Some stepped)
       → new.tally ≡ record old.tally { job = option_map told new.job; has_unseen_end = ends did || old.tally.has_unseen_end; calls = calls }
       → old.screen.planned ≡ None → faults_in faults old.newest ≤ before → after ≡ count → new.screen ≡ old.screen → new.quit ≡ old.quit → new.out.put ≡ old.out.put
+      → (finishes did ≡ true → old.later ≡ []) → new.later ≡ (if ends did then [] else old.later)
       → Adds contents contents_after faults old new (entry seat calls count 0 (Step live.id did))
-  adds_step live stepped did made calls before after is tells o calls_is more job tally settled had now screen quit put =
+  adds_step live stepped did made calls before after is tells o calls_is more job tally settled had now screen quit put turn left =
       let s = o.own in
       record {
+        turn = in_turn live.id did old.later turn;
+        left = left;
         draws = record { same = put; none = refl };
         more = more;
         tally = tally ∙ stepped_tally old.tally _ _ _ _ calls
@@ -394,8 +435,11 @@ module _ (contents contents_after : Option CallLog) (faults : ℕ) (old new : Se
       → new.job ≡ if_closed old.tally.closed (if ends did then None else Some stepped)
       → new.tally ≡ record old.tally { job = option_map told new.job; has_unseen_end = ends did || old.tally.has_unseen_end; calls = calls }
       → old.screen.planned ≡ None → faults_in faults old.newest ≤ before → after ≡ count → new.screen ≡ old.screen → new.quit ≡ old.quit → new.out.put ≡ old.out.put
+      → (finishes did ≡ true → old.later ≡ []) → new.later ≡ (if ends did then [] else old.later)
       → Adds contents contents_after faults old new (entry seat calls count 0 (Step live.id did))
-  adds_settled live stepped did made calls before after is tells s calls_is more job tally settled had now screen quit put = record {
+  adds_settled live stepped did made calls before after is tells s calls_is more job tally settled had now screen quit put turn left = record {
+    turn = in_turn live.id did old.later turn;
+    left = left;
     draws = record { same = put; none = refl };
     more = more;
     tally = tally ∙ stepped_tally old.tally _ _ _ _ calls
@@ -445,9 +489,11 @@ module _ (contents contents_after : Option CallLog) (faults : ℕ) (old new : Se
   pub adds_given_up : (live : Running) (part : Option Route) → old.job ≡ Some live → old.tally.job ≡ option_map told old.job → waits_on live.course ≡ false → part ≡ part_of live.work
       → new.newest ≡ entry seat old.tally.calls count 0 (Step live.id (Ended NoMemory part)) ∷ old.newest
       → new.job ≡ None → new.tally ≡ record old.tally { job = None; has_unseen_end = true }
-      → old.screen.planned ≡ None → contents_after ≡ contents → faults_in faults old.newest ≤ count → new.screen ≡ old.screen → new.quit ≡ old.quit → new.dirty ≡ old.dirty → new.out.put ≡ old.out.put
+      → old.screen.planned ≡ None → contents_after ≡ contents → faults_in faults old.newest ≤ count → new.screen ≡ old.screen → new.quit ≡ old.quit → new.dirty ≡ old.dirty → new.out.put ≡ old.out.put → new.later ≡ []
       → Adds contents contents_after faults old new (entry seat old.tally.calls count 0 (Step live.id (Ended NoMemory part)))
-  adds_given_up live part is tells ready part_is more job tally settled same later screen quit dirty put = record {
+  adds_given_up live part is tells ready part_is more job tally settled same later screen quit dirty put left = record {
+    turn = tt;
+    left = left;
     draws = record { same = put; none = refl };
     more = more;
     tally = tally ∙ stepped_tally old.tally _ _ _ _ old.tally.calls (none_left old.tally.closed ∙ ap (if_closed old.tally.closed) (sym (ap (λ j. option_and_then (after_step (Ended NoMemory part)) j) told_is))) refl;

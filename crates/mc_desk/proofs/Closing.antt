@@ -30,7 +30,7 @@ module _ (start : Option Start) (opening contents : Option CallLog) (faults : �
   closed_whole more room closed =
       subst (λ s. IsDesk start opening contents faults (seen_of log_after screen s dirty out taken pending)) (sym closed)
       (desk_closed start opening contents faults _ (seen_of log_after screen (closed_standing was) dirty out taken pending) count desk unclosed later more
-      (ap (λ j. let t : Tally = record (closed_tally was.lost) { job = j } in t) (closed_told true was.job)) refl refl refl refl room refl refl)
+      (ap (λ j. let t : Tally = record (closed_tally was.lost) { job = j } in t) (closed_told true was.job)) refl refl refl refl room refl refl refl)
 
   -- a key that was lost, and the end of keys
   pub lost_whole : (key : KeyType) (now shown : ℕ) → was.quit ≡ false → awaited was.due ≡ None → is_seeking screen ≡ false
@@ -39,4 +39,4 @@ module _ (start : Option Start) (opening contents : Option CallLog) (faults : �
   lost_whole key now shown unasked looked sought more room closed puts =
       subst (λ s. IsDesk start opening contents faults (seen_of log_after screen s dirty out taken pending)) (sym closed)
       (desk_lost start opening contents contents faults _ (seen_of log_after screen (closed_standing (record was { lost = true })) dirty out taken pending) count shown key now desk unclosed unasked looked sought refl later more
-      (ap (λ j. let t : Tally = record (closed_tally true) { job = j } in t) (closed_told true was.job)) refl refl refl refl room refl refl puts)
+      (ap (λ j. let t : Tally = record (closed_tally true) { job = j } in t) (closed_told true was.job)) refl refl refl refl room refl refl refl puts)

@@ -1,7 +1,7 @@
 -- A history begins no more jobs than it has entries.
 use Rattle.std.proofs.Common.{◌≡◌, ℕ, ◌+◌, ◌^◌, ◌<◌, ◌≤◌, List, [], ◌∷◌, length, Fits, w64, arith}
 use Rattle.session_history.specs.declared.history.Event.{Event}
-use Rattle.session_history.specs.declared.history.Event.TheVariants.{Key, Look, Sought, Began, Order, Step, Closed}
+use Rattle.session_history.specs.declared.history.Event.TheVariants.{Key, Look, Sought, Began, Order, Step, Next, Closed}
 use Rattle.session_history.specs.declared.history.Entry.{Entry}
 use Rattle.mc_desk.specs.Logs.{begun_by, jobs_begun}
 
@@ -12,6 +12,7 @@ one_begun Sought = omega arith
 one_begun (Began id plan background) = omega arith
 one_begun (Order id order) = omega arith
 one_begun (Step id did) = omega arith
+one_begun (Next id plan) = omega arith
 one_begun Closed = omega arith
 
 pub few_begun : (entries : List Entry) → jobs_begun entries ≤ length entries

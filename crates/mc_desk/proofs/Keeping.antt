@@ -6,10 +6,11 @@ use Rattle.tree_trait.specs.Change.{CallLog}
 use Rattle.tree_trait.specs.Answers.{IfKnown}
 use Rattle.session_history.specs.declared.history.Entry.{Entry}
 use Rattle.session_history.specs.declared.history.Event.{Event}
-use Rattle.session_history.specs.declared.history.Event.TheVariants.{Key, Look, Sought, Began, Order, Step, Closed}
+use Rattle.session_history.specs.declared.history.Event.TheVariants.{Key, Look, Sought, Began, Order, Step, Next, Closed}
 use Rattle.copy_move.specs.Jobs.{Running}
 use Rattle.copy_move.specs.Told.{told, if_closed}
 use Rattle.session_history.specs.Entries.{closes, is_closed, calls_in}
+use Rattle.session_history.specs.Sources.{AreInTurn, IsInTurn, left_after, sources_left}
 use Rattle.history_laws.specs.Traces.{IsTraced, IsTracedTo, at_rest}
 use Rattle.history_laws.specs.Traces as traces
 use Rattle.history_laws.proofs.Moments.{traced_count}
@@ -45,6 +46,7 @@ kept_opening start opening contents faults named screen log standing dirty out t
             (subst (λ o. IsSession start o faults [] now) same (record { start = named; begins = begins; opened = opened.opening; idle = ap (stand_with None) none; same = refl; blank = nothing }));
         tally = ap tally (sym opened.empty);
         told = refl;
+        left = ap sources_left (sym opened.empty);
         calls = omega arith;
       };
       settled = plans_nothing named.mode contents named.home named.lines named.columns screen opened.opening;
@@ -78,6 +80,8 @@ pub record Adds (contents contents_after : Option CallLog) (faults : ℕ) (old n
   pub more : new.newest ≡ e ∷ old.newest
   pub tally : new.tally ≡ after_entry e old.tally
   pub told : new.tally.job ≡ option_map told new.job
+  pub turn : IsInTurn e.what old.later
+  pub left : new.later ≡ left_after e.what old.later
   pub timely : IsTimely e.what (noted old)
   pub counts : Counts (faults_in faults old.newest) old.tally.calls old.tally.job e
   pub leads : EventLeads (before contents old) e.what (noted new)
@@ -86,6 +90,11 @@ pub record Adds (contents contents_after : Option CallLog) (faults : ℕ) (old n
   pub traced : Leads contents contents_after old new e
   pub unknown : contents ≡ None → contents_after ≡ None
   pub draws : EventDraws e.what (none_before old.newest) (frame_due (noted new) (next_id old.tally.last) (rows_told old.newest)) e.shown old.out.put new.out.put
+
+-- the sources of each job are worked in turn
+pub session_in_turn : (start : Option Start) (opening : Option CallLog) (faults : ℕ) (newest : List Entry) (now : SessionState) → IsSession start opening faults newest now → AreInTurn newest
+session_in_turn start opening faults [] now begins = tt
+session_in_turn start opening faults (e ∷ older) now (was, session, enters) = (enters.turn, session_in_turn start opening faults older was session)
 
 -- a tree that told nothing at the opening never does
 still_none : (start : Option Start) (faults : ℕ) (newest : List Entry) (now : SessionState) → IsSession start None faults newest now → now.contents ≡ None
@@ -144,6 +153,7 @@ module _ (faults : ℕ) (old new : Seen) (e : Entry) where
   three_calls (Began id plan background) = omega arith
   three_calls (Order id order) = omega arith
   three_calls (Step id did) = omega arith
+  three_calls (Next id plan) = omega arith
   three_calls Closed = omega arith
 
   pub written_more : (start : Option Start) (opening contents contents_after : Option CallLog) → IsWritten start opening contents faults old → Adds contents contents_after faults old new e → IsWritten start opening contents_after faults new
@@ -153,6 +163,7 @@ module _ (faults : ℕ) (old new : Seen) (e : Entry) where
       written.session,
       record {
         timely = adds.timely;
+        turn = subst (IsInTurn e.what) written.left adds.turn;
         counts = subst (λ (t : Tally). Counts (faults_in faults old.newest) t.calls t.job e) written.tally adds.counts;
         leads = subst (λ t. EventLeads (let b : Before = record { contents = contents; tally = t; rows = rows_told old.newest; news = news_left old.newest; screen = noted old } in b) e.what (noted new)) written.tally
             adds.leads;
@@ -164,6 +175,7 @@ module _ (faults : ℕ) (old new : Seen) (e : Entry) where
     );
     tally = adds.tally ∙ (ap (after_entry e) written.tally ∙ ap tally (sym adds.more));
     told = adds.told;
+    left = adds.left ∙ (ap (left_after e.what) written.left ∙ ap sources_left (sym adds.more));
     calls =
         let is : new.tally.calls ≡ e.calls = ap (λ (t : Tally). t.calls) adds.tally in
         let three = three_calls e.what in

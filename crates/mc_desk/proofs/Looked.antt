@@ -75,7 +75,7 @@ module _ (start : Option Start) (opening contents contents_after : Option CallLo
       refused leads more
       (ap (λ d. let t : Tally = record (tally_of was) { has_unseen_end = false; due = d } in t)
       (due_by_number (can_step was.job) was.due ∙ ap (λ b. if b then awaited was.due else None) (sym (steps_told was.job))))
-      refl refl settled refl room refl unasked
+      refl refl settled refl room refl refl unasked
       (shown_drawn (seen_of log_after screen_after (taken_up was) dirty out_after taken pending) fits
       (subst (λ es. out_after.put.is_cut ≡ false → out_after.display ≡ (let d : Display = record { grid = frame_of screen_after (rows_of was.job (trouble_told es)); has_drawn = true } in d)) (sym more)
       (shown_whole (frame_of screen_after (rows_of was.job (trouble_told log.newest))) r out out_after s))

@@ -8,15 +8,17 @@ use Rattle.job_reports.specs.declared.answer.Answer.{Answer}
 use Rattle.job_reports.specs.declared.answer.Answer.TheVariants.{Retry, Skip, SkipAll, Abort}
 use Rattle.session_history.specs.declared.history.Entry.{Entry}
 use Rattle.session_history.specs.declared.history.Event.{Event}
-use Rattle.session_history.specs.declared.history.Event.TheVariants.{Key, Look, Sought, Began, Order, Step, Closed}
+use Rattle.session_history.specs.declared.history.Event.TheVariants.{Key, Look, Sought, Began, Order, Step, Next, Closed}
 use Rattle.session_history.specs.declared.history.JobOrder.TheVariants.{Answered}
 use Rattle.copy_move.specs.declared.work.Work.{Work}
 use Rattle.copy_move.specs.declared.run.Course.{Course}
 use Rattle.copy_move.specs.declared.run.Course.TheVariants.{GoesOn, InTrouble, OwedSyncFailed, Skips, Ends}
-use Rattle.copy_move.specs.Jobs.{Running, answered, answered_on, first_work}
+use Rattle.job_reports.specs.declared.job.Job.{Job}
+use Rattle.session_history.specs.Sources.{sources_of}
+use Rattle.copy_move.specs.Jobs.{Running, answered, answered_on, begun_work, first_work, passing_over, skips_of}
 use Rattle.history_laws.specs.ToldJob.{live_job, after_event}
 use Rattle.session_history.specs.Entries.{is_closed}
-use Rattle.copy_move.specs.Told.{if_closed, after_step, running}
+use Rattle.copy_move.specs.Told.{if_closed, after_step, running, turned}
 use Rattle.mc_desk.specs.Tallies.{due_in, due_after, can_step}
 
 -- the number of a job, if there is one, is this
@@ -60,6 +62,14 @@ began_numbered : (n id : ℕ) (work : Option Work) → id ≡ n → Numbered n (
 began_numbered n id None is live at = absurd cc
 began_numbered n id (Some work) is live at = let same : id ≡ live.id = cc in sym same ∙ is
 
+turned_numbered : (n : ℕ) (plan : Job) (job : Option Running) → Numbered n job → Numbered n (option_and_then (turned plan) job)
+turned_numbered n plan None h = λ live is. absurd cc
+turned_numbered n plan (Some job) h = go (first_work job.id plan)
+  where
+    go : (work : Option Work) → Numbered n (option_map (λ w. running job.id (passing_over (skips_of job.work) w)) work)
+    go None live at = absurd cc
+    go (Some work) live at = let same : job.id ≡ live.id = cc in sym same ∙ h job refl
+
 order_numbered : (n : ℕ) (answer : Answer) (job : Option Running) → option_map (λ (live : Running). live.id) job ≡ Some n → Numbered n (option_map (answered answer) job)
 order_numbered n answer None is live at = absurd cc
 order_numbered n answer (Some job) is live at =
@@ -75,9 +85,10 @@ event_numbered n (Look refusals) job due h is = go (can_step job) is
     go true is = h n is
     go false is = absurd cc
 event_numbered n Sought job due h is = h n is
-event_numbered n (Began id plan background) job due h is = began_numbered n id (first_work id plan) (let number : id ≡ n = cc in number)
+event_numbered n (Began id plan background) job due h is = began_numbered n id (begun_work id (sources_of plan)) (let number : id ≡ n = cc in number)
 event_numbered n (Order id (Answered answer)) job due h is = order_numbered n answer job is
 event_numbered n (Step id did) job due h is = step_numbered n did job (h n is)
+event_numbered n (Next id plan) job due h is = turned_numbered n plan job (h n is)
 event_numbered n Closed job due h is = absurd cc
 
 pub due_is_live : (newest : List Entry) (n : ℕ) → due_in newest ≡ Some n → Numbered n (live_job newest)

@@ -113,7 +113,7 @@ some_steps (Skips cause) (SetMode s) = omega arith
 some_steps (Ends ending) work = some_end work
 
 -- a job that waits is counted as one that is aborted
-closed_rank : (course : Course) (work : Work) (dirty : List Route) → rank_at dirty (closed_course course) work ≤ rank_at dirty course work
+pub closed_rank : (course : Course) (work : Work) (dirty : List Route) → rank_at dirty (closed_course course) work ≤ rank_at dirty course work
 closed_rank GoesOn work dirty = omega arith
 closed_rank (InTrouble halt) (Copy c) dirty = omega arith
 closed_rank (InTrouble halt) (CopyTree c) dirty = omega arith
@@ -129,7 +129,7 @@ closed_rank (Skips cause) work dirty = omega arith
 closed_rank (Ends ending) work dirty = omega arith
 
 -- a job has more steps left than none
-some_left : (dirty : List Route) (job : Running) → length dirty < rank_at dirty job.course job.work
+pub some_left : (dirty : List Route) (job : Running) → length dirty < rank_at dirty job.course job.work
 some_left dirty job = let some = some_steps job.course job.work in omega (arith, some)
 
 -- an end leaves no more than one dirty folder more
@@ -222,7 +222,3 @@ pub run_falls : (unclaimed : Route → Type 0) (closed : Bool) (job stepped : Ru
 run_falls unclaimed closed job stepped did made dirty dirty_after before after f0 f1 (inl o) =
     rank_left closed job stepped did dirty dirty_after (leaves_more job.course job.work stepped.work did dirty dirty_after before after o.leaves) o.falls
 run_falls unclaimed closed job stepped did made dirty dirty_after before after f0 f1 (inr s) = settled_falls closed job stepped did made dirty dirty_after before after f0 f1 s
-
--- a job that is given up is no more
-pub given_up_falls : (job : Running) (dirty : List Route) → rank_with dirty None < rank_with dirty (Some job)
-given_up_falls job dirty = some_left dirty job

@@ -47,7 +47,7 @@ module _ (start : Option Start) (opening contents contents_after : Option CallLo
       → IsDesk start opening contents_after faults (seen_of log_after screen_after was dirty out_after taken pending)
   sought_whole made settled more room r fits s =
       desk_sought start opening contents contents_after faults _ (seen_of log_after screen_after was dirty out_after taken pending) from count out_after.shown desk unclosed looked seeking same had later made more
-      refl refl refl settled refl room refl unasked
+      refl refl refl settled refl room refl refl unasked
       (shown_drawn (seen_of log_after screen_after was dirty out_after taken pending) fits
       (subst (λ es. out_after.put.is_cut ≡ false → out_after.display ≡ (let d : Display = record { grid = frame_of screen_after (rows_of was.job (trouble_told es)); has_drawn = true } in d)) (sym more)
       (shown_whole (frame_of screen_after (rows_of was.job (trouble_told log.newest))) r out out_after s))

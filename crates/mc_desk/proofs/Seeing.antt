@@ -7,7 +7,7 @@ use Rattle.tree_trait.specs.Change.{CallLog}
 use Rattle.tree_trait.specs.Answers.{IfKnown}
 use Rattle.key_screen.specs.Grids.{CellGrid}
 use Rattle.session_history.specs.declared.history.Event.{Event}
-use Rattle.session_history.specs.declared.history.Event.TheVariants.{Key, Look, Sought, Began, Order, Step, Closed}
+use Rattle.session_history.specs.declared.history.Event.TheVariants.{Key, Look, Sought, Began, Order, Step, Next, Closed}
 use Rattle.session_history.specs.declared.history.Entry.{Entry}
 use Rattle.mc_ui.specs.Screens.{Screen}
 use Rattle.mc_desk.specs.declared.starts.Start.{Start}
@@ -29,6 +29,7 @@ drawn_or_still Sought is_first frame shown before after d = inl (refl, d)
 drawn_or_still (Began id plan background) is_first frame shown before after d = inr (refl, d.same)
 drawn_or_still (Order id order) is_first frame shown before after d = inr (refl, d.same)
 drawn_or_still (Step id did) is_first frame shown before after d = inr (refl, d.same)
+drawn_or_still (Next id plan) is_first frame shown before after d = inr (refl, d.same)
 drawn_or_still Closed is_first frame shown before after d = inr (refl, d.same)
 
 -- what was put before a drawing is a prefix of what was put by then

@@ -15,14 +15,16 @@ use Rattle.job_reports.specs.declared.report.Trouble.{Trouble}
 use Rattle.job_reports.specs.declared.row.JobState.TheVariants as state
 use Rattle.session_history.specs.declared.history.Entry.{Entry}
 use Rattle.session_history.specs.declared.history.Event.{Event}
-use Rattle.session_history.specs.declared.history.Event.TheVariants.{Key, Look, Sought, Began, Order, Step, Closed}
+use Rattle.session_history.specs.declared.history.Event.TheVariants.{Key, Look, Sought, Began, Order, Step, Next, Closed}
 use Rattle.session_history.specs.declared.history.JobOrder.TheVariants.{Answered}
+use Rattle.job_reports.specs.declared.job.Job.{Job}
 use Rattle.session_history.specs.Entries.{is_closed}
+use Rattle.session_history.specs.Sources.{sources_of}
 use Rattle.copy_move.specs.declared.work.Work.{Work}
 use Rattle.copy_move.specs.declared.run.Course.{Course}
 use Rattle.copy_move.specs.declared.run.Course.TheVariants.{GoesOn, InTrouble, OwedSyncFailed, Skips, Ends}
-use Rattle.copy_move.specs.Jobs.{Running, MayAnswer, TellsOn, answered, answered_on, closed_course, closed_job, first_work, halt_of, is_barred, is_fresh, waits_on}
-use Rattle.copy_move.specs.Told.{IsAllowedStep, after_step, course_told, if_closed, running, told}
+use Rattle.copy_move.specs.Jobs.{Running, MayAnswer, TellsOn, answered, answered_on, begun_work, closed_course, closed_job, first_work, halt_of, is_barred, is_fresh, passing_over, skips_of, waits_on}
+use Rattle.copy_move.specs.Told.{IsAllowedStep, after_step, course_told, if_closed, running, told, turned}
 use Rattle.history_laws.specs.ToldJob.{after_event, live_job}
 use Rattle.job_boxes.specs.LiveJobs.{fits, is_troubled, takes_answer}
 use Rattle.mc_ui.specs.Screens.{Screen}
@@ -104,15 +106,24 @@ began_waits : (id : ℕ) (work : Option Work) (t : Option Trouble) → WaitsIn (
 began_waits id None t = tt
 began_waits id (Some work) t = λ waits. absurd (false≢true waits)
 
+turned_waits : (plan : Job) (job : Option Running) (t : Option Trouble) → WaitsIn (option_and_then (turned plan) job) t
+turned_waits plan None t = tt
+turned_waits plan (Some job) t = go (first_work job.id plan)
+  where
+    go : (work : Option Work) → WaitsIn (option_map (λ w. running job.id (passing_over (skips_of job.work) w)) work) t
+    go None = tt
+    go (Some work) = λ waits. absurd (false≢true waits)
+
 event_waits : (was : Before) (what : Event) (after : Screen) (job : Option Running) (t : Option Trouble) → was.tally.job ≡ job → EventLeads was what after → WaitsIn job t
     → WaitsIn (after_event what job) (if is_report what then reported_trouble what else t)
 event_waits was (Key key now refusals lost) after job t is leads h = h
 event_waits was (Look refusals) after job t is leads h = h
 event_waits was Sought after job t is leads h = h
-event_waits was (Began id plan background) after job t is leads h = began_waits id (first_work id plan) t
+event_waits was (Began id plan background) after job t is leads h = began_waits id (begun_work id (sources_of plan)) t
 event_waits was (Order id (Answered answer)) after job t is leads h = ordered_waits answer job t h
 event_waits was (Step id did) after job t is (same, (live, at, number, allowed)) h =
     subst (λ j. WaitsIn (option_and_then (after_step did) j) (reported_trouble (Step id did))) (sym at ∙ is) (step_waits id live did allowed)
+event_waits was (Next id plan) after job t is leads h = turned_waits plan job t
 event_waits was Closed after job t is leads h = h
 
 closed_goes : (course : Course) → waits_on (closed_course course) ≡ false

@@ -11,7 +11,7 @@ use Rattle.job_reports.specs.declared.report.Did.TheVariants.{Ended}
 use Rattle.job_reports.specs.declared.report.Ending.TheVariants.{NoMemory}
 use Rattle.job_reports.specs.declared.job.Job.{Job}
 use Rattle.job_reports.specs.declared.row.JobRow.{JobRow}
-use Rattle.job_reports.specs.Jobs.{is_workable}
+use Rattle.session_history.specs.Sources.{are_workable, later as rest_of, sources_of}
 use Rattle.session_history.specs.declared.history.Entry.{Entry}
 use Rattle.session_history.specs.declared.history.Event.TheVariants.{Key, Look, Sought, Began, Order, Step, Closed}
 use Rattle.session_history.specs.declared.history.JobOrder.TheVariants.{Answered}
@@ -19,7 +19,7 @@ use Rattle.job_reports.specs.declared.answer.Answer.{Answer}
 use Rattle.session_history.specs.declared.refusal.Refusal.{Refusal}
 use Rattle.copy_move.specs.declared.run.Course.{Course}
 use Rattle.copy_move.specs.declared.run.Course.TheVariants.{GoesOn, InTrouble, OwedSyncFailed, Skips, Ends}
-use Rattle.copy_move.specs.Jobs.{Running, MayAnswer, answered, closed_course, closed_job, first_work, part_of, waits_on}
+use Rattle.copy_move.specs.Jobs.{Running, MayAnswer, answered, begun_work, closed_course, closed_job, part_of, waits_on}
 use Rattle.job_reports.specs.Reports.{ends}
 use Rattle.history_laws.specs.ToldJob.{after_event, live_job}
 use Rattle.copy_move.specs.Told.{if_closed, running, told}
@@ -38,6 +38,7 @@ use Rattle.mc_desk.specs.Granting.{KeyWorks}
 use Rattle.mc_desk.specs.Outputs.{FitsScreen, Output}
 use Rattle.mc_ui.specs.Seekings.{is_seeking}
 use Rattle.mc_desk.specs.Searches.{HasSought}
+use Rattle.mc_desk.specs.Turning.{finishes}
 use Rattle.mc_desk.specs.Shown.{DrawsFrame, PutsNothing, frame_due, none_before}
 use Rattle.mc_desk.specs.Desks.{Seen, kept_room, IsShown, IsWritten, IsDesk, noted, state_of}
 use Rattle.mc_desk.proofs.Showing.{shown_closed, shown_stepping}
@@ -47,14 +48,14 @@ use Rattle.mc_desk.proofs.Keeping.{written_more}
 use Rattle.mc_desk.proofs.Troubles.{WaitsIn, may_answer, session_waits}
 
 -- two entries are room enough
-room_two : (closed : Bool) (job : Option Running) → kept_room closed job ≤ 2
+pub room_two : (closed : Bool) (job : Option Running) → kept_room closed job ≤ 2
 room_two true None = omega arith
 room_two true (Some job) = omega arith
 room_two false None = omega arith
 room_two false (Some job) = omega arith
 
 -- a written desk on which nothing waits is whole
-desk_of : (start : Option Start) (opening contents : Option CallLog) (faults : ℕ) (desk : Seen) → IsWritten start opening contents faults desk → desk.screen.planned ≡ None → (desk.tally.lost ≡ true → desk.tally.closed ≡ true)
+pub desk_of : (start : Option Start) (opening contents : Option CallLog) (faults : ℕ) (desk : Seen) → IsWritten start opening contents faults desk → desk.screen.planned ≡ None → (desk.tally.lost ≡ true → desk.tally.closed ≡ true)
     → (desk.quit ≡ true → desk.tally.due ≡ None) → (desk.tally.closed ≡ true → desk.tally.due ≡ None) → 2 ≤ desk.spare → IsShown desk → IsDesk start opening contents faults desk
 desk_of start opening contents faults desk written settled lost asked shut room shown =
     record { written = written; settled = settled; asked = asked; lost = lost; shut = shut; room = let two = room_two desk.tally.closed desk.job in omega (arith, two, room); shown = shown }
@@ -116,14 +117,14 @@ module _ (start : Option Start) (opening contents contents_after : Option CallLo
   -- a key that was lost, and the end of keys
   pub desk_lost : new.newest ≡ entry 0 old.tally.calls count 0 Closed ∷ (entry 0 old.tally.calls count shown (Key key now [] true) ∷ old.newest)
       → new.tally ≡ record old.tally { job = option_map closed_job old.tally.job; closed = true; due = None; lost = true } → new.job ≡ option_map closed_job old.job → new.tally.job ≡ option_map told new.job
-      → new.screen ≡ old.screen → new.quit ≡ old.quit → 1 ≤ new.spare → new.dirty ≡ old.dirty → new.out ≡ old.out → PutsNothing shown old.out.put old.out.put
+      → new.screen ≡ old.screen → new.quit ≡ old.quit → 1 ≤ new.spare → new.dirty ≡ old.dirty → new.later ≡ old.later → new.out ≡ old.out → PutsNothing shown old.out.put old.out.put
       → IsDesk start opening contents_after faults new
-  desk_lost more is job tells screen quit room dirty out puts = record {
+  desk_lost more is job tells screen quit room dirty left out puts = record {
     written =
         written_more faults mid new _ start opening contents_after contents_after
         (written_more faults old mid _ start opening contents contents_after desk.written
-        (adds_lost contents contents_after faults old mid 0 count shown refl key now refl refl refl desk.written.told unclosed looked sought (unlost start opening contents faults old desk unclosed) desk.settled same later refl refl unasked refl puts))
-        (adds_closed contents_after contents_after faults mid new 0 count 0 refl more is job tells desk.settled refl (omega arith) screen quit dirty (ap (λ (o : Output). o.put) out));
+        (adds_lost contents contents_after faults old mid 0 count shown refl key now refl refl refl desk.written.told unclosed looked sought (unlost start opening contents faults old desk unclosed) desk.settled same later refl refl unasked refl refl puts))
+        (adds_closed contents_after contents_after faults mid new 0 count 0 refl more is job tells desk.settled refl (omega arith) screen quit dirty left (ap (λ (o : Output). o.put) out));
     settled = ap (λ (s : Screen). s.planned) screen ∙ desk.settled;
     asked = λ h. ap (λ (t : Tally). t.due) is;
     lost = λ h. ap (λ (t : Tally). t.closed) is;
@@ -139,13 +140,13 @@ module _ (start : Option Start) (opening contents contents_after : Option CallLo
       (settled : new.screen.planned ≡ None) (room : 2 ≤ new.spare) (shown_now : IsShown new) where
     -- a key that was worked
     pub desk_keyed : new.newest ≡ entry 0 old.tally.calls count shown (Key key now refusals false) ∷ old.newest → new.tally ≡ old.tally → new.job ≡ old.job → new.tally.job ≡ option_map told new.job
-        → KeyWorks contents (rows_told old.newest) (next_id old.tally.last) now key refusals (noted old) (noted new) → new.dirty ≡ old.dirty
+        → KeyWorks contents (rows_told old.newest) (next_id old.tally.last) now key refusals (noted old) (noted new) → new.dirty ≡ old.dirty → new.later ≡ old.later
         → DrawsFrame (none_before old.newest) (frame_due (noted new) (next_id old.tally.last) (rows_told old.newest)) shown old.out.put new.out.put → IsDesk start opening contents_after faults new
-    desk_keyed more is job tells works dirty draws =
+    desk_keyed more is job tells works dirty left draws =
         desk_of start opening contents_after faults new
         (written_more faults old new _ start opening contents contents_after desk.written
         (adds_key contents contents_after faults old new 0 count shown refl key now refusals more is job tells unclosed looked sought (unlost start opening contents faults old desk unclosed) desk.settled same later fault refused
-        works unasked dirty draws))
+        works unasked dirty left draws))
         settled (λ h. ap (λ (t : Tally). t.closed) is ∙ desk.lost (sym (ap (λ (t : Tally). t.lost) is) ∙ h)) (λ h. ap (λ (t : Tally). t.due) is ∙ looked)
         (λ h. ap (λ (t : Tally). t.due) is ∙ desk.shut (sym (ap (λ (t : Tally). t.closed) is) ∙ h)) room shown_now
 
@@ -161,24 +162,24 @@ module _ (start : Option Start) (opening contents contents_after : Option CallLo
     keyed_written screen works draws =
         written_more faults old (keyed screen) _ start opening contents contents_after desk.written
         (adds_key contents contents_after faults old (keyed screen) 0 count shown refl key now refusals refl refl refl desk.written.told unclosed looked sought (unlost start opening contents faults old desk unclosed) desk.settled same later fault
-        refused (subst (λ s. KeyWorks contents (rows_told old.newest) (next_id old.tally.last) now key refusals (noted old) s) (sym (unasked_screen (keyed screen) unasked)) works) unasked refl
+        refused (subst (λ s. KeyWorks contents (rows_told old.newest) (next_id old.tally.last) now key refusals (noted old) s) (sym (unasked_screen (keyed screen) unasked)) works) unasked refl refl
         (subst (λ s. DrawsFrame (none_before old.newest) (frame_due s (next_id old.tally.last) (rows_told old.newest)) shown old.out.put new.out.put) (sym (unasked_screen (keyed screen) unasked)) draws))
 
     -- a key that confirmed a job, and the job that it begins
-    pub desk_began : (plan : Job) (background : Bool) (run : Running) (id began_count : ℕ) → run.id ≡ id → next_id old.tally.last ≡ Some run.id → old.job ≡ None → is_workable plan ≡ true
-        → option_map (running run.id) (first_work run.id plan) ≡ Some run
+    pub desk_began : (plan : Job) (background : Bool) (run : Running) (id began_count : ℕ) → run.id ≡ id → next_id old.tally.last ≡ Some run.id → old.job ≡ None → are_workable plan ≡ true
+        → option_map (running run.id) (begun_work run.id (sources_of plan)) ≡ Some run
         → new.newest ≡ entry 0 old.tally.calls began_count 0 (Began id plan background) ∷ (entry 0 old.tally.calls count shown (Key key now refusals false) ∷ old.newest)
-        → count ≤ began_count → new.job ≡ Some run → new.tally ≡ record old.tally { job = Some (told run); last = id; due = Some id } → new.quit ≡ old.quit → new.dirty ≡ old.dirty
+        → count ≤ began_count → new.job ≡ Some run → new.tally ≡ record old.tally { job = Some (told run); last = id; due = Some id } → new.quit ≡ old.quit → new.dirty ≡ old.dirty → new.later ≡ rest_of (sources_of plan)
         → KeyWorks contents (rows_told old.newest) (next_id old.tally.last) now key refusals (noted old) (record new.screen { planned = Some (Begins plan background) })
         → DrawsFrame (none_before old.newest) (frame_due (record new.screen { planned = Some (Begins plan background) }) (next_id old.tally.last) (rows_told old.newest)) shown old.out.put new.out.put → IsDesk start opening contents_after faults new
-    desk_began plan background run id began_count number numbered idle workable started more counted job is quit dirty works draws =
+    desk_began plan background run id began_count number numbered idle workable started more counted job is quit dirty left works draws =
         let written = keyed_written screen works draws in
         desk_of start opening contents_after faults new
         (written_more faults (keyed screen) new _ start opening contents_after contents_after written
         (adds_began contents_after contents_after faults (keyed screen) new 0 began_count 0 refl id plan background run more
-        (subst (λ n. option_map (running n) (first_work n plan) ≡ Some run) number started) job is unclosed
+        (subst (λ n. option_map (running n) (begun_work n (sources_of plan)) ≡ Some run) number started) job is unclosed
         (rows_are start opening contents_after faults (keyed screen) written ∙ ap (λ j. rows_of j (trouble_told (keyed screen).newest)) idle) workable refl refl counted
-        (numbered ∙ ap Some number) (cleared new.screen settled) quit unasked idle dirty refl))
+        (numbered ∙ ap Some number) (cleared new.screen settled) quit unasked idle dirty left refl))
         settled (λ h. ap (λ (t : Tally). t.closed) is ∙ desk.lost (sym (ap (λ (t : Tally). t.lost) is) ∙ h)) (λ h. absurd (not_asked h quit))
         (λ h. absurd (let shut = ap (λ (t : Tally). t.closed) is in cc)) room shown_now
       where
@@ -189,16 +190,16 @@ module _ (start : Option Start) (opening contents contents_after : Option CallLo
     pub desk_ordered : (answer : Answer) (live : Running) (order_count : ℕ) → old.job ≡ Some live → takes_answer (row_of live (trouble_told old.newest)) answer ≡ true
         → new.newest ≡ entry 0 old.tally.calls order_count 0 (Order live.id (Answered answer)) ∷ (entry 0 old.tally.calls count shown (Key key now refusals false) ∷ old.newest)
         → count ≤ order_count → new.job ≡ Some (answered answer live)
-        → new.tally ≡ record old.tally { job = Some (told (answered answer live)); due = Some live.id } → new.quit ≡ old.quit → new.dirty ≡ old.dirty
+        → new.tally ≡ record old.tally { job = Some (told (answered answer live)); due = Some live.id } → new.quit ≡ old.quit → new.dirty ≡ old.dirty → new.later ≡ old.later
         → KeyWorks contents (rows_told old.newest) (next_id old.tally.last) now key refusals (noted old) (record new.screen { planned = Some (Answers answer) })
         → DrawsFrame (none_before old.newest) (frame_due (record new.screen { planned = Some (Answers answer) }) (next_id old.tally.last) (rows_told old.newest)) shown old.out.put new.out.put → IsDesk start opening contents_after faults new
-    desk_ordered answer live order_count was takes more counted job is quit dirty works draws =
+    desk_ordered answer live order_count was takes more counted job is quit dirty left works draws =
         let written = keyed_written screen works draws in
         desk_of start opening contents_after faults new
         (written_more faults (keyed screen) new _ start opening contents_after contents_after written
         (adds_order contents_after contents_after faults (keyed screen) new 0 order_count 0 refl answer live more was
         (rows_are start opening contents_after faults (keyed screen) written ∙ ap (λ j. rows_of j (trouble_told (keyed screen).newest)) was) takes
-        desk.written.told job is unclosed refl refl counted (cleared new.screen settled) quit unasked dirty refl))
+        desk.written.told job is unclosed refl refl counted (cleared new.screen settled) quit unasked dirty left refl))
         settled (λ h. ap (λ (t : Tally). t.closed) is ∙ desk.lost (sym (ap (λ (t : Tally). t.lost) is) ∙ h)) (λ h. absurd (not_asked h quit))
         (λ h. absurd (let shut = ap (λ (t : Tally). t.closed) is in cc)) room shown_now
       where
@@ -213,17 +214,17 @@ closed_room (Some job) spare spare_after had left = omega (arith, had, left)
 pub desk_closed : (start : Option Start) (opening contents : Option CallLog) (faults : ℕ) (old new : Seen) (count : ℕ) → IsDesk start opening contents faults old → old.tally.closed ≡ false → faults_in faults old.newest ≤ count
     → new.newest ≡ entry 0 old.tally.calls count 0 Closed ∷ old.newest
     → new.tally ≡ record old.tally { job = option_map closed_job old.tally.job; closed = true; due = None } → new.job ≡ option_map closed_job old.job → new.tally.job ≡ option_map told new.job
-    → new.screen ≡ old.screen → new.quit ≡ old.quit → old.spare ≤ new.spare + 1 → new.dirty ≡ old.dirty → new.out ≡ old.out → IsDesk start opening contents faults new
-desk_closed start opening contents faults old new count desk unclosed later more is job tells screen quit left dirty out = record {
+    → new.screen ≡ old.screen → new.quit ≡ old.quit → old.spare ≤ new.spare + 1 → new.dirty ≡ old.dirty → new.later ≡ old.later → new.out ≡ old.out → IsDesk start opening contents faults new
+desk_closed start opening contents faults old new count desk unclosed later more is job tells screen quit room dirty left out = record {
   written = written_more faults old new _ start opening contents contents desk.written
-      (adds_closed contents contents faults old new 0 count 0 refl more is job tells desk.settled refl later screen quit dirty (ap (λ (o : Output). o.put) out));
+      (adds_closed contents contents faults old new 0 count 0 refl more is job tells desk.settled refl later screen quit dirty left (ap (λ (o : Output). o.put) out));
   shown = shown_closed new (ap (λ (t : Tally). t.closed) is) (same_fits old new screen out desk.shown.size);
   settled = ap (λ (s : Screen). s.planned) screen ∙ desk.settled;
   asked = λ h. ap (λ (t : Tally). t.due) is;
   lost = λ h. ap (λ (t : Tally). t.closed) is;
   shut = λ h. ap (λ (t : Tally). t.due) is;
   room = subst (λ b. kept_room b new.job ≤ new.spare) (sym (ap (λ (t : Tally). t.closed) is)) (subst (λ j. kept_room true j ≤ new.spare) (sym job)
-      (closed_room old.job old.spare new.spare (subst (λ b. kept_room b old.job ≤ old.spare) unclosed desk.room) left));
+      (closed_room old.job old.spare new.spare (subst (λ b. kept_room b old.job ≤ old.spare) unclosed desk.room) room));
 }
 
 -- a look, written down
@@ -232,28 +233,28 @@ pub desk_looked : (start : Option Start) (opening contents contents_after : Opti
     → IfKnown contents (λ log. AreRefused log refusals) → LookLeads contents rows old.tally.has_unseen_end news refusals old.screen new.screen
     → new.newest ≡ entry 0 old.tally.calls count shown (Look refusals) ∷ old.newest
     → new.tally ≡ record old.tally { has_unseen_end = false; due = if can_step old.tally.job then old.tally.due else None } → new.job ≡ old.job → new.tally.job ≡ option_map told new.job
-    → new.screen.planned ≡ None → new.quit ≡ old.quit → 2 ≤ new.spare → new.dirty ≡ old.dirty → old.quit ≡ false → IsShown new
+    → new.screen.planned ≡ None → new.quit ≡ old.quit → 2 ≤ new.spare → new.dirty ≡ old.dirty → new.later ≡ old.later → old.quit ≡ false → IsShown new
     → DrawsFrame (none_before old.newest) (frame_due (noted new) (next_id old.tally.last) (rows_told old.newest)) shown old.out.put new.out.put
     → IsDesk start opening contents_after faults new
-desk_looked start opening contents contents_after faults old new count shown refusals rows news rows_is news_is desk unclosed is_due same later fault refused leads more is job tells settled quit room dirty unasked shown_now draws =
+desk_looked start opening contents contents_after faults old new count shown refusals rows news rows_is news_is desk unclosed is_due same later fault refused leads more is job tells settled quit room dirty left unasked shown_now draws =
     desk_of start opening contents_after faults new
     (written_more faults old new _ start opening contents contents_after desk.written
     (adds_look contents contents_after faults old new 0 count shown refl refusals more is job tells unclosed is_due desk.settled same later fault refused
     (subst (λ rs. LookLeads contents rs old.tally.has_unseen_end (news_left old.newest) refusals old.screen new.screen) (rows_is ∙ sym (rows_are start opening contents faults old desk.written))
-    (subst (λ p. LookLeads contents rows old.tally.has_unseen_end p refusals old.screen new.screen) news_is leads)) quit unasked dirty draws))
+    (subst (λ p. LookLeads contents rows old.tally.has_unseen_end p refusals old.screen new.screen) news_is leads)) quit unasked dirty left draws))
     settled (λ h. ap (λ (t : Tally). t.closed) is ∙ desk.lost (sym (ap (λ (t : Tally). t.lost) is) ∙ h)) (λ h. absurd (let no = unasked in cc)) (λ h. absurd (let shut = ap (λ (t : Tally). t.closed) is in cc)) room shown_now
 
 -- the steps of a search, written down
 pub desk_sought : (start : Option Start) (opening contents contents_after : Option CallLog) (faults : ℕ) (old new : Seen) (from count shown : ℕ) → IsDesk start opening contents faults old
     → old.tally.closed ≡ false → old.tally.due ≡ None → is_seeking old.screen ≡ true → contents_after ≡ contents → faults_in faults old.newest ≤ from → from ≤ count → HasSought contents from count old.screen new.screen
     → new.newest ≡ entry 0 old.tally.calls count shown Sought ∷ old.newest → new.tally ≡ old.tally → new.job ≡ old.job → new.tally.job ≡ option_map told new.job
-    → new.screen.planned ≡ None → new.quit ≡ old.quit → 2 ≤ new.spare → new.dirty ≡ old.dirty → old.quit ≡ false → IsShown new
+    → new.screen.planned ≡ None → new.quit ≡ old.quit → 2 ≤ new.spare → new.dirty ≡ old.dirty → new.later ≡ old.later → old.quit ≡ false → IsShown new
     → DrawsFrame (none_before old.newest) (frame_due (noted new) (next_id old.tally.last) (rows_told old.newest)) shown old.out.put new.out.put
     → IsDesk start opening contents_after faults new
-desk_sought start opening contents contents_after faults old new from count shown desk unclosed looked seeking same had later made more is job tells settled quit room dirty unasked shown_now draws =
+desk_sought start opening contents contents_after faults old new from count shown desk unclosed looked seeking same had later made more is job tells settled quit room dirty left unasked shown_now draws =
     desk_of start opening contents_after faults new
     (written_more faults old new _ start opening contents contents_after desk.written
-    (adds_sought contents contents_after faults old new 0 count shown refl more is job tells unclosed looked seeking desk.settled same from had later made quit unasked dirty draws))
+    (adds_sought contents contents_after faults old new 0 count shown refl more is job tells unclosed looked seeking desk.settled same from had later made quit unasked dirty left draws))
     settled (λ h. ap (λ (t : Tally). t.closed) is ∙ desk.lost (sym (ap (λ (t : Tally). t.lost) is) ∙ h)) (λ h. ap (λ (t : Tally). t.due) is ∙ looked)
     (λ h. ap (λ (t : Tally). t.due) is ∙ looked) room shown_now
 
@@ -270,14 +271,15 @@ pub desk_stepped : (start : Option Start) (opening contents contents_after : Opt
     → new.newest ≡ entry seat calls count 0 (Step live.id did) ∷ old.newest
     → new.job ≡ if_closed old.tally.closed (if ends did then None else Some stepped)
     → new.tally ≡ record old.tally { job = option_map told new.job; has_unseen_end = ends did || old.tally.has_unseen_end; calls = calls } → new.screen ≡ old.screen
-    → new.quit ≡ old.quit → 2 ≤ new.spare → waits_on live.course ≡ false → new.out ≡ old.out → IsDesk start opening contents_after faults new
-desk_stepped start opening contents contents_after faults old new seat count made calls before after live stepped did main desk is steps fits calls_is had now more job tally screen quit room ready out =
+    → new.quit ≡ old.quit → 2 ≤ new.spare → waits_on live.course ≡ false → new.out ≡ old.out
+    → (finishes did ≡ true → old.later ≡ []) → new.later ≡ (if ends did then [] else old.later) → IsDesk start opening contents_after faults new
+desk_stepped start opening contents contents_after faults old new seat count made calls before after live stepped did main desk is steps fits calls_is had now more job tally screen quit room ready out turn left =
     let all : calls ≡ old.tally.calls + made =
     let few = desk.written.calls in let three = few_made live stepped did made old.dirty new.dirty contents contents_after before after steps in omega (arith, calls_is, three, fits, few) in
     desk_of start opening contents_after faults new
     (written_more faults old new _ start opening contents contents_after desk.written (elim steps [
-      | inl o ↦ adds_step contents contents_after faults old new seat count 0 main live stepped did made calls before after is desk.written.told o all more job tally desk.settled had now screen quit (ap (λ (o : Output). o.put) out)
-      | inr s ↦ adds_settled contents contents_after faults old new seat count 0 main live stepped did made calls before after is desk.written.told s all more job tally desk.settled had now screen quit (ap (λ (o : Output). o.put) out)
+      | inl o ↦ adds_step contents contents_after faults old new seat count 0 main live stepped did made calls before after is desk.written.told o all more job tally desk.settled had now screen quit (ap (λ (o : Output). o.put) out) turn left
+      | inr s ↦ adds_settled contents contents_after faults old new seat count 0 main live stepped did made calls before after is desk.written.told s all more job tally desk.settled had now screen quit (ap (λ (o : Output). o.put) out) turn left
     ]))
     (ap (λ (s : Screen). s.planned) screen ∙ desk.settled) (λ h. ap (λ (t : Tally). t.closed) tally ∙ desk.lost (sym (ap (λ (t : Tally). t.lost) tally) ∙ h))
     (λ h. ap (λ (t : Tally). t.due) tally ∙ desk.asked (sym quit ∙ h))
@@ -292,15 +294,15 @@ room_left closed job live spare reserved left is had kept noted = go closed (sub
     go false had = omega (arith, had, kept, noted)
 
 -- the end of a job that ran out of memory, written down in the room that was kept for it
-pub desk_gave_up : (start : Option Start) (opening contents : Option CallLog) (faults : ℕ) (old new : Seen) (seat count : ℕ) (live : Running) (part : Option Route)
-    → seat ≡ 0 → IsDesk start opening contents faults old → old.job ≡ Some live → waits_on live.course ≡ false → part ≡ part_of live.work → faults_in faults old.newest ≤ count
+pub desk_gave_up : (start : Option Start) (opening contents contents_after : Option CallLog) (faults : ℕ) (old new : Seen) (seat count : ℕ) (live : Running) (part : Option Route)
+    → contents_after ≡ contents → seat ≡ 0 → IsDesk start opening contents faults old → old.job ≡ Some live → waits_on live.course ≡ false → part ≡ part_of live.work → faults_in faults old.newest ≤ count
     → new.newest ≡ entry seat old.tally.calls count 0 (Step live.id (Ended NoMemory part)) ∷ old.newest
-    → new.job ≡ None → new.tally ≡ record old.tally { job = None; has_unseen_end = true } → new.screen ≡ old.screen → new.quit ≡ old.quit → kept_room old.tally.closed None ≤ new.spare → new.dirty ≡ old.dirty
-    → new.out ≡ old.out → IsDesk start opening contents faults new
-desk_gave_up start opening contents faults old new seat count live part main desk is ready part_is later more job tally screen quit room dirty out = record {
+    → new.job ≡ None → new.tally ≡ record old.tally { job = None; has_unseen_end = true } → new.screen ≡ old.screen → new.quit ≡ old.quit → kept_room old.tally.closed None ≤ new.spare → new.dirty ≡ old.dirty → new.later ≡ []
+    → new.out ≡ old.out → IsDesk start opening contents_after faults new
+desk_gave_up start opening contents contents_after faults old new seat count live part same main desk is ready part_is later more job tally screen quit room dirty left out = record {
   shown = shown_stepping old new live desk.shown desk.written.tally (desk.written.told ∙ ap (option_map told) is) ready (ap (λ (t : Tally). t.closed) tally) (ap (λ (t : Tally). t.due) tally) out screen;
-  written = written_more faults old new _ start opening contents contents desk.written
-      (adds_given_up contents contents faults old new seat count 0 main live part is desk.written.told ready part_is more job tally desk.settled refl later screen quit dirty (ap (λ (o : Output). o.put) out));
+  written = written_more faults old new _ start opening contents contents_after desk.written
+      (adds_given_up contents contents_after faults old new seat count 0 main live part is desk.written.told ready part_is more job tally desk.settled same later screen quit dirty (ap (λ (o : Output). o.put) out) left);
   settled = ap (λ (s : Screen). s.planned) screen ∙ desk.settled;
   asked = λ h. ap (λ (t : Tally). t.due) tally ∙ desk.asked (sym quit ∙ h);
   lost = λ h. ap (λ (t : Tally). t.closed) tally ∙ desk.lost (sym (ap (λ (t : Tally). t.lost) tally) ∙ h);

@@ -24,7 +24,8 @@ use Rattle.copy_move.specs.declared.work.Work.{Work}
 use Rattle.copy_move.specs.declared.work.Work.TheVariants.{Copy, CopyTree, Delete, Make, SetMode}
 use Rattle.copy_move.specs.declared.run.Course.{Course}
 use Rattle.copy_move.specs.declared.run.Course.TheVariants.{GoesOn, InTrouble, OwedSyncFailed, Skips, Ends}
-use Rattle.copy_move.specs.Jobs.{MayAnswer, Running, answered, answered_on, first_work, is_barred, kind_of, path_of, taken_anew, waits_on, with_skips}
+use Rattle.copy_move.specs.Jobs.{MayAnswer, Running, answered, answered_on, begun_work, is_barred, kind_of, path_of, taken_anew, waits_on, with_skips}
+use Rattle.session_history.specs.Sources.{sources_of}
 use Rattle.copy_move.specs.Told.{running, told}
 use Rattle.job_boxes.specs.LiveJobs.{can_answer, takes_answer}
 use Rattle.mc_ui.specs.Screens.{Answers, Begins, Screen}
@@ -135,8 +136,8 @@ still_does course answer job t = go course answer
     go (Ends ending) answer = refl
 
 -- a job that was begun, or answered, waits for nothing
-started_ready : (id : ℕ) (plan : JobPlan) (run : Running) → option_map (running id) (first_work id plan) ≡ Some run → waits_on run.course ≡ false
-started_ready id plan run started = go (first_work id plan) started
+started_ready : (id : ℕ) (plan : JobPlan) (run : Running) → option_map (running id) (begun_work id (sources_of plan)) ≡ Some run → waits_on run.course ≡ false
+started_ready id plan run started = go (begun_work id (sources_of plan)) started
   where
     go : (work : Option Work) → option_map (running id) work ≡ Some run → waits_on run.course ≡ false
     go None is = absurd cc
@@ -247,17 +248,17 @@ module _ (start : Option Start) (opening contents contents_after : Option CallLo
       → log_after.newest ≡ followed was.calls count (event_of done was.job) (entry 0 was.calls count shown (Key key now refusals false) ∷ log.newest) → IsDesk start opening contents_after faults (new (after_deed done was))
   desk_worked deed.Nothing w fits s more =
       desk_keyed start opening contents contents_after faults old (new was) count shown key now desk unclosed unasked looked sought same later refusals fault refused w.settled room
-      (shows_new was fits s (ap trouble_told more) desk.shown.still) more refl refl refl (still_noted w.works) refl (drawn_noted (drawn_for deed.Nothing w s))
+      (shows_new was fits s (ap trouble_told more) desk.shown.still) more refl refl refl (still_noted w.works) refl refl (drawn_noted (drawn_for deed.Nothing w s))
   desk_worked deed.Refuse w fits s more =
       desk_keyed start opening contents contents_after faults old (new was) count shown key now desk unclosed unasked looked sought same later refusals fault refused w.settled room
-      (shows_new was fits s (ap trouble_told more) desk.shown.still) more refl refl refl (still_noted w.works) refl (drawn_noted (drawn_for deed.Refuse w s))
+      (shows_new was fits s (ap trouble_told more) desk.shown.still) more refl refl refl (still_noted w.works) refl refl (drawn_noted (drawn_for deed.Refuse w s))
   desk_worked deed.End w fits s more =
       desk_keyed start opening contents contents_after faults old (new (after_deed deed.End was)) count shown key now desk unclosed unasked looked sought same later refusals fault refused w.settled room
-      (shows_new (after_deed deed.End was) fits s (ap trouble_told more) desk.shown.still) more refl refl refl (noted_works (with_deed deed.End screen_after) w.works) refl (drawn_for deed.End w s)
+      (shows_new (after_deed deed.End was) fits s (ap trouble_told more) desk.shown.still) more refl refl refl (noted_works (with_deed deed.End screen_after) w.works) refl refl (drawn_for deed.End w s)
   desk_worked (deed.Begin confirmed) w fits s more =
       desk_began start opening contents contents_after faults old (new (after_deed (deed.Begin confirmed) was)) count shown key now desk unclosed unasked looked sought same later refusals fault refused w.settled room
       (shows_new (after_deed (deed.Begin confirmed) was) fits s (ap trouble_told more) (λ unclosed none. absurd cc))
-      confirmed.plan confirmed.background confirmed.run confirmed.run.id count refl w.can.2 (none_of was.job (trouble_told log.newest) (sym rows_is ∙ w.can.0)) w.can.1 confirmed.started more (omega arith) refl refl refl refl
+      confirmed.plan confirmed.background confirmed.run confirmed.run.id count refl w.can.2 (none_of was.job (trouble_told log.newest) (sym rows_is ∙ w.can.0)) w.can.1 confirmed.started more (omega arith) refl refl refl refl confirmed.rest
       (noted_works (with_deed (deed.Begin confirmed) screen_after) w.works) (drawn_for (deed.Begin confirmed) w s)
   desk_worked (deed.Answer answer) w fits s more =
       let here = live_of start opening contents faults old desk rows rows_is answer w.can in
@@ -268,5 +269,5 @@ module _ (start : Option Start) (opening contents contents_after : Option CallLo
       (desk_ordered start opening contents contents_after faults old (new (after_answer answer (Some here.0) was)) count shown key now desk unclosed unasked looked sought same later refusals fault refused w.settled room
       (shows_new (after_answer answer (Some here.0) was) fits
       (subst (λ j. ShowsFrame (frame_of screen_after (rows_of (after_answer answer j was).job (trouble_told log.newest))) r out out_after) is s) (ap trouble_told followed_is) (λ unclosed none. absurd cc))
-      answer here.0 count is here.2 followed_is (omega arith) refl refl refl refl
+      answer here.0 count is here.2 followed_is (omega arith) refl refl refl refl refl
       (noted_works (with_deed (deed.Answer answer) screen_after) w.works) (drawn_for (deed.Answer answer) w s))

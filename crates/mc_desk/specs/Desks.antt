@@ -7,9 +7,11 @@ use Rattle.tree_trait.specs.Answers.{IfKnown}
 use Rattle.tree_trait.specs.declared.devices.Command.{Command}
 use Rattle.key_screen.specs.declared.keys.Key.{Key as KeyType}
 use Rattle.key_screen.specs.DecodedKeys.{decoded_keys}
+use Rattle.job_reports.specs.declared.job.Job.{Job}
 use Rattle.job_reports.specs.declared.report.Did.TheVariants.{Barrier, Removed}
 use Rattle.session_history.specs.declared.history.Event.TheVariants.{Step}
 use Rattle.session_history.specs.declared.history.Entry.{Entry}
+use Rattle.session_history.specs.Sources.{sources_left}
 use Rattle.copy_move.specs.Jobs.{Running}
 use Rattle.copy_move.specs.Told.{told}
 use Rattle.copy_move.specs.Settling.{is_own}
@@ -33,16 +35,18 @@ use Rattle.mc_desk.specs.LiveRows.{rows_of, trouble_told}
 use Rattle.mc_ui.specs.Frames.{frame_of}
 use Rattle.key_screen.specs.Grids.{CellGrid}
 use Rattle.mc_desk.specs.Standings.{tally_of}
+use Rattle.mc_desk.specs.Turning.{rank_left}
 use Rattle.mc_desk.specs.declared.standing.Standing.{Standing}
 
--- what can be seen of a desk: its entries, the newest first, and how many more find room; the screen; the live job; the dirty
--- folders; what the history came to; how many bytes were taken, and those since the last key; whether the end was asked for; and
+-- what can be seen of a desk: its entries, the newest first, and how many more find room; the screen; the live job, and
+-- the sources that it is yet to take up; the dirty folders; what the history came to; how many bytes were taken, and those since the last key; whether the end was asked for; and
 -- what was put to the terminal
 pub record Seen : Type 0 where
   pub newest : List Entry
   pub spare : ℕ
   pub screen : Screen
   pub job : Option Running
+  pub later : List Job
   pub dirty : List Route
   pub tally : Tally
   pub taken : ℕ
@@ -57,6 +61,7 @@ seen_of log screen standing dirty out taken pending = record {
   spare = log.spare;
   screen = screen;
   job = standing.job;
+  later = standing.later;
   dirty = dirty;
   tally = tally_of standing;
   taken = taken;
@@ -95,7 +100,12 @@ pub record IsWritten (start : Option Start) (opening contents : Option CallLog) 
   pub session : IsSession start opening faults desk.newest (state_of contents desk)
   pub tally : desk.tally ≡ tally desk.newest
   pub told : desk.tally.job ≡ option_map told desk.job
+  pub left : desk.later ≡ sources_left desk.newest
   pub calls : desk.tally.calls ≤ 3 * length desk.newest
+
+-- how many steps its job has left at most
+abbrev pub rank_of : Seen → ℕ
+rank_of desk = rank_left desk.dirty desk.job desk.later
 
 -- the frame of what a desk shows now
 abbrev pub frame_now : Seen → CellGrid

@@ -4,7 +4,7 @@ use Rattle.tree_trait.specs.Change.{CallLog}
 use Rattle.key_screen.specs.declared.keys.Key.{Key as KeyType}
 use Rattle.job_reports.specs.declared.row.JobRow.{JobRow}
 use Rattle.job_reports.specs.declared.job.Job.{Job}
-use Rattle.job_reports.specs.Jobs.{is_workable}
+use Rattle.session_history.specs.Sources.{are_workable}
 use Rattle.session_history.specs.declared.refusal.BeginError.TheVariants.{NoMoreIds}
 use Rattle.session_history.specs.declared.refusal.Refusal.{Refusal}
 use Rattle.session_history.specs.declared.refusal.Refusal.TheVariants as refusal
@@ -20,7 +20,7 @@ use Rattle.mc_desk.specs.declared.granting.Deed.TheVariants.{Nothing, Begin, Ref
 
 -- a job that is asked for can be worked
 abbrev pub CanBeWorked : Ask → Type 0
-CanBeWorked (ask.Begin plan background) = is_workable plan ≡ true
+CanBeWorked (ask.Begin plan background) = are_workable plan ≡ true
 CanBeWorked (ask.Answer answer) = ⊤
 CanBeWorked ask.Nothing = ⊤
 CanBeWorked ask.End = ⊤
@@ -75,7 +75,7 @@ abbrev pub CanBeDone : List JobRow → Option ℕ → Deed → Type 0
 CanBeDone rows next Nothing = ⊤
 CanBeDone rows next Refuse = ⊤
 CanBeDone rows next End = ⊤
-CanBeDone rows next (Begin confirmed) = (rows ≡ []) × (is_workable confirmed.plan ≡ true) × (next ≡ Some confirmed.run.id)
+CanBeDone rows next (Begin confirmed) = (rows ≡ []) × (are_workable confirmed.plan ≡ true) × (next ≡ Some confirmed.run.id)
 CanBeDone rows next (Answer answer) = can_answer rows answer ≡ true
 
 -- a key was worked on the screen, and it was decided what is done about it

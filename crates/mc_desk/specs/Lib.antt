@@ -10,3 +10,4 @@ pub mod ShownEntries
 pub mod Standings
 pub mod Starts
 pub mod Tallies
+pub mod Turning

@@ -2,7 +2,7 @@
 use Rattle.std.specs.Prelude.{◌≡◌, ◌⊎◌, ℕ, ◌≤◌, zero, suc, Bool, true, false, ⊤, not, ◌&&◌, Option}
 use Rattle.tree_trait.specs.Change.{CallLog}
 use Rattle.session_history.specs.declared.history.Event.{Event}
-use Rattle.session_history.specs.declared.history.Event.TheVariants.{Key, Look, Sought, Began, Order, Step, Closed}
+use Rattle.session_history.specs.declared.history.Event.TheVariants.{Key, Look, Sought, Began, Order, Step, Next, Closed}
 use Rattle.find_mode.specs.Listings.{IsKept, steps_to_end}
 use Rattle.mc_ui.specs.Screens.{Screen}
 use Rattle.mc_ui.specs.Seekings.{SeekLeads, is_seeking, list_in, with_list}
@@ -41,6 +41,7 @@ EventSeeks (Look refusals) contents failed faults before after = ⊤
 EventSeeks (Began id plan background) contents failed faults before after = ⊤
 EventSeeks (Order id order) contents failed faults before after = ⊤
 EventSeeks (Step id did) contents failed faults before after = ⊤
+EventSeeks (Next id plan) contents failed faults before after = ⊤
 EventSeeks Closed contents failed faults before after = ⊤
 
 -- how many steps the search of a screen has left at most

@@ -7,17 +7,17 @@ use Rattle.tree_trait.specs.Answers.{HasRisen, IfKnown}
 use Rattle.job_reports.specs.declared.answer.Answer.{Answer}
 use Rattle.job_reports.specs.declared.job.Job.{Job}
 use Rattle.job_reports.specs.declared.row.JobRow.{JobRow}
-use Rattle.job_reports.specs.Jobs.{is_workable}
 use Rattle.session_history.specs.declared.history.Event.{Event}
-use Rattle.session_history.specs.declared.history.Event.TheVariants.{Key, Look, Sought, Began, Order, Step, Closed}
+use Rattle.session_history.specs.declared.history.Event.TheVariants.{Key, Look, Sought, Began, Order, Step, Next, Closed}
 use Rattle.session_history.specs.declared.history.JobOrder.TheVariants.{Answered}
 use Rattle.session_history.specs.declared.history.Entry.{Entry}
 use Rattle.job_reports.specs.declared.report.Did.{Did}
 use Rattle.copy_move.specs.Jobs.{Running}
 use Rattle.copy_move.specs.Faults.{MeetsFault}
-use Rattle.copy_move.specs.Told.{IsAllowedStep}
+use Rattle.copy_move.specs.Told.{IsAllowedStep, MayTurn}
 use Rattle.session_history.specs.Refusals.{AreRefused}
 use Rattle.session_history.specs.Entries.{calls_in, last_id}
+use Rattle.session_history.specs.Sources.{IsInTurn, are_workable, sources_left}
 use Rattle.history_laws.specs.Traces.{Follows, Stand, at_rest, nothing_live}
 use Rattle.box_words.specs.declared.message.Message.{Message}
 use Rattle.job_plans.specs.Refused.{has_fault}
@@ -60,7 +60,7 @@ pub record Before : Type 0 where
 pub record IsBegun (was : Before) (id : ℕ) (plan : Job) (background : Bool) (after : Screen) : Type 0 where
   pub asked : was.screen.planned ≡ Some (Begins plan background)
   pub idle : was.rows ≡ []
-  pub workable : is_workable plan ≡ true
+  pub workable : are_workable plan ≡ true
   pub number : next_id was.tally.last ≡ Some id
   pub carried_out : after ≡ record was.screen { planned = None }
 
@@ -76,7 +76,7 @@ pub record IsOrdered (was : Before) (id : ℕ) (answer : Answer) (after : Screen
 -- What an event makes of the screen. A key that was lost is told without a refusal, and makes nothing. A look comes only where one is due: the first, which draws the opening frame, and after it
 -- one of the job that was begun or answered. It takes up a job's end, and tells what there is to tell of it, and shows the trouble of the
 -- live job as its newest report told it. A search goes on only where nothing is due (what its steps make of the screen, `EventSeeks` says). A step is
--- one that the live job may make.
+-- one that the live job may make, and it goes on with a next source where it might report that it is finished.
 abbrev pub EventLeads : Before → Event → Screen → Type 0
 EventLeads was (Key key now refusals true) after = TakesKey was.tally was.screen × (refusals ≡ []) × (after ≡ was.screen)
 EventLeads was (Key key now refusals false) after = TakesKey was.tally was.screen × KeyWorks was.contents was.rows (next_id was.tally.last) now key refusals was.screen after
@@ -87,6 +87,8 @@ EventLeads was (Began id plan background) after = IsBegun was id plan background
 EventLeads was (Order id (Answered answer)) after = IsOrdered was id answer after
 EventLeads was (Step id did) after =
     (after ≡ was.screen) × ((live : Running) × (was.tally.job ≡ Some live) × (id ≡ live.id) × IsAllowedStep live did)
+EventLeads was (Next id plan) after =
+    (after ≡ was.screen) × ((live : Running) × (was.tally.job ≡ Some live) × (id ≡ live.id) × MayTurn live plan)
 EventLeads was Closed after = after ≡ was.screen
 
 -- the report of the live job tells of a fault of the tree: also where it goes on, and passes over something for one
@@ -102,6 +104,7 @@ TellsFault job Sought = ⊥
 TellsFault job (Began id plan background) = ⊥
 TellsFault job (Order id order) = ⊥
 TellsFault job (Step id did) = StepFault job did
+TellsFault job (Next id plan) = ⊥
 TellsFault job Closed = ⊥
 
 -- nothing that was asked for waits to be carried out, but the end of the session
@@ -117,6 +120,7 @@ IsTimely Sought before = before.planned ≡ None
 IsTimely (Began id plan background) before = ⊤
 IsTimely (Order id order) before = ⊤
 IsTimely (Step id did) before = MayEnd before.planned
+IsTimely (Next id plan) before = MayEnd before.planned
 IsTimely Closed before = MayEnd before.planned
 
 -- The counts of an entry. It is the main thread's, since there is no other yet. The tree's faults don't fall, and rise where the
@@ -136,6 +140,7 @@ HasCauses Sought log = ⊤
 HasCauses (Began id plan background) log = ⊤
 HasCauses (Order id order) log = ⊤
 HasCauses (Step id did) log = ⊤
+HasCauses (Next id plan) log = ⊤
 HasCauses Closed log = ⊤
 
 -- What an entry says of the tree, where it tells what it holds: it goes on telling, and the entry leads from the log and from
@@ -157,9 +162,11 @@ pub record SessionState : Type 0 where
   pub contents : Option CallLog
   pub put : Put
 
--- an entry after older ones leads from what these came to
+-- An entry after older ones leads from what these came to. The sources of a job are worked in the order of its plan, and it is told to be finished only
+-- where none is left.
 pub record Enters (opening : Option CallLog) (faults : ℕ) (e : Entry) (older : List Entry) (was now : SessionState) : Type 0 where
   pub timely : IsTimely e.what was.screen
+  pub turn : IsInTurn e.what (sources_left older)
   pub counts : Counts (faults_in faults older) (calls_in older) (let t : Tally = tally older in t.job) e
   pub leads : EventLeads (before_entry was.contents older was.screen) e.what now.screen
   pub sought : EventSeeks e.what was.contents (faults_in faults older) e.faults was.screen now.screen

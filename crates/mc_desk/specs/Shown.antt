@@ -7,9 +7,10 @@ use Rattle.job_reports.specs.declared.job.Job.{Job}
 use Rattle.job_reports.specs.declared.row.JobRow.{JobRow}
 use Rattle.job_reports.specs.declared.row.JobState.TheVariants.{Ready}
 use Rattle.session_history.specs.declared.history.Entry.{Entry}
+use Rattle.session_history.specs.Sources.{sources_of}
 use Rattle.session_history.specs.declared.history.Event.{Event}
-use Rattle.session_history.specs.declared.history.Event.TheVariants.{Key, Look, Sought, Began, Order, Step, Closed}
-use Rattle.copy_move.specs.Jobs.{first_work}
+use Rattle.session_history.specs.declared.history.Event.TheVariants.{Key, Look, Sought, Began, Order, Step, Next, Closed}
+use Rattle.copy_move.specs.Jobs.{begun_work}
 use Rattle.copy_move.specs.Told.{running}
 use Rattle.mc_desk.specs.LiveRows.{rows_of}
 use Rattle.mc_ui.specs.Screens.{Screen, Planned, Begins, Answers, Ends}
@@ -80,6 +81,7 @@ EventDraws Sought is_first frame shown before after = DrawsFrame is_first frame 
 EventDraws (Began id plan background) is_first frame shown before after = DrawsNothing shown before after
 EventDraws (Order id order) is_first frame shown before after = DrawsNothing shown before after
 EventDraws (Step id did) is_first frame shown before after = DrawsNothing shown before after
+EventDraws (Next id plan) is_first frame shown before after = DrawsNothing shown before after
 EventDraws Closed is_first frame shown before after = DrawsNothing shown before after
 
 -- the row of a job that was answered, and has a next step again
@@ -88,7 +90,7 @@ ready_row row = record row { state = Ready; trouble = None }
 
 -- the row of a job that just begins
 abbrev pub begun_rows : ℕ → Job → List JobRow
-begun_rows id plan = rows_of (option_map (running id) (first_work id plan)) None
+begun_rows id plan = rows_of (option_map (running id) (begun_work id (sources_of plan))) None
 
 -- the rows of the live jobs once what was asked for is carried out: a job that is begun has the next number, and is ready; one
 -- that is answered is ready again

@@ -2,7 +2,7 @@
 use Rattle.std.specs.Prelude.{◌≡◌, ◌⊎◌, ℕ, ◌≤◌, Bool, true, false, ⊤, not, List, [], ◌∷◌, ◌++◌, length, take, Option}
 use Rattle.tree_trait.specs.Change.{CallLog}
 use Rattle.session_history.specs.declared.history.Event.{Event}
-use Rattle.session_history.specs.declared.history.Event.TheVariants.{Key, Look, Sought, Began, Order, Step, Closed}
+use Rattle.session_history.specs.declared.history.Event.TheVariants.{Key, Look, Sought, Began, Order, Step, Next, Closed}
 use Rattle.session_history.specs.declared.history.Entry.{Entry}
 use Rattle.session_history.specs.Entries.{last_id}
 use Rattle.key_screen.specs.Grids.{CellGrid}
@@ -20,6 +20,7 @@ draws Sought = true
 draws (Began id plan background) = false
 draws (Order id order) = false
 draws (Step id did) = false
+draws (Next id plan) = false
 draws Closed = false
 
 -- none of these entries draws

@@ -6,6 +6,7 @@ use Rattle.session_history.specs.declared.history.Event.TheVariants as event
 use Rattle.session_history.specs.declared.history.JobOrder.TheVariants.{Answered}
 use Rattle.session_history.specs.declared.history.Entry.{Entry}
 use Rattle.job_reports.specs.declared.answer.Answer.{Answer as AnswerType}
+use Rattle.job_reports.specs.declared.job.Job.{Job as JobPlan}
 use Rattle.copy_move.specs.Jobs.{MayAnswer, Running, answered, closed_job}
 use Rattle.copy_move.specs.Told.{told}
 use Rattle.mc_desk.specs.declared.granting.Deed.{Deed}
@@ -19,7 +20,7 @@ use Rattle.mc_desk.specs.Tallies.{Tally}
 
 -- nothing happened yet, and the opening frame is due
 abbrev pub fresh_standing : Standing
-fresh_standing = record { job = None; last_id = 0; calls = 0; has_unseen_end = false; due = First; closed = false; quit = false; lost = false }
+fresh_standing = record { job = None; later = []; last_id = 0; calls = 0; has_unseen_end = false; due = First; closed = false; quit = false; lost = false }
 
 -- what is to be looked at before the next key, by its number
 abbrev pub awaited : Due → Option ℕ
@@ -47,9 +48,9 @@ MayCarryOut job deed.Nothing = ⊤
 MayCarryOut job deed.Refuse = ⊤
 MayCarryOut job deed.End = ⊤
 
--- a job that was begun is live and due, and its number is the last one
-abbrev pub after_start : Running → Standing → Standing
-after_start run standing = record standing { job = Some run; last_id = run.id; due = Job run.id }
+-- a job that was begun is live and due, with these sources to come, and its number is the last one
+abbrev pub after_start : Running → List JobPlan → Standing → Standing
+after_start run later standing = record standing { job = Some run; later = later; last_id = run.id; due = Job run.id }
 
 -- the live job is answered and due
 abbrev pub after_answer : AnswerType → Option Running → Standing → Standing
@@ -61,7 +62,7 @@ abbrev pub after_deed : Deed → Standing → Standing
 after_deed deed.Nothing standing = standing
 after_deed deed.Refuse standing = standing
 after_deed deed.End standing = record standing { quit = true }
-after_deed (deed.Begin confirmed) standing = after_start confirmed.run standing
+after_deed (deed.Begin confirmed) standing = after_start confirmed.run confirmed.later standing
 after_deed (deed.Answer answer) standing = after_answer answer standing.job standing
 
 -- what is written down of it directly after the key

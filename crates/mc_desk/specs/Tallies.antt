@@ -7,7 +7,7 @@ use Rattle.job_reports.specs.declared.report.Did.TheVariants.{Ended}
 use Rattle.job_reports.specs.declared.report.Ending.{Ending}
 use Rattle.job_reports.specs.declared.report.Ending.TheVariants.{Finished, Aborted, Killed, NoMemory}
 use Rattle.session_history.specs.declared.history.Event.{Event}
-use Rattle.session_history.specs.declared.history.Event.TheVariants.{Key, Look, Sought, Began, Order, Step, Closed}
+use Rattle.session_history.specs.declared.history.Event.TheVariants.{Key, Look, Sought, Began, Order, Step, Next, Closed}
 use Rattle.session_history.specs.declared.history.Entry.{Entry}
 use Rattle.copy_move.specs.Jobs.{Running, waits_on}
 use Rattle.job_reports.specs.Reports.{ends}
@@ -68,6 +68,7 @@ due_after Sought job before = before
 due_after (Began id plan background) job before = Some id
 due_after (Order id order) job before = option_map (λ (live : Running). live.id) job
 due_after (Step id did) job before = before
+due_after (Next id plan) job before = before
 due_after Closed job before = None
 
 abbrev pub due_in : List Entry → Option ℕ
@@ -82,6 +83,7 @@ loses Sought = false
 loses (Began id plan background) = false
 loses (Order id order) = false
 loses (Step id did) = false
+loses (Next id plan) = false
 loses Closed = false
 
 abbrev pub has_lost : List Entry → Bool
@@ -135,6 +137,7 @@ most_calls Sought = 0
 most_calls (Began id plan background) = 0
 most_calls (Order id order) = 0
 most_calls (Step id did) = 3
+most_calls (Next id plan) = 0
 most_calls Closed = 0
 
 -- the keys of a history, the first one first
@@ -145,6 +148,7 @@ keys_of Sought = []
 keys_of (Began id plan background) = []
 keys_of (Order id order) = []
 keys_of (Step id did) = []
+keys_of (Next id plan) = []
 keys_of Closed = []
 
 abbrev pub keys_in : List Entry → List KeyType

@@ -2,7 +2,7 @@
 ghost use Rattle.std.specs.Prelude.{◌≡◌, ◌<◌, ◌≤◌, false, true, [], Option, IfOk, IfErr, IsSome, IsTrue, OnOk, None, Some, if◌then◌else◌, reverse};
 ghost use Rattle.tree_trait.specs.Change.{current};
 ghost use Rattle.tree_trait.specs.Answers.{IfKnown, HasRisen};
-ghost use Rattle.copy_move.specs.Ranks.{rank_with};
+ghost use Rattle.session_history.specs.Sources.{AreInTurn};
 ghost use Rattle.history_laws.specs.ToldJob.{live_job};
 ghost use Rattle.copy_move.specs.Told.{IsReady};
 ghost use Rattle.history_laws.specs.Traces.{IsTracedTo};
@@ -13,7 +13,7 @@ ghost use Rattle.mc_desk.specs.Tallies.{can_step, faults_in, has_lost};
 ghost use Rattle.mc_desk.specs.Outputs.{Blames};
 ghost use Rattle.mc_desk.specs.Shown.{HasGiven, put_since};
 ghost use Rattle.mc_desk.specs.Standings.{awaited_by, is_quit};
-ghost use Rattle.mc_desk.specs.Desks.{BlamesScreen, CountsByte, FailsClosed, IsFresh, IsNext, KeepsKeys, MovesDirty, RanNothing, Reads, ShowsDesk, idle_reply, is_over, seeks};
+ghost use Rattle.mc_desk.specs.Desks.{BlamesScreen, CountsByte, FailsClosed, IsFresh, IsNext, KeepsKeys, MovesDirty, RanNothing, Reads, ShowsDesk, idle_reply, is_over, rank_of, seeks};
 ghost use Rattle.mc_desk.specs.Searches.{steps_ahead};
 
 use crate::replies::{DeskError, DeskReply, Ended, Refused, StepReply};
@@ -155,8 +155,9 @@ impl<N: Tag, T: Tree, S: Sink, P: Spawner> Desk<N, T, S, P> {
         self.session.is_ready(job)
     }
 
-    /// Makes one step of the job, if it is ready: `Did` where an entry was added. Without memory for the entry no call of
-    /// the tree is made, and the job ends by the entry for which room was kept. Only the main thread steps yet, whose seat is 0.
+    /// Makes one step of the job, if it is ready: `Did` where an entry was added. Where a source is finished, the job goes on with the next one, and
+    /// that is what the entry tells. Without memory for the entry no call of the tree is made, and the job ends by the entry for which room was kept.
+    /// Only the main thread steps yet, whose seat is 0.
     pub fn step(&mut self, alloc: Global, seat: u32) -> StepReply
         requires main { seat ≡ 0 }
         ensures reply { result ≡ (if can_step self.old.tally.job then StepReply.Did else idle_reply self.old.tally.closed) }
@@ -165,8 +166,8 @@ impl<N: Tag, T: Tree, S: Sink, P: Spawner> Desk<N, T, S, P> {
         ensures dirty { MovesDirty self.old.job self.new.newest self.old.dirty self.new.dirty }
         ensures same { (self.new.tally.closed ≡ self.old.tally.closed) × (self.new.tally.due ≡ self.old.tally.due) }
         ensures quit { self.new.quit ≡ self.old.quit }
-        ensures nearer { self.old.tally.closed ≡ true → IsSome self.old.job → rank_with self.new.dirty self.new.job < rank_with self.old.dirty self.old.job }
-        ensures worked { IsReady self.old.job → rank_with self.new.dirty self.new.job < rank_with self.old.dirty self.old.job }
+        ensures nearer { self.old.tally.closed ≡ true → IsSome self.old.job → rank_of self.new < rank_of self.old }
+        ensures worked { IsReady self.old.job → rank_of self.new < rank_of self.old }
     {
         self.session.step(alloc, seat)
     }
@@ -186,13 +187,14 @@ impl<N: Tag, T: Tree, S: Sink, P: Spawner> Desk<N, T, S, P> {
 
     /// Ends the session: the desk is closed, and its job stepped to the end.
     pub fn end(self, alloc: Global) -> Ended<T, S, P>
-        // The history is a session over the tree, and no job is live at its end.
+        // The history is a session over the tree, no job is live at its end, and the sources of each were worked in turn.
         ensures session { EndsSession N.start N.opening N.tree_faults (reverse result.history.entries) (T.contents result.tree)
             (record { bytes = put_since N.given (S.given result.screen); is_cut = self.out.put.is_cut }) result.quit }
         ensures given { HasGiven N.given (put_since N.given (S.given result.screen)) (S.given result.screen) }
         ensures uncut { self.out.put.is_cut ≡ true → self.tally.closed ≡ true }
         ensures traced { IsTracedTo N.opening (T.contents result.tree) (reverse result.history.entries) }
         ensures idle { live_job (reverse result.history.entries) ≡ None }
+        ensures turns { AreInTurn (reverse result.history.entries) }
         ensures counted { result.history.started ≡ jobs_begun result.history.entries }
 
         // Its keys are those of the bytes that were taken.

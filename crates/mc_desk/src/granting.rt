@@ -1,12 +1,13 @@
 //! What the desk does about what a key asks.
 ghost use Rattle.std.specs.Prelude.{◌≡◌, ◌∷◌, [], true, IfOk, OnErr, Some};
-ghost use Rattle.job_reports.specs.Jobs.{is_workable};
+ghost use Rattle.session_history.specs.Sources.{are_workable};
 ghost use Rattle.job_plans.specs.Reading.{ReadsTree};
 ghost use Rattle.mc_ui.specs.Screens.{is_request};
 ghost use Rattle.mc_desk.specs.declared.granting.Granted.{Granted as GrantedType};
 ghost use Rattle.mc_desk.specs.Granting.{CanBeWorked, IsGranted, IsWorked, told_of};
 
 use crate::confirmed::Confirmed;
+use crate::sources::sources_in;
 use copy_move::Run;
 use job_reports::{Answer, Job, JobRows};
 use key_screen::Key;
@@ -111,7 +112,7 @@ fn refuse(alloc: Global) -> Result<Granted, NoMemory>
     Ok(with_deed(Deed::Refuse, Refusals(refusals)))
 }
 
-/// Starts a job.
+/// Starts a job, with the first of its sources.
 fn begin(
     alloc: Global,
     plan: Job,
@@ -119,15 +120,20 @@ fn begin(
     number: u32,
     refusals: Refusals,
 ) -> Result<Granted, NoMemory>
-    requires workable { is_workable plan ≡ true }
+    requires workable { are_workable plan ≡ true }
     ensures { IfOk result (λ granted. IsGranted (Some number) (Ask.Begin plan background) refusals granted.deed granted.refusals) }
 {
-    let run = Run::start(alloc, &plan, number)?;
+    let mut later = sources_in(alloc, &plan)?;
+    let Some(first) = later.take_next() else {
+        unreachable!()
+    };
+    let run = Run::start(alloc, &first, number)?;
     Ok(with_deed(
         Deed::Begin(Confirmed {
             plan,
             background,
             run,
+            later,
         }),
         refusals,
     ))

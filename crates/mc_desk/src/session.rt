@@ -96,7 +96,7 @@ impl<N: Tag, T: Tree, S: Sink, P: Spawner> Session<N, T, S, P> {
                 spawner,
                 keys: KeyReader::new(),
                 ui,
-                standing: Standing::new(),
+                standing: Standing::new(alloc),
                 dirty: Dirty::new(alloc),
                 log,
                 taken: 0,

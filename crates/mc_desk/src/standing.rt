@@ -7,10 +7,12 @@ ghost use Rattle.mc_desk.specs.Standings.{MayCarryOut, after_deed, after_look, a
 
 use crate::confirmed::Confirmed;
 use crate::granting::Deed;
+use crate::later::Later;
 use crate::replies::DeskReply;
 use copy_move::Run;
 use job_reports::Answer;
 use session_history::{Event, JobOrder};
+use std::alloc::Global;
 
 /// What is to be looked at before the next key is taken.
 #[derive(Clone, Copy, Debug, Drop, PartialEq, Eq)]
@@ -26,6 +28,8 @@ pub enum Due {
 #[derive(Debug, Drop)]
 pub struct Standing {
     pub job: Option<Run>,
+    /// The sources that it is yet to take up.
+    pub later: Later,
     pub last_id: u32,
     pub calls: u64,
     pub has_unseen_end: bool,
@@ -37,11 +41,12 @@ pub struct Standing {
 
 impl Standing {
     /// Nothing happened yet, and the opening frame is due.
-    pub fn new() -> Standing
+    pub fn new(alloc: Global) -> Standing
         ensures { result ≡ fresh_standing }
     {
         Standing {
             job: None,
+            later: Later::new(alloc),
             last_id: 0,
             calls: 0,
             has_unseen_end: false,
@@ -85,16 +90,18 @@ impl Standing {
 
     /// A job that was confirmed is live, and due.
     fn begin(&mut self, confirmed: Confirmed) -> Event
-        ensures done { self.new ≡ after_start confirmed.run self.old }
+        ensures done { self.new ≡ after_start confirmed.run confirmed.later self.old }
         ensures told { result ≡ Event.Began confirmed.run.id confirmed.plan confirmed.background }
     {
         let Confirmed {
             plan,
             background,
             run,
+            later,
         } = confirmed;
         let job = run.id();
         self.job = Some(run);
+        self.later = later;
         self.last_id = job;
         self.due = Due::Job(job);
         Event::Began {

@@ -12,6 +12,7 @@ use Rattle.history_laws.proofs.Histories.{traced_reached}
 use Rattle.history_laws.proofs.Moments.{replay_law, session_law}
 use Rattle.outcome_laws.proofs.Elsewhere.{untouched_law}
 use Rattle.outcome_laws.proofs.Outcome.{outcome_law}
+use Rattle.outcome_laws.proofs.Together.{all_sources_law}
 use Rattle.mc_desk.specs.declared.starts.Start.{Start}
 use Rattle.mc_desk.specs.Sessions.{EndsSession}
 use Rattle.mc_desk.specs.Shown.{HasGiven, put_since}
@@ -44,7 +45,11 @@ finished_to o contents newest traced opening o_is now is tree settled =
 pub outcome_to : (o contents : Option CallLog) (newest : List Entry) → IsTracedTo o contents newest → IfKnown o (λ opening. IfKnown contents (λ now. IsOutcomeRun opening now newest))
 outcome_to o contents newest traced opening o_is now is tree settled =
     let t = told_trace o contents newest opening now o_is is traced in
-    record { done = outcome_law opening now newest (at_rest t.0) tree settled t.1; alone = untouched_law opening now newest (at_rest t.0) tree settled t.1 }
+    record {
+      done = outcome_law opening now newest (at_rest t.0) tree settled t.1;
+      alone = untouched_law opening now newest (at_rest t.0) tree settled t.1;
+      all = all_sources_law opening now newest (at_rest t.0) tree settled t.1;
+    }
 
 -- a first change comes where nothing is in doubt
 pub calmed_to : (o contents : Option CallLog) (newest : List Entry) → IsTracedTo o contents newest → IfKnown o (λ opening. IfKnown contents (λ now. IsCalmedRun opening now newest))

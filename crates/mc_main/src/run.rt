@@ -69,13 +69,14 @@ pub fn mc_run<N: Tag, T: Tree, K: Source, S: Sink, P: Spawner, C: Clock, G: Gate
     ensures safe { IfKnown (T.contents tree) (λ opening. IfKnown (T.contents result.tree) (λ now.
         IsSafeRun opening now (reverse result.history.entries))) }
 
-    // What a finished job did stays done, at each later moment, until an entry names the path again, or the folder that holds it; but
+    // What a job did for a source with which it is done stays done, at each later moment, until an entry names the path again, or the folder that holds it; but
     // for parts that were named, and, unless it was the job's own, the mode of a folder at which another mount begins.
     ensures finished { IfKnown (T.contents tree) (λ opening. IfKnown (T.contents result.tree) (λ now.
         IsFinishedRun opening now (reverse result.history.entries))) }
 
-    // Where a job reports that it is finished, all that it was to do is done, but for what it passed over: a copy stands of all that stands at the source,
-    // nothing stands that was to be removed, and what was to be made, or given a mode, is so. All else is as it was where the job was begun.
+    // Where a job is done with one of its sources, all that it was to do with it is done, but for what it passed over: a copy stands of all that stands at
+    // the source, nothing stands that was to be removed, and what was to be made, or given a mode, is so. All else is as it was where the job began with it.
+    // So at its end all is done with all its sources, where no later one touches what concerns an earlier one.
     ensures outcome { IfKnown (T.contents tree) (λ opening. IfKnown (T.contents result.tree) (λ now.
         IsOutcomeRun opening now (reverse result.history.entries))) }
 

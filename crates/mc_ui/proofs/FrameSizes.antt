@@ -1,5 +1,5 @@
 -- A box that is painted over a screen leaves its size as it was.
-use Rattle.std.proofs.Common.{◌≡◌, ℕ, List, refl, Option, Some, None}
+use Rattle.std.proofs.Common.{◌≡◌, ℕ, List, length, refl, Option, Some, None}
 use Rattle.key_screen.specs.Grids.{CellGrid}
 use Rattle.job_reports.specs.declared.row.JobRow.{JobRow}
 use Rattle.mc_dialogs.specs.ListKeys.{list_lines}
@@ -32,23 +32,23 @@ panel_columns_same (Options list) grid = box_columns_same grid (list_lines list)
 
 -- a box of a job
 job_lines_same : (asks : JobBoxState) (grid : CellGrid) → (with_job_box asks grid).lines ≡ grid.lines
-job_lines_same (DeleteBox path) grid = box_lines_same grid (plain_lines delete_lines)
-job_lines_same (MaskBox kind path typed) grid = input_lines_same grid typed
-job_lines_same (TargetBox kind path mask typed) grid = input_lines_same grid typed
+job_lines_same (DeleteBox paths) grid = box_lines_same grid (plain_lines (delete_lines (length paths)))
+job_lines_same (MaskBox kind paths typed) grid = input_lines_same grid typed
+job_lines_same (TargetBox kind paths mask typed) grid = input_lines_same grid typed
 job_lines_same (FolderBox typed) grid = input_lines_same grid typed
 job_lines_same (LinkTextBox typed) grid = input_lines_same grid typed
 job_lines_same (LinkNameBox text typed) grid = input_lines_same grid typed
-job_lines_same (NewModeBox path asked) grid = box_lines_same grid (mode_lines asked)
+job_lines_same (NewModeBox paths asked) grid = box_lines_same grid (mode_lines asked)
 job_lines_same (TroubleBox trouble) grid = box_lines_same grid (plain_lines (trouble_lines trouble))
 
 job_columns_same : (asks : JobBoxState) (grid : CellGrid) → (with_job_box asks grid).columns ≡ grid.columns
-job_columns_same (DeleteBox path) grid = box_columns_same grid (plain_lines delete_lines)
-job_columns_same (MaskBox kind path typed) grid = input_columns_same grid typed
-job_columns_same (TargetBox kind path mask typed) grid = input_columns_same grid typed
+job_columns_same (DeleteBox paths) grid = box_columns_same grid (plain_lines (delete_lines (length paths)))
+job_columns_same (MaskBox kind paths typed) grid = input_columns_same grid typed
+job_columns_same (TargetBox kind paths mask typed) grid = input_columns_same grid typed
 job_columns_same (FolderBox typed) grid = input_columns_same grid typed
 job_columns_same (LinkTextBox typed) grid = input_columns_same grid typed
 job_columns_same (LinkNameBox text typed) grid = input_columns_same grid typed
-job_columns_same (NewModeBox path asked) grid = box_columns_same grid (mode_lines asked)
+job_columns_same (NewModeBox paths asked) grid = box_columns_same grid (mode_lines asked)
 job_columns_same (TroubleBox trouble) grid = box_columns_same grid (plain_lines (trouble_lines trouble))
 
 -- the line that asks what is sought, or the list of what was found

@@ -2,6 +2,7 @@ mod FindFollowing
 mod FindLemmas
 mod FindReadings
 mod FrameSizes
+mod ChoosingLemmas
 mod NoWays
 mod OverPanels
 mod Readings

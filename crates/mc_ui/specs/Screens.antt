@@ -1,9 +1,7 @@
 -- What a key or a look makes of the screen: the two panels, the box that stands over them, a message over these, and a file that is viewed
 -- over all.
 use Rattle.std.specs.Prelude.{◌≡◌, ◌≢◌, ◌⊎◌, ℕ, Bool, true, false, is_some, MatchBool, ⊤, if◌then◌else◌, List, [], ◌∷◌, Option, Some, None, Ok, Err}
-use Rattle.mc_text.specs.declared.kind.Kind.{Kind}
 use Rattle.mc_text.specs.Routes.{Route}
-use Rattle.tree_trait.specs.declared.calls.TreeError.{TreeError}
 use Rattle.tree_trait.specs.FileSystem.{View as TreeView}
 use Rattle.tree_trait.specs.Change.{CallLog}
 use Rattle.tree_trait.specs.Answers.{IfKnown}
@@ -15,7 +13,7 @@ use Rattle.job_reports.specs.declared.report.Trouble.{Trouble}
 use Rattle.job_reports.specs.declared.answer.Answer.{Answer}
 use Rattle.job_reports.specs.declared.job.Job.{Job}
 use Rattle.job_reports.specs.declared.row.JobRow.{JobRow}
-use Rattle.job_reports.specs.Jobs.{is_workable}
+use Rattle.session_history.specs.Sources.{are_workable}
 use Rattle.session_history.specs.declared.refusal.PlanError.TheVariants.{NoSelection}
 use Rattle.session_history.specs.declared.refusal.Refusal.{Refusal}
 use Rattle.session_history.specs.declared.refusal.Refusal.TheVariants.{Tree, Read, Resolve, Plan, Typed}
@@ -25,6 +23,8 @@ use Rattle.mc_ui.specs.declared.asks.Told.{Told}
 use Rattle.mc_ui.specs.declared.asks.Told.TheVariants as told
 use Rattle.box_words.specs.declared.message.Message.{Message}
 use Rattle.box_words.specs.declared.message.Message.TheVariants.{Refused, Help}
+use Rattle.job_plans.specs.declared.choosing.Choice.{Choice}
+use Rattle.job_plans.specs.declared.choosing.Choice.TheVariants as choice
 use Rattle.job_plans.specs.declared.choosing.Opens.{Opens}
 use Rattle.job_plans.specs.declared.choosing.Opens.TheVariants as opens
 use Rattle.mc_ui.specs.declared.panel_command.KeyCommand.{KeyCommand}
@@ -56,7 +56,7 @@ use Rattle.panel_pair.specs.Pairs.{PairState, untagged_pair}
 use Rattle.box_words.specs.BoxKeys.{closes_message}
 use Rattle.box_words.specs.BoxLines.{folder_line}
 use Rattle.job_plans.specs.Reading.{sight}
-use Rattle.job_plans.specs.Copies.{HasKind, HasMode, MayAsk}
+use Rattle.job_plans.specs.Choices.{IsChoice, choice_refusals}
 use Rattle.mc_ui.specs.Boxes.{Box, NoBox, OneJobBox, PanelsBox, FindBox, JobsBox, first_refusal, with_news, with_refusal, with_trouble}
 use Rattle.mc_ui.specs.Findings.{find_refusal}
 use Rattle.mc_ui.specs.ListedJobs.{left_by_jobs}
@@ -141,21 +141,20 @@ abbrev pub Works : PanelCommand → Option CallLog → List Refusal → Screen �
 Works command contents [] before after = IsDone command contents before after
 Works command contents (refusal ∷ more) before after = IsRefused command contents (refusal ∷ more) before after
 
--- The box is opened on a thing, with its kind and its mode, if it may ask of that; or the look at it was refused, and a message says so.
-abbrev pub AsksOf : Opens → Option TreeView → Route → List Refusal → Screen → Screen → Type 0
-AsksOf box tree path [] before after =
-    (MayAsk box tree path false × (after ≡ before))
-    ⊎ ((kind : Kind) × (mode : ℕ) × MayAsk box tree path true × HasMode tree path mode × HasKind tree path kind
-    × (after ≡ record before { over = OneJobBox (box_of box kind path mode) }))
-AsksOf box tree path (refusal ∷ more) before after =
-    (e : TreeError) × (refusal ∷ more ≡ Tree path e ∷ []) × (after ≡ told_refusal (Tree path e) before)
+-- What a choice makes of the screen: the box is opened on the things, with the kind of one alone and the mode of the first; or it may not ask
+-- of them, and nothing happens; or a message says that nothing is selected, or why one of them can't be looked at.
+abbrev pub after_choice : Opens → Choice → Screen → Screen
+after_choice box choice.NoSelection before = told_refusal (Plan NoSelection) before
+after_choice box choice.Nothing before = before
+after_choice box (choice.Things chosen mode) before = record before { over = OneJobBox (box_of box chosen.kind chosen.paths mode) }
+after_choice box (choice.Refused path e) before = told_refusal (Tree path e) before
 
--- The key that asks of what is selected in a folder opens its box on it, where it is one thing. Where nothing is selected a message says
--- so; of several things no box can ask yet.
-abbrev pub Chooses : Opens → Option TreeView → Route → List (List ℕ) → List Refusal → Screen → Screen → Type 0
-Chooses box tree folder [] refusals before after = (refusals ≡ Plan NoSelection ∷ []) × (after ≡ told_refusal (Plan NoSelection) before)
-Chooses box tree folder (name ∷ []) refusals before after = AsksOf box tree (name ∷ folder) refusals before after
-Chooses box tree folder (name ∷ other ∷ more) refusals before after = (refusals ≡ []) × (after ≡ before)
+-- the key that opens a box on what is selected in a folder does so by what choosing comes to
+pub record Chooses (box : Opens) (tree : Option TreeView) (folder : Route) (names : List (List ℕ)) (refusals : List Refusal) (before after : Screen) : Type 0 where
+  pub outcome : Choice
+  pub chosen : IsChoice box tree folder names outcome
+  pub told : refusals ≡ choice_refusals outcome
+  pub after_is : after ≡ after_choice box outcome before
 
 -- things are sought from the current panel's folder on, hidden names as that panel has them, patterns as they are read
 abbrev pub find_asked : Screen → FindScreen
@@ -348,7 +347,7 @@ pub record LookLeads (contents : Option CallLog) (rows : List JobRow) (has_unsee
 
 -- A job is begun while none is live, and is one that can be worked; a trouble is answered as it may be.
 abbrev pub WellAsked : List JobRow → Ask → Type 0
-WellAsked rows (ask.Begin plan background) = (rows ≡ []) × (is_workable plan ≡ true)
+WellAsked rows (ask.Begin plan background) = (rows ≡ []) × (are_workable plan ≡ true)
 WellAsked rows (ask.Answer answer) = can_answer rows answer ≡ true
 WellAsked rows ask.Nothing = ⊤
 WellAsked rows ask.End = ⊤

@@ -104,4 +104,3 @@ lie_apart folder paths at h = record {
   apart = ap (has_two meet) (children-are folder paths at)
       ∙ (siblings-two folder (map name_of paths) ∙ told_apart (map name_of paths) (ap (has_two (λ a b. a == b)) (digests-are paths) ∙ h));
 }
-

@@ -1,14 +1,14 @@
 -- What a copy that isn't finished has done, as the history shows it: of each path of the source it is passed over, or yet to be met, or its copy stands.
-use Rattle.std.proofs.Common.{◌≡◌, ◌⊎◌, ℕ, Bool, true, false, List, [], ◌∷◌, ◌++◌, refl, sym, ◌∙◌, ap, subst, inl, inr, Option, Some, None}
+use Rattle.std.proofs.Common.{◌≡◌, ◌⊎◌, ℕ, true, false, List, [], ◌∷◌, ◌++◌, refl, sym, ◌∙◌, ap, subst, inl, inr, Option, Some, None}
 use Rattle.std.specs.Bool.{⊤}
 use Rattle.std.specs.Option.{option_map}
-use Rattle.std.proofs.lemmas.Bool.{both_ways, false_from_ne_true, or_right}
-use Rattle.std.proofs.lemmas.List.{append_assoc, append_cancel_right}
+use Rattle.std.proofs.lemmas.Bool.{both_ways, false_from_ne_true}
+use Rattle.std.proofs.lemmas.List.{append_assoc}
 use Rattle.mc_text.specs.Routes.{Route, is_prefix, same_path}
 use Rattle.mc_text.specs.declared.kind.Kind.TheVariants.{Folder}
 use Rattle.tree_trait.specs.FileSystem.{Value, View, put}
 use Rattle.tree_trait.specs.CrashImages.{Among}
-use Rattle.tree_trait.proofs.Visible.{same_path-self, same_path-true}
+use Rattle.tree_trait.proofs.Visible.{same_path-true}
 use Rattle.job_reports.specs.declared.job.Pair.{Pair}
 use Rattle.file_copy.specs.declared.stage.Next.TheVariants as next
 use Rattle.file_copy.specs.declared.stage.Stage.{Stage as FileStage}
@@ -97,11 +97,12 @@ ItemDone v passed top inner (File f) = (progress f.stage ≡ UnderWay) × IsNext
 ItemDone v passed top inner (Link l) = (link_progress l.stage ≡ UnderWay) × IsNext inner l.source × LinkDone v passed top l.source l.target l.stage
 ItemDone v passed top inner (Stays part) = ⊤
 
--- a folder was made at a target for the one that stands at its source
+-- a folder was made at a target for the one that stands at its source, all names of which can be shown
 pub record IsShown (v : View) (source target : Route) : Type 0 where
   pub x : Value
   pub stands : (v source).value ≡ Some x
   pub folder : x.kind ≡ Folder
+  pub named : x.unnamed ≡ 0
   pub mode : ℕ
   pub made : (v target).value ≡ Some (record new_folder { mode = mode })
 

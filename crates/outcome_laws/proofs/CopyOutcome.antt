@@ -1,5 +1,5 @@
 -- What a job that copies has done, in each of its steps; and what it leaves once it is finished.
-use Rattle.std.proofs.Common.{◌≡◌, ◌⊎◌, ℕ, Bool, true, false, List, [], ◌∷◌, ◌++◌, refl, sym, ◌∙◌, ap, subst, inl, inr, Option, Some, None}
+use Rattle.std.proofs.Common.{◌≡◌, ℕ, Bool, true, List, [], ◌∷◌, ◌++◌, refl, sym, ◌∙◌, ap, subst, inl, inr, Option, Some, None}
 use Rattle.std.specs.Prelude.{is_some}
 use Rattle.std.proofs.lemmas.Bool.{both_ways, false≢true}
 use Rattle.mc_text.specs.Routes.{Route, is_prefix, parent_of}
@@ -14,10 +14,8 @@ use Rattle.job_reports.specs.declared.job.Pair.{Pair}
 use Rattle.job_reports.specs.declared.report.Cause.{Cause}
 use Rattle.job_reports.specs.declared.report.Did.{Did}
 use Rattle.job_reports.specs.declared.report.Did.TheVariants.{Skipped, Troubled, Ended}
-use Rattle.job_reports.specs.declared.report.Did.TheVariants as common
 use Rattle.job_reports.specs.declared.report.Ending.TheVariants.{Finished}
 use Rattle.job_reports.specs.declared.report.StepResult.{StepResult}
-use Rattle.job_reports.specs.Stops.{out_of_memory_at}
 use Rattle.file_copy.specs.CopyCalls.{CopyCalls}
 use Rattle.file_copy.specs.Copying as file
 use Rattle.file_copy.specs.Copying.{Copying}
@@ -26,15 +24,13 @@ use Rattle.file_copy.specs.declared.stage.Stage.TheVariants as file_stage
 use Rattle.folder_copy.specs.declared.stage.FolderDid.{FolderDid}
 use Rattle.folder_copy.specs.declared.stage.FolderDid.TheVariants as folder_did
 use Rattle.copy_levels.specs.declared.level.Level.{Level}
-use Rattle.job_answers.specs.Skipping.{passed_cause}
-use Rattle.tree_copy.specs.declared.due.Due.TheVariants.{End, Thing}
+use Rattle.tree_copy.specs.declared.due.Due.TheVariants.{Thing}
 use Rattle.tree_copy.specs.declared.item.Item.{Item}
 use Rattle.tree_copy.specs.declared.item.Item.TheVariants.{Next, File, Link, Stays}
 use Rattle.tree_copy.specs.declared.progress.Progress.TheVariants.{UnderWay}
-use Rattle.tree_copy.specs.InPlace.{AreMoved, HoldsTop, IsInPlace, IsMoved, owed_of}
+use Rattle.tree_copy.specs.InPlace.{AreMoved, HoldsTop, IsInPlace}
 use Rattle.tree_copy.specs.Progress.{progress}
 use Rattle.tree_copy.specs.Reports.{IsToldAs}
-use Rattle.tree_copy.specs.Skipping as machine
 use Rattle.tree_copy.specs.Standing.{Seen, due, due_at, pair_of}
 use Rattle.tree_copy.specs.Steps.{CopySteps, TakesNext, WorksOn, at_end, link_begun}
 use Rattle.tree_copy.specs.Parts.{IsPartPlace}
@@ -50,12 +46,12 @@ use Rattle.history_laws.proofs.Knowing.{IsKept, Said}
 use Rattle.history_laws.proofs.KnownParts.{FileKnows, StageKnows}
 use Rattle.history_laws.proofs.OwedModes.{ShowsTree}
 use Rattle.history_laws.proofs.TreeCalls.{left_item}
-use Rattle.history_laws.proofs.TreeKnown.{ItemHas, TreeKnown}
+use Rattle.history_laws.proofs.TreeKnown.{ItemHas}
 use Rattle.history_laws.proofs.TreeMachine.{SaysPassed, passed_trouble, skip_says}
 use Rattle.copy_move.specs.declared.run.Course.{Course}
 use Rattle.outcome_laws.specs.Outcomes.{IsCopied, IsReached, passed_by}
 use Rattle.outcome_laws.proofs.Accounts.{FileDone, IsAccounted, IsCovered, IsDue, IsNext, IsPending, ItemDone, TreeDone, covered_below}
-use Rattle.outcome_laws.proofs.FileWork.{bare_begins, file_anew, file_goes, self_prefix, skipped_done}
+use Rattle.outcome_laws.proofs.FileWork.{bare_begins, file_anew, file_goes, skipped_done}
 use Rattle.outcome_laws.proofs.TreeItems.{file_paths, file_works, link_works}
 use Rattle.outcome_laws.proofs.TreeLevels.{closed_done, leaves_done, no_name}
 use Rattle.outcome_laws.proofs.TreeFolders.{syncs_done, takes_folder}

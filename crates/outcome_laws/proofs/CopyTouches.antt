@@ -1,5 +1,5 @@
 -- What a step of a copy changes lies at or below its target.
-use Rattle.std.proofs.Common.{[], ◌≡◌, ◌⊎◌, ℕ, Bool, true, List, ◌∷◌, ◌++◌, refl, sym, ◌∙◌, ap, subst, inl, inr, Option, Some, None}
+use Rattle.std.proofs.Common.{[], ◌≡◌, ℕ, Bool, true, List, sym, ◌∙◌, ap, subst, inl, inr, Option, Some, None}
 use Rattle.mc_text.specs.Routes.{Route, is_prefix}
 use Rattle.tree_trait.specs.Change.{CallLog}
 use Rattle.job_reports.specs.declared.job.Pair.{Pair}

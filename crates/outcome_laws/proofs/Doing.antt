@@ -4,47 +4,45 @@ use Rattle.std.specs.Prelude.{⊤, ◌&&◌, is_some, nat_le, if◌then◌else�
 use Rattle.std.specs.Option.{option_map}
 use Rattle.mc_text.specs.Routes.{Route, parent_of}
 use Rattle.tree_trait.specs.declared.file_system.FileSystem.{FileSystem}
-use Rattle.tree_trait.specs.FileSystem.{Spot, Value, View, find, node, value}
+use Rattle.tree_trait.specs.FileSystem.{Spot, Value, View, node, value}
 use Rattle.tree_trait.specs.Calls.{SetMode as Sets_mode}
 use Rattle.tree_trait.specs.Change.{CallLog, current, found}
 use Rattle.crash_law.specs.Guarded.{Marks}
-use Rattle.job_reports.specs.declared.job.Pair.{Pair}
 use Rattle.job_reports.specs.declared.job.Job.{Job}
 use Rattle.job_reports.specs.declared.job.Job.TheVariants as plan
 use Rattle.job_reports.specs.declared.report.Cause.{Cause}
 use Rattle.job_reports.specs.declared.report.Did.{Did}
 use Rattle.job_reports.specs.declared.report.Did.TheVariants.{Began, Chunk, Placed, Removed, Made, Set, Kept, Skipped, Cleaned, Barrier, Troubled, Ended}
-use Rattle.job_reports.specs.declared.report.Ending.TheVariants.{Finished}
 use Rattle.job_reports.specs.declared.answer.Answer.{Answer}
 use Rattle.job_reports.specs.declared.answer.Answer.TheVariants.{Retry, Skip, SkipAll, Abort}
-use Rattle.job_reports.specs.Jobs.{Removes, Sets, is_link_text}
+use Rattle.job_answers.specs.declared.skips.Skips.{Skips as SkippedKinds}
+use Rattle.job_reports.specs.Jobs.{is_link_text}
 use Rattle.job_reports.specs.CallRuns.{AllDone}
-use Rattle.job_reports.specs.Stops.{out_of_memory_at}
 use Rattle.job_reports.proofs.CallAnswers.{one_done, some_log}
 use Rattle.session_history.specs.declared.history.JobOrder.{JobOrder}
 use Rattle.session_history.specs.declared.history.JobOrder.TheVariants.{Answered}
 use Rattle.mode_setting.specs.Settings.{Setting}
 use Rattle.mode_setting.specs.SettingSteps.{SettingCalls}
-use Rattle.copy_move.specs.declared.new_thing.NewThing.{NewThing}
 use Rattle.copy_move.specs.declared.new_thing.NewThing.TheVariants as thing
 use Rattle.copy_move.specs.declared.run.Course.{Course}
 use Rattle.copy_move.specs.declared.run.Course.TheVariants.{GoesOn, InTrouble, OwedSyncFailed, Skips, Ends}
 use Rattle.copy_move.specs.declared.work.Work.{Work}
 use Rattle.copy_move.specs.declared.work.Work.TheVariants.{Copy, CopyTree, Delete, Make, SetMode}
-use Rattle.copy_move.specs.Jobs.{Running, CallsOn, PassesOver, TellsOn, WorkCalls, WorkTells, answered, answered_on, closed_course, closed_job, course_after, first_work, taken_anew, with_skips}
+use Rattle.copy_move.specs.Jobs.{Running, CallsOn, PassesOver, TellsOn, WorkCalls, WorkTells, answered, answered_on, begun_work, closed_course, closed_job, course_after, first_work, passing_over, skips_of, taken_anew, with_skips}
 use Rattle.copy_move.specs.Jobs as works
 use Rattle.copy_move.specs.Steps.{SkipWalks, Walks, WalksOn}
-use Rattle.copy_move.specs.Told.{running}
 use Rattle.history_laws.specs.Replayed.{replayed_step}
 use Rattle.history_laws.specs.Traces.{IsUnclaimed, WorkLeads, before_others, ordered, unless_ended}
 use Rattle.history_laws.proofs.Calming.{mode_finds}
 use Rattle.history_laws.proofs.JobKnows.{WorkKnows}
 use Rattle.history_laws.proofs.Knowing.{IsKept, Said}
 use Rattle.history_laws.proofs.Sources.{item_in}
-use Rattle.outcome_laws.specs.Outcomes.{IsOutcome, passed_by}
+use Rattle.history_laws.proofs.Turns.{Turned}
+use Rattle.outcome_laws.specs.Outcomes.{passed_by}
 use Rattle.outcome_laws.proofs.CopyOutcome.{FileAccounts, TreeAccounts, file_passed, file_steps, file_taken, tree_begins, tree_passed, tree_steps, tree_taken}
-use Rattle.outcome_laws.proofs.MadeThings.{MakingDone, SettingDone, Unless, making_ends, making_skips, making_steps, setting_ends, setting_skips, setting_steps, unless_of}
-use Rattle.outcome_laws.proofs.Deletions.{DeletionDone, deletion_ends, deletion_skips, deletion_steps}
+use Rattle.outcome_laws.proofs.MadeThings.{MakingDone, SettingDone, Unless, making_skips, making_steps, setting_skips, setting_steps, unless_of}
+use Rattle.outcome_laws.proofs.Deciding.{DeletionDone}
+use Rattle.outcome_laws.proofs.Deletions.{deletion_skips, deletion_steps}
 
 abbrev pub WorkDone : List Route → View → FileSystem → Work → Type 0
 WorkDone passed v s (Copy c) = FileAccounts passed v c
@@ -284,7 +282,7 @@ some_and P true false x w k is = absurd (let f : ⊥ = cc in f)
 some_and P false b x w k is = absurd (let f : ⊥ = cc in f)
 
 module _ (v : View) (s : FileSystem) where
-  pub first_done : (id : ℕ) (job : Job) (w : Work) → first_work id job ≡ Some w → WorkDone [] v s w
+  first_done : (id : ℕ) (job : Job) (w : Work) → first_work id job ≡ Some w → WorkDone [] v s w
   first_done id (plan.Delete []) w is = absurd (let f : ⊥ = cc in f)
   first_done id (plan.Delete (path ∷ [])) w is = some_if (WorkDone [] v s) (is_some (parent_of path)) (works.deletes path) w refl is
   first_done id (plan.Delete (path ∷ more ∷ paths)) w is = absurd (let f : ⊥ = cc in f)
@@ -299,3 +297,19 @@ module _ (v : View) (s : FileSystem) where
   first_done id (plan.SetMode [] mode) w is = absurd (let f : ⊥ = cc in f)
   first_done id (plan.SetMode (path ∷ []) mode) w is = some_if (WorkDone [] v s) (is_some (parent_of path) && nat_le mode 0o7777) (works.sets path mode) w tt is
   first_done id (plan.SetMode (path ∷ more ∷ paths) mode) w is = absurd (let f : ⊥ = cc in f)
+
+  pub begun_done : (id : ℕ) (sources : List Job) (w : Work) → begun_work id sources ≡ Some w → WorkDone [] v s w
+  begun_done id [] w is = absurd (let f : ⊥ = cc in f)
+  begun_done id (source ∷ more) w is = first_done id source w is
+
+  -- and one that goes on with its next source, whatever it passes over without a question
+  passing_done : (skips : SkippedKinds) (work : Work) → WorkDone [] v s work → WorkDone [] v s (passing_over skips work)
+  passing_done skips (Copy c) k = k
+  passing_done skips (CopyTree c) k = record { in_place = k.in_place; done = k.done }
+  passing_done skips (Delete d) k = k
+  passing_done skips (Make m) k = k
+  passing_done skips (SetMode t) k = k
+
+  pub turned_done : (plan : Job) (job next : Running) → Turned plan job next → WorkDone [] v s next.work
+  turned_done plan job next turn =
+      subst (λ (x : Running). WorkDone [] v s x.work) (sym turn.next_is) (passing_done (skips_of job.work) turn.work (first_done job.id plan turn.work turn.first))

@@ -1,7 +1,6 @@
 -- What the copy of a file has done, after each step, skip and retry.
-use Rattle.std.proofs.Common.{◌≡◌, ◌⊎◌, ℕ, Bool, true, false, List, [], ◌∷◌, ◌++◌, length, refl, sym, ◌∙◌, ap, subst, inl, inr, Option, Some, None, arith}
+use Rattle.std.proofs.Common.{◌≡◌, ℕ, true, false, List, [], ◌∷◌, ◌++◌, length, refl, sym, ◌∙◌, ap, subst, inl, inr, Option, Some, None, arith}
 use Rattle.std.specs.Option.{option_map}
-use Rattle.std.specs.Prelude.{unwrap_or}
 use Rattle.std.proofs.lemmas.Bool.{false_from_ne_true}
 use Rattle.std.proofs.lemmas.List.{length-append}
 use Rattle.mc_text.specs.Routes.{Route, is_prefix, same_path}
@@ -10,7 +9,7 @@ use Rattle.mc_text.specs.declared.kind.Kind.TheVariants as kind
 use Rattle.tree_trait.specs.Calls.{Stat}
 use Rattle.tree_trait.specs.Change.{CallLog, current, found}
 use Rattle.tree_trait.specs.FileSystem.{Value, View, find, node, put, value}
-use Rattle.tree_trait.specs.Refusals.{folder_kind, is_folder, refusal_of}
+use Rattle.tree_trait.specs.Refusals.{folder_kind, refusal_of}
 use Rattle.tree_trait.specs.Shape.{IsTree}
 use Rattle.tree_trait.specs.declared.calls.TreeError.TheVariants as refused
 use Rattle.tree_trait.proofs.Visible.{same_path-true}
@@ -37,7 +36,7 @@ use Rattle.history_laws.proofs.Intact.{prefix_append}
 use Rattle.history_laws.proofs.Moved.{moved_below}
 use Rattle.history_laws.proofs.OwedModes.{ShowsTree}
 use Rattle.outcome_laws.specs.Outcomes.{copied_as, as_copied, passed_by}
-use Rattle.outcome_laws.proofs.Accounts.{AllCopied, FileDone, IsBare, IsCovered, apart_from, covered_more, covered_now, put_same, put_value}
+use Rattle.outcome_laws.proofs.Accounts.{AllCopied, FileDone, IsBare, apart_from, covered_more, covered_now, put_same, put_value}
 
 -- what is no folder is copied as it is placed
 plain_by : (k : Kind) (x : Value) → folder_kind k ≡ false → copied_as k x ≡ placed_copy x

@@ -1,6 +1,7 @@
 pub mod Accounts
 pub mod CopyOutcome
 pub mod CopyTouches
+pub mod Deciding
 pub mod Deletions
 pub mod Doing
 pub mod Elsewhere
@@ -9,7 +10,9 @@ pub mod LinkWork
 pub mod MadeThings
 pub mod Outcome
 pub mod Owed
-pub mod StepViews
+pub mod SourcesExample
+pub mod Together
+pub mod Touching
 pub mod TreeClosings
 pub mod TreeFolders
 pub mod TreeItems

@@ -1,5 +1,5 @@
 -- What the copy of a link has done, after each step, skip and retry.
-use Rattle.std.proofs.Common.{◌≡◌, ◌⊎◌, List, ◌∷◌, refl, sym, ◌∙◌, ap, subst, inl, inr, Option, Some, None}
+use Rattle.std.proofs.Common.{List, ◌∷◌, sym, subst, inl, inr, Some}
 use Rattle.mc_text.specs.Routes.{Route}
 use Rattle.tree_trait.specs.Change.{CallLog}
 use Rattle.tree_trait.specs.FileSystem.{View}

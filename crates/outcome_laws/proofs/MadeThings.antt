@@ -1,13 +1,12 @@
 -- What a making, and the setting of a mode, know of what they leave.
-use Rattle.std.proofs.Common.{◌≡◌, ◌⊎◌, ℕ, true, false, [], ◌∷◌, refl, sym, ◌∙◌, ap, subst, inl, inr, List, Option, Some, None}
+use Rattle.std.proofs.Common.{◌≡◌, ◌⊎◌, ℕ, true, [], ◌∷◌, refl, sym, ◌∙◌, ap, subst, inl, inr, List, Some}
 use Rattle.std.specs.Prelude.{⊤}
 use Rattle.std.specs.Option.{option_map}
 use Rattle.std.proofs.lemmas.Bool.{both_ways}
 use Rattle.mc_text.specs.Routes.{Route}
 use Rattle.tree_trait.specs.FileSystem.{Spot, Value, View, put}
-use Rattle.tree_trait.specs.Change.{CallLog, current, found}
+use Rattle.tree_trait.specs.Change.{CallLog}
 use Rattle.tree_trait.specs.CrashImages.{Among}
-use Rattle.job_reports.specs.declared.report.Ending.TheVariants.{Finished, Aborted, Killed, NoMemory}
 use Rattle.job_reports.specs.declared.report.Did.{Did}
 use Rattle.job_reports.specs.declared.report.Did.TheVariants.{Began, Chunk, Placed, Removed, Made, Set, Kept, Skipped, Cleaned, Barrier, Troubled, Ended}
 use Rattle.job_reports.specs.Jobs.{Sets}

@@ -1,52 +1,51 @@
 -- By induction over a history: what each live job knows of what it leaves; and so what a finished one has left.
-use Rattle.std.proofs.Common.{◌≡◌, ℕ, Bool, true, false, List, [], ◌∷◌, ◌++◌, length, refl, sym, ◌∙◌, ap, subst, inl, inr, Option, Some, None, append-nil}
-use Rattle.std.specs.Prelude.{⊤, ◌+◌, ◌==◌, if◌then◌else◌, map}
+use Rattle.std.proofs.Common.{◌≡◌, ℕ, Bool, true, false, List, [], ◌∷◌, length, refl, sym, ◌∙◌, ap, subst, inl, inr, Option, Some, None, append-nil}
+use Rattle.std.specs.Prelude.{◌+◌, ◌==◌, if◌then◌else◌}
 use Rattle.std.specs.Option.{option_map_or}
 use Rattle.std.proofs.lemmas.Bool.{eq-eqb}
 use Rattle.mc_text.specs.Routes.{Route}
 use Rattle.tree_trait.specs.declared.file_system.FileSystem.{FileSystem}
-use Rattle.tree_trait.specs.FileSystem.{Spot, View, visible_tree}
 use Rattle.tree_trait.specs.Shape.{IsTree}
 use Rattle.tree_trait.specs.Change.{Change, CallLog, current}
 use Rattle.tree_trait.specs.CrashImages.{all_settled}
 use Rattle.job_reports.specs.declared.job.Job.{Job}
 use Rattle.job_reports.specs.declared.report.Did.{Did}
-use Rattle.job_reports.specs.declared.report.Did.TheVariants.{Barrier, Troubled, Ended}
+use Rattle.job_reports.specs.declared.report.Did.TheVariants.{Ended}
 use Rattle.job_reports.specs.declared.report.Ending.TheVariants.{Finished, Aborted}
 use Rattle.job_reports.specs.Jobs.{Item}
 use Rattle.session_history.specs.declared.history.Event.{Event}
-use Rattle.session_history.specs.declared.history.Event.TheVariants.{Key, Look, Sought, Order, Step, Closed}
+use Rattle.session_history.specs.declared.history.Event.TheVariants.{Key, Look, Sought, Order, Step, Next, Closed}
 use Rattle.session_history.specs.declared.history.Event.TheVariants as event
 use Rattle.session_history.specs.declared.history.Entry.{Entry}
-use Rattle.session_history.specs.Entries.{IsMoment, is_closed}
-use Rattle.session_history.specs.LiveJobs.{live_item, live_jobs}
-use Rattle.copy_move.specs.declared.new_thing.NewThing.{NewThing}
-use Rattle.copy_move.specs.declared.new_thing.NewThing.TheVariants as thing
+use Rattle.session_history.specs.Entries.{is_closed}
+use Rattle.session_history.specs.LiveJobs.{live_jobs}
+use Rattle.session_history.specs.Sources.{sources_of}
 use Rattle.copy_move.specs.declared.run.Course.{Course}
 use Rattle.copy_move.specs.declared.run.Course.TheVariants.{GoesOn, InTrouble, OwedSyncFailed, Skips, Ends}
 use Rattle.copy_move.specs.declared.work.Work.{Work}
 use Rattle.copy_move.specs.declared.work.Work.TheVariants.{Copy, CopyTree, Delete, Make, SetMode}
-use Rattle.copy_move.specs.Jobs.{Running, TellsOn, WorkTells, first_work}
+use Rattle.copy_move.specs.Jobs.{Running, TellsOn, WorkTells, begun_work}
 use Rattle.copy_move.specs.Steps.{SyncsOwed, Walks, WalksOn}
 use Rattle.copy_move.specs.Told.{running}
 use Rattle.history_laws.specs.Replayed.{log_prefix, replayed_event, replayed_step, replayed_tree}
-use Rattle.history_laws.specs.Traces.{EventLeads, Follows, IsJob, IsTraced, IsUnclaimed, Stand, StepLeads, SyncLeads, WorkLeads, before_others, begun, if_closed, ordered, unless_ended, with_job}
-use Rattle.history_laws.proofs.Done.{IsFound, found_moment, same_item}
+use Rattle.history_laws.specs.Traces.{EventLeads, IsTraced, IsUnclaimed, Stand, StepLeads, WorkLeads, before_others, if_closed, unless_ended, with_job}
+use Rattle.history_laws.proofs.Done.{IsFound, ender, found_moment}
+use Rattle.history_laws.proofs.FinishedPaths.{wound_up}
 use Rattle.history_laws.proofs.Finished.{AreTidy, IsTidyJob, traced_tidy}
 use Rattle.history_laws.proofs.Going.{only_job}
-use Rattle.history_laws.proofs.Histories.{IsReached, enters, traced_reached}
+use Rattle.history_laws.proofs.Histories.{IsReached, enters, step_view, traced_reached}
 use Rattle.history_laws.proofs.JobKnows.{WorkKnows}
-use Rattle.outcome_laws.proofs.StepViews.{step_view, still_same, wound_up}
 use Rattle.history_laws.proofs.Moments.{log_of}
 use Rattle.history_laws.proofs.Prefixes.{replayed_more, told_of}
-use Rattle.history_laws.proofs.Reports.{HasLive, JobsKnow, with_one}
-use Rattle.history_laws.proofs.Sources.{item_in, making_item, tells_same}
+use Rattle.history_laws.proofs.Reports.{JobsKnow, with_one}
+use Rattle.history_laws.proofs.Sources.{item_in, tells_same}
 use Rattle.history_laws.proofs.Stepped.{more}
+use Rattle.history_laws.proofs.Turns.{Turned, one_turned, turned_id, turned_to}
 use Rattle.outcome_laws.specs.Outcomes.{Finishes, IsOutcome, OutcomeLaw, passed_after, passed_by, passed_over}
 use Rattle.outcome_laws.proofs.CopyOutcome.{file_ends, tree_ends}
 use Rattle.outcome_laws.proofs.Deletions.{deletion_ends}
-use Rattle.outcome_laws.proofs.Doing.{CourseDone, JobDone, JobsDone, WorkDone, closed_done, first_done, jobs_after, leads_done, orders_done}
-use Rattle.outcome_laws.proofs.MadeThings.{Unless, making_ends, setting_ends, unless_of}
+use Rattle.outcome_laws.proofs.Doing.{CourseDone, JobDone, JobsDone, WorkDone, begun_done, closed_done, jobs_after, leads_done, orders_done, turned_done}
+use Rattle.outcome_laws.proofs.MadeThings.{Unless, making_ends, setting_ends}
 use Rattle.outcome_laws.proofs.Owed.{owed_still}
 
 if_same : {A : Type 0} (b : Bool) (x y : A) → b ≡ true → (if b then x else y) ≡ x
@@ -121,12 +120,20 @@ module _ (opening : CallLog) (tree : IsTree (current opening)) (settled : all_se
         (sym (jobs_then new is ∙ ap (λ o. before_others o []) after_is)) tt
 
   -- a job begins
-  begins : (older : List Entry) (calls : ℕ) (id : ℕ) (plan : Job) (background : Bool) (now : CallLog) (o : Option Work) → first_work id plan ≡ o
+  begins : (older : List Entry) (calls : ℕ) (id : ℕ) (plan : Job) (background : Bool) (now : CallLog) (o : Option Work) → begun_work id (sources_of plan) ≡ o
       → JobsDone (λ n. passed_after n (event.Began id plan background) (passed_over n older)) (replayed_tree opening now older) (current now) (option_map_or (λ w. running id w ∷ []) o [])
   begins older calls id plan background now None is = tt
   begins older calls id plan background now (Some w) is =
       subst (λ p. WorkDone p (replayed_tree opening now older) (current now) w) (sym (if_same (id == id) [] (passed_over id older) (eq-eqb id id refl)))
-      (first_done (replayed_tree opening now older) (current now) id plan w is)
+      (begun_done (replayed_tree opening now older) (current now) id (sources_of plan) w is)
+
+  -- a job goes on with its next source
+  turns : (older : List Entry) (id : ℕ) (plan : Job) (now : CallLog) (job next : Running) → job.id ≡ id → Turned plan job next
+      → JobDone (passed_after next.id (Next id plan) (passed_over next.id older)) (replayed_tree opening now older) (current now) next
+  turns older id plan now job next id_is turn =
+      subst (λ c. CourseDone c (passed_after next.id (Next id plan) (passed_over next.id older)) (replayed_tree opening now older) (current now) next.work) (sym (ap (λ (x : Running). x.course) turn.next_is))
+      (subst (λ p. WorkDone p (replayed_tree opening now older) (current now) next.work) (sym (if_same (id == next.id) [] (passed_over next.id older) (eq-eqb id next.id (sym (turned_id plan job next turn ∙ id_is)))))
+      (turned_done (replayed_tree opening now older) (current now) plan job next turn))
 
   -- nothing was called
   module _ (older : List Entry) (calls : ℕ) (was : Stand) (before : CallLog) (d : Done older was before) (now : CallLog) (now_is : now ≡ before) where
@@ -143,7 +150,11 @@ module _ (opening : CallLog) (tree : IsTree (current opening)) (settled : all_se
       stepped older calls was before r d id did after now counts s.job one.0 one.1 n.made n.now_is s.new s.leads s.jobs_is
   event_done older calls was before r d (event.Began id plan background) after now counts s =
       subst (λ (st : Stand). JobsDone (λ n. passed_after n (event.Began id plan background) (passed_over n older)) (replayed_tree opening now older) (current now) st.jobs) (sym s.after_is)
-      (begins older calls id plan background now (first_work id plan) refl)
+      (begins older calls id plan background now (begun_work id (sources_of plan)) refl)
+  event_done older calls was before r d (Next id plan) after now counts s =
+      let one = only_job id was.jobs s.job (told_of opening before older r.part) was.dirty r.marks before s.its r.knows in
+      subst (λ js. JobsDone (λ n. passed_after n (Next id plan) (passed_over n older)) (replayed_tree opening now older) (current now) js) (sym (one_turned id was.jobs s.job s.next after.jobs one.0 one.1 s.jobs_is))
+      (turns older id plan now s.job s.next one.1 (turned_to plan s.job s.next s.next_is))
   event_done older calls was before r d (Order id order) after now counts s =
       subst (λ (st : Stand). JobsDone (λ n. passed_over n older) (replayed_tree opening now older) (current now) st.jobs) (sym s.after_is)
       (orders_done (λ n. passed_over n older) (replayed_tree opening now older) (current now) id order was.jobs (quiet older calls was before d now s.now_is was refl))
@@ -209,33 +220,19 @@ module _ (opening now : CallLog) (newest : List Entry) (stand : Stand) (tree : I
   Left = IsOutcome item (passed_over id older) (replayed_tree opening now older)
 
   left_by : IsFound opening tree settled now e older → Left
-  left_by f = by (subst (λ w. EventLeads f.was w f.after f.before f.now) h.ended f.leads)
+  left_by f = let by = ender opening tree settled now e older id item h.ended h.its f in of_job by.part by.job by.new by.jobs_is by.id_is by.works by.same
     where
-      of_job : (job new : Running) → WorkLeads job (Ended Finished h.part) new f.was.dirty f.after.dirty f.before f.now → IsJob id f.was.jobs job → Left
-      of_job job new works its =
+      of_job : (part : Option Route) (job new : Running) → f.was.jobs ≡ job ∷ [] → job.id ≡ id → WorkLeads job (Ended Finished part) new f.was.dirty f.after.dirty f.before f.now → item_in job.work ≡ item → Left
+      of_job part job new jobs_is id_is works same =
           let r = traced_reached opening tree settled older f.was f.before f.traced in
-          let one = only_job id f.was.jobs job (told_of opening f.before older r.part) f.was.dirty r.marks f.before its r.knows in
-          let same = same_item opening tree settled now e older job (live_jobs older) r.part item (subst (λ js. HasLive (live_jobs older) js r.part) one.0 r.live) (subst (λ n. live_item n (live_jobs older) ≡ Some item) (sym one.1) h.its) in
-          let t : IsTidyJob opening older f.before f.was.dirty job = subst (λ js. AreTidy opening older f.before f.was.dirty js) one.0 (traced_tidy opening tree settled older f.was f.before f.traced) in
+          let t : IsTidyJob opening older f.before f.was.dirty job = subst (λ js. AreTidy opening older f.before f.was.dirty js) jobs_is (traced_tidy opening tree settled older f.was f.before f.traced) in
           let d : JobDone (passed_over job.id older) (replayed_tree opening f.before older) (current f.before) job =
-          subst (λ js. JobsDone (λ n. passed_over n older) (replayed_tree opening f.before older) (current f.before) js) one.0 (traced_done opening tree settled older f.was f.before f.traced) in
+          subst (λ js. JobsDone (λ n. passed_over n older) (replayed_tree opening f.before older) (current f.before) js) jobs_is (traced_done opening tree settled older f.was f.before f.traced) in
           subst (λ v. IsOutcome item (passed_over id older) v) (sym (ap (λ (l : CallLog). replayed_tree opening l older) f.end_is ∙ replayed_more opening f.before f.rest older r.within))
-          (subst (λ n. IsOutcome item (passed_over n older) (replayed_tree opening f.before older)) one.1
+          (subst (λ n. IsOutcome item (passed_over n older) (replayed_tree opening f.before older)) id_is
           (subst (λ i. IsOutcome i (passed_over job.id older) (replayed_tree opening f.before older)) same
-          (ends (told_of opening f.before older r.part) f.was.dirty f.after.dirty r.marks f.before f.now r.kept h.part (passed_over job.id older) job new job.course works.tells (let w = works.walks in w.0) (let w = works.walks in w.1) (let w = works.walks in w.2) (let w = works.walks in w.3) t.aborted
-          (subst (λ js. JobsKnow (told_of opening f.before older r.part) f.was.dirty r.marks f.before js) one.0 r.knows) d)))
-
-      none : (job new : Running) (synced : Route) → SyncsOwed job synced (Ended Finished h.part) new f.was.dirty f.after.dirty (Some f.before) (Some f.now) → Left
-      none job new synced (inl s) = absurd (let is = s.did_is in let no : ⊥ = cc in no)
-      none job new synced (inr s) = absurd (let is = s.did_is in let no : ⊥ = cc in no)
-
-      of_step : (job : Running) (after : Option Running) → IsJob id f.was.jobs job → StepLeads job (Ended Finished h.part) after f.was.dirty f.after.dirty f.before f.now → Left
-      of_step job after its (inl (new, inl works, after_is)) = of_job job new works its
-      of_step job after its (inl (new, inr syncs, after_is)) = none job new syncs.path syncs.synced
-      of_step job after its (inr (gives, after_is)) = absurd (let is = gives.did_is in let no : ⊥ = cc in no)
-
-      by : EventLeads f.was (Step id (Ended Finished h.part)) f.after f.before f.now → Left
-      by s = of_step s.job s.new s.its s.leads
+          (ends (told_of opening f.before older r.part) f.was.dirty f.after.dirty r.marks f.before f.now r.kept part (passed_over job.id older) job new job.course works.tells (let w = works.walks in w.0) (let w = works.walks in w.1) (let w = works.walks in w.2) (let w = works.walks in w.3) t.aborted
+          (subst (λ js. JobsKnow (told_of opening f.before older r.part) f.was.dirty r.marks f.before js) jobs_is r.knows) d)))
 
 pub outcome_law : OutcomeLaw
 outcome_law opening now newest stand tree settled traced e older id item h moment =

@@ -7,7 +7,7 @@ use Rattle.copy_move.specs.Jobs.{Running}
 use Rattle.copy_move.specs.Steps.{SyncsOwed}
 use Rattle.history_laws.specs.Traces.{SyncLeads}
 use Rattle.history_laws.proofs.Calming.{thing_done, thing_stopped}
-use Rattle.outcome_laws.proofs.StepViews.{still_same}
+use Rattle.history_laws.proofs.JobKnows.{still_same}
 
 pub owed_still : (job : Running) (did : Did) (new : Running) (dirty dirty_after : List Route) (log now : CallLog) → SyncLeads job did new dirty dirty_after log now → current now ≡ current log
 owed_still job did new dirty dirty_after log now syncs = by syncs.synced

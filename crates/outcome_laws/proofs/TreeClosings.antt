@@ -4,32 +4,27 @@ use Rattle.std.specs.Option.{option_map}
 use Rattle.std.proofs.lemmas.Bool.{both_ways}
 use Rattle.mc_text.specs.Routes.{Route, is_prefix, same_path}
 use Rattle.tree_trait.specs.Change.{CallLog}
-use Rattle.tree_trait.specs.CrashImages.{Among}
-use Rattle.tree_trait.specs.FileSystem.{Value, View, put}
+use Rattle.tree_trait.specs.FileSystem.{Value, View}
 use Rattle.tree_trait.proofs.Visible.{same_path-self, same_path-true}
 use Rattle.job_reports.specs.Jobs.{Copies}
 use Rattle.job_reports.specs.declared.job.Pair.{Pair}
-use Rattle.job_reports.specs.declared.report.Cause.{Cause}
 use Rattle.job_reports.specs.declared.report.Did.{Did}
 use Rattle.job_reports.specs.declared.report.Did.TheVariants as common
-use Rattle.folder_copy.specs.FolderCopying.{FolderCopying, Tells, closing, skipped}
-use Rattle.folder_copy.specs.FolderSteps as folder
+use Rattle.folder_copy.specs.FolderCopying.{FolderCopying, Tells}
 use Rattle.folder_copy.specs.declared.stage.FolderDid.{FolderDid}
 use Rattle.folder_copy.specs.declared.stage.FolderDid.TheVariants as folder_did
-use Rattle.folder_copy.specs.declared.stage.NamesState.TheVariants.{Synced, Dirty}
-use Rattle.folder_copy.specs.declared.stage.Stage.{Stage}
+use Rattle.folder_copy.specs.declared.stage.NamesState.TheVariants.{Dirty}
 use Rattle.folder_copy.specs.declared.stage.Stage.TheVariants as at
 use Rattle.copy_levels.specs.declared.level.Level.{Level}
-use Rattle.copy_levels.specs.Levels.{Levels, level, with_copy}
+use Rattle.copy_levels.specs.Levels.{level, with_copy}
 use Rattle.tree_copy.specs.declared.item.Item.TheVariants.{Next}
 use Rattle.tree_copy.specs.InPlace.{AreMoved, IsMoved, owed_of}
 use Rattle.tree_copy.specs.Reports.{IsToldAs}
 use Rattle.tree_copy.specs.Standing.{Seen, after_report}
 use Rattle.tree_copy.specs.Steps.{FolderEnds}
 use Rattle.history_laws.specs.Replayed.{moved_from, new_folder, replayed_step, with_mode_of}
-use Rattle.outcome_laws.specs.Outcomes.{as_copied, copied_as, passed_by}
-use Rattle.outcome_laws.proofs.Accounts.{AreOpened, IsAccounted, IsAhead, IsCopy, IsCovered, IsDue, IsOpened, IsOwed, IsPending, IsShown, ItemDone, TreeDone, apart_from, put_same, put_value}
-use Rattle.outcome_laws.proofs.FileWork.{self_prefix}
+use Rattle.outcome_laws.specs.Outcomes.{as_copied, passed_by}
+use Rattle.outcome_laws.proofs.Accounts.{AreOpened, IsAccounted, IsCopy, IsDue, IsOpened, IsShown, ItemDone, TreeDone, apart_from, put_same, put_value}
 use Rattle.outcome_laws.proofs.TreeFolders.{comes_from, folder_copied, on_target}
 use Rattle.outcome_laws.proofs.TreeLevels.{IsChanged, accounted_map, copy_changed, opened_inner, pending_or, same_rest, source_of}
 
@@ -69,7 +64,7 @@ module _ (now : CallLog) (v : View) (passed : List Route) (top : Pair) where
     set_copied off =
         let s = opens.shown off in
         value_set s.x s.mode s.stands s.made
-        ∙ (ap Some (sym (folder_copied (let x : Value = s.x in x.kind) s.x s.folder))
+        ∙ (ap Some (sym (folder_copied (let x : Value = s.x in x.kind) s.x s.folder s.named))
         ∙ ap (option_map as_copied) (sym (change.same l.copy.source (apart_from top.target l.copy.source l.copy.target off change.on) ∙ s.stands)))
 
     one_set : (o : Level) → (is_prefix top.target o.copy.source ≡ false → IsShown v o.copy.source o.copy.target) → is_prefix top.target o.copy.source ≡ false → IsShown w o.copy.source o.copy.target
@@ -79,7 +74,7 @@ module _ (now : CallLog) (v : View) (passed : List Route) (top : Pair) where
         stands_still x is = change.same o.copy.source (apart_from top.target o.copy.source l.copy.target off change.on) ∙ is
 
         by : (b : Bool) → same_path o.copy.target l.copy.target ≡ b → IsShown w o.copy.source o.copy.target
-        by false apart = let s = shown off in record { x = s.x; stands = stands_still s.x s.stands; folder = s.folder; mode = s.mode; made = change.same o.copy.target apart ∙ s.made }
+        by false apart = let s = shown off in record { x = s.x; stands = stands_still s.x s.stands; folder = s.folder; named = s.named; mode = s.mode; made = change.same o.copy.target apart ∙ s.made }
         by true same =
             let s = shown off in
             let here : o.copy.target ≡ l.copy.target = same_path-true o.copy.target l.copy.target same in
@@ -89,6 +84,7 @@ module _ (now : CallLog) (v : View) (passed : List Route) (top : Pair) where
               x = s.x;
               stands = stands_still s.x s.stands;
               folder = s.folder;
+              named = s.named;
               mode = mode_now.0;
               made = ap (λ p. (w p).value) here ∙ (put_value v l.copy.target _ ∙ (ap (option_map (with_mode_of (v (moved_from top.source top.target l.copy.target)).value)) made ∙ mode_now.1));
             }

@@ -4,21 +4,19 @@ use Rattle.std.specs.Prelude.{IsSome, bit_or, drop, option_and_then, ◌==◌, i
 use Rattle.std.specs.Option.{option_map}
 use Rattle.std.proofs.lemmas.Bool.{both_ways, eqb-true}
 use Rattle.std.proofs.lemmas.List.{append_assoc, append_cancel_right}
-use Rattle.mc_text.specs.Routes.{Route, is_prefix, same_path}
+use Rattle.mc_text.specs.Routes.{Route, is_prefix}
 use Rattle.mc_text.specs.declared.kind.Kind.{Kind}
 use Rattle.mc_text.specs.declared.kind.Kind.TheVariants as kind
 use Rattle.tree_trait.specs.Change.{CallLog, current, found}
 use Rattle.tree_trait.specs.CrashImages.{Among}
-use Rattle.tree_trait.specs.FileSystem.{Value, View, find, lookup, node, put, value}
+use Rattle.tree_trait.specs.FileSystem.{Value, View, find, lookup, node, value}
 use Rattle.tree_trait.specs.Shape.{IsTree}
-use Rattle.tree_trait.proofs.Visible.{same_path-true}
 use Rattle.tree_trait.proofs.Walking.{stat-found}
 use Rattle.crash_law.proofs.Tops.{none_below}
 use Rattle.job_reports.specs.Jobs.{Copies}
 use Rattle.job_reports.specs.declared.job.Pair.{Pair}
 use Rattle.job_reports.specs.declared.report.Did.{Did}
 use Rattle.job_reports.specs.declared.report.Did.TheVariants as common
-use Rattle.job_reports.specs.declared.report.Ending.TheVariants.{Finished}
 use Rattle.job_reports.proofs.PermittedCalls.{stat_missing}
 use Rattle.folder_copy.specs.FolderCopying.{FolderCopying, Tells, copying, folder_mode, owed_mode}
 use Rattle.folder_copy.specs.FolderSteps.{at_sync}
@@ -31,19 +29,19 @@ use Rattle.copy_levels.specs.declared.level.Level.{Level}
 use Rattle.copy_levels.specs.Levels.{Levels, level, made_levels}
 use Rattle.tree_copy.specs.declared.item.Item.TheVariants.{Next}
 use Rattle.tree_copy.specs.declared.looking.Taken.TheVariants as taken
-use Rattle.tree_copy.specs.InPlace.{AreMoved, IsMoved, owed_of}
+use Rattle.tree_copy.specs.InPlace.{IsMoved}
 use Rattle.tree_copy.specs.Reports.{IsToldAs}
 use Rattle.tree_copy.specs.Standing.{Seen, after_report}
-use Rattle.tree_copy.specs.Steps.{FolderEnds, FolderMakes, SyncsAround, at_end}
+use Rattle.tree_copy.specs.Steps.{FolderMakes, SyncsAround}
 use Rattle.tree_copy.specs.Taking.{IsTaken}
-use Rattle.history_laws.specs.Replayed.{copied_folder, moved_from, new_folder, replayed_step, with_mode_of}
+use Rattle.history_laws.specs.Replayed.{copied_folder, moved_from, new_folder, replayed_step}
 use Rattle.history_laws.proofs.Intact.{prefix_append, prefix_way}
 use Rattle.history_laws.proofs.Moved.{moved_below}
 use Rattle.history_laws.proofs.OwedModes.{ShowsTree}
 use Rattle.outcome_laws.specs.Outcomes.{as_copied, copied_as, passed_by}
-use Rattle.outcome_laws.proofs.Accounts.{AreOpened, IsAccounted, IsCopy, IsCovered, IsDue, IsNext, IsOpened, IsPending, IsShown, ItemDone, TreeDone, apart_from, put_same, put_value}
-use Rattle.outcome_laws.proofs.FileWork.{deeper, none_shown, self_prefix, some_shown}
-use Rattle.outcome_laws.proofs.TreeLevels.{IsChanged, accounted_map, closed_done, copy_changed, no_name, opened_changed, opened_inner, pending_map, same_rest, source_of}
+use Rattle.outcome_laws.proofs.Accounts.{AreOpened, IsAccounted, IsCopy, IsDue, IsNext, IsOpened, IsPending, ItemDone, TreeDone, apart_from, put_same, put_value}
+use Rattle.outcome_laws.proofs.FileWork.{none_shown, self_prefix, some_shown}
+use Rattle.outcome_laws.proofs.TreeLevels.{IsChanged, copy_changed, opened_changed, opened_inner, pending_map, same_rest, source_of}
 
 -- the last name of a path below another, which stands in that
 last_of : (name : List ℕ) (rest : Route) → (last : List ℕ) × (front : Route) × (name ∷ rest ≡ front ++ last ∷ [])
@@ -54,12 +52,12 @@ not_empty : (front : Route) (last : List ℕ) → front ++ last ∷ [] ≡ [] �
 not_empty [] last e = (let f : ⊥ = cc in f)
 not_empty (name ∷ front) last e = (let f : ⊥ = cc in f)
 
--- a folder of a kind is copied with its mode
-pub folder_copied : (k : Kind) (x : Value) → k ≡ kind.Folder → copied_as k x ≡ record new_folder { mode = x.mode }
-folder_copied kind.Folder x is = refl
-folder_copied kind.File x is = absurd (let f : ⊥ = cc in f)
-folder_copied kind.Link x is = absurd (let f : ⊥ = cc in f)
-folder_copied kind.Other x is = absurd (let f : ⊥ = cc in f)
+-- a folder all names of which can be shown is copied with its mode
+pub folder_copied : (k : Kind) (x : Value) → k ≡ kind.Folder → x.unnamed ≡ 0 → copied_as k x ≡ record new_folder { mode = x.mode }
+folder_copied kind.Folder x is named = ap (λ n. (let y : Value = record new_folder { mode = x.mode; unnamed = n } in y)) named
+folder_copied kind.File x is named = absurd (let f : ⊥ = cc in f)
+folder_copied kind.Link x is named = absurd (let f : ⊥ = cc in f)
+folder_copied kind.Other x is named = absurd (let f : ⊥ = cc in f)
 
 module _ (now : CallLog) (v : View) (passed : List Route) (top : Pair) where
   abbrev Then : Did → View
@@ -89,6 +87,9 @@ module _ (now : CallLog) (v : View) (passed : List Route) (top : Pair) where
     abbrev outer : Level
     outer = level (without_next old.levels.inner.names) (record old.levels.inner.copy { names = Dirty })
 
+    named : x.unnamed ≡ 0
+    named = let l = is.2 in let listing = l.1 in sym listing.unnamed
+
     stands : (v source).value ≡ Some x
     stands = some_shown v log tree shows source is.0.0
 
@@ -111,7 +112,7 @@ module _ (now : CallLog) (v : View) (passed : List Route) (top : Pair) where
     itself true same off = inr (inr (
         value_made
         ∙ (ap (λ n. (let o : Option Value = Some (record new_folder { mode = n }) in o)) (eqb-true (folder_mode mode) mode same ∙ is.3)
-        ∙ (ap Some (sym (folder_copied x.kind x is.0.1))
+        ∙ (ap Some (sym (folder_copied x.kind x is.0.1 named))
         ∙ ap (option_map as_copied) (sym (change.same source (apart_from top.target source target off change.on) ∙ stands))))))
 
     -- what lies in it is met, or isn't there
@@ -175,7 +176,7 @@ module _ (now : CallLog) (v : View) (passed : List Route) (top : Pair) where
     opens : IsOpened w top.target inner
     opens = record {
       made = λ other e. (let f : ⊥ = cc in f);
-      shown = λ off. record { x = x; stands = change.same source (apart_from top.target source target off change.on) ∙ stands; folder = is.0.1; mode = bit_or mode 0o700; made = value_made };
+      shown = λ off. record { x = x; stands = change.same source (apart_from top.target source target off change.on) ∙ stands; folder = is.0.1; named = named; mode = bit_or mode 0o700; made = value_made };
     }
 
     pub folder_made : (left : ℕ) (stage : Rattle.tree_copy.specs.declared.copy.Stage.Stage) → old.item ≡ Next

@@ -1,8 +1,8 @@
 -- What a copy of folders has done after a step at a file or a link.
-use Rattle.std.proofs.Common.{◌≡◌, ◌⊎◌, ℕ, Bool, true, false, List, [], ◌∷◌, ◌++◌, refl, sym, ◌∙◌, ap, subst, inl, inr, Option, Some, None}
+use Rattle.std.proofs.Common.{◌≡◌, ◌⊎◌, Bool, true, false, List, [], ◌∷◌, ◌++◌, refl, sym, ◌∙◌, ap, subst, inl, inr, Option, Some, None}
 use Rattle.std.specs.Prelude.{drop}
 use Rattle.std.proofs.lemmas.Bool.{both_ways}
-use Rattle.mc_text.specs.Routes.{Route, is_prefix, same_path}
+use Rattle.mc_text.specs.Routes.{Route, is_prefix}
 use Rattle.tree_trait.specs.Change.{CallLog, current}
 use Rattle.tree_trait.specs.CrashImages.{Among}
 use Rattle.tree_trait.specs.FileSystem.{View}
@@ -23,21 +23,21 @@ use Rattle.link_copy.specs.declared.stage.Stage.TheVariants as link_stage
 use Rattle.copy_levels.specs.declared.level.Level.{Level}
 use Rattle.copy_levels.specs.Levels.{Levels, dirtied, passed as passed_level}
 use Rattle.tree_copy.specs.declared.item.Item.{Item}
-use Rattle.tree_copy.specs.declared.item.Item.TheVariants.{Next, File, Link, Stays}
+use Rattle.tree_copy.specs.declared.item.Item.TheVariants.{Next, File, Link}
 use Rattle.tree_copy.specs.declared.progress.Progress.{Progress}
 use Rattle.tree_copy.specs.declared.progress.Progress.TheVariants.{UnderWay, Decided, Anew}
 use Rattle.tree_copy.specs.InPlace.{IsMoved}
 use Rattle.tree_copy.specs.Progress.{link_progress, progress}
 use Rattle.tree_copy.specs.Standing.{Seen}
 use Rattle.tree_copy.specs.Steps.{FileWorks, LinkWorks, idle, noted, settled}
-use Rattle.history_laws.specs.Replayed.{placed_copy, replayed_step, moved_from}
+use Rattle.history_laws.specs.Replayed.{replayed_step}
 use Rattle.history_laws.proofs.Intact.{prefix_append, prefix_way}
 use Rattle.history_laws.proofs.OwedModes.{ShowsTree}
 use Rattle.outcome_laws.specs.Outcomes.{passed_by}
-use Rattle.outcome_laws.proofs.Accounts.{AllCopied, AreOpened, FileDone, IsAccounted, IsCopy, IsCovered, IsDue, IsNext, ItemDone, LinkDone, TreeDone, covered_below, prefix_through, put_same}
+use Rattle.outcome_laws.proofs.Accounts.{AllCopied, AreOpened, FileDone, IsAccounted, IsCopy, IsCovered, IsDue, IsNext, ItemDone, LinkDone, TreeDone, covered_below, put_same}
 use Rattle.outcome_laws.proofs.FileWork.{file_goes, self_prefix}
 use Rattle.outcome_laws.proofs.LinkWork.{link_goes}
-use Rattle.outcome_laws.proofs.TreeLevels.{IsChanged, accounted_map, copy_changed, covered_by, opened_changed, opened_inner, pending_here, pending_or, same_rest, source_of}
+use Rattle.outcome_laws.proofs.TreeLevels.{IsChanged, accounted_map, copy_changed, covered_by, opened_changed, opened_inner, pending_here, same_rest, source_of}
 
 -- a step leaves a copy its paths
 pub file_paths : (f moved : Copying) (did : Did) → file.Tells f did moved → (moved.source ≡ f.source) × (moved.target ≡ f.target)

@@ -1,7 +1,7 @@
 -- What a copy of folders has done, as its open folders change; and as something comes to stand at one path.
 use Rattle.std.proofs.Common.{◌≡◌, ◌⊎◌, ℕ, suc, zero, Bool, true, false, List, [], ◌∷◌, ◌++◌, refl, sym, ◌∙◌, ap, subst, inl, inr, Option, Some, None}
 use Rattle.std.specs.Option.{option_map}
-use Rattle.std.proofs.lemmas.Bool.{both_ways, false≢true}
+use Rattle.std.proofs.lemmas.Bool.{false≢true}
 use Rattle.std.proofs.lemmas.List.{append_assoc, append_cancel_right}
 use Rattle.mc_text.specs.Routes.{Route, is_prefix, same_path}
 use Rattle.tree_trait.specs.CrashImages.{Among}
@@ -17,13 +17,12 @@ use Rattle.copy_levels.specs.declared.level.Level.{Level}
 use Rattle.copy_levels.specs.Levels.{owed_at}
 use Rattle.tree_copy.specs.declared.due.Due.TheVariants.{End}
 use Rattle.tree_copy.specs.declared.item.Item.TheVariants.{Next}
-use Rattle.tree_copy.specs.InPlace.{AreMoved, IsMoved, owed_of}
+use Rattle.tree_copy.specs.InPlace.{IsMoved, owed_of}
 use Rattle.tree_copy.specs.Standing.{Seen, due_at}
 use Rattle.tree_copy.specs.Steps.{LeavesAll, at_end}
 use Rattle.history_laws.specs.Replayed.{new_folder}
-use Rattle.history_laws.proofs.Intact.{prefix_append, prefix_way}
 use Rattle.outcome_laws.specs.Outcomes.{as_copied, passed_by}
-use Rattle.outcome_laws.proofs.Accounts.{AllCopied, AreOpened, IsAccounted, IsAhead, IsCopy, IsCovered, IsDue, IsNext, IsOpened, IsOwed, IsPending, ItemDone, TreeDone, apart_from, covered_below, covered_more}
+use Rattle.outcome_laws.proofs.Accounts.{AreOpened, IsAccounted, IsCopy, IsCovered, IsDue, IsOpened, IsPending, ItemDone, TreeDone, apart_from, covered_more}
 
 -- the innermost folder is another level, in which what is due is due still, or something else holds
 pub pending_or : {A : Type 0} (inner new : Level) (around : List Level) (path : Route) → (IsDue inner path → IsDue new path ⊎ A) → IsPending inner around path → IsPending new around path ⊎ A
@@ -88,6 +87,7 @@ module _ (v w : View) (top : Pair) (path : Route) (change : IsChanged v w top.ta
         x = s.x;
         stands = change.same l.copy.source (apart_from top.target l.copy.source path off change.on) ∙ s.stands;
         folder = s.folder;
+        named = s.named;
         mode = s.mode;
         made = by s.mode s.made (same_path l.copy.target path) refl;
       };

@@ -1,33 +1,29 @@
 -- What a copy of folders has done after it passes something over, or takes something up anew.
-use Rattle.std.proofs.Common.{◌≡◌, ◌⊎◌, ℕ, Bool, true, false, List, [], ◌∷◌, ◌++◌, refl, sym, ◌∙◌, ap, subst, inl, inr, Option, Some, None}
+use Rattle.std.proofs.Common.{◌≡◌, ◌⊎◌, ℕ, true, false, List, [], ◌∷◌, ◌++◌, refl, sym, ◌∙◌, ap, subst, inl, inr, Option, Some, None}
 use Rattle.std.specs.Prelude.{drop}
-use Rattle.std.specs.Bool.{⊤}
 use Rattle.mc_text.specs.Routes.{Route, is_prefix}
 use Rattle.tree_trait.specs.CrashImages.{Among}
 use Rattle.tree_trait.specs.FileSystem.{View}
 use Rattle.job_reports.specs.declared.job.Pair.{Pair}
 use Rattle.job_reports.specs.declared.report.Cause.{Cause}
 use Rattle.job_reports.specs.declared.report.Did.{Did}
-use Rattle.job_reports.specs.declared.report.Did.TheVariants.{Skipped, Troubled}
-use Rattle.job_reports.specs.Stops.{out_of_memory_at}
 use Rattle.file_copy.specs.Copying.{Copying, taken_anew as file_anew_at}
 use Rattle.file_copy.specs.CopySteps as file
 use Rattle.folder_copy.specs.FolderCopying.{FolderCopying, skipped}
-use Rattle.folder_copy.specs.FolderSteps as folder
 use Rattle.folder_copy.specs.declared.stage.Stage.{Stage}
 use Rattle.folder_copy.specs.declared.stage.Stage.TheVariants as at
 use Rattle.link_copy.specs.LinkCopying.{LinkCopying, taken_anew as link_anew_at}
 use Rattle.link_copy.specs.LinkSteps as link
 use Rattle.copy_levels.specs.declared.level.Level.{Level}
-use Rattle.copy_levels.specs.Levels.{Levels, emptied, level, passed as passed_level, with_copy}
+use Rattle.copy_levels.specs.Levels.{emptied, level, passed as passed_level, with_copy}
 use Rattle.tree_copy.specs.declared.item.Item.{Item}
 use Rattle.tree_copy.specs.declared.item.Item.TheVariants.{Next, File, Link, Stays}
-use Rattle.tree_copy.specs.InPlace.{IsMoved, ItemMoved, owed_of}
-use Rattle.tree_copy.specs.Skipping.{NoRoom, SkipsAt, SkipsEnd, SkipsName, SkipsNamed, SkipsRest, retried_at}
+use Rattle.tree_copy.specs.InPlace.{ItemMoved, owed_of}
+use Rattle.tree_copy.specs.Skipping.{NoRoom, SkipsAt, SkipsEnd, SkipsNamed, SkipsRest, retried_at}
 use Rattle.tree_copy.specs.Standing.{Seen}
 use Rattle.tree_copy.specs.Steps.{idle}
 use Rattle.outcome_laws.specs.Outcomes.{passed_by}
-use Rattle.outcome_laws.proofs.Accounts.{AreOpened, IsAccounted, IsCovered, IsDue, IsOpened, IsShown, ItemDone, TreeDone, covered_more, covered_now, prefix_through}
+use Rattle.outcome_laws.proofs.Accounts.{AreOpened, IsAccounted, IsDue, IsOpened, IsShown, ItemDone, TreeDone, covered_more, covered_now, prefix_through}
 use Rattle.outcome_laws.proofs.FileWork.{file_anew, file_skips, self_prefix}
 use Rattle.outcome_laws.proofs.LinkWork.{link_anew, link_skips}
 use Rattle.outcome_laws.proofs.TreeItems.{Elsewhere, settled_file, settled_link}

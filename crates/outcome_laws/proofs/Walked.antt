@@ -1,7 +1,7 @@
 -- What a deletion knows of what is left below its path: it was passed over, or lies around that, or it is yet to be met.
-use Rattle.std.proofs.Common.{◌≡◌, ◌⊎◌, ℕ, ◌≤◌, ◌||◌, Bool, true, false, List, [], ◌∷◌, ◌++◌, length, refl, sym, ◌∙◌, ap, subst, inl, inr, Option, Some, None, arith}
-use Rattle.std.specs.Prelude.{⊤, is_some, drop, option_and_then, unwrap_or}
-use Rattle.std.proofs.lemmas.Bool.{false≢true, or_right, true≢false}
+use Rattle.std.proofs.Common.{◌≡◌, ◌⊎◌, ℕ, ◌≤◌, ◌||◌, Bool, true, false, List, [], ◌∷◌, ◌++◌, length, refl, sym, ◌∙◌, ap, subst, inl, inr, Some, arith}
+use Rattle.std.specs.Prelude.{is_some, drop, unwrap_or}
+use Rattle.std.proofs.lemmas.Bool.{false≢true, or_right}
 use Rattle.mc_text.specs.Routes.{Route, is_prefix, same_path}
 use Rattle.mc_text.proofs.Prefixes.{same_path-lengths}
 use Rattle.tree_trait.specs.declared.file_system.FileSystem.{FileSystem}

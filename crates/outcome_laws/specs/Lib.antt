@@ -1,2 +1,3 @@
+pub mod AllSources
 pub mod Outcomes
 pub mod Untouched

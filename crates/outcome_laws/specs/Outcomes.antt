@@ -1,6 +1,6 @@
 -- What a finished job leaves: all that it was to do, but for what it passed over; in the words of the history alone. Histories stand newest
 -- first here.
-use Rattle.std.specs.Prelude.{◌≡◌, ℕ, ◌==◌, true, false, if◌then◌else◌, List, [], ◌∷◌, ◌++◌, Option, Some, None}
+use Rattle.std.specs.Prelude.{◌≡◌, ℕ, ◌==◌, true, false, if◌then◌else◌, List, [], ◌∷◌, ◌++◌, Some, None}
 use Rattle.std.specs.Option.{option_map}
 use Rattle.mc_text.specs.Routes.{Route, is_prefix}
 use Rattle.mc_text.specs.declared.kind.Kind.{Kind}
@@ -11,14 +11,14 @@ use Rattle.tree_trait.specs.Change.{CallLog, current}
 use Rattle.tree_trait.specs.CrashImages.{Among, all_settled}
 use Rattle.job_reports.specs.declared.report.Did.{Did}
 use Rattle.job_reports.specs.declared.report.Did.TheVariants.{Began, Chunk, Placed, Removed, Made, Set, Kept, Skipped, Cleaned, Barrier, Troubled, Ended}
-use Rattle.job_reports.specs.declared.report.Ending.TheVariants.{Finished}
 use Rattle.job_reports.specs.Jobs.{Item, Copies, Removes, Makes, MakesLink, Sets}
 use Rattle.session_history.specs.declared.history.Event.{Event}
-use Rattle.session_history.specs.declared.history.Event.TheVariants.{Key, Look, Sought, Order, Step, Closed}
+use Rattle.session_history.specs.declared.history.Event.TheVariants.{Key, Look, Sought, Order, Step, Next, Closed}
 use Rattle.session_history.specs.declared.history.Event.TheVariants as event
 use Rattle.session_history.specs.declared.history.Entry.{Entry}
 use Rattle.session_history.specs.Entries.{IsMoment}
 use Rattle.session_history.specs.LiveJobs.{live_jobs, live_item}
+use Rattle.session_history.specs.Sources.{IsDoneWith}
 use Rattle.history_laws.specs.Replayed.{new_folder, new_link, placed_copy, replayed_tree}
 use Rattle.history_laws.specs.Traces.{IsTraced, Stand}
 
@@ -40,13 +40,14 @@ passed_by (Ended ending part) before = before
 abbrev pub passed_after : ℕ → Event → List Route → List Route
 passed_after id (event.Began number plan background) before = if number == id then [] else before
 passed_after id (Step number did) before = if number == id then passed_by did before else before
+passed_after id (Next number plan) before = if number == id then [] else before
 passed_after id (Key key now refusals lost) before = before
 passed_after id (Look refusals) before = before
 passed_after id Sought before = before
 passed_after id (Order number order) before = before
 passed_after id Closed before = before
 
--- the paths that the job that was begun last with this number has passed over
+-- the paths that the job that was begun last with this number has passed over, of the source at which it is
 abbrev pub passed_over : ℕ → List Entry → List Route
 passed_over id [] = []
 passed_over id (e ∷ older) = passed_after id e.what (passed_over id older)
@@ -59,9 +60,10 @@ IsReached passed path = (left : Route) → Among passed left → is_prefix left 
 abbrev pub IsWhollyReached : List Route → Route → Type 0
 IsWhollyReached passed path = IsReached passed path × ((left : Route) → Among passed left → is_prefix path left ≡ false)
 
--- the copy of a thing: a file with its bytes and its mode, a link with its text, or a folder with its mode
+-- the copy of a thing: a file with its bytes and its mode, a link with its text, or a folder with its mode, and with as many names that are no
+-- UTF-8 (so only one that has none is copied)
 abbrev pub copied_as : Kind → Value → Value
-copied_as Folder v = record new_folder { mode = v.mode }
+copied_as Folder v = record new_folder { mode = v.mode; unnamed = v.unnamed }
 copied_as File v = placed_copy v
 copied_as Link v = placed_copy v
 copied_as Other v = placed_copy v
@@ -95,13 +97,12 @@ IsOutcome (Makes path) passed v = IsMade path new_folder passed v
 IsOutcome (MakesLink path text) passed v = IsMade path (new_link text) passed v
 IsOutcome (Sets path mode) passed v = IsSet path mode passed v
 
--- This entry, after the older ones, is the report of the job with this number that it is finished, which works on this item.
+-- This entry, after the older ones, tells that the job with this number is done with this item: it is finished, or goes on with the next one.
 pub record Finishes (e : Entry) (older : List Entry) (id : ℕ) (item : Item) : Type 0 where
-  pub part : Option Route
-  pub ended : e.what ≡ Step id (Ended Finished part)
+  pub ended : IsDoneWith id e.what
   pub its : live_item id (live_jobs older) ≡ Some item
 
--- Wherever in a history a job reports that it is finished, the tree that the history makes then is such an outcome.
+-- Wherever in a history a job is done with an item, the tree that the history makes then is such an outcome.
 abbrev pub Leaves : (Item → List Route → View → Type 0) → CallLog → CallLog → List Entry → Type 0
 Leaves Outcome opening now newest =
     (e : Entry) (older : List Entry) (id : ℕ) (item : Item)

@@ -7,7 +7,7 @@ use Rattle.tree_trait.specs.Change.{CallLog, current}
 use Rattle.tree_trait.specs.CrashImages.{all_settled}
 use Rattle.job_reports.specs.Jobs.{Item, Copies, Removes, Makes, MakesLink, Sets}
 use Rattle.session_history.specs.declared.history.Event.{Event}
-use Rattle.session_history.specs.declared.history.Event.TheVariants.{Key, Look, Sought, Order, Step, Closed}
+use Rattle.session_history.specs.declared.history.Event.TheVariants.{Key, Look, Sought, Order, Step, Next, Closed}
 use Rattle.session_history.specs.declared.history.Event.TheVariants as event
 use Rattle.session_history.specs.declared.history.Entry.{Entry}
 use Rattle.session_history.specs.Entries.{IsMoment}
@@ -30,14 +30,15 @@ begun_after id (Key key time refusals lost) now before = before
 begun_after id (Look refusals) now before = before
 begun_after id Sought now before = before
 begun_after id (Order number order) now before = before
+begun_after id (Next number plan) now before = if number == id then now else before
 begun_after id Closed now before = before
 
--- the tree as the history makes it where the job with this number was begun last
+-- the tree as the history makes it where the job with this number was begun last, or went on with a source last
 abbrev pub tree_begun : CallLog → CallLog → ℕ → List Entry → View
 tree_begun opening now id [] = visible_tree (current opening)
 tree_begun opening now id (e ∷ older) = begun_after id e.what (replayed_tree opening now older) (tree_begun opening now id older)
 
--- Wherever in a history a job reports that it is finished, each path that it doesn't touch shows what it showed where the job was begun.
+-- Wherever in a history a job is done with an item, each path that this doesn't touch shows what it showed where the job began with it.
 abbrev pub LeavesAlone : CallLog → CallLog → List Entry → Type 0
 LeavesAlone opening now newest =
     (e : Entry) (older : List Entry) (id : ℕ) (item : Item) (path : Route)

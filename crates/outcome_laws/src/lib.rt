@@ -1,15 +1,21 @@
-//! Laws of what a finished job leaves. The functions do nothing: their contracts are laws of the definitions in `specs/`.
+//! Laws of what a job leaves of a source with which it is done. The functions do nothing: their contracts are laws of the definitions in `specs/`.
 #![tactic(auto)]
 
+ghost use Rattle.outcome_laws.specs.AllSources.{AllSourcesLaw};
 ghost use Rattle.outcome_laws.specs.Outcomes.{OutcomeLaw};
 ghost use Rattle.outcome_laws.specs.Untouched.{UntouchedLaw};
 
-/// Where a job reports that it is finished, all that it was to do is done, but for what it passed over.
+/// Where a job is done with one of its sources, all that it was to do with it is done, but for what it passed over.
 pub fn what_a_finished_job_has_done()
     ensures { OutcomeLaw }
 {}
 
-/// And each path that it doesn't touch shows what it showed where the job was begun.
+/// And each path that it doesn't touch for that source shows what it showed where the job began with it.
 pub fn what_a_finished_job_left_alone()
     ensures { UntouchedLaw }
+{}
+
+/// So what it did with one source is still so at its end, where no later one touches what concerns that.
+pub fn what_a_finished_job_has_done_with_all()
+    ensures { AllSourcesLaw }
 {}

@@ -1,7 +1,7 @@
 -- What a history tells of its session. Histories stand newest first here.
 use Rattle.std.specs.Prelude.{◌≡◌, ◌⊎◌, ℕ, ◌≤◌, Bool, true, false, ◌||◌, List, [], ◌∷◌}
 use Rattle.session_history.specs.declared.history.Event.{Event}
-use Rattle.session_history.specs.declared.history.Event.TheVariants.{Key, Look, Sought, Order, Step, Closed}
+use Rattle.session_history.specs.declared.history.Event.TheVariants.{Key, Look, Sought, Order, Step, Next, Closed}
 use Rattle.session_history.specs.declared.history.Event.TheVariants as event
 use Rattle.session_history.specs.declared.history.Entry.{Entry}
 
@@ -14,6 +14,7 @@ closes Sought = false
 closes (event.Began id plan background) = false
 closes (Order id order) = false
 closes (Step id did) = false
+closes (Next id plan) = false
 
 -- the session is closed after these entries
 abbrev pub is_closed : List Entry → Bool
@@ -28,6 +29,7 @@ id_after (Look refusals) before = before
 id_after Sought before = before
 id_after (Order id order) before = before
 id_after (Step id did) before = before
+id_after (Next id plan) before = before
 id_after Closed before = before
 
 -- the number of the job that these entries began last, or 0

@@ -6,7 +6,7 @@ use Rattle.job_reports.specs.declared.report.Did.{Did}
 use Rattle.job_reports.specs.declared.report.Did.TheVariants.{Began, Chunk, Placed, Removed, Made, Set, Kept, Skipped, Cleaned, Barrier, Troubled, Ended}
 use Rattle.job_reports.specs.Paths.{without}
 use Rattle.session_history.specs.declared.history.Event.{Event}
-use Rattle.session_history.specs.declared.history.Event.TheVariants.{Key, Look, Sought, Order, Step, Closed}
+use Rattle.session_history.specs.declared.history.Event.TheVariants.{Key, Look, Sought, Order, Step, Next, Closed}
 use Rattle.session_history.specs.declared.history.Event.TheVariants as event
 use Rattle.session_history.specs.declared.history.Entry.{Entry}
 
@@ -32,6 +32,7 @@ names_path (Look refusals) path = false
 names_path Sought path = false
 names_path (event.Began id plan background) path = false
 names_path (Order id order) path = false
+names_path (Next id plan) path = false
 names_path Closed path = false
 
 -- these entries are the older ones with more on top, of which none names this path
@@ -76,6 +77,7 @@ named_after (Look refusals) before = before
 named_after Sought before = before
 named_after (event.Began id plan background) before = before
 named_after (Order id order) before = before
+named_after (Next id plan) before = before
 named_after Closed before = before
 
 -- the paths that these entries named as parts
@@ -105,9 +107,10 @@ changed_after id (Key key now refusals lost) before = before
 changed_after id (Look refusals) before = before
 changed_after id Sought before = before
 changed_after id (Order number order) before = before
+changed_after id (Next number plan) before = if number == id then false else before
 changed_after id Closed before = before
 
--- the job that was begun last with this number has changed something
+-- the job that was begun last with this number has changed something, for the source at which it is
 abbrev pub has_changed : ℕ → List Entry → Bool
 has_changed id [] = false
 has_changed id (e ∷ older) = changed_after id e.what (has_changed id older)

@@ -13,7 +13,7 @@ use Rattle.resolving.specs.Errors.{Answers}
 use Rattle.resolving.specs.Resolution.{resolved}
 use Rattle.job_reports.specs.Reading.{IsRefusedWith}
 use Rattle.session_history.specs.declared.refusal.PlanError.{PlanError}
-use Rattle.session_history.specs.declared.refusal.PlanError.TheVariants.{NoSelection, Source, BadMask, Target, TargetThere, SameFile, IntoItself, BadLinkText}
+use Rattle.session_history.specs.declared.refusal.PlanError.TheVariants.{NoSelection, Nested, Source, BadMask, Target, TargetThere, SameFile, IntoItself, TwoToOne, BadLinkText}
 use Rattle.session_history.specs.declared.refusal.Refusal.{Refusal}
 use Rattle.session_history.specs.declared.refusal.Refusal.TheVariants as refusal
 
@@ -35,10 +35,12 @@ IsSourceRefused log path tree.Fault = ⊤
 IsSourceRefused log path tree.Memory = ⊥
 IsSourceRefused log path e = refusal_of (current log) (Stat path) ≡ Some e
 
--- A plan is refused: nothing is selected, or the mask leaves it out; the source isn't there; a mask can't be read or makes no name; no way
--- leads to the target; something stands there; it is a source that is there, lies in it or holds it; or a link can't say what was typed.
+-- A plan is refused: nothing is selected, or the mask leaves it out; a source lies in another; one isn't there; a mask can't be read or makes
+-- no name; no way leads to a target; something stands there; it is a source that is there, lies in it or holds it; two sources that are there
+-- have one target; or a link can't say what was typed.
 abbrev pub IsPlanRefused : CallLog → PlanError → Type 0
 IsPlanRefused log NoSelection = ⊤
+IsPlanRefused log (Nested first second) = (is_prefix first second || is_prefix second first) ≡ true
 IsPlanRefused log (Source path e) = IsSourceRefused log path e
 IsPlanRefused log BadMask = ⊤
 IsPlanRefused log (Target e) = IsTargetRefused log e
@@ -46,6 +48,7 @@ IsPlanRefused log (TargetThere path) = refusal_of (current log) (Stat path) ≡ 
 IsPlanRefused log (SameFile path) = refusal_of (current log) (Stat path) ≡ None
 IsPlanRefused log (IntoItself source target) =
     (refusal_of (current log) (Stat source) ≡ None) × ((is_prefix source target || is_prefix target source) ≡ true)
+IsPlanRefused log (TwoToOne first second) = (refusal_of (current log) (Stat first) ≡ None) × (refusal_of (current log) (Stat second) ≡ None)
 IsPlanRefused log BadLinkText = ⊤
 
 -- reading a folder is refused as `list` of it is, with its path; a device may fail, and memory run out

@@ -40,6 +40,11 @@ pub enum Event {
         job: u32,
         did: Did,
     },
+    /// What the job was to do with one of its sources is done, or was passed over, and it goes on with the next one, of which this is the plan.
+    Next {
+        job: u32,
+        plan: Job,
+    },
     /// No more keys are taken, and each job that waits for an answer is aborted.
     Closed,
 }

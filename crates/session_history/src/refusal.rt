@@ -12,6 +12,8 @@ use tree_trait::TreeError;
 pub enum PlanError {
     /// Nothing is selected: the cursor stands on `..`, or on no row; or the source mask leaves out what is.
     NoSelection,
+    /// The second source is the first one, lies in it, or holds it.
+    Nested(Path, Path),
     /// The look at this source is refused.
     Source(Path, TreeError),
     /// The source mask is no pattern, the destination asks for what it doesn't take, or what was typed makes no name.
@@ -24,6 +26,8 @@ pub enum PlanError {
     SameFile(Path),
     /// The source lies in its target, or the target in it.
     IntoItself(Path, Path),
+    /// These sources have one target.
+    TwoToOne(Path, Path),
     /// A link can't say this.
     BadLinkText,
 }
@@ -35,6 +39,9 @@ impl PlanError {
     {
         match self {
             PlanError::NoSelection => Ok(PlanError::NoSelection),
+            PlanError::Nested(first, second) => {
+                Ok(PlanError::Nested(first.copy(alloc)?, second.copy(alloc)?))
+            }
             PlanError::Source(path, error) => Ok(PlanError::Source(path.copy(alloc)?, *error)),
             PlanError::BadMask => Ok(PlanError::BadMask),
             PlanError::Target(error) => Ok(PlanError::Target(copy_of(alloc, error)?)),
@@ -42,6 +49,9 @@ impl PlanError {
             PlanError::SameFile(path) => Ok(PlanError::SameFile(path.copy(alloc)?)),
             PlanError::IntoItself(source, target) => {
                 Ok(PlanError::IntoItself(source.copy(alloc)?, target.copy(alloc)?))
+            }
+            PlanError::TwoToOne(first, second) => {
+                Ok(PlanError::TwoToOne(first.copy(alloc)?, second.copy(alloc)?))
             }
             PlanError::BadLinkText => Ok(PlanError::BadLinkText),
         }

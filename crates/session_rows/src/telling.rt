@@ -94,8 +94,10 @@ fn tell_history(page: &mut Page, history: &History) {
     }
     page.put("; steps");
     for entry in history.entries.0.iter() {
-        if let Event::Step { job: _, did } = &entry.what {
-            page.put(word_of(did));
+        match &entry.what {
+            Event::Step { job: _, did } => page.put(word_of(did)),
+            Event::Next { .. } => page.put(" next"),
+            _ => {}
         }
     }
 }

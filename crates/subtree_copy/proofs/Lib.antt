@@ -4,6 +4,7 @@ pub mod Begun
 pub mod Counts
 mod Done
 mod Fewer
+pub mod Finishes
 mod Held
 pub mod LastCounts
 pub mod LastOnes

@@ -98,6 +98,20 @@ impl SubtreeCopy {
         self.skips.insert(kind_of(cause));
     }
 
+    /// The kinds of troubles that are passed over.
+    pub fn skips(&self) -> Skips
+        ensures { result ≡ self.now.skips }
+    {
+        self.skips
+    }
+
+    /// Troubles of these kinds are passed over.
+    pub fn pass_over(&mut self, skips: Skips)
+        ensures { self.new ≡ record self.old { skips = skips } }
+    {
+        self.skips = skips;
+    }
+
     /// What was refused is tried again.
     pub fn retry(&mut self)
         requires going { IsGoing self.old }

@@ -1,14 +1,15 @@
 //! Steps of the job, and the end of a session.
-ghost use Rattle.std.specs.Prelude.{◌≡◌, ◌<◌, ◌≤◌, true, Option, Some, None, IsSome, ◌||◌, reverse, if◌then◌else◌};
-ghost use Rattle.copy_move.specs.Ranks.{rank_with};
+ghost use Rattle.std.specs.Prelude.{◌≡◌, ◌<◌, ◌≤◌, true, None, IsSome, ◌||◌, reverse, if◌then◌else◌};
+ghost use Rattle.std.specs.Option.{is_none};
 ghost use Rattle.copy_move.specs.Told.{if_closed, IsReady};
+ghost use Rattle.session_history.specs.Sources.{AreInTurn};
 ghost use Rattle.history_laws.specs.ToldJob.{live_job};
 ghost use Rattle.history_laws.specs.Traces.{IsTracedTo};
 ghost use Rattle.mc_desk.specs.Sessions.{EndsSession};
 ghost use Rattle.mc_desk.specs.Tallies.{can_step, faults_in, keys_in, has_lost};
 ghost use Rattle.mc_desk.specs.Outputs.{Blames};
 ghost use Rattle.mc_desk.specs.Shown.{HasGiven, put_since};
-ghost use Rattle.mc_desk.specs.Desks.{KeepsKeys, MovesDirty, RanNothing, idle_reply};
+ghost use Rattle.mc_desk.specs.Desks.{KeepsKeys, MovesDirty, RanNothing, idle_reply, rank_of};
 ghost use Rattle.mc_desk.specs.Logs.{jobs_begun};
 
 use super::Session;
@@ -17,9 +18,8 @@ use crate::log::plain;
 use crate::replies::{Ended, StepReply};
 use crate::standing::closed;
 use crate::tag::Tag;
+use crate::turning::{Stepped, ended_without_memory, go_on};
 use copy_move::Run;
-use job_reports::{Did, Ending, StepResult, is_end};
-use mc_text::Path;
 use session_history::{Entry, Event};
 use std::alloc::Global;
 use tree_trait::{Sink, Spawner, Tree};
@@ -43,8 +43,8 @@ impl<N: Tag, T: Tree, S: Sink, P: Spawner> Session<N, T, S, P> {
         self.standing.close();
     }
 
-    /// Makes one step of the job, if it is ready: `Did` where an entry was added. Without memory for the entry no call of
-    /// the tree is made, and the job ends by the entry for which room was kept.
+    /// Makes one step of the job, if it is ready: `Did` where an entry was added. Where a source is finished, the job goes on with the next one, and
+    /// that is what the entry tells. Without memory for the entry no call of the tree is made, and the job ends by the entry for which room was kept.
     pub fn step(&mut self, alloc: Global, seat: u32) -> StepReply
         requires main { seat ≡ 0 }
         ensures screen { self.new.screen ≡ self.old.screen }
@@ -54,8 +54,8 @@ impl<N: Tag, T: Tree, S: Sink, P: Spawner> Session<N, T, S, P> {
         ensures quit { self.new.quit ≡ self.old.quit }
         ensures reply { result ≡ (if can_step self.old.tally.job then StepReply.Did else idle_reply self.old.tally.closed) }
         ensures out { self.new.out ≡ self.old.out }
-        ensures nearer { self.old.tally.closed ≡ true → IsSome self.old.job → rank_with self.new.dirty self.new.job < rank_with self.old.dirty self.old.job }
-        ensures worked { IsReady self.old.job → rank_with self.new.dirty self.new.job < rank_with self.old.dirty self.old.job }
+        ensures nearer { self.old.tally.closed ≡ true → IsSome self.old.job → rank_of self.new < rank_of self.old }
+        ensures worked { IsReady self.old.job → rank_of self.new < rank_of self.old }
     {
         let Some(mut job) = self.standing.job.take() else {
             return idle(self.standing.closed);
@@ -76,22 +76,24 @@ impl<N: Tag, T: Tree, S: Sink, P: Spawner> Session<N, T, S, P> {
                     did: ended_without_memory(job.give_up()),
                 },
             });
+            self.standing.later.clear();
             self.standing.has_unseen_end = true;
             return StepReply::Did;
         }
-        let StepResult { did, calls } = job.step(alloc, &mut self.tree, &NoClaims, &mut self.dirty);
+        let made = job.step(alloc, &mut self.tree, &NoClaims, &mut self.dirty);
+        let Stepped { what, calls, job } = go_on(alloc, job, made, &mut self.standing.later);
         let calls = self.standing.calls.saturating_add(calls);
-        let ended = is_end(&did);
+        let ended = has_ended(&job);
         self.log.note(Entry {
             seat,
             calls,
             faults: self.tree.faults(),
             shown: 0,
-            what: Event::Step { job: id, did },
+            what,
         });
         self.standing.calls = calls;
         self.standing.has_unseen_end = end_waits(ended, self.standing.has_unseen_end);
-        let kept = left(job, ended, self.standing.closed);
+        let kept = unless_waiting(job, self.standing.closed);
         put_back(&mut self.standing.job, kept);
         StepReply::Did
     }
@@ -116,6 +118,7 @@ impl<N: Tag, T: Tree, S: Sink, P: Spawner> Session<N, T, S, P> {
         ensures given { HasGiven N.given (put_since N.given (S.given result.screen)) (S.given result.screen) }
         ensures traced { IsTracedTo N.opening (T.contents result.tree) (reverse result.history.entries) }
         ensures idle { live_job (reverse result.history.entries) ≡ None }
+        ensures turns { AreInTurn (reverse result.history.entries) }
         ensures counted { result.history.started ≡ jobs_begun result.history.entries }
         ensures keys { keys_in (reverse result.history.entries) ≡ keys_in self.newest }
         ensures lost { result.lost ≡ has_lost (reverse result.history.entries) }
@@ -184,25 +187,19 @@ fn end_waits(ended: bool, waited: bool) -> bool
     ended || waited
 }
 
-fn ended_without_memory(part: Option<Path>) -> Did
-    ensures { result ≡ Did.Ended Ending.NoMemory part }
+/// Whether a job has ended.
+fn has_ended(job: &Option<Run>) -> bool
+    ensures { result ≡ is_none job.now }
 {
-    Did::Ended {
-        ending: Ending::NoMemory,
-        part,
+    match job {
+        None => true,
+        Some(_) => false,
     }
 }
 
-/// What is left of a job after a step: nothing after its end, and in a closed session no job waits.
-fn left(job: Run, ended: bool, is_closed: bool) -> Option<Run>
-    ensures { result ≡ if_closed is_closed (if ended then None else Some job) }
+/// A job after a step: in a closed session none waits.
+fn unless_waiting(job: Option<Run>, is_closed: bool) -> Option<Run>
+    ensures { result ≡ if_closed is_closed job }
 {
-    if ended {
-        return None;
-    }
-    if is_closed {
-        closed(Some(job))
-    } else {
-        Some(job)
-    }
+    if is_closed { closed(job) } else { job }
 }

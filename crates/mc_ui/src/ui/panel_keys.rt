@@ -100,8 +100,7 @@ impl Ui {
         self.message = Some(Message::Help);
     }
 
-    /// Opens a box on the thing that is selected, if the box may ask of that. Where nothing is selected a message says so; of
-    /// several things no box can ask yet.
+    /// Opens a box on the things that are selected, if the box may ask of them. Where nothing is selected a message says so.
     pub(super) fn open_box<T: ReadTree>(
         &mut self,
         alloc: Global,
@@ -122,7 +121,7 @@ impl Ui {
         match choose(alloc, tree, self.panels().current(), opens)? {
             Choice::NoSelection => self.refuse(alloc, Refusal::Plan(PlanError::NoSelection)),
             Choice::Nothing => Ok(asking_nothing(alloc)),
-            Choice::Thing(chosen, mode) => {
+            Choice::Things(chosen, mode) => {
                 self.show_box(Dialog::Job(JobBox::open(alloc, opens, chosen, mode)?));
                 Ok(asking_nothing(alloc))
             }

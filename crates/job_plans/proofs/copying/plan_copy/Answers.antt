@@ -1,30 +1,37 @@
 -- What the plan of the request comes to is what the copy comes to.
 use Rattle.std.proofs.Common.{sym, ◌∙◌, subst}
-use Rattle.op_plan.specs.declared.request.Request.{Request}
 use Rattle.std.specs.Prelude.{Err}
+use Rattle.op_plan.specs.declared.request.Request.{Request}
 use Rattle.job_plans.specs.CopyPlans.{IsPlanned}
+use Rattle.job_plans.proofs.CopiesLead.{can_be, copy_leads, is_copy}
 use Rattle.job_plans.proofs.CopyCauses.{copy_causes}
-use Rattle.job_plans.proofs.OneCopies.{copy_leads, one_copy}
 use Rattle.job_plans.proofs.Refusing.{refused_reads}
 use Rattle.job_plans.proofs.copying.plan_copy.Goals as goal
 
-pub target_of-requires : goal.target_of-requires
-target_of-requires g c =
-    one_copy c.args.chosen.now.path c.args.mask.now c.args.from.now c.args.typed.now c.in_ok-request.request c.in-Ok.job
-    c.in_ok-request.ensures c.in-Ok.ensures.sound c.in-Ok.ensures.asked
+pub pairs_of-requires : goal.pairs_of-requires
+pairs_of-requires g c =
+    is_copy c.args.chosen.now.paths c.args.mask.now c.args.from.now c.args.typed.now c.in_ok-request.request c.in-Ok.job
+    c.in_ok-request.ensures c.in-Ok.ensures.asked
+
+pub plan_to-requires : goal.plan_to-requires
+plan_to-requires g c =
+    record {
+      within = can_be c.args.chosen.now.paths c.args.mask.now c.args.from.now c.args.typed.now c.in_ok-request.request c.in-Ok.job c.pairs_of.result
+          c.in_ok-request.ensures c.pairs_of.ensures c.args.chosen.now.within c.in-Ok.ensures.sound c.in-Ok.ensures.asked;
+    }
 
 pub returns-in-Ok-clause-leads : goal.returns-in-Ok-clause-leads
 returns-in-Ok-clause-leads g c =
-    copy_leads c.args.chosen.now.path c.args.mask.now c.args.from.now c.args.typed.now c.args.chosen.now.kind (g.T.ReadTree.contents c.args.tree.now)
-    (g.T.ReadTree.contents c.make_plan.new.tree) c.in_ok-request.request c.in-Ok.job c.target_of.result c.plan_to.result
+    copy_leads c.args.chosen.now.paths c.args.mask.now c.args.from.now c.args.typed.now c.args.chosen.now.kind (g.T.ReadTree.contents c.args.tree.now)
+    (g.T.ReadTree.contents c.make_plan.new.tree) c.in_ok-request.request c.in-Ok.job c.pairs_of.result c.plan_to.result
     (sym c.is_below_home.ensures ∙ c.if-is_below_home.false) c.in_ok-request.ensures c.in-Ok.ensures.sound c.in-Ok.ensures.asked
-    c.in-Ok.ensures.answer c.target_of.ensures.target c.in-Ok.ensures.same c.plan_to.ensures.leads
+    c.in-Ok.ensures.answer c.pairs_of.ensures c.in-Ok.ensures.same c.plan_to.ensures.leads
 
 pub returns-in-Err-clause-reads : goal.returns-in-Err-clause-reads
 returns-in-Err-clause-reads g c =
     let contents = g.T.ReadTree.contents c.args.tree.now in
     refused_reads contents (g.T.ReadTree.contents c.make_plan.new.tree)
     (g.T.ReadTree.fault_count c.args.tree.now) (g.T.ReadTree.fault_count c.make_plan.new.tree) c.in-Err.error c.refused.result
-    c.in-Err.ensures.same (copy_causes contents c.args.chosen.now.path c.args.mask.now c.args.from.now c.args.typed.now c.in-Err.error
+    c.in-Err.ensures.same (copy_causes contents c.args.chosen.now.paths c.args.mask.now c.args.from.now c.args.typed.now c.in-Err.error
     (subst (λ (r : Request). IsPlanned contents r (Err c.in-Err.error)) c.in_ok-request.ensures c.in-Err.ensures.answer)
     c.in-Err.ensures.cause.carried) c.in-Err.ensures.cause c.refused.ensures

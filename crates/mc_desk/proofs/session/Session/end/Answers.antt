@@ -1,12 +1,13 @@
 -- A session is a trace of its tree's calls.
 use Rattle.std.proofs.Common.{reverse, ap, sym, subst, ◌≡◌, ◌∙◌, None}
+use Rattle.session_history.specs.Sources.{AreInTurn}
 use Rattle.history_laws.specs.Traces.{IsTracedTo, Stand, at_rest}
 use Rattle.mc_desk.specs.Sessions.{IsSession, SessionState}
 use Rattle.mc_desk.specs.Desks.{Seen, stand_with, with_end}
 use Rattle.mc_desk.specs.Outputs.{Output}
 use Rattle.mc_desk.specs.Shown.{HasGiven, Put, put_since}
 use Rattle.mc_desk.proofs.Adding.{end_noted}
-use Rattle.mc_desk.proofs.Keeping.{session_traced_to}
+use Rattle.mc_desk.proofs.Keeping.{session_in_turn, session_traced_to}
 use Rattle.mc_desk.proofs.session.Session.end.Goals as goal
 
 pub returns-clause-traced : goal.returns-clause-traced
@@ -37,6 +38,10 @@ returns-clause-session g c =
           (subst (λ j. IsSession g.N.Tag.start g.N.Tag.opening g.N.Tag.tree_faults desk.log.newest (state (stand_with j desk.dirty) desk.terminal.put)) none
           c.session.invariant.desk.written.session)),
     )
+
+pub returns-clause-turns : goal.returns-clause-turns
+returns-clause-turns g c =
+    subst AreInTurn (sym c.into_history.ensures.entries) (session_in_turn g.N.Tag.start g.N.Tag.opening g.N.Tag.tree_faults c.session.inside.log.newest _ c.session.invariant.desk.written.session)
 
 pub returns-clause-given : goal.returns-clause-given
 returns-clause-given g c =

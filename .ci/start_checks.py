@@ -1,0 +1,95 @@
+"""Checks of how the program starts and ends: its words, the terminal, signals, and a build that fails."""
+import os
+import shutil
+import signal
+import subprocess
+
+from terminal_run import DOWN, END, ENTER, F10, F8, KEYS, USAGE, make_file, run
+
+
+def check_stty(program, base, check):
+    """What is asked of `stty`, by one that writes it down."""
+    real = shutil.which("stty")
+    said = os.path.join(base, "said")
+    for asked, broken in [("the modes", ":"), ("nothing", 'test "$1" = -g && exit 1')]:
+        folder = os.path.join(base, f"commands of {asked}")
+        os.mkdir(folder)
+        with open(os.path.join(folder, "stty"), "w") as file:
+            file.write(f'#!/bin/sh\necho "$1" >>{said}\n{broken}\nexec {real} "$@"\n')
+        os.chmod(file.name, 0o755)
+        folders = folder + os.pathsep + os.environ["PATH"]
+        for words, want in ([["-x"], 1], [["-e", "a"], 1], [["a", "b", "c"], 1], [["-V"], 0], [["-h"], 0]):
+            status, _, _ = run(program, words, [], folders=folders)
+            check(f"the words {words} touch no terminal", status == want and not os.path.exists(said))
+        status, _, same = run(program, ["/"], [F10], folders=folders)
+        with open(said) as file:
+            lines = file.read().split()
+        os.remove(said)
+        ends_sane = lines[-1] == "sane"
+        check(f"where stty says {asked}", status == 0 and lines[:3] == ["size", "-g", "raw"] and ends_sane != same and len(lines) == 4)
+
+
+def check_signals(starter, base, check):
+    """After a signal the terminal is as it was, and what comes next stands on a line of its own."""
+
+    def below(process):
+        with open(f"/proc/{process}/task/{process}/children") as file:
+            return [int(number) for number in file.read().split()]
+
+    aims = [
+        ("the starter", lambda process, sent: os.kill(process, sent)),
+        ("the program", lambda process, sent: os.kill(below(process)[0], sent)),
+        ("both", lambda process, sent: os.killpg(process, sent)),
+    ]
+    for sent in (signal.SIGTERM, signal.SIGHUP, signal.SIGINT):
+        for name, aim in aims:
+            status, told, same = run(starter, [base], [DOWN, lambda process: aim(process, sent)])
+            ended = status is not None and status > 128
+            check(f"{sent.name} to {name}: the terminal is as it was", ended and same and told.written.endswith(b"\r\n"))
+    status, _, same = run(starter, [base], [DOWN, F10])
+    check("the starter ends with the program's status", status == 0 and same)
+    status, told, same = run(starter, ["-e", "x"], [])
+    check("and says what the program says", status == 1 and USAGE in told and same)
+
+
+def check_words(program, starter, base, check):
+    """No words, relative folders, and the words that ask for no session."""
+    folder = os.path.join(base, "words")
+    os.makedirs(os.path.join(folder, "below"))
+    inner = os.path.join(folder, "below")
+    for words, there in [([], folder), (["below"], inner), (["./below/../below//"], inner), (["-b", "--", "below"], inner), (["../words"], folder)]:
+        make_file(os.path.join(there, "!first"), 1, 0o644)
+        status, _, same = run(starter, words, [END, F8, ENTER, F10], inside=folder)
+        check(f"{words} start in {os.path.basename(there)}", status == 0 and same and not os.path.exists(os.path.join(there, "!first")))
+    status, told, same = run(starter, ["nowhere"], [], inside=folder)
+    check("a relative folder is named as it was typed", status == 2 and same and b"mc: nowhere: no such file or folder" in told)
+    for words, want, lines in [
+        (["-V"], 0, b"mc profile 1\r\n"),
+        (["-h"], 0, USAGE + b"\r\n" + KEYS + b"\r\n"),
+        (["-V", "-h", "below"], 0, USAGE + b"\r\n" + KEYS + b"\r\n"),
+        (["-e", "x"], 1, USAGE + b"\r\n"),
+        (["--drill", "1"], 1, USAGE + b"\r\n"),
+    ]:
+        status, told, same = run(program, words, [], inside=folder)
+        check(f"{words} print their lines alone", status == want and same and told.written == lines)
+
+
+def check_failed_build(starter, base, check):
+    """Where the build fails the starter says why, and starts no program that an earlier build left."""
+    root = os.path.join(base, "repository")
+    program = os.path.join(root, "crates", "mc", "out", "mc")
+    tools = os.path.join(base, "tools")
+    for folder in (os.path.dirname(program), os.path.join(root, ".ci"), tools):
+        os.makedirs(folder)
+    shutil.copy(starter, os.path.join(root, "mc"))
+    shutil.copy(os.path.join(os.path.dirname(starter), ".ci", "build"), os.path.join(root, ".ci", "build"))
+    for path, text in [(program, "echo an old program"), (os.path.join(tools, "rt"), "echo no proof of this; exit 1")]:
+        with open(path, "w") as file:
+            file.write(f"#!/bin/sh\n{text}\n")
+        os.chmod(path, 0o755)
+    os.utime(program, (1, 1))
+    open(os.path.join(root, "crates.txt"), "w").close()
+    surroundings = {**os.environ, "PATH": f"{tools}:{os.environ['PATH']}"}
+    ended = subprocess.run([os.path.join(root, "mc"), base], env=surroundings, stdin=subprocess.DEVNULL, capture_output=True)
+    check("a build that fails is told, with its reason", ended.returncode == 1 and b"no proof of this" in ended.stderr)
+    check("an old program isn't started", b"an old program" not in ended.stdout and not os.path.exists(program))

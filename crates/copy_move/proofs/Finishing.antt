@@ -1,0 +1,226 @@
+-- What the step that finishes a source leaves: it makes no call, no folder gets dirty or clean by it, and its number, its part and what it passes over stay.
+use Rattle.std.proofs.Common.{◌≡◌, ℕ, Bool, true, false, refl, sym, ◌∙◌, ap, subst, inl, inr, List, Option, Some, None}
+use Rattle.std.specs.Option.{option_map}
+use Rattle.mc_text.specs.Routes.{Route}
+use Rattle.tree_trait.specs.Change.{CallLog}
+use Rattle.tree_trait.specs.Answers.{IfKnown}
+use Rattle.job_answers.specs.declared.skips.Skips.{Skips as SkippedKinds}
+use Rattle.job_reports.specs.declared.job.Job.{Job}
+use Rattle.job_reports.specs.declared.report.Cause.{Cause}
+use Rattle.job_reports.specs.declared.report.Did.{Did}
+use Rattle.job_reports.specs.declared.report.Did.TheVariants.{Barrier, Ended, Skipped, Troubled}
+use Rattle.job_reports.specs.declared.report.Ending.{Ending}
+use Rattle.job_reports.specs.declared.report.Ending.TheVariants.{Finished}
+use Rattle.job_reports.specs.Paths.{folder_of}
+use Rattle.file_copy.specs.Copying as copying
+use Rattle.mode_setting.specs.Settings as settings
+use Rattle.subtree_copy.proofs.Finishes.{finish_is_still}
+use Rattle.tree_deletion.specs.Folders as folders
+use Rattle.copy_move.specs.Makings as makings
+use Rattle.copy_move.specs.declared.run.Course.{Course}
+use Rattle.copy_move.specs.declared.run.Course.TheVariants.{GoesOn, InTrouble, OwedSyncFailed, Skips, Ends}
+use Rattle.copy_move.specs.declared.work.Work.{Work}
+use Rattle.copy_move.specs.declared.work.Work.TheVariants.{Copy, CopyTree, Delete, Make, SetMode}
+use Rattle.copy_move.specs.Jobs.{CallsOn, Running, TellsOn, WorkCalls, WorkTells, WorkWinds, first_work, part_of, passing_over, skips_of}
+use Rattle.copy_move.specs.Ranks.{work_rank}
+use Rattle.copy_move.specs.Settling.{WorkLeaves}
+use Rattle.copy_move.specs.Steps.{LeavesDirty, RunStep, SyncsOwed, Walks, WalksOn, step_made}
+use Rattle.copy_move.specs.Told.{running, told, turned, work_told}
+use Rattle.copy_move.proofs.Telling.{began_told}
+
+-- a job with all that its next source needs of it, as it was before the step
+pub record Finishes (job new : Running) (part : Option Route) (dirty dirty_after : List Route) (before after : Option CallLog) : Type 0 where
+  pub goes : job.course ≡ GoesOn
+  pub none : part ≡ None
+  pub number : new.id ≡ job.id
+  pub skips : skips_of new.work ≡ skips_of job.work
+  pub stays : part_of new.work ≡ part_of job.work
+  pub list : dirty_after ≡ dirty
+  pub log : (log : CallLog) → before ≡ Some log → after ≡ Some log
+
+-- the work tells no part, and keeps the one that it has, and what it passes over
+work_stays : (old new : Work) (part : Option Route) → WorkTells old (Ended Finished part) new → (part ≡ None) × (part_of new ≡ part_of old) × (skips_of new ≡ skips_of old)
+work_stays (Copy c) (Copy new) part (stage, folder, none, is) = (none, ap (λ (k : copying.Copying). copying.part_at k.stage) is, refl)
+work_stays (CopyTree c) (CopyTree new) part t = (let a = t.after in (t.may, a.part, a.skips))
+work_stays (Delete d) (Delete new) part (stage, none, at) = (none, refl, at.skips_is)
+work_stays (Make m) (Make new) part (done, none, is) = (none, refl, refl)
+work_stays (SetMode s) (SetMode new) part (stage, none, is) = (none, refl, refl)
+work_stays (Copy c) (CopyTree new) part h = absurd h
+work_stays (Copy c) (Delete new) part h = absurd h
+work_stays (Copy c) (Make new) part h = absurd h
+work_stays (Copy c) (SetMode new) part h = absurd h
+work_stays (CopyTree c) (Copy new) part h = absurd h
+work_stays (CopyTree c) (Delete new) part h = absurd h
+work_stays (CopyTree c) (Make new) part h = absurd h
+work_stays (CopyTree c) (SetMode new) part h = absurd h
+work_stays (Delete d) (Copy new) part h = absurd h
+work_stays (Delete d) (CopyTree new) part h = absurd h
+work_stays (Delete d) (Make new) part h = absurd h
+work_stays (Delete d) (SetMode new) part h = absurd h
+work_stays (Make m) (Copy new) part h = absurd h
+work_stays (Make m) (CopyTree new) part h = absurd h
+work_stays (Make m) (Delete new) part h = absurd h
+work_stays (Make m) (SetMode new) part h = absurd h
+work_stays (SetMode s) (Copy new) part h = absurd h
+work_stays (SetMode s) (CopyTree new) part h = absurd h
+work_stays (SetMode s) (Delete new) part h = absurd h
+work_stays (SetMode s) (Make new) part h = absurd h
+
+-- it makes no call
+work_calls : (unclaimed : Route → Type 0) (old new : Work) (part : Option Route) (log : CallLog) (after : Option CallLog) → WorkCalls unclaimed old (Ended Finished part) new log after → after ≡ Some log
+work_calls unclaimed (Copy c) (Copy new) part log after h = h
+work_calls unclaimed (CopyTree c) (CopyTree new) part log after h =
+    (let g = h.goes in (finish_is_still g.free c new part h.calls h.dirty h.dirty_after (Some log) after g.since h.faults_after g.steps).1 log refl)
+work_calls unclaimed (Delete d) new part log after h = h
+work_calls unclaimed (Make m) new part log after h = h
+work_calls unclaimed (SetMode s) new part log after h = h
+work_calls unclaimed (Copy c) (CopyTree new) part log after h = absurd h
+work_calls unclaimed (Copy c) (Delete new) part log after h = absurd h
+work_calls unclaimed (Copy c) (Make new) part log after h = absurd h
+work_calls unclaimed (Copy c) (SetMode new) part log after h = absurd h
+work_calls unclaimed (CopyTree c) (Copy new) part log after h = absurd h
+work_calls unclaimed (CopyTree c) (Delete new) part log after h = absurd h
+work_calls unclaimed (CopyTree c) (Make new) part log after h = absurd h
+work_calls unclaimed (CopyTree c) (SetMode new) part log after h = absurd h
+
+no_change : (b : Bool) (folder : Route) (dirty : List Route) → folders.with_change b b folder dirty ≡ dirty
+no_change true folder dirty = refl
+no_change false folder dirty = refl
+
+-- no folder gets dirty or clean by it
+module _ (unclaimed : Route → Type 0) (part : Option Route) (calls : ℕ) (dirty dirty_after : List Route) (before after : Option CallLog) (f0 f1 : ℕ) where
+  work_list : (old new : Work) → WorkTells old (Ended Finished part) new → WorkLeaves old (Ended Finished part) new dirty dirty_after before after
+      → Walks unclaimed old new (Ended Finished part) calls dirty dirty_after before after f0 f1 → dirty_after ≡ dirty
+  work_list (Copy c) (Copy new) (stage, folder, none, is) leaves walks =
+      leaves ∙ (ap (λ (k : copying.Copying). folders.with_change (copying.is_dirty c.folder) (copying.is_dirty k.folder) (folder_of c.target) dirty) is
+      ∙ no_change (copying.is_dirty c.folder) (folder_of c.target) dirty)
+  work_list (CopyTree c) (CopyTree new) tells leaves walks = (finish_is_still walks.free c new part calls dirty dirty_after before after walks.since f1 walks.steps).0
+  work_list (Delete d) (Delete new) tells leaves walks = leaves.1
+  work_list (Make m) (Make new) (done, none, is) leaves walks =
+      leaves ∙ (ap (λ (k : makings.Making). folders.with_change (makings.is_dirty m.stage) (makings.is_dirty k.stage) (folder_of m.path) dirty) is
+      ∙ no_change (makings.is_dirty m.stage) (folder_of m.path) dirty)
+  work_list (SetMode s) (SetMode new) (stage, none, is) leaves walks =
+      leaves ∙ (ap (λ (k : settings.Setting). folders.with_change (settings.is_dirty s.stage) (settings.is_dirty k.stage) s.path dirty) is ∙ no_change (settings.is_dirty s.stage) s.path dirty)
+  work_list (Copy c) (CopyTree new) tells leaves walks = absurd tells
+  work_list (Copy c) (Delete new) tells leaves walks = absurd tells
+  work_list (Copy c) (Make new) tells leaves walks = absurd tells
+  work_list (Copy c) (SetMode new) tells leaves walks = absurd tells
+  work_list (CopyTree c) (Copy new) tells leaves walks = absurd tells
+  work_list (CopyTree c) (Delete new) tells leaves walks = absurd tells
+  work_list (CopyTree c) (Make new) tells leaves walks = absurd tells
+  work_list (CopyTree c) (SetMode new) tells leaves walks = absurd tells
+  work_list (Delete d) (Copy new) tells leaves walks = absurd tells
+  work_list (Delete d) (CopyTree new) tells leaves walks = absurd tells
+  work_list (Delete d) (Make new) tells leaves walks = absurd tells
+  work_list (Delete d) (SetMode new) tells leaves walks = absurd tells
+  work_list (Make m) (Copy new) tells leaves walks = absurd tells
+  work_list (Make m) (CopyTree new) tells leaves walks = absurd tells
+  work_list (Make m) (Delete new) tells leaves walks = absurd tells
+  work_list (Make m) (SetMode new) tells leaves walks = absurd tells
+  work_list (SetMode s) (Copy new) tells leaves walks = absurd tells
+  work_list (SetMode s) (CopyTree new) tells leaves walks = absurd tells
+  work_list (SetMode s) (Delete new) tells leaves walks = absurd tells
+  work_list (SetMode s) (Make new) tells leaves walks = absurd tells
+
+-- last steps end as was ordered
+wound_as : (ending how : Ending) (old new : Work) (part : Option Route) → WorkWinds ending old (Ended how part) new → how ≡ ending
+wound_as ending how (Copy c) (Copy new) part (kept, folder, is, left, stands) = is
+wound_as ending how (CopyTree c) (CopyTree new) part w = (let may = w.may in may.0)
+wound_as ending how (Delete d) (Delete new) part w = w.0
+wound_as ending how (Make m) (Make new) part (apart, is, none, stands) = is
+wound_as ending how (SetMode s) (SetMode new) part (clean, is, none, stands) = is
+wound_as ending how (Copy c) (CopyTree new) part h = absurd h
+wound_as ending how (Copy c) (Delete new) part h = absurd h
+wound_as ending how (Copy c) (Make new) part h = absurd h
+wound_as ending how (Copy c) (SetMode new) part h = absurd h
+wound_as ending how (CopyTree c) (Copy new) part h = absurd h
+wound_as ending how (CopyTree c) (Delete new) part h = absurd h
+wound_as ending how (CopyTree c) (Make new) part h = absurd h
+wound_as ending how (CopyTree c) (SetMode new) part h = absurd h
+wound_as ending how (Delete d) (Copy new) part h = absurd h
+wound_as ending how (Delete d) (CopyTree new) part h = absurd h
+wound_as ending how (Delete d) (Make new) part h = absurd h
+wound_as ending how (Delete d) (SetMode new) part h = absurd h
+wound_as ending how (Make m) (Copy new) part h = absurd h
+wound_as ending how (Make m) (CopyTree new) part h = absurd h
+wound_as ending how (Make m) (Delete new) part h = absurd h
+wound_as ending how (Make m) (SetMode new) part h = absurd h
+wound_as ending how (SetMode s) (Copy new) part h = absurd h
+wound_as ending how (SetMode s) (CopyTree new) part h = absurd h
+wound_as ending how (SetMode s) (Delete new) part h = absurd h
+wound_as ending how (SetMode s) (Make new) part h = absurd h
+
+module _ (unclaimed : Route → Type 0) (job new : Running) (part : Option Route) (calls : ℕ) (dirty dirty_after : List Route) (before after : Option CallLog) (f0 f1 : ℕ) (never : job.course ≡ Ends Finished → ⊥) where
+  owed : (path : Route) → SyncsOwed job path (Ended Finished part) new dirty dirty_after before after → Finishes job new part dirty dirty_after before after
+  owed path (inl s) = absurd (let e : Ended Finished part ≡ Barrier = s.did_is in let f : ⊥ = cc in f)
+  owed path (inr s) = absurd (let e : Ended Finished part ≡ Troubled s.trouble = s.did_is in let f : ⊥ = cc in f)
+
+  -- what finishes does so on its way, and not in last steps
+  by : (course : Course) → job.course ≡ course → TellsOn course job (Ended Finished part) new → IfKnown before (λ log. CallsOn unclaimed course job (Ended Finished part) new log after)
+      → LeavesDirty course job.work (Ended Finished part) new.work dirty dirty_after before after → WalksOn unclaimed course job.work new.work (Ended Finished part) calls dirty dirty_after before after f0 f1
+      → Finishes job new part dirty dirty_after before after
+  by GoesOn is (work, tells, new_is) called leaves walks =
+      let same : new.work ≡ work = ap (λ (r : Running). r.work) new_is in
+      let here = subst (λ w. WorkTells job.work (Ended Finished part) w) (sym same) tells in
+      let stays = work_stays job.work new.work part here in
+      record {
+        goes = is;
+        none = stays.0;
+        number = ap (λ (r : Running). r.id) new_is;
+        skips = stays.2;
+        stays = stays.1;
+        list = work_list unclaimed part calls dirty dirty_after before after f0 f1 job.work new.work here leaves walks;
+        log = λ log known. work_calls unclaimed job.work new.work part log after (called log known);
+      }
+  by (InTrouble halt) is tells called leaves walks = absurd tells
+  by (OwedSyncFailed cause) is tells called leaves walks = absurd tells
+  by (Skips cause) is (inl (path, work, did_is, passes, new_is)) called leaves walks = absurd (let e : Ended Finished part ≡ Skipped path cause = did_is in let f : ⊥ = cc in f)
+  by (Skips cause) is (inr (apart, did_is, new_is)) called leaves walks = absurd (let e = did_is in let f : ⊥ = cc in f)
+  by (Ends ending) is (work, winds, new_is) called leaves walks = absurd (never (is ∙ ap Ends (sym (wound_as ending Finished job.work work part winds))))
+
+  pub finish_stays : RunStep unclaimed (step_made job new (Ended Finished part) calls dirty dirty_after before after f0 f1) → Finishes job new part dirty dirty_after before after
+  finish_stays (inl o) = (let s = o.own in by job.course refl s.tells s.called o.leaves o.walks)
+  finish_stays (inr s) = owed s.path s.synced
+
+-- The next source's work, whatever is passed over, has as many steps as one that is just begun.
+pub passing_rank : (skips : SkippedKinds) (work : Work) → work_rank (passing_over skips work) ≡ work_rank work
+passing_rank skips (Copy c) = refl
+passing_rank skips (CopyTree c) = refl
+passing_rank skips (Delete d) = refl
+passing_rank skips (Make m) = refl
+passing_rank skips (SetMode s) = refl
+
+-- What a history tells of a job that goes on with its next source.
+skips_kept : (id : ℕ) (work : Work) → skips_of (work_told id work) ≡ skips_of work
+skips_kept id (Copy c) = refl
+skips_kept id (CopyTree c) = refl
+skips_kept id (Delete d) = refl
+skips_kept id (Make m) = refl
+skips_kept id (SetMode s) = refl
+
+passing_told : (id : ℕ) (skips : SkippedKinds) (work : Work) → work_told id (passing_over skips work) ≡ passing_over skips (work_told id work)
+passing_told id skips (Copy c) = refl
+passing_told id skips (CopyTree c) = refl
+passing_told id skips (Delete d) = refl
+passing_told id skips (Make m) = refl
+passing_told id skips (SetMode s) = refl
+
+abbrev turns : ℕ → SkippedKinds → Option Work → Option Running
+turns id skips work = option_map (λ w. running id (passing_over skips w)) work
+
+turns_told : (id : ℕ) (skips : SkippedKinds) (work : Option Work) → option_map told (option_map (running id) work) ≡ option_map (running id) work → option_map told (turns id skips work) ≡ turns id skips work
+turns_told id skips None h = refl
+turns_told id skips (Some w) h =
+    let same : Some (told (running id w)) ≡ Some (running id w) = h in
+    let told_so : work_told id w ≡ w = (let e : told (running id w) ≡ running id w = cc in ap (λ (r : Running). r.work) e) in
+    ap (λ k. Some (running id k)) (passing_told id skips w ∙ ap (passing_over skips) told_so)
+
+pub turned_told : (next : Job) (job : Running) → option_map told (turned next job) ≡ turned next (told job)
+turned_told next job =
+    turns_told job.id (skips_of job.work) (first_work job.id next) (began_told job.id next)
+    ∙ ap (λ skips. turns job.id skips (first_work job.id next)) (sym (skips_kept job.id job.work))
+
+-- A job goes on with its next source as it stood before the step that finished the one before.
+pub turned_alike : (next : Job) (job new : Running) → new.id ≡ job.id → skips_of new.work ≡ skips_of job.work → turned next new ≡ turned next job
+turned_alike next job new number skips =
+    ap (λ id. turns id (skips_of new.work) (first_work id next)) number ∙ ap (λ kinds. turns job.id kinds (first_work job.id next)) skips

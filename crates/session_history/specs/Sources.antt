@@ -1,0 +1,76 @@
+-- How the sources of a job are worked: one after another, in the order of its plan. Histories stand newest first here.
+use Rattle.std.specs.Prelude.{◌≡◌, ℕ, ⊤, Bool, true, false, List, [], ◌∷◌, map, Option, None, if◌then◌else◌}
+use Rattle.std.specs.List.{list_all}
+use Rattle.job_reports.specs.declared.job.Job.{Job}
+use Rattle.job_reports.specs.declared.job.Job.TheVariants.{Copy, CopyTree, Delete, MakeFolder, MakeLink, SetMode}
+use Rattle.job_reports.specs.declared.report.Did.TheVariants.{Ended}
+use Rattle.job_reports.specs.declared.report.Ending.TheVariants.{Finished}
+use Rattle.job_reports.specs.Jobs.{Item, is_workable, item_of}
+use Rattle.job_reports.specs.Reports.{ends}
+use Rattle.session_history.specs.declared.history.Event.{Event}
+use Rattle.session_history.specs.declared.history.Event.TheVariants.{Key, Look, Sought, Order, Step, Next, Closed}
+use Rattle.session_history.specs.declared.history.Event.TheVariants as event
+use Rattle.session_history.specs.declared.history.Entry.{Entry}
+
+-- the plans of a job's sources, one by one; a job of one thing is its own
+abbrev pub sources_of : Job → List Job
+sources_of (Copy pairs) = map (λ pair. Copy (pair ∷ [])) pairs
+sources_of (CopyTree pairs) = map (λ pair. CopyTree (pair ∷ [])) pairs
+sources_of (Delete paths) = map (λ path. Delete (path ∷ [])) paths
+sources_of (MakeFolder path) = MakeFolder path ∷ []
+sources_of (MakeLink path text) = MakeLink path text ∷ []
+sources_of (SetMode paths mode) = map (λ path. SetMode (path ∷ []) mode) paths
+
+-- there are some, and each can be worked
+abbrev pub are_some_workable : List Job → Bool
+are_some_workable [] = false
+are_some_workable (source ∷ more) = list_all is_workable (source ∷ more)
+
+-- a job that can be worked: it has a source, and each can be; its sources are worked one after another
+abbrev pub are_workable : Job → Bool
+are_workable job = are_some_workable (sources_of job)
+
+-- the item with which a job begins: that of its first source
+abbrev pub item_in : List Job → Option Item
+item_in [] = None
+item_in (source ∷ more) = item_of source
+
+abbrev pub first_item : Job → Option Item
+first_item job = item_in (sources_of job)
+
+-- all but the first
+abbrev pub later : List Job → List Job
+later [] = []
+later (source ∷ more) = more
+
+-- the sources that the live job is yet to take up, after an event
+abbrev pub left_after : Event → List Job → List Job
+left_after (event.Began id plan background) left = later (sources_of plan)
+left_after (Next id plan) left = later left
+left_after (Step id did) left = if ends did then [] else left
+left_after (Key key now refusals lost) left = left
+left_after (Look refusals) left = left
+left_after Sought left = left
+left_after (Order id order) left = left
+left_after Closed left = left
+
+-- after these entries
+abbrev pub sources_left : List Entry → List Job
+sources_left [] = []
+sources_left (e ∷ older) = left_after e.what (sources_left older)
+
+-- what a job goes on with is the first source that is left, and it is finished only where none is
+abbrev pub IsInTurn : Event → List Job → Type 0
+IsInTurn (Next id plan) left = (more : List Job) × (left ≡ plan ∷ more)
+IsInTurn (Step id (Ended Finished part)) left = left ≡ []
+IsInTurn event left = ⊤
+
+abbrev pub AreInTurn : List Entry → Type 0
+AreInTurn [] = ⊤
+AreInTurn (e ∷ older) = IsInTurn e.what (sources_left older) × AreInTurn older
+
+-- The event tells that the job with this number is done with one of its sources: it goes on with the next one, or is finished.
+abbrev pub IsDoneWith : ℕ → Event → Type 0
+IsDoneWith id (Next number plan) = number ≡ id
+IsDoneWith id (Step number (Ended Finished part)) = number ≡ id
+IsDoneWith id event = ⊥
