@@ -93,17 +93,23 @@ def check_unread_folder(program, base, check):
     check("where it is skipped all else is copied", status == 0 and same and things_at(target)[1] == {"top": (0o755, {"a": file, "z": file})})
 
 
-def check_part_left(program, base, check):
-    """A part that can't be removed is told; a message is closed by Enter, not by F10."""
-    user, program = for_somebody(program, base)
-    source, target = (os.path.join(base, f"{side} of a part") for side in ("source", "target"))
+def file_and_target(base, names, size, user):
+    """Two new folders of these names, the first with a file `x` of so many bytes; all are the user's, where one is named."""
+    source, target = (os.path.join(base, name) for name in names)
     file = os.path.join(source, "x")
     os.mkdir(source)
     os.mkdir(target)
-    make_file(file, 100000, 0o640)
+    make_file(file, size, 0o640)
     if user is not None:
         for path in (source, target, file):
             os.chown(path, user, user)
+    return source, target, file
+
+
+def check_part_left(program, base, check):
+    """A part that can't be removed is told; a message is closed by Enter, not by F10."""
+    user, program = for_somebody(program, base)
+    source, target, _ = file_and_target(base, ("source of a part", "target of a part"), 100000, user)
     shut = lambda _: os.chmod(target, 0o500)
     status, told, same = run(program, [source, target], COPY + [shut, b"b", F10, ENTER, F10], largest=70000, user=user)
     os.chmod(target, 0o700)
@@ -115,14 +121,7 @@ def check_part_left(program, base, check):
 def check_list_of_jobs(program, base, check):
     """A trouble whose box was shut is reached by the list of the jobs, and answered."""
     user, program = for_somebody(program, base)
-    source, target = (os.path.join(base, side) for side in ("listed", "shut"))
-    file = os.path.join(source, "x")
-    os.mkdir(source)
-    os.mkdir(target)
-    make_file(file, 5, 0o640)
-    if user is not None:
-        for path in (source, target, file):
-            os.chown(path, user, user)
+    source, target, file = file_and_target(base, ("listed", "shut"), 5, user)
     os.chmod(target, 0o500)
     listed = [b"\x18", b"j"]
     tried = [F5, ENTER, ENTER, ENTER, F10, F7, b"n", ENTER, ENTER, F10, F8, ENTER, ENTER, F10]
