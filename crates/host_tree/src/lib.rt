@@ -3,6 +3,7 @@
 #![tactic(auto)]
 
 mod cause;
+mod device;
 mod faults;
 mod host_clock;
 mod kept;
@@ -21,8 +22,9 @@ mod stdout_sink;
 mod tree;
 mod writing;
 
+pub use device::Device;
 pub use host_clock::HostClock;
-pub use sh_spawner::ShSpawner;
+pub use sh_spawner::{Sh, ShSpawner};
 pub use stdin_source::StdinSource;
-pub use stdout_sink::StdoutSink;
+pub use stdout_sink::{Stdout, StdoutSink};
 pub use tree::HostTree;

@@ -3,45 +3,24 @@ ghost use Rattle.std.specs.Prelude.{◌≡◌, ◌≤◌, length, None, IfOk, ve
 ghost use Rattle.tree_trait.specs.Answers.{HasCause};
 
 use crate::cause::cause_of;
-use crate::faults::Faults;
+use crate::device::Device;
 use crate::read::{TURNS, read_once};
 use mc_text::{Bytes, Path};
 use std::alloc::Global;
 use std::io;
 use std::io::{ErrorKind, PipeReader, Read};
-use std::marker::Model;
 use std::process::{Child, Command, OpenProcess, Processes, Stdio};
 use std::rt::Files;
 use tree_trait::{OUTPUT_BYTES, RunOutcome, SpawnError, Spawner, TreeError};
 
-/// The system's shell. Contracts see how often it has failed. It tells nothing of the commands that it ran.
+/// The system's shell, as a device.
 #[derive(Drop)]
-pub struct ShSpawner<R> {
-    rt: R,
-    faults: Faults,
-}
+pub struct Sh;
 
-impl<R> Model for ShSpawner<R> {
-    ghost use Rattle.std.specs.Prelude.{ℕ};
+/// The system's shell. It tells nothing of the commands that it ran.
+pub type ShSpawner<R> = Device<Sh, R>;
 
-    ghost Value = { ℕ };
-
-    ghost view = { λ s. s.faults };
-}
-
-impl<R> ShSpawner<R> {
-    /// The shell that this runtime reaches. It takes no memory.
-    pub fn new(rt: R) -> ShSpawner<R>
-        ensures { result ≡ 0 }
-    {
-        ShSpawner {
-            rt,
-            faults: Faults::new(),
-        }
-    }
-}
-
-impl<R: Processes + Files> Spawner for ShSpawner<R> {
+impl<R: Processes + Files> Spawner for Device<Sh, R> {
     ghost runs = { λ _. None };
 
     ghost fault_count = { λ count. count };

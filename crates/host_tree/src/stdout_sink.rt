@@ -1,40 +1,19 @@
 //! The screen, by the standard output.
-ghost use Rattle.std.specs.Prelude.{◌≡◌, None};
+ghost use Rattle.std.specs.Prelude.{None};
 
 use crate::cause::cause_of;
-use crate::faults::Faults;
+use crate::device::Device;
 use std::alloc::Global;
-use std::marker::Model;
 use tree_trait::{Sink, SinkError, TreeError};
 
-/// The standard output. Contracts see how often it has failed. It tells nothing of the bytes that it was given.
+/// The standard output, as a device.
 #[derive(Drop)]
-pub struct StdoutSink<R> {
-    rt: R,
-    faults: Faults,
-}
+pub struct Stdout;
 
-impl<R> Model for StdoutSink<R> {
-    ghost use Rattle.std.specs.Prelude.{ℕ};
+/// The standard output. It tells nothing of the bytes that it was given.
+pub type StdoutSink<R> = Device<Stdout, R>;
 
-    ghost Value = { ℕ };
-
-    ghost view = { λ s. s.faults };
-}
-
-impl<R> StdoutSink<R> {
-    /// The standard output that this runtime reaches. It takes no memory.
-    pub fn new(rt: R) -> StdoutSink<R>
-        ensures { result ≡ 0 }
-    {
-        StdoutSink {
-            rt,
-            faults: Faults::new(),
-        }
-    }
-}
-
-impl<R: Print> Sink for StdoutSink<R> {
+impl<R: Print> Sink for Device<Stdout, R> {
     ghost given = { λ _. None };
 
     ghost fault_count = { λ count. count };
