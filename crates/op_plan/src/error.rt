@@ -42,14 +42,14 @@ pub enum PlanError {
     Memory,
 }
 
-impl From<NoMemory> for PlanError {
+impl<T: Drop> From<AllocFailed<T>> for PlanError {
     ghost use Rattle.std.specs.Prelude.{◌≡◌};
     ghost use Rattle.op_plan.specs.declared.error.PlanError.TheVariants.{Memory};
 
     ghost from_gives = { λ _ error. error ≡ Memory };
 
-    fn from(_error: NoMemory) -> PlanError {
-        PlanError::Memory
+    fn from(_error: AllocFailed<T>) -> PlanError {
+        PlanError::from(NoMemory)
     }
 }
 
@@ -60,17 +60,17 @@ impl From<AllocError> for PlanError {
     ghost from_gives = { λ _ error. error ≡ Memory };
 
     fn from(_error: AllocError) -> PlanError {
-        PlanError::Memory
+        PlanError::from(NoMemory)
     }
 }
 
-impl<T: Drop> From<AllocFailed<T>> for PlanError {
+impl From<NoMemory> for PlanError {
     ghost use Rattle.std.specs.Prelude.{◌≡◌};
     ghost use Rattle.op_plan.specs.declared.error.PlanError.TheVariants.{Memory};
 
     ghost from_gives = { λ _ error. error ≡ Memory };
 
-    fn from(_error: AllocFailed<T>) -> PlanError {
+    fn from(_error: NoMemory) -> PlanError {
         PlanError::Memory
     }
 }
