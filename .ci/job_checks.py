@@ -6,7 +6,7 @@ import subprocess
 
 from frames import with_box
 from terminal_run import (
-    COPY, DOWN, EMPTY, END, ENTER, ESCAPE, F10, F5, F7, F8, LINK, MODE, TAB, UP, facts, for_somebody,
+    COPY, DOWN, EMPTY, END, ENTER, ESCAPE, F10, F5, F7, F8, INSERT, LINK, MODE, TAB, UP, facts, for_somebody,
     left_panel, make_file, run, things_at,
 )
 
@@ -29,9 +29,6 @@ def check_copies(program, base, check):
     os.mkdir(target)
     make_file(os.path.join(source, "x"), 9, 0o640)
     make_file(os.path.join(target, "x"), 3, 0o600)
-    old = facts(os.path.join(target, "x"))
-    status, told, _ = run(program, [source, target], COPY + [ENTER, F10, F10])
-    check("what is there is not overwritten", status == 0 and facts(os.path.join(target, "x")) == old and b"already there" in told)
     status, told, _ = run(program, [source, source], COPY + [ENTER, F10, F10])
     check("no file is copied onto itself", status == 0 and os.listdir(source) == ["x"] and b"same file" in told)
     beside = os.path.join(source, "x.x")
@@ -74,6 +71,70 @@ def check_copies(program, base, check):
         subprocess.run(["umount", small], check=True)
 
 
+def check_questions(program, base, check):
+    """Where a file or a link stands at a file's target it is asked whether it is to be replaced, and each letter answers."""
+    source, target = (os.path.join(base, f"{side} of questions") for side in ("source", "target"))
+    new, there = os.path.join(source, "x"), os.path.join(target, "x")
+    os.mkdir(source)
+    os.mkdir(target)
+
+    def answered(keys, size=9, age=0, link=None):
+        """What stands at the target after these keys, and whether it is the copy: a file of this size stood there, so many seconds older."""
+        make_file(new, 9, 0o640)
+        if link is None:
+            make_file(there, size, 0o600)
+            os.utime(there, (os.stat(new).st_mtime - age,) * 2)
+        else:
+            os.symlink(link, there)
+        wanted, old = facts(new), things_at(target)[1]["x"]
+        status, told, same = run(program, [source, target], COPY + keys + [F10])
+        left = things_at(target)[1]
+        fine = status == 0 and same and list(left) == ["x"] and facts(new) == wanted
+        os.remove(there)
+        os.remove(new)
+        return told, fine, left.get("x") == wanted, left.get("x") == old
+
+    told, fine, copied, _ = answered([b"y"], size=3)
+    box = ["Target exists", there, "source 9 bytes, target 3 bytes", "y Yes  n No  a All  u Update", "o None  s Size differs  b Abort"]
+    check("a question shows the target and both sizes", told.screens[4].rows()[:-2] == with_box(told.screens[1].rows(), box)[:-2])
+    check("a file is replaced after Yes", fine and copied)
+    for keys, size, age, what in [
+        ([ENTER], 3, 0, "Enter"), ([b"a"], 3, 0, "All"), ([b"u"], 9, 100, "Update, an older one"), ([b"s"], 3, 0, "Size differs, one of another size"),
+        ([b"r", b"k", F5, b"y"], 3, 0, "other keys and Yes"), ([ESCAPE, b"\x18", b"j", ENTER, b"y"], 3, 0, "Escape, C-x j and Yes"),
+    ]:
+        _, fine, copied, _ = answered(keys, size, age)
+        check(f"a file is replaced after {what}", fine and copied)
+    for keys, size, age, what in [
+        ([b"n"], 3, 0, "No"), ([b"o"], 3, 0, "None"), ([b"u"], 3, -100, "Update, a newer one"), ([b"s"], 9, 100, "Size differs, one of the same size"),
+        ([b"b"], 3, 0, "Abort"), ([F10], 3, 0, "F10 and the end"),
+    ]:
+        _, fine, _, kept = answered(keys, size, age)
+        check(f"a file stays after {what}", fine and kept)
+    _, fine, copied, _ = answered([b"y"], link="nowhere")
+    check("a link is replaced as a file is, and not what it leads to", fine and copied and not os.path.exists(os.path.join(target, "nowhere")))
+
+    for keys, left in [
+        ([b"y", b"n"], "xo"), ([b"n", b"y"], "oy"), ([b"a"], "xy"), ([b"n", b"a"], "oy"), ([b"o"], "oo"), ([b"u"], "xo"), ([b"s"], "oy"), ([b"y", b"b"], "xo"),
+    ]:
+        for name, size, old_size, age in [("x", 9, 9, 100), ("y", 7, 3, -100)]:
+            make_file(os.path.join(source, name), size, 0o640)
+            make_file(os.path.join(target, name), old_size, 0o600)
+            os.utime(os.path.join(target, name), (os.stat(new).st_mtime - age,) * 2)
+        status, _, same = run(program, [source, target], [DOWN, INSERT, INSERT, F5, ENTER, ENTER] + keys + [F10])
+        modes = [facts(os.path.join(target, name))[1] for name in "xy"]
+        wanted = [0o600 if what == "o" else 0o640 for what in left]
+        what = " ".join(key.decode() for key in keys)
+        check(f"of two files those are replaced that {what} says", status == 0 and same and modes == wanted and sorted(os.listdir(target)) == ["x", "y"])
+    for folder in (source, target):
+        os.remove(os.path.join(folder, "y"))
+
+    os.remove(there)
+    os.mkdir(there)
+    make_file(new, 9, 0o640)
+    status, told, _ = run(program, [source, target], COPY + [b"s", F10])
+    check("a folder at the target is no question", status == 0 and b"target is of another kind" in told and os.path.isdir(there))
+
+
 def check_copied_folders(program, base, check):
     """Folders and links are copied by keys, with all that lies in them and nothing that a link leads to."""
     source, target, ways = (os.path.join(base, f"{what} of folders") for what in ("source", "target", "ways"))
@@ -95,7 +156,7 @@ def check_copied_folders(program, base, check):
     status, _, same = run(program, [source, target], COPY + [F10])
     check("a folder is copied with all that lies in it", status == 0 and same and os.listdir(target) == ["top"] and things_at(os.path.join(target, "top")) == before)
     check("and stays as it was", things_at(source)[1] == {"top": before})
-    for words, keys in [(b"inside itself", [source, top]), (b"already there", [source, target]), (b"same file", [source, source])]:
+    for words, keys in [(b"inside itself", [source, top]), (b"target is of another kind", [source, target]), (b"same file", [source, source])]:
         status, told, _ = run(program, keys, COPY + [ENTER, F10, F10])
         check(f"a folder is not copied: {words.decode()}", status == 0 and words in told and things_at(top) == before and os.listdir(target) == ["top"])
     status, told, _ = run(program, [source, target], [F5, ENTER, DOWN, F5, EMPTY + b"*", ENTER, EMPTY + b"../ways of folders/\\0.\\0", ENTER, F10])
@@ -128,8 +189,8 @@ def check_copied_folders(program, base, check):
         os.chmod(os.path.join(target, "top"), 0o700)
         shutil.rmtree(target)
     os.mkdir(target)
-    status, told, _ = run(program, [source, target], [END, F5, F10])
-    check("F5 on a pipe does nothing", status == 0 and told.screens[2].rows() == told.screens[1].rows() and os.listdir(target) == [])
+    status, told, _ = run(program, [source, target], [END, F5, ENTER, ENTER, b"s", F10])
+    check("a pipe is not copied", status == 0 and b"special file" in told and os.listdir(target) == [])
     for folder in own + [os.path.join(base, "source of pipes")]:
         for path, _, _ in os.walk(folder):
             os.chmod(path, 0o700)

@@ -33,7 +33,7 @@ def check_several_copies(program, base, check):
     check("all that is tagged is copied", status == 0 and same and things_at(target)[1] == before)
     check("and stays as it was", things_at(source)[1] == before)
     status, told, _ = run(program, [source, target], tag + [F5, ENTER, ENTER, ENTER, F10, F10])
-    check("nothing is copied where one target is taken", status == 0 and b"already there" in told and things_at(target)[1] == before)
+    check("nothing that is there is replaced where several are copied", status == 0 and b"target is of another kind" in told and things_at(target)[1] == before)
 
     target = folder_with(base, "some of several", {})
     status, _, _ = run(program, [source, target], tag + [F5, EMPTY + b"*.c", ENTER, EMPTY + b"../some of several/\\1.old", ENTER, F10])

@@ -9,7 +9,7 @@ import sys
 import tempfile
 
 from job_checks import (
-    check_copied_folders, check_copies, check_folders, check_kept_folder, check_links, check_modes,
+    check_copied_folders, check_copies, check_folders, check_kept_folder, check_links, check_modes, check_questions,
     check_new_folders, check_set_id_bits,
 )
 from panel_box_checks import check_big_home, check_panel_boxes
@@ -52,6 +52,7 @@ def main():
         check_folders(program, base, check)
         check_kept_folder(program, base, check)
         check_copies(program, base, check)
+        check_questions(program, base, check)
         check_copied_folders(program, base, check)
         check_several_things(program, base, check)
         check_frames(program, base, check)

@@ -1,6 +1,6 @@
 //! The words of rows.
-use job_answers::{Answer, Then};
-use job_reports::{AnswerError, Cause};
+use job_answers::Then;
+use job_reports::{Answer, AnswerError, Cause};
 use mc_text::Kind;
 use tree_trait::TreeError;
 

@@ -4,15 +4,17 @@ use Rattle.key_screen.specs.declared.keys.Key.{Key}
 use Rattle.key_screen.specs.declared.keys.Base.{Base}
 use Rattle.key_screen.specs.declared.keys.Base.TheVariants.{Enter, Escape}
 use Rattle.job_reports.specs.declared.answer.Answer.{Answer}
-use Rattle.job_reports.specs.declared.answer.Answer.TheVariants.{Retry, Skip, SkipAll, Abort}
+use Rattle.job_reports.specs.declared.answer.Answer.TheVariants.{Yes, No, All, Update, Nothing, SizeDiffers, Retry, Skip, SkipAll, Abort}
+use Rattle.job_reports.specs.declared.waits.Waits.{Waits}
+use Rattle.job_reports.specs.declared.waits.Waits.TheVariants as waits
 use Rattle.mc_dialogs.specs.declared.shut.Shut.{Shut}
 use Rattle.mc_dialogs.specs.declared.shut.Shut.TheVariants.{Stay, Closed}
 use Rattle.mc_dialogs.specs.declared.shut.Reply.TheVariants.{Line, Letter, Mode}
 use Rattle.mc_dialogs.specs.QuestionKeys.{letters_shut}
 use Rattle.box_words.specs.declared.replies.DeleteReply.{DeleteReply}
 use Rattle.box_words.specs.declared.replies.DeleteReply.TheVariants as delete
-use Rattle.box_words.specs.declared.replies.TroubleReply.{TroubleReply}
-use Rattle.box_words.specs.declared.replies.TroubleReply.TheVariants as trouble
+use Rattle.box_words.specs.declared.replies.AnswerReply.{AnswerReply}
+use Rattle.box_words.specs.declared.replies.AnswerReply.TheVariants as answer
 use Rattle.box_words.specs.declared.replies.LineReply.{LineReply}
 use Rattle.box_words.specs.declared.replies.LineReply.TheVariants as line
 use Rattle.box_words.specs.declared.replies.ModeReply.{ModeReply}
@@ -32,24 +34,44 @@ delete_reply (Closed other) = delete.Shuts
 abbrev pub delete_reply_to : Key → DeleteReply
 delete_reply_to key = delete_reply (letters_shut delete_letters key)
 
+-- the letters of a question: `y`, `n`, `a`, `u`, `o`, `s` and `b`
+abbrev pub question_letters : List ℕ
+question_letters = 121 ∷ 110 ∷ 97 ∷ 117 ∷ 111 ∷ 115 ∷ 98 ∷ []
+
 -- the letters of a trouble: `r`, `s`, `a` and `b`, and at a barrier, where nothing can be skipped, `r` and `b`
 abbrev pub trouble_letters : Bool → List ℕ
 trouble_letters true = 114 ∷ 98 ∷ []
 trouble_letters false = 114 ∷ 115 ∷ 97 ∷ 98 ∷ []
 
+-- the letters by which is answered what a job waits with
+abbrev pub waits_letters : Waits → List ℕ
+waits_letters (waits.Question question) = question_letters
+waits_letters (waits.Trouble trouble) = trouble_letters trouble.barrier
+
+-- what is answered to a question by such a letter
+abbrev pub question_answer : ℕ → Answer
+question_answer letter =
+    if letter == 121 then Yes else if letter == 110 then No else if letter == 97 then All else
+    if letter == 117 then Update else if letter == 111 then Nothing else if letter == 115 then SizeDiffers else Abort
+
 -- what is done about a trouble by such a letter
-abbrev pub letter_answer : ℕ → Answer
-letter_answer letter = if letter == 114 then Retry else if letter == 115 then Skip else if letter == 97 then SkipAll else Abort
+abbrev pub trouble_answer : ℕ → Answer
+trouble_answer letter = if letter == 114 then Retry else if letter == 115 then Skip else if letter == 97 then SkipAll else Abort
 
--- what the answer of a trouble's box comes to
-abbrev pub trouble_reply : Shut → TroubleReply
-trouble_reply Stay = trouble.Stays
-trouble_reply (Closed (Letter letter)) = trouble.Gives (letter_answer letter)
-trouble_reply (Closed other) = trouble.Shuts
+-- what such a letter answers
+abbrev pub letter_answer : Waits → ℕ → Answer
+letter_answer (waits.Question question) letter = question_answer letter
+letter_answer (waits.Trouble trouble) letter = trouble_answer letter
 
--- a key while a trouble is shown
-abbrev pub trouble_reply_to : Bool → Key → TroubleReply
-trouble_reply_to barrier key = trouble_reply (letters_shut (trouble_letters barrier) key)
+-- what the answer of the box comes to that tells what a job waits with
+abbrev pub answer_reply : Waits → Shut → AnswerReply
+answer_reply waits Stay = answer.Stays
+answer_reply waits (Closed (Letter letter)) = answer.Gives (letter_answer waits letter)
+answer_reply waits (Closed other) = answer.Shuts
+
+-- a key while that box is shown
+abbrev pub answer_reply_to : Waits → Key → AnswerReply
+answer_reply_to waits key = answer_reply waits (letters_shut (waits_letters waits) key)
 
 -- what the answer of an input line comes to. Until jobs run in the background it closes as Enter does by meta with `b` too
 abbrev pub line_reply : Shut → LineReply

@@ -3,7 +3,10 @@ use Rattle.std.specs.Prelude.{ℕ, ◌%◌, Bool, true, false, List, [], ◌∷�
 use Rattle.std.specs.Option.{option_map_or}
 use Rattle.std.specs.Fmt.{decimal}
 use Rattle.mc_text.specs.Routes.{Route, path_text, spelled}
+use Rattle.job_reports.specs.declared.question.Question.{Question}
 use Rattle.job_reports.specs.declared.report.Trouble.{Trouble}
+use Rattle.job_reports.specs.declared.waits.Waits.{Waits}
+use Rattle.job_reports.specs.declared.waits.Waits.TheVariants as waits
 use Rattle.resolving.specs.declared.error.ResolveError.{ResolveError}
 use Rattle.resolving.specs.declared.error.ResolveError.TheVariants as resolve
 use Rattle.session_history.specs.declared.refusal.PlanError.{PlanError}
@@ -73,6 +76,17 @@ message_lines Help =
 abbrev pub delete_lines : ℕ → List (List ℕ)
 delete_lines count = (codes "Delete " ++ (decimal count ++ codes " things?")) ∷ codes "y Delete  g Background  n No" ∷ []
 
+-- the sizes of the source and of what stands at the target
+abbrev pub sizes_line : Question → List ℕ
+sizes_line question =
+    codes "source " ++ (decimal question.source_size ++ (codes " bytes, target " ++ (decimal question.target_size ++ codes " bytes")))
+
+-- the lines of a question's box: the target, both sizes, and the letters that answer, with their words
+abbrev pub question_lines : Question → List (List ℕ)
+question_lines question =
+    codes "Target exists" ∷ path_text question.target ∷ sizes_line question
+    ∷ codes "y Yes  n No  a All  u Update" ∷ codes "o None  s Size differs  b Abort" ∷ []
+
 -- the letters that answer a trouble, with their words: at a barrier nothing can be skipped
 abbrev pub trouble_letter_words : Bool → List ℕ
 trouble_letter_words true = codes "r Retry  b Abort"
@@ -81,6 +95,11 @@ trouble_letter_words false = codes "r Retry  s Skip  a Skip all  b Abort"
 -- the lines of a trouble's box; the path's is empty where there is none
 abbrev pub trouble_lines : Trouble → List (List ℕ)
 trouble_lines trouble = trouble_words trouble.cause ∷ option_map_or path_text trouble.path [] ∷ trouble_letter_words trouble.barrier ∷ []
+
+-- the lines of the box that tells what a job waits with
+abbrev pub waits_lines : Waits → List (List ℕ)
+waits_lines (waits.Question question) = question_lines question
+waits_lines (waits.Trouble trouble) = trouble_lines trouble
 
 -- the line that asks for the source mask, as it opens
 abbrev pub mask_line : InputState

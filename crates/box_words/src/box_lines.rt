@@ -2,11 +2,11 @@
 ghost use Rattle.std.specs.Prelude.{◌≡◌, ◌∷◌, ◌++◌, [], IfOk};
 ghost use Rattle.std.specs.Option.{option_map_or};
 ghost use Rattle.mc_text.specs.Routes.{path_text as path_text_of};
-ghost use Rattle.box_words.specs.BoxLines.{delete_lines as lines_of_deletion, folder_line as line_of_folder, link_name_line as line_of_link_name, link_text_line as line_of_link_text, mask_line as line_of_mask, message_lines as lines_of_message, mode_box as box_of_mode, path_lines, plan_path, resolve_path, target_line as line_of_target, target_text as text_of_target, thing_text as text_of_thing, trouble_letter_words, trouble_lines as lines_of_trouble};
+ghost use Rattle.box_words.specs.BoxLines.{delete_lines as lines_of_deletion, folder_line as line_of_folder, link_name_line as line_of_link_name, link_text_line as line_of_link_text, mask_line as line_of_mask, message_lines as lines_of_message, mode_box as box_of_mode, path_lines, plan_path, question_lines as lines_of_question, resolve_path, sizes_line as line_of_sizes, target_line as line_of_target, target_text as text_of_target, thing_text as text_of_thing, trouble_letter_words, trouble_lines as lines_of_trouble, waits_lines as lines_of_waits};
 
 use crate::causes::{refusal_text, trouble_text};
 use crate::message::Message;
-use job_reports::Trouble;
+use job_reports::{Question, Trouble, Waits};
 use mc_dialogs::{InputLine, ModeBox};
 use mc_text::{Name, NoMemory, Path, Rows, Text};
 use resolving::ResolveError;
@@ -34,8 +34,40 @@ pub fn delete_lines(alloc: Global, count: usize) -> Result<Rows, NoMemory>
     Ok(lines)
 }
 
+/// The lines of the box that tells what a job waits with.
+pub fn waits_lines(alloc: Global, waits: &Waits) -> Result<Rows, NoMemory>
+    ensures { IfOk result (λ lines. lines ≡ lines_of_waits waits.now) }
+{
+    match waits {
+        Waits::Question(question) => question_lines(alloc, question),
+        Waits::Trouble(trouble) => trouble_lines(alloc, trouble),
+    }
+}
+
+/// The lines of a question's box.
+fn question_lines(alloc: Global, question: &Question) -> Result<Rows, NoMemory>
+    ensures { IfOk result (λ lines. lines ≡ lines_of_question question.now) }
+{
+    let mut lines = Rows::new(alloc);
+    lines.push(Text::from_str(alloc, "Target exists")?)?;
+    lines.push(question.target.text(alloc)?)?;
+    lines.push(sizes_line(alloc, question)?)?;
+    lines.push(Text::from_str(alloc, "y Yes  n No  a All  u Update")?)?;
+    lines.push(Text::from_str(alloc, "o None  s Size differs  b Abort")?)?;
+    Ok(lines)
+}
+
+/// The sizes of the source and of what stands at the target.
+fn sizes_line(alloc: Global, question: &Question) -> Result<Text, NoMemory>
+    ensures { IfOk result (λ text. text ≡ line_of_sizes question.now) }
+{
+    let source = question.source_size;
+    let target = question.target_size;
+    Ok(Text(format!(in alloc; "source {source} bytes, target {target} bytes")?))
+}
+
 /// The lines of a trouble's box; the path's is empty where there is none.
-pub fn trouble_lines(alloc: Global, trouble: &Trouble) -> Result<Rows, NoMemory>
+fn trouble_lines(alloc: Global, trouble: &Trouble) -> Result<Rows, NoMemory>
     ensures { IfOk result (λ lines. lines ≡ lines_of_trouble trouble.now) }
 {
     let mut lines = Rows::new(alloc);

@@ -9,12 +9,12 @@ mod replies;
 
 pub use box_lines::{
     delete_lines, folder_line, link_name_line, link_text_line, mask_line, message_lines, mode_box,
-    target_line, thing_text, trouble_lines,
+    target_line, thing_text, waits_lines,
 };
 pub use causes::{cause_text, resolve_text};
 pub use chosen::Chosen;
 pub use message::Message;
 pub use replies::{
-    DeleteReply, LineReply, ModeReply, TroubleReply, closes_message, delete_reply_to, line_reply,
-    mode_reply, trouble_reply_to,
+    AnswerReply, DeleteReply, LineReply, ModeReply, answer_reply_to, closes_message,
+    delete_reply_to, line_reply, mode_reply,
 };

@@ -1,8 +1,8 @@
 //! What the boxes' answers to a key come to.
 ghost use Rattle.std.specs.Prelude.{◌≡◌};
-ghost use Rattle.box_words.specs.BoxKeys.{closes_message as does_close, delete_letters, delete_reply as delete_reply_of, delete_reply_to as deletes_by, letter_answer, line_reply as line_reply_of, mode_reply as mode_reply_of, trouble_letters as letters_of, trouble_reply as trouble_reply_of, trouble_reply_to as answers_by};
+ghost use Rattle.box_words.specs.BoxKeys.{answer_reply as answer_reply_of, answer_reply_to as answers_by, closes_message as does_close, delete_letters, delete_reply as delete_reply_of, delete_reply_to as deletes_by, letter_answer, line_reply as line_reply_of, mode_reply as mode_reply_of, question_answer, trouble_answer, trouble_letters as letters_of_trouble, waits_letters as letters_of};
 
-use job_reports::Answer;
+use job_reports::{Answer, Waits};
 use key_screen::{Base, Key};
 use mc_dialogs::{Reply, Shut, answer_by_letters};
 use mc_text::Text;
@@ -18,9 +18,9 @@ pub enum DeleteReply {
     Deletes,
 }
 
-/// What becomes of the box of a trouble.
+/// What becomes of the box that tells what a job waits with.
 #[derive(Clone, Copy, Debug, Drop, PartialEq, Eq)]
-pub enum TroubleReply {
+pub enum AnswerReply {
     Stays,
     Shuts,
     Gives(Answer),
@@ -60,31 +60,64 @@ fn delete_reply(shut: Shut) -> DeleteReply
     }
 }
 
-/// What a key makes of a trouble's box. At a barrier nothing can be skipped.
-pub fn trouble_reply_to(at_barrier: bool, key: Key) -> TroubleReply
-    ensures { result ≡ answers_by at_barrier key }
+/// What a key makes of the box that tells what a job waits with.
+pub fn answer_reply_to(waits: &Waits, key: Key) -> AnswerReply
+    ensures { result ≡ answers_by waits.now key }
 {
-    trouble_reply(answer_by_letters(trouble_letters(at_barrier), key))
+    answer_reply(waits, answer_by_letters(waits_letters(waits), key))
 }
 
+fn waits_letters(waits: &Waits) -> &'static [u8]
+    ensures { result.now ≡ letters_of waits.now }
+{
+    match waits {
+        Waits::Question(_) => b"ynauosb",
+        Waits::Trouble(trouble) => trouble_letters(trouble.barrier),
+    }
+}
+
+/// At a barrier nothing can be skipped.
 fn trouble_letters(at_barrier: bool) -> &'static [u8]
-    ensures { result.now ≡ letters_of at_barrier }
+    ensures { result.now ≡ letters_of_trouble at_barrier }
 {
     if at_barrier { b"rb" } else { b"rsab" }
 }
 
-fn trouble_reply(shut: Shut) -> TroubleReply
-    ensures { result ≡ trouble_reply_of shut }
+fn answer_reply(waits: &Waits, shut: Shut) -> AnswerReply
+    ensures { result ≡ answer_reply_of waits.now shut }
 {
     match shut {
-        Shut::Stay => TroubleReply::Stays,
-        Shut::Closed(Reply::Letter(letter)) => TroubleReply::Gives(answer_of(letter)),
-        Shut::Closed(_) => TroubleReply::Shuts,
+        Shut::Stay => AnswerReply::Stays,
+        Shut::Closed(Reply::Letter(letter)) => AnswerReply::Gives(answer_of(waits, letter)),
+        Shut::Closed(_) => AnswerReply::Shuts,
     }
 }
 
-fn answer_of(letter: u8) -> Answer
-    ensures { result ≡ letter_answer letter }
+fn answer_of(waits: &Waits, letter: u8) -> Answer
+    ensures { result ≡ letter_answer waits.now letter }
+{
+    match waits {
+        Waits::Question(_) => question_answer(letter),
+        Waits::Trouble(_) => trouble_answer(letter),
+    }
+}
+
+fn question_answer(letter: u8) -> Answer
+    ensures { result ≡ question_answer letter }
+{
+    match letter {
+        b'y' => Answer::Yes,
+        b'n' => Answer::No,
+        b'a' => Answer::All,
+        b'u' => Answer::Update,
+        b'o' => Answer::Nothing,
+        b's' => Answer::SizeDiffers,
+        _ => Answer::Abort,
+    }
+}
+
+fn trouble_answer(letter: u8) -> Answer
+    ensures { result ≡ trouble_answer letter }
 {
     match letter {
         b'r' => Answer::Retry,

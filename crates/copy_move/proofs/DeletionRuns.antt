@@ -14,7 +14,7 @@ use Rattle.job_reports.specs.declared.report.Trouble.{Trouble}
 use Rattle.job_reports.specs.declared.report.Ending.{Ending}
 use Rattle.job_reports.specs.declared.report.Ending.TheVariants.{Finished, Aborted, Killed, NoMemory}
 use Rattle.job_reports.specs.declared.report.Did.{Did}
-use Rattle.job_reports.specs.declared.report.Did.TheVariants.{Began, Chunk, Placed, Removed, Made, Set, Kept, Skipped, Cleaned, Barrier, Troubled, Ended}
+use Rattle.job_reports.specs.declared.report.Did.TheVariants.{Began, Chunk, Placed, Removed, Made, Set, Kept, Skipped, Cleaned, Barrier, Asked, Troubled, Ended}
 use Rattle.job_reports.specs.Paths.{folder_of, without}
 use Rattle.job_reports.specs.Reports.{IsFault}
 use Rattle.job_reports.specs.Stops.{cause_of, out_of_memory_at, sync_answer, trouble_at}
@@ -87,6 +87,7 @@ met_by course P (Troubled trouble) none p h = h
 met_by course P (Skipped path cause) none p h = absurd (none path cause p)
 met_by course P (Began part) none p h = h
 met_by course P (Chunk count) none p h = h
+met_by course P (Asked question) none p h = h
 met_by course P (Set path) none p h = h
 met_by course P (Placed path) none p h = h
 met_by course P (Removed path) none p h = h
@@ -107,6 +108,7 @@ module _ (m : Deletion) (tried : ℕ) (skips : Kinds) (holds : parent_of m.path 
   sync_tells (Ended NoMemory part) (ending, part_is, none, same, after_is) = absurd (let f : ⊥ = cc in f)
   sync_tells (Began part) s = absurd s
   sync_tells (Chunk count) s = absurd s
+  sync_tells (Asked question) s = absurd s
   sync_tells (Set path) s = absurd s
   sync_tells (Placed path) s = absurd s
   sync_tells (Made path) s = absurd s
@@ -121,6 +123,7 @@ module _ (m : Deletion) (tried : ℕ) (skips : Kinds) (holds : parent_of m.path 
   sync_calls (Ended ending part) (ending_is, part_is, none, same, after_is) log known = after_is ∙ known
   sync_calls (Began part) s log known = absurd s
   sync_calls (Chunk count) s log known = absurd s
+  sync_calls (Asked question) s log known = absurd s
   sync_calls (Set path) s log known = absurd s
   sync_calls (Placed path) s log known = absurd s
   sync_calls (Made path) s log known = absurd s
@@ -138,6 +141,7 @@ module _ (m : Deletion) (tried : ℕ) (skips : Kinds) (holds : parent_of m.path 
   sync_leaves (Ended ending part) (ending_is, part_is, none, same, after_is) = (subst (λ up. Rattle.tree_deletion.specs.Folders.NoneOf up m.path dirty) (folder_is m.path m.folder holds) none, same)
   sync_leaves (Began part) s = absurd s
   sync_leaves (Chunk count) s = absurd s
+  sync_leaves (Asked question) s = absurd s
   sync_leaves (Set path) s = absurd s
   sync_leaves (Placed path) s = absurd s
   sync_leaves (Made path) s = absurd s
@@ -154,6 +158,7 @@ module _ (m : Deletion) (tried : ℕ) (skips : Kinds) (holds : parent_of m.path 
   no_progress (Ended ending part) s h = false≢true h
   no_progress (Began part) s h = s
   no_progress (Chunk count) s h = s
+  no_progress (Asked question) s h = s
   no_progress (Set path) s h = s
   no_progress (Placed path) s h = s
   no_progress (Made path) s h = s
@@ -220,6 +225,7 @@ module _ (m new : Deletion) (tried : ℕ) (skips : Kinds) (holds : parent_of m.p
     work_tells (Troubled trouble) (barrier, a) = (barrier ∙ sym going, record { path_is = a.path_is ∙ on.path_is; stage_is = a.stage_is ∙ on.stage_is; tried_is = refl; skips_is = refl })
     work_tells (Began part) w = absurd w
     work_tells (Chunk count) w = absurd w
+    work_tells (Asked question) w = absurd w
     work_tells (Set path) w = absurd w
     work_tells (Placed path) w = absurd w
     work_tells (Made path) w = absurd w
@@ -234,6 +240,7 @@ module _ (m new : Deletion) (tried : ℕ) (skips : Kinds) (holds : parent_of m.p
     work_keeps (Troubled trouble) (barrier, a) = (a.path_is ∙ on.path_is, a.folder_is ∙ on.folder_is)
     work_keeps (Began part) w = absurd w
     work_keeps (Chunk count) w = absurd w
+    work_keeps (Asked question) w = absurd w
     work_keeps (Set path) w = absurd w
     work_keeps (Placed path) w = absurd w
     work_keeps (Made path) w = absurd w
@@ -249,6 +256,7 @@ module _ (m new : Deletion) (tried : ℕ) (skips : Kinds) (holds : parent_of m.p
     work_calls (Troubled trouble) log after w (inr (e, is, saw, h)) = inr (e, inl (ap (λ (t : Trouble). t.cause) is), removal_refused (item mid) log e after h)
     work_calls (Began part) log after w h = absurd w
     work_calls (Chunk count) log after w h = absurd w
+    work_calls (Asked question) log after w h = absurd w
     work_calls (Set path) log after w h = absurd w
     work_calls (Placed path) log after w h = absurd w
     work_calls (Made path) log after w h = absurd w
@@ -264,6 +272,7 @@ module _ (m new : Deletion) (tried : ℕ) (skips : Kinds) (holds : parent_of m.p
     work_leaves (Troubled trouble) dirty dirty_after before after w leaves called = leaves
     work_leaves (Began part) dirty dirty_after before after w leaves called = absurd w
     work_leaves (Chunk count) dirty dirty_after before after w leaves called = absurd w
+    work_leaves (Asked question) dirty dirty_after before after w leaves called = absurd w
     work_leaves (Set path) dirty dirty_after before after w leaves called = absurd w
     work_leaves (Placed path) dirty dirty_after before after w leaves called = absurd w
     work_leaves (Made path) dirty dirty_after before after w leaves called = absurd w
@@ -294,6 +303,7 @@ module _ (m new : Deletion) (tried : ℕ) (skips : Kinds) (holds : parent_of m.p
     fewer_worked (Made path) falls w h = falls h
     fewer_worked (Began part) falls w h = falls h
     fewer_worked (Chunk count) falls w h = falls h
+    fewer_worked (Asked question) falls w h = falls h
     fewer_worked (Set path) falls w h = falls h
     fewer_worked (Placed path) falls w h = falls h
     fewer_worked (Cleaned part) falls w h = falls h
@@ -371,6 +381,7 @@ passed_is skips (Kept path) cause is = absurd (let f : ⊥ = cc in f)
 passed_is skips (Made path) cause is = absurd (let f : ⊥ = cc in f)
 passed_is skips (Began part) cause is = absurd (let f : ⊥ = cc in f)
 passed_is skips (Chunk count) cause is = absurd (let f : ⊥ = cc in f)
+passed_is skips (Asked question) cause is = absurd (let f : ⊥ = cc in f)
 passed_is skips (Set path) cause is = absurd (let f : ⊥ = cc in f)
 passed_is skips (Placed path) cause is = absurd (let f : ⊥ = cc in f)
 passed_is skips (Skipped path why) cause is = absurd (let f : ⊥ = cc in f)
@@ -558,6 +569,7 @@ module _ (ending : Ending) (m : Deletion) (from next : ℕ) (skips : Kinds) (hol
   }
   by_did (Began part) s t = absurd t
   by_did (Chunk count) s t = absurd t
+  by_did (Asked question) s t = absurd t
   by_did (Set path) s t = absurd t
   by_did (Placed path) s t = absurd t
   by_did (Made path) s t = absurd t

@@ -5,13 +5,14 @@ use Rattle.mc_text.specs.Routes.{Route}
 use Rattle.job_reports.specs.declared.report.Ending.{Ending}
 use Rattle.job_reports.specs.declared.report.Ending.TheVariants.{Finished, Aborted, Killed, NoMemory}
 use Rattle.job_reports.specs.declared.report.Did.{Did}
-use Rattle.job_reports.specs.declared.report.Did.TheVariants.{Began, Chunk, Placed, Removed, Made, Set, Kept, Skipped, Cleaned, Barrier, Troubled, Ended}
+use Rattle.job_reports.specs.declared.report.Did.TheVariants.{Began, Chunk, Placed, Removed, Made, Set, Kept, Skipped, Cleaned, Barrier, Asked, Troubled, Ended}
 use Rattle.file_copy.specs.declared.stage.Stage.{Stage}
 use Rattle.file_copy.specs.declared.stage.Stage.TheVariants.{Begin, Fill, Clean, Left, Decided}
 use Rattle.file_copy.specs.declared.stage.Next.TheVariants as next
 use Rattle.file_copy.specs.declared.stage.FolderState.{FolderState}
 use Rattle.file_copy.specs.declared.stage.FolderState.TheVariants.{Synced, Dirty}
-use Rattle.file_copy.specs.Copying.{Copying, IsSound, Tells, after_clean}
+use Rattle.file_copy.specs.AskedCopies.{AskedTells}
+use Rattle.file_copy.specs.Copying.{Copying, IsSound, after_clean}
 use Rattle.file_copy.specs.Copying as copying
 use Rattle.file_copy.specs.LastSteps.{GoesDown, Winds, last_steps}
 use Rattle.copy_move.specs.declared.making.MakingStage.{MakingStage}
@@ -33,6 +34,9 @@ begins_below most size fits = omega (arith, fits)
 
 some_more : (most : ℕ) → 3 < most + 8
 some_more most = omega arith
+
+low_below : (most low : ℕ) → low ≤ 5 → low < most + 8
+low_below most low few = omega (arith, few)
 
 some_more_yet : (most : ℕ) → 3 < most + 9
 some_more_yet most = omega arith
@@ -76,13 +80,16 @@ cleaned_below : (part : Route) (follows : _) (folder : FolderState) → copy_ran
 cleaned_below part next.Begin folder = one_less (2 ^ 63)
 cleaned_below part next.Decided folder = let low = decided_low folder in omega (arith, low)
 
-pub copy_falls : (old new : Copying) (did : Did) → Tells old did new → IsSound new.stage new.folder → ends did ≡ false → rank_on (course_after did) (Copy new) < work_rank (Copy old)
+pub copy_falls : (old new : Copying) (did : Did) → AskedTells old did new → IsSound new.stage new.folder → ends did ≡ false → rank_on (course_after did) (Copy new) < work_rank (Copy old)
 copy_falls old new (Began part) t sound h =
     let facts = t.1.0 in
     let range = subst (λ (n : Copying). IsSound n.stage n.folder) t.1.1 sound in
     below old new Begin (record old { stage = Fill part facts 0; folder = Dirty }) t.0 t.1.1 (begins_below (2 ^ 63) facts.size range.1)
 copy_falls old new (Chunk count) (part, facts, done, at, some, few, within, is) sound h =
     below old new (Fill part facts done) (record old { stage = Fill part facts (done + count) }) at is (omega (arith, some, within))
+copy_falls old new (Asked question) (at, is) sound h =
+    subst (λ (n : Copying). last_steps n.stage n.folder < copy_rank old.stage old.folder) (sym is)
+    (let few = few_last old.stage old.folder in let more = more_left old.stage old.folder in omega (arith, few, more))
 copy_falls old new (Set path) t sound h = absurd t
 copy_falls old new (Placed path) (part, facts, at, target, is) sound h =
     below old new (Fill part facts facts.size) (record old { stage = Decided }) at is (let low = decided_low old.folder in omega (arith, low))
@@ -100,7 +107,8 @@ copy_falls old new (Ended Killed part) t sound h = absurd t
 copy_falls old new (Ended NoMemory part) t sound h = absurd t
 copy_falls old new (Removed path) t sound h = absurd t
 copy_falls old new (Made made) t sound h = absurd t
-copy_falls old new (Kept path) t sound h = absurd t
+copy_falls old new (Kept path) (at, target, is) sound h =
+    below old new Begin (record old { stage = Decided }) at is (low_below (2 ^ 63) (copy_rank Decided old.folder) (decided_low old.folder))
 copy_falls old new (Skipped path cause) t sound h = absurd t
 
 tried_low : (stage : MakingStage) → last_making_steps stage < making_rank stage
@@ -142,6 +150,7 @@ making_falls old new (Ended Killed part) t h = absurd t
 making_falls old new (Ended NoMemory part) t h = absurd t
 making_falls old new (Began part) t h = absurd t
 making_falls old new (Chunk count) t h = absurd t
+making_falls old new (Asked question) t h = absurd t
 making_falls old new (Set path) t h = absurd t
 making_falls old new (Placed path) t h = absurd t
 making_falls old new (Removed made) t h = absurd t
@@ -156,6 +165,7 @@ last_copy_falls ending old new (Cleaned part) w falls h = falls
 last_copy_falls ending old new Barrier w falls h = falls
 last_copy_falls ending old new (Began part) w falls h = absurd w
 last_copy_falls ending old new (Chunk count) w falls h = absurd w
+last_copy_falls ending old new (Asked question) w falls h = absurd w
 last_copy_falls ending old new (Set path) w falls h = absurd w
 last_copy_falls ending old new (Placed path) w falls h = absurd w
 last_copy_falls ending old new (Removed path) w falls h = absurd w
@@ -170,6 +180,7 @@ last_making_falls ending old new Barrier (at, is) h =
 last_making_falls ending old new (Ended how part) w h = absurd cc
 last_making_falls ending old new (Began part) w h = absurd w
 last_making_falls ending old new (Chunk count) w h = absurd w
+last_making_falls ending old new (Asked question) w h = absurd w
 last_making_falls ending old new (Set path) w h = absurd w
 last_making_falls ending old new (Placed path) w h = absurd w
 last_making_falls ending old new (Made path) w h = absurd w

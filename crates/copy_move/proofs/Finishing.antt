@@ -1,9 +1,10 @@
--- What the step that finishes a source leaves: it makes no call, no folder gets dirty or clean by it, and its number, its part and what it passes over stay.
+-- What the step that finishes a source leaves: it makes no call, no folder gets dirty or clean by it, and its number, its part, what it passes over and what was answered stay.
 use Rattle.std.proofs.Common.{◌≡◌, ℕ, Bool, true, false, refl, sym, ◌∙◌, ap, subst, inl, inr, List, Option, Some, None}
 use Rattle.std.specs.Option.{option_map}
 use Rattle.mc_text.specs.Routes.{Route}
 use Rattle.tree_trait.specs.Change.{CallLog}
 use Rattle.tree_trait.specs.Answers.{IfKnown}
+use Rattle.job_answers.specs.declared.replies.Replies.{Replies}
 use Rattle.job_answers.specs.declared.skips.Skips.{Skips as SkippedKinds}
 use Rattle.job_reports.specs.declared.job.Job.{Job}
 use Rattle.job_reports.specs.declared.report.Cause.{Cause}
@@ -18,7 +19,7 @@ use Rattle.subtree_copy.proofs.Finishes.{finish_is_still}
 use Rattle.tree_deletion.specs.Folders as folders
 use Rattle.copy_move.specs.Makings as makings
 use Rattle.copy_move.specs.declared.run.Course.{Course}
-use Rattle.copy_move.specs.declared.run.Course.TheVariants.{GoesOn, InTrouble, OwedSyncFailed, Skips, Ends}
+use Rattle.copy_move.specs.declared.run.Course.TheVariants.{GoesOn, Asking, InTrouble, OwedSyncFailed, Skips, Ends}
 use Rattle.copy_move.specs.declared.work.Work.{Work}
 use Rattle.copy_move.specs.declared.work.Work.TheVariants.{Copy, CopyTree, Delete, Make, SetMode}
 use Rattle.copy_move.specs.Jobs.{CallsOn, Running, TellsOn, WorkCalls, WorkTells, WorkWinds, first_work, part_of, passing_over, skips_of}
@@ -34,6 +35,7 @@ pub record Finishes (job new : Running) (part : Option Route) (dirty dirty_after
   pub none : part ≡ None
   pub number : new.id ≡ job.id
   pub skips : skips_of new.work ≡ skips_of job.work
+  pub replies : new.replies ≡ job.replies
   pub stays : part_of new.work ≡ part_of job.work
   pub list : dirty_after ≡ dirty
   pub log : (log : CallLog) → before ≡ Some log → after ≡ Some log
@@ -67,21 +69,21 @@ work_stays (SetMode s) (Delete new) part h = absurd h
 work_stays (SetMode s) (Make new) part h = absurd h
 
 -- it makes no call
-work_calls : (unclaimed : Route → Type 0) (old new : Work) (part : Option Route) (log : CallLog) (after : Option CallLog) → WorkCalls unclaimed old (Ended Finished part) new log after → after ≡ Some log
-work_calls unclaimed (Copy c) (Copy new) part log after h = h
-work_calls unclaimed (CopyTree c) (CopyTree new) part log after h =
+work_calls : (unclaimed : Route → Type 0) (replies : Replies) (old new : Work) (part : Option Route) (log : CallLog) (after : Option CallLog) → WorkCalls unclaimed replies old (Ended Finished part) new log after → after ≡ Some log
+work_calls unclaimed replies (Copy c) (Copy new) part log after h = h
+work_calls unclaimed replies (CopyTree c) (CopyTree new) part log after h =
     (let g = h.goes in (finish_is_still g.free c new part h.calls h.dirty h.dirty_after (Some log) after g.since h.faults_after g.steps).1 log refl)
-work_calls unclaimed (Delete d) new part log after h = h
-work_calls unclaimed (Make m) new part log after h = h
-work_calls unclaimed (SetMode s) new part log after h = h
-work_calls unclaimed (Copy c) (CopyTree new) part log after h = absurd h
-work_calls unclaimed (Copy c) (Delete new) part log after h = absurd h
-work_calls unclaimed (Copy c) (Make new) part log after h = absurd h
-work_calls unclaimed (Copy c) (SetMode new) part log after h = absurd h
-work_calls unclaimed (CopyTree c) (Copy new) part log after h = absurd h
-work_calls unclaimed (CopyTree c) (Delete new) part log after h = absurd h
-work_calls unclaimed (CopyTree c) (Make new) part log after h = absurd h
-work_calls unclaimed (CopyTree c) (SetMode new) part log after h = absurd h
+work_calls unclaimed replies (Delete d) new part log after h = h
+work_calls unclaimed replies (Make m) new part log after h = h
+work_calls unclaimed replies (SetMode s) new part log after h = h
+work_calls unclaimed replies (Copy c) (CopyTree new) part log after h = absurd h
+work_calls unclaimed replies (Copy c) (Delete new) part log after h = absurd h
+work_calls unclaimed replies (Copy c) (Make new) part log after h = absurd h
+work_calls unclaimed replies (Copy c) (SetMode new) part log after h = absurd h
+work_calls unclaimed replies (CopyTree c) (Copy new) part log after h = absurd h
+work_calls unclaimed replies (CopyTree c) (Delete new) part log after h = absurd h
+work_calls unclaimed replies (CopyTree c) (Make new) part log after h = absurd h
+work_calls unclaimed replies (CopyTree c) (SetMode new) part log after h = absurd h
 
 no_change : (b : Bool) (folder : Route) (dirty : List Route) → folders.with_change b b folder dirty ≡ dirty
 no_change true folder dirty = refl
@@ -168,12 +170,14 @@ module _ (unclaimed : Route → Type 0) (job new : Running) (part : Option Route
         none = stays.0;
         number = ap (λ (r : Running). r.id) new_is;
         skips = stays.2;
+        replies = ap (λ (r : Running). r.replies) new_is;
         stays = stays.1;
         list = work_list unclaimed part calls dirty dirty_after before after f0 f1 job.work new.work here leaves walks;
-        log = λ log known. work_calls unclaimed job.work new.work part log after (called log known);
+        log = λ log known. work_calls unclaimed job.replies job.work new.work part log after (called log known);
       }
   by (InTrouble halt) is tells called leaves walks = absurd tells
   by (OwedSyncFailed cause) is tells called leaves walks = absurd tells
+  by Asking is tells called leaves walks = absurd tells
   by (Skips cause) is (inl (path, work, did_is, passes, new_is)) called leaves walks = absurd (let e : Ended Finished part ≡ Skipped path cause = did_is in let f : ⊥ = cc in f)
   by (Skips cause) is (inr (apart, did_is, new_is)) called leaves walks = absurd (let e = did_is in let f : ⊥ = cc in f)
   by (Ends ending) is (work, winds, new_is) called leaves walks = absurd (never (is ∙ ap Ends (sym (wound_as ending Finished job.work work part winds))))
@@ -205,22 +209,27 @@ passing_told id skips (Delete d) = refl
 passing_told id skips (Make m) = refl
 passing_told id skips (SetMode s) = refl
 
-abbrev turns : ℕ → SkippedKinds → Option Work → Option Running
-turns id skips work = option_map (λ w. running id (passing_over skips w)) work
+-- the job with this number that begins so, and keeps of what was answered what holds for all items
+abbrev next_job : ℕ → Replies → Work → Running
+next_job id replies work = record { id = id; work = work; course = GoesOn; replies = record replies { item = None } }
 
-turns_told : (id : ℕ) (skips : SkippedKinds) (work : Option Work) → option_map told (option_map (running id) work) ≡ option_map (running id) work → option_map told (turns id skips work) ≡ turns id skips work
-turns_told id skips None h = refl
-turns_told id skips (Some w) h =
+abbrev turns : ℕ → SkippedKinds → Replies → Option Work → Option Running
+turns id skips replies work = option_map (λ w. next_job id replies (passing_over skips w)) work
+
+turns_told : (id : ℕ) (skips : SkippedKinds) (replies : Replies) (work : Option Work) → option_map told (option_map (running id) work) ≡ option_map (running id) work → option_map told (turns id skips replies work) ≡ turns id skips replies work
+turns_told id skips replies None h = refl
+turns_told id skips replies (Some w) h =
     let same : Some (told (running id w)) ≡ Some (running id w) = h in
     let told_so : work_told id w ≡ w = (let e : told (running id w) ≡ running id w = cc in ap (λ (r : Running). r.work) e) in
-    ap (λ k. Some (running id k)) (passing_told id skips w ∙ ap (passing_over skips) told_so)
+    ap (λ k. Some (next_job id replies k)) (passing_told id skips w ∙ ap (passing_over skips) told_so)
 
 pub turned_told : (next : Job) (job : Running) → option_map told (turned next job) ≡ turned next (told job)
 turned_told next job =
-    turns_told job.id (skips_of job.work) (first_work job.id next) (began_told job.id next)
-    ∙ ap (λ skips. turns job.id skips (first_work job.id next)) (sym (skips_kept job.id job.work))
+    turns_told job.id (skips_of job.work) job.replies (first_work job.id next) (began_told job.id next)
+    ∙ ap (λ skips. turns job.id skips job.replies (first_work job.id next)) (sym (skips_kept job.id job.work))
 
 -- A job goes on with its next source as it stood before the step that finished the one before.
-pub turned_alike : (next : Job) (job new : Running) → new.id ≡ job.id → skips_of new.work ≡ skips_of job.work → turned next new ≡ turned next job
-turned_alike next job new number skips =
-    ap (λ id. turns id (skips_of new.work) (first_work id next)) number ∙ ap (λ kinds. turns job.id kinds (first_work job.id next)) skips
+pub turned_alike : (next : Job) (job new : Running) → new.id ≡ job.id → skips_of new.work ≡ skips_of job.work → new.replies ≡ job.replies → turned next new ≡ turned next job
+turned_alike next job new number skips replies =
+    ap (λ id. turns id (skips_of new.work) new.replies (first_work id next)) number
+    ∙ (ap (λ kinds. turns job.id kinds new.replies (first_work job.id next)) skips ∙ ap (λ said. turns job.id (skips_of job.work) said (first_work job.id next)) replies)

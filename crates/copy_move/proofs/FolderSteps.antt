@@ -14,18 +14,18 @@ use Rattle.job_reports.specs.declared.report.Cause.TheVariants.{Tree}
 use Rattle.job_reports.specs.declared.report.Ending.{Ending}
 use Rattle.job_reports.specs.declared.report.Ending.TheVariants.{Finished, Aborted, Killed, NoMemory}
 use Rattle.job_reports.specs.declared.report.Did.{Did}
-use Rattle.job_reports.specs.declared.report.Did.TheVariants.{Began, Chunk, Placed, Removed, Made, Set, Kept, Skipped, Cleaned, Barrier, Troubled, Ended}
+use Rattle.job_reports.specs.declared.report.Did.TheVariants.{Began, Chunk, Placed, Removed, Made, Set, Kept, Skipped, Cleaned, Barrier, Asked, Troubled, Ended}
+use Rattle.job_answers.specs.declared.replies.Replies.{Replies}
 use Rattle.file_copy.specs.declared.stage.Stage.{Stage}
 use Rattle.file_copy.specs.declared.stage.Stage.TheVariants as at
 use Rattle.file_copy.specs.declared.stage.FolderState.{FolderState}
 use Rattle.file_copy.specs.declared.stage.FolderState.TheVariants.{Synced, Dirty}
 use Rattle.job_reports.specs.CallRuns.{HasMore}
-use Rattle.file_copy.specs.CopyCalls.{CopyCalls}
+use Rattle.file_copy.specs.AskedCopies.{AskedCalls, AskedSteps, AskedTells}
 use Rattle.job_reports.specs.Reports.{ends}
-use Rattle.file_copy.specs.Copying.{Copying, IsSound, Tells}
+use Rattle.file_copy.specs.Copying.{Copying, IsSound}
 use Rattle.job_reports.specs.Paths.{folder_of, without}
 use Rattle.file_copy.specs.Copying as copying
-use Rattle.file_copy.specs.CopySteps.{StepsOn as CopyStepsOn}
 use Rattle.file_copy.specs.LastSteps.{Winds, WindsOn}
 use Rattle.file_copy.specs.LastSteps as last
 use Rattle.job_reports.specs.Stops.{out_of_memory_at, cause_of}
@@ -57,9 +57,10 @@ pub err_is : {T : Type 0} (e : TreeError) → e ≡ refused.Fault → (let r : R
 err_is e h = ap Err h
 
 -- a copy stays at its target
-pub copy_stays : (c new : Copying) (did : Did) → Tells c did new → new.target ≡ c.target
+pub copy_stays : (c new : Copying) (did : Did) → AskedTells c did new → new.target ≡ c.target
 copy_stays c new (Began part) t = ap (λ (n : Copying). n.target) t.1.1
 copy_stays c new (Chunk count) (part, facts, done, at, some, few, within, is) = ap (λ (n : Copying). n.target) is
+copy_stays c new (Asked question) (at, is) = ap (λ (n : Copying). n.target) is
 copy_stays c new (Set path) t = absurd t
 copy_stays c new (Placed path) (part, facts, at, target, is) = ap (λ (n : Copying). n.target) is
 copy_stays c new (Cleaned part) (follows, at, is) = ap (λ (n : Copying). n.target) is
@@ -71,7 +72,7 @@ copy_stays c new (Ended Killed part) t = absurd t
 copy_stays c new (Ended NoMemory part) t = absurd t
 copy_stays c new (Removed path) t = absurd t
 copy_stays c new (Made made) t = absurd t
-copy_stays c new (Kept path) t = absurd t
+copy_stays c new (Kept path) (at, target, is) = ap (λ (n : Copying). n.target) is
 copy_stays c new (Skipped path cause) t = absurd t
 
 pub copy_winds_there : (ending : Ending) (c new : Copying) (did : Did) → Winds ending c did new → new.target ≡ c.target
@@ -80,6 +81,7 @@ copy_winds_there ending c new Barrier w = ap (λ (n : Copying). n.target) w.1
 copy_winds_there ending c new (Ended how part) w = ap (λ (n : Copying). n.target) w.4
 copy_winds_there ending c new (Began part) w = absurd w
 copy_winds_there ending c new (Chunk count) w = absurd w
+copy_winds_there ending c new (Asked question) w = absurd w
 copy_winds_there ending c new (Set path) w = absurd w
 copy_winds_there ending c new (Placed path) w = absurd w
 copy_winds_there ending c new (Removed path) w = absurd w
@@ -89,9 +91,10 @@ copy_winds_there ending c new (Skipped path cause) w = absurd w
 copy_winds_there ending c new (Troubled trouble) w = absurd w
 
 -- a folder that a job changed before, and that is synced, isn't changed again
-pub clean_copy : (c new : Copying) (did : Did) → Tells c did new → copying.is_fresh c.stage c.folder ≡ false → copying.is_dirty c.folder ≡ false → copying.is_dirty new.folder ≡ false
+pub clean_copy : (c new : Copying) (did : Did) → AskedTells c did new → copying.is_fresh c.stage c.folder ≡ false → copying.is_dirty c.folder ≡ false → copying.is_dirty new.folder ≡ false
 clean_copy c new (Began part) t changed clean = absurd (true≢false (sym (ap not clean) ∙ (sym (ap (λ s. copying.is_fresh s c.folder) t.0) ∙ changed)))
 clean_copy c new (Chunk count) (part, facts, done, at, some, few, within, is) changed clean = ap (λ (n : Copying). copying.is_dirty n.folder) is ∙ clean
+clean_copy c new (Asked question) (at, is) changed clean = ap (λ (n : Copying). copying.is_dirty n.folder) is ∙ clean
 clean_copy c new (Set path) t changed clean = absurd t
 clean_copy c new (Placed path) (part, facts, at, target, is) changed clean = ap (λ (n : Copying). copying.is_dirty n.folder) is ∙ clean
 clean_copy c new (Cleaned part) (follows, at, is) changed clean = ap (λ (n : Copying). copying.is_dirty n.folder) is ∙ clean
@@ -103,7 +106,7 @@ clean_copy c new (Ended Killed part) t changed clean = absurd t
 clean_copy c new (Ended NoMemory part) t changed clean = absurd t
 clean_copy c new (Removed path) t changed clean = absurd t
 clean_copy c new (Made made) t changed clean = absurd t
-clean_copy c new (Kept path) t changed clean = absurd t
+clean_copy c new (Kept path) (at, target, is) changed clean = ap (λ (n : Copying). copying.is_dirty n.folder) is ∙ clean
 clean_copy c new (Skipped path cause) t changed clean = absurd t
 
 -- a copy that has changed nothing has no dirty folder
@@ -150,6 +153,7 @@ pub tries_after : (did : Did) (work : Work) (dirty : List Route) → tries_left 
 tries_after (Troubled trouble) work dirty = refl
 tries_after (Began part) work dirty = refl
 tries_after (Chunk count) work dirty = refl
+tries_after (Asked question) work dirty = refl
 tries_after (Set path) work dirty = refl
 tries_after (Placed path) work dirty = refl
 tries_after (Removed path) work dirty = refl
@@ -164,10 +168,10 @@ pub weighs_less : (low high few many tries : ℕ) → low < high → few ≤ man
 weighs_less low high few many tries less more is = omega (arith, less, more, is)
 
 -- the step of a copy
-module _ (unclaimed : Route → Type 0) (c new : Copying) (did : Did) (calls : ℕ) (dirty dirty_after : List Route) (before after : Option CallLog) (f0 f1 : ℕ) where
-  pub copy_steps : CopyStepsOn unclaimed c new did calls before after f0 f1 → IsSound new.stage new.folder
+module _ (unclaimed : Route → Type 0) (replies : Replies) (c new : Copying) (did : Did) (calls : ℕ) (dirty dirty_after : List Route) (before after : Option CallLog) (f0 f1 : ℕ) where
+  pub copy_steps : AskedSteps unclaimed replies c new did calls before after f0 f1 → IsSound new.stage new.folder
       → dirty_after ≡ with_change (copying.is_dirty c.folder) (copying.is_dirty new.folder) (folder_of c.target) dirty
-      → WorkSteps unclaimed (Copy c) (Copy new) did calls dirty dirty_after before after f0 f1
+      → WorkSteps unclaimed replies (Copy c) (Copy new) did calls dirty dirty_after before after f0 f1
   copy_steps s sound leaves = record {
     tells = s.tells;
     walks = tt;
@@ -177,7 +181,7 @@ module _ (unclaimed : Route → Type 0) (c new : Copying) (did : Did) (calls : �
     few = s.few;
     unknown = s.unknown;
     later = s.later;
-    fault = λ h. s.fault (met_by GoesOn (λ d. Tells c d new) did (λ path cause x. x) s.tells h);
+    fault = λ h. s.fault (met_by GoesOn (λ d. AskedTells c d new) did (λ path cause x. x) s.tells h);
     falls = λ going.
         let low = copy_falls c new did s.tells sound going in
         let more = subst (λ xs. length xs ≤ length dirty + 1) (sym leaves) (one_more (copying.is_dirty c.folder) (copying.is_dirty new.folder) (folder_of c.target) dirty) in
@@ -191,14 +195,14 @@ same_log log now contents known is =
     omega (arith, lengths)
 
 -- there was no memory for the first change of a copy: no call was made
-pub no_first : (unclaimed : Route → Type 0) (c : Copying) (did : Did) (calls : ℕ) (dirty dirty_after : List Route) (contents : Option CallLog) (f : ℕ) → last.left_at c.stage ≡ None → copying.is_fresh c.stage c.folder ≡ true → did ≡ Troubled (out_of_memory_at false) → calls ≡ 0
-    → dirty_after ≡ dirty → WorkSteps unclaimed (Copy c) (Copy c) did calls dirty dirty_after contents contents f f
-no_first unclaimed c did calls dirty dirty_after contents f left fresh is count same =
-    subst (λ d. WorkSteps unclaimed (Copy c) (Copy c) d calls dirty dirty_after contents contents f f) (sym is)
-    (subst (λ n. WorkSteps unclaimed (Copy c) (Copy c) (Troubled (out_of_memory_at false)) n dirty dirty_after contents contents f f) (sym count) (record {
+pub no_first : (unclaimed : Route → Type 0) (replies : Replies) (c : Copying) (did : Did) (calls : ℕ) (dirty dirty_after : List Route) (contents : Option CallLog) (f : ℕ) → last.left_at c.stage ≡ None → copying.is_fresh c.stage c.folder ≡ true → did ≡ Troubled (out_of_memory_at false) → calls ≡ 0
+    → dirty_after ≡ dirty → WorkSteps unclaimed replies (Copy c) (Copy c) did calls dirty dirty_after contents contents f f
+no_first unclaimed replies c did calls dirty dirty_after contents f left fresh is count same =
+    subst (λ d. WorkSteps unclaimed replies (Copy c) (Copy c) d calls dirty dirty_after contents contents f f) (sym is)
+    (subst (λ n. WorkSteps unclaimed replies (Copy c) (Copy c) (Troubled (out_of_memory_at false)) n dirty dirty_after contents contents f f) (sym count) (record {
       tells = tells c.stage c.folder refl fresh;
       walks = tt;
-      called = λ log known. subst (CopyCalls unclaimed c (Troubled (out_of_memory_at false)) c log) (sym known) (none_called log c.stage c.folder refl fresh);
+      called = λ log known. subst (AskedCalls unclaimed replies c (Troubled (out_of_memory_at false)) c log) (sym known) (none_called log c.stage c.folder refl fresh);
       leaves = same ∙ unchanged (copying.is_dirty c.folder);
       counted = λ log known now has. same_log log now contents known has;
       few = omega arith;
@@ -212,14 +216,14 @@ no_first unclaimed c did calls dirty dirty_after contents f left fresh is count 
     unchanged true = refl
     unchanged false = refl
 
-    tells : (stage : Stage) (folder : FolderState) → c.stage ≡ stage → copying.is_fresh stage folder ≡ true → Tells c (Troubled (out_of_memory_at false)) c
+    tells : (stage : Stage) (folder : FolderState) → c.stage ≡ stage → copying.is_fresh stage folder ≡ true → AskedTells c (Troubled (out_of_memory_at false)) c
     tells at.Begin folder is h = rw is (refl, refl)
     tells (at.Fill part facts done) folder is h = absurd (false≢true h)
     tells (at.Clean part follows) folder is h = absurd (false≢true h)
     tells (at.Left part) folder is h = absurd (false≢true h)
     tells at.Decided folder is h = absurd (false≢true h)
 
-    none_called : (log : CallLog) (stage : Stage) (folder : FolderState) → c.stage ≡ stage → copying.is_fresh stage folder ≡ true → CopyCalls unclaimed c (Troubled (out_of_memory_at false)) c log (Some log)
+    none_called : (log : CallLog) (stage : Stage) (folder : FolderState) → c.stage ≡ stage → copying.is_fresh stage folder ≡ true → AskedCalls unclaimed replies c (Troubled (out_of_memory_at false)) c log (Some log)
     none_called log at.Begin folder is h = rw is (inl (refl, refl))
     none_called log (at.Fill part facts done) folder is h = absurd (false≢true h)
     none_called log (at.Clean part follows) folder is h = absurd (false≢true h)
@@ -232,6 +236,7 @@ tried_more Barrier None folder dirty = let less = fewer folder dirty in omega (a
 tried_more Barrier (Some e) folder dirty = omega arith
 tried_more (Began part) left folder dirty = omega arith
 tried_more (Chunk bytes) left folder dirty = omega arith
+tried_more (Asked question) left folder dirty = omega arith
 tried_more (Set path) left folder dirty = omega arith
 tried_more (Placed path) left folder dirty = omega arith
 tried_more (Removed path) left folder dirty = omega arith
@@ -264,7 +269,7 @@ copy_winds_up ending c new did calls left folder dirty dirty_after before after 
 }
 
 -- the step of a deletion
-module _ (unclaimed : Route → Type 0) (d new : Deleting) (did : Did) (calls : ℕ) (dirty dirty_after : List Route) (before after : Option CallLog) (f0 f1 : ℕ) where
+module _ (unclaimed : Route → Type 0) (replies : Replies) (d new : Deleting) (did : Did) (calls : ℕ) (dirty dirty_after : List Route) (before after : Option CallLog) (f0 f1 : ℕ) where
   removal_more : (path : Route) → length (without path (joined (folder_of path) dirty)) ≤ length dirty + 1
   removal_more path = let less = fewer path (joined (folder_of path) dirty) in let more = joined_more (folder_of path) dirty in omega (arith, less, more)
 
@@ -282,13 +287,14 @@ module _ (unclaimed : Route → Type 0) (d new : Deleting) (did : Did) (calls : 
   falls_by (Ended ending part) t h less going = absurd (true≢false going)
   falls_by (Began part) t h less going = absurd t
   falls_by (Chunk count) t h less going = absurd t
+  falls_by (Asked question) t h less going = absurd t
   falls_by (Set path) t h less going = absurd t
   falls_by (Placed path) t h less going = absurd t
   falls_by (Made made) t h less going = absurd t
   falls_by (Skipped path cause) t h less going = let low = less refl in let same = ap length h in omega (arith, low, same)
   falls_by (Cleaned part) t h less going = absurd t
 
-  pub deletion_steps : DeletionStep d new did calls dirty dirty_after before after f0 f1 → WorkSteps unclaimed (Delete d) (Delete new) did calls dirty dirty_after before after f0 f1
+  pub deletion_steps : DeletionStep d new did calls dirty dirty_after before after f0 f1 → WorkSteps unclaimed replies (Delete d) (Delete new) did calls dirty dirty_after before after f0 f1
   deletion_steps s = record {
     tells = s.tells;
     walks = s.goes;
@@ -365,16 +371,19 @@ module _ (unclaimed : Route → Type 0) (did : Did) (calls : ℕ) (dirty dirty_a
   IsOwn job new = OwnStep unclaimed (step_made job new did calls dirty dirty_after before after f0 f1)
 
   -- a step of the work
-  pub worked_on : (id : ℕ) (old work : Work) (was course : Course) (job : Running) → (let r : Running = record { id = id; work = old; course = was } in r) ≡ job → job.course ≡ GoesOn
-      → (is_fresh job.work ≡ true → IfKnown before (λ log. NoneOwed (current log) job.work dirty)) → WorkSteps unclaimed old work did calls dirty dirty_after before after f0 f1 → course ≡ course_after did
-      → IsOwn job (record { id = id; work = work; course = course })
-  worked_on id old work was course job is goes settled steps course_is =
+  pub worked_on : (id : ℕ) (old work : Work) (was course : Course) (replies : Replies) (job : Running) → (let r : Running = record { id = id; work = old; course = was; replies = replies } in r) ≡ job → job.course ≡ GoesOn
+      → (is_fresh job.work ≡ true → IfKnown before (λ log. NoneOwed (current log) job.work dirty)) → WorkSteps unclaimed replies old work did calls dirty dirty_after before after f0 f1 → course ≡ course_after did
+      → IsOwn job (record { id = id; work = work; course = course; replies = replies })
+  worked_on id old work was course replies job is goes settled steps course_is =
       let same : old ≡ job.work = ap (λ (j : Running). j.work) is in
       let number : id ≡ job.id = ap (λ (j : Running). j.id) is in
-      let s = subst (λ w. WorkSteps unclaimed w work did calls dirty dirty_after before after f0 f1) same steps in
+      let said : replies ≡ job.replies = ap (λ (j : Running). j.replies) is in
+      let steps_so = subst (λ r. WorkSteps unclaimed r old work did calls dirty dirty_after before after f0 f1) said steps in
+      let s = subst (λ w. WorkSteps unclaimed job.replies w work did calls dirty dirty_after before after f0 f1) same steps_so in
       record {
-        own = run_goes unclaimed job (record { id = id; work = work; course = course }) did calls dirty dirty_after before after f0 f1 old work same goes steps
-            (ap (λ n. let r : Running = record { id = n; work = work; course = course } in r) number ∙ ap (λ c. let r : Running = record job { work = work; course = c } in r) course_is);
+        own = run_goes unclaimed job (record { id = id; work = work; course = course; replies = replies }) did calls dirty dirty_after before after f0 f1 old work same goes steps_so
+            (ap (λ n. let r : Running = record { id = n; work = work; course = course; replies = replies } in r) number
+            ∙ (ap (λ replies. let r : Running = record { id = job.id; work = work; course = course; replies = replies } in r) said ∙ ap (λ c. let r : Running = record job { work = work; course = c } in r) course_is));
         settled = λ now fresh. settled fresh;
         leaves = subst (λ c. LeavesDirty c job.work did work dirty dirty_after before after) (sym goes) s.leaves;
         walks = subst (λ c. WalksOn unclaimed c job.work work did calls dirty dirty_after before after f0 f1) (sym goes) s.walks;
@@ -433,11 +442,11 @@ module _ (unclaimed : Route → Type 0) (contents : Option CallLog) (dirty : Lis
           (λ fault. subst (λ d. MeetsFault (Skips cause) d → ⊥) (sym did_is) (λ h. absurd cc) fault)
 
 -- a last step of the work
-pub winding_step : (ending : Ending) (id : ℕ) (old work : Work) (course : Course) (job : Running) (did : Did) (calls : ℕ) (left : Option TreeError) (dirty dirty_after : List Route) (before after : Option CallLog) (f0 f1 : ℕ)
-    → (let r : Running = record { id = id; work = old; course = course } in r) ≡ job → WorkWindsUp ending old work did calls left dirty dirty_after before after f0 f1
-    → WindingStep ending (step_made job (record { id = id; work = work; course = course }) did calls dirty dirty_after before after f0 f1)
-winding_step ending id old work course job did calls left dirty dirty_after before after f0 f1 is winds =
-    subst (λ j. WindingStep ending (step_made j (record { id = id; work = work; course = course }) did calls dirty dirty_after before after f0 f1)) is record { left = left; winds = winds; new_is = refl }
+pub winding_step : (ending : Ending) (id : ℕ) (old work : Work) (course : Course) (replies : Replies) (job : Running) (did : Did) (calls : ℕ) (left : Option TreeError) (dirty dirty_after : List Route) (before after : Option CallLog) (f0 f1 : ℕ)
+    → (let r : Running = record { id = id; work = old; course = course; replies = replies } in r) ≡ job → WorkWindsUp ending old work did calls left dirty dirty_after before after f0 f1
+    → WindingStep ending (step_made job (record { id = id; work = work; course = course; replies = replies }) did calls dirty dirty_after before after f0 f1)
+winding_step ending id old work course replies job did calls left dirty dirty_after before after f0 f1 is winds =
+    subst (λ j. WindingStep ending (step_made j (record { id = id; work = work; course = course; replies = replies }) did calls dirty dirty_after before after f0 f1)) is record { left = left; winds = winds; new_is = refl }
 
 -- a step after looks at the tree, which may have met faults
 walks_later : (unclaimed : Route → Type 0) (old new : Work) (did : Did) (calls : ℕ) (dirty dirty_after : List Route) (before after : Option CallLog) (f0 f1 f2 : ℕ) → f0 ≤ f1 → Walks unclaimed old new did calls dirty dirty_after before after f1 f2 → Walks unclaimed old new did calls dirty dirty_after before after f0 f2

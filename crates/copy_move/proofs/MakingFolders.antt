@@ -10,9 +10,10 @@ use Rattle.job_reports.specs.declared.report.Cause.{Cause}
 use Rattle.job_reports.specs.declared.report.Ending.{Ending}
 use Rattle.job_reports.specs.declared.report.Ending.TheVariants.{Finished, Aborted, Killed, NoMemory}
 use Rattle.job_reports.specs.declared.report.Did.{Did}
-use Rattle.job_reports.specs.declared.report.Did.TheVariants.{Began, Chunk, Placed, Removed, Made, Set, Kept, Skipped, Cleaned, Barrier, Troubled, Ended}
+use Rattle.job_reports.specs.declared.report.Did.TheVariants.{Began, Chunk, Placed, Removed, Made, Set, Kept, Skipped, Cleaned, Barrier, Asked, Troubled, Ended}
 use Rattle.job_reports.specs.Paths.{folder_of}
 use Rattle.job_reports.specs.Stops.{out_of_memory_at}
+use Rattle.job_answers.specs.declared.replies.Replies.{Replies}
 use Rattle.copy_move.specs.declared.making.MakingStage.{MakingStage}
 use Rattle.copy_move.specs.declared.making.MakingStage.TheVariants as making
 use Rattle.copy_move.specs.declared.work.Work.TheVariants.{Make}
@@ -39,6 +40,7 @@ making_stays m new (Ended Killed part) t = absurd t
 making_stays m new (Ended NoMemory part) t = absurd t
 making_stays m new (Began part) t = absurd t
 making_stays m new (Chunk count) t = absurd t
+making_stays m new (Asked question) t = absurd t
 making_stays m new (Set path) t = absurd t
 making_stays m new (Placed path) t = absurd t
 making_stays m new (Removed made) t = absurd t
@@ -51,6 +53,7 @@ making_winds_there ending m new Barrier w = ap (λ (n : Making). n.path) w.1
 making_winds_there ending m new (Ended how part) w = ap (λ (n : Making). n.path) w.3
 making_winds_there ending m new (Began part) w = absurd w
 making_winds_there ending m new (Chunk count) w = absurd w
+making_winds_there ending m new (Asked question) w = absurd w
 making_winds_there ending m new (Set path) w = absurd w
 making_winds_there ending m new (Placed path) w = absurd w
 making_winds_there ending m new (Made path) w = absurd w
@@ -71,6 +74,7 @@ clean_making m new (Ended Killed part) t changed clean = absurd t
 clean_making m new (Ended NoMemory part) t changed clean = absurd t
 clean_making m new (Began part) t changed clean = absurd t
 clean_making m new (Chunk count) t changed clean = absurd t
+clean_making m new (Asked question) t changed clean = absurd t
 clean_making m new (Set path) t changed clean = absurd t
 clean_making m new (Placed path) t changed clean = absurd t
 clean_making m new (Removed made) t changed clean = absurd t
@@ -86,9 +90,9 @@ fresh_making making.Finish h = absurd (false≢true h)
 fresh_making making.PassedOver h = absurd (false≢true h)
 
 -- a step
-module _ (unclaimed : Route → Type 0) (m new : Making) (did : Did) (calls : ℕ) (dirty dirty_after : List Route) (before after : Option CallLog) (f0 f1 : ℕ) where
+module _ (unclaimed : Route → Type 0) (replies : Replies) (m new : Making) (did : Did) (calls : ℕ) (dirty dirty_after : List Route) (before after : Option CallLog) (f0 f1 : ℕ) where
   pub making_steps : MakingStep m new did calls before after f0 f1 → dirty_after ≡ with_change (is_dirty m.stage) (is_dirty new.stage) (folder_of m.path) dirty
-      → WorkSteps unclaimed (Make m) (Make new) did calls dirty dirty_after before after f0 f1
+      → WorkSteps unclaimed replies (Make m) (Make new) did calls dirty dirty_after before after f0 f1
   making_steps s leaves = record {
     tells = s.tells;
     walks = tt;

@@ -9,7 +9,7 @@ use Rattle.job_reports.specs.declared.report.Cause.TheVariants.{Memory}
 use Rattle.job_reports.specs.declared.report.Ending.{Ending}
 use Rattle.job_reports.specs.declared.report.Ending.TheVariants.{Finished, Aborted, Killed, NoMemory}
 use Rattle.job_reports.specs.declared.report.Did.{Did}
-use Rattle.job_reports.specs.declared.report.Did.TheVariants.{Began, Chunk, Placed, Removed, Made, Set, Kept, Skipped, Cleaned, Barrier, Troubled, Ended}
+use Rattle.job_reports.specs.declared.report.Did.TheVariants.{Began, Chunk, Placed, Removed, Made, Set, Kept, Skipped, Cleaned, Barrier, Asked, Troubled, Ended}
 use Rattle.job_reports.specs.declared.report.LastStepResult.{LastStepResult}
 use Rattle.job_reports.specs.Reports.{ends}
 use Rattle.job_reports.specs.Stops.{out_of_memory_at}
@@ -18,6 +18,7 @@ use Rattle.mode_setting.specs.declared.setting.Stage.{Stage}
 use Rattle.mode_setting.specs.declared.setting.Stage.TheVariants.{Give, Sync, Done}
 use Rattle.mode_setting.specs.Settings.{Setting, Tells, at_barrier, is_dirty, is_fresh, skipped}
 use Rattle.mode_setting.specs.SettingSteps.{SettingStops, Skips, StepsOn, SyncTried, Winds}
+use Rattle.job_answers.specs.declared.replies.Replies.{Replies}
 use Rattle.copy_move.specs.declared.work.Work.TheVariants.{SetMode}
 use Rattle.copy_move.specs.declared.run.Course.TheVariants.{GoesOn, InTrouble}
 use Rattle.copy_move.specs.DeletionSteps.{after_try}
@@ -42,6 +43,7 @@ setting_stays s new (Ended Killed part) t = absurd t
 setting_stays s new (Ended NoMemory part) t = absurd t
 setting_stays s new (Began part) t = absurd t
 setting_stays s new (Chunk count) t = absurd t
+setting_stays s new (Asked question) t = absurd t
 setting_stays s new (Placed path) t = absurd t
 setting_stays s new (Removed path) t = absurd t
 setting_stays s new (Made path) t = absurd t
@@ -64,6 +66,7 @@ clean_setting s new (Ended Killed part) t changed clean = absurd t
 clean_setting s new (Ended NoMemory part) t changed clean = absurd t
 clean_setting s new (Began part) t changed clean = absurd t
 clean_setting s new (Chunk count) t changed clean = absurd t
+clean_setting s new (Asked question) t changed clean = absurd t
 clean_setting s new (Placed path) t changed clean = absurd t
 clean_setting s new (Removed path) t changed clean = absurd t
 clean_setting s new (Made path) t changed clean = absurd t
@@ -93,6 +96,7 @@ setting_falls old new (Troubled trouble) (at, is) h =
 setting_falls old new (Ended ending part) t h = absurd (true≢false h)
 setting_falls old new (Began part) t h = absurd t
 setting_falls old new (Chunk count) t h = absurd t
+setting_falls old new (Asked question) t h = absurd t
 setting_falls old new (Placed path) t h = absurd t
 setting_falls old new (Removed path) t h = absurd t
 setting_falls old new (Made path) t h = absurd t
@@ -107,9 +111,9 @@ unset_falls Sync = omega arith
 unset_falls Done = omega arith
 
 -- a step
-module _ (unclaimed : Route → Type 0) (s new : Setting) (did : Did) (calls : ℕ) (dirty dirty_after : List Route) (before after : Option CallLog) (f0 f1 : ℕ) where
+module _ (unclaimed : Route → Type 0) (replies : Replies) (s new : Setting) (did : Did) (calls : ℕ) (dirty dirty_after : List Route) (before after : Option CallLog) (f0 f1 : ℕ) where
   pub setting_steps : StepsOn s new did calls before after f0 f1 → dirty_after ≡ with_change (is_dirty s.stage) (is_dirty new.stage) s.path dirty
-      → WorkSteps unclaimed (SetMode s) (SetMode new) did calls dirty dirty_after before after f0 f1
+      → WorkSteps unclaimed replies (SetMode s) (SetMode new) did calls dirty dirty_after before after f0 f1
   setting_steps made leaves = record {
     tells = made.tells;
     walks = tt;

@@ -5,7 +5,7 @@ use Rattle.tree_trait.specs.declared.calls.TreeError.{TreeError}
 use Rattle.tree_trait.specs.Change.{CallLog}
 use Rattle.job_reports.specs.declared.report.Ending.{Ending}
 use Rattle.job_reports.specs.declared.report.Did.{Did}
-use Rattle.job_reports.specs.declared.report.Did.TheVariants.{Began, Chunk, Placed, Removed, Made, Set, Kept, Skipped, Cleaned, Barrier, Troubled, Ended}
+use Rattle.job_reports.specs.declared.report.Did.TheVariants.{Began, Chunk, Placed, Removed, Made, Set, Kept, Skipped, Cleaned, Barrier, Asked, Troubled, Ended}
 use Rattle.job_reports.specs.Reports.{IsFault}
 use Rattle.copy_move.specs.declared.work.Work.{Work}
 use Rattle.copy_move.specs.declared.work.Work.TheVariants.{Copy, CopyTree, Delete, Make, SetMode}
@@ -44,6 +44,7 @@ quiet_end ending (CopyTree c) (SetMode new) (Troubled trouble) w h = w
 quiet_end ending (CopyTree c) (CopyTree new) (Troubled trouble) w h = w.may
 quiet_end ending old new (Began part) w h = h
 quiet_end ending old new (Chunk count) w h = h
+quiet_end ending old new (Asked question) w h = h
 quiet_end ending old new (Set path) w h = h
 quiet_end ending old new (Placed path) w h = h
 quiet_end ending old new (Removed path) w h = h
@@ -55,10 +56,10 @@ quiet_end ending old new Barrier w h = h
 quiet_end ending old new (Ended how part) w h = h
 
 module _ (unclaimed : Route → Type 0) (job new : Running) (did : Did) (calls : ℕ) (dirty dirty_after : List Route) (before after : Option CallLog) (faults faults_after : ℕ) where
-  pub run_goes : (own work : Work) → own ≡ job.work → job.course ≡ GoesOn → WorkSteps unclaimed own work did calls dirty dirty_after before after faults faults_after
+  pub run_goes : (own work : Work) → own ≡ job.work → job.course ≡ GoesOn → WorkSteps unclaimed job.replies own work did calls dirty dirty_after before after faults faults_after
       → new ≡ record job { work = work; course = course_after did } → StepsOn unclaimed job new did calls before after faults faults_after
   run_goes own work same course steps is =
-      let s = subst (λ w. WorkSteps unclaimed w work did calls dirty dirty_after before after faults faults_after) same steps in record {
+      let s = subst (λ w. WorkSteps unclaimed job.replies w work did calls dirty dirty_after before after faults faults_after) same steps in record {
         tells = subst (λ c. TellsOn c job did new) (sym course) (work, s.tells, is);
         called = λ log known.
             subst (λ c. CallsOn unclaimed c job did new log after) (sym course)

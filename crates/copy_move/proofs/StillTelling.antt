@@ -7,8 +7,14 @@ use Rattle.tree_trait.specs.Calls as calls
 use Rattle.tree_trait.specs.Change.{CallLog, current}
 use Rattle.job_reports.specs.declared.report.Cause.{Cause}
 use Rattle.job_reports.specs.declared.report.Did.{Did}
-use Rattle.job_reports.specs.declared.report.Did.TheVariants.{Began, Chunk, Placed, Removed, Made, Set, Kept, Skipped, Cleaned, Barrier, Troubled, Ended}
-use Rattle.file_copy.specs.Copying.{Copying}
+use Rattle.job_reports.specs.declared.report.Did.TheVariants.{Began, Chunk, Placed, Removed, Made, Set, Kept, Skipped, Cleaned, Barrier, Asked, Troubled, Ended}
+use Rattle.job_answers.specs.declared.replies.Replies.{Replies}
+use Rattle.file_copy.specs.declared.stage.Stage.{Stage}
+use Rattle.file_copy.specs.declared.stage.Stage.TheVariants as at
+use Rattle.file_copy.specs.AskedCopies.{AskedCalls, AskedStops}
+use Rattle.file_copy.specs.CopyCalls.{making}
+use Rattle.job_reports.specs.declared.report.Trouble.{Trouble}
+use Rattle.file_copy.specs.Copying.{Copying, places_of}
 use Rattle.job_reports.specs.Paths.{folder_of}
 use Rattle.file_copy.specs.LastSteps.{SyncTried, WindCalls, removable}
 use Rattle.job_reports.proofs.Runs.{all_some}
@@ -20,7 +26,7 @@ use Rattle.job_reports.specs.Stops.{sync_answer}
 use Rattle.copy_move.specs.declared.work.Work.{Work}
 use Rattle.copy_move.specs.declared.work.Work.TheVariants.{Copy, CopyTree, Delete, Make, SetMode}
 use Rattle.copy_move.specs.declared.run.Course.{Course}
-use Rattle.copy_move.specs.declared.run.Course.TheVariants.{GoesOn, InTrouble, OwedSyncFailed, Skips, Ends}
+use Rattle.copy_move.specs.declared.run.Course.TheVariants.{GoesOn, Asking, InTrouble, OwedSyncFailed, Skips, Ends}
 use Rattle.copy_move.specs.Deletions.{DeletionCalls, IsRefused, LastCalls}
 use Rattle.copy_move.specs.Deletions as deletions
 use Rattle.copy_move.specs.Makings.{Answers, LastMakingCalls, Making, MakingCalls}
@@ -55,6 +61,7 @@ deletion_tells (Troubled trouble) log after (inr (e, cause, h)) = refused_tells 
 deletion_tells (Ended ending part) log after h = (log, h)
 deletion_tells (Began part) log after h = absurd h
 deletion_tells (Chunk count) log after h = absurd h
+deletion_tells (Asked question) log after h = absurd h
 deletion_tells (Set path) log after h = absurd h
 deletion_tells (Placed path) log after h = absurd h
 deletion_tells (Made made) log after h = absurd h
@@ -71,6 +78,7 @@ making_tells m (Troubled trouble) log after h = call_tells log (makings.call_of 
 making_tells m (Ended ending part) log after h = (log, h)
 making_tells m (Began part) log after h = absurd h
 making_tells m (Chunk count) log after h = absurd h
+making_tells m (Asked question) log after h = absurd h
 making_tells m (Set path) log after h = absurd h
 making_tells m (Placed path) log after h = absurd h
 making_tells m (Removed made) log after h = absurd h
@@ -83,6 +91,7 @@ last_tells Barrier log after (folder, answer, h) = performs_tells log (SyncFolde
 last_tells (Ended ending part) log after h = (log, h)
 last_tells (Began part) log after h = absurd h
 last_tells (Chunk count) log after h = absurd h
+last_tells (Asked question) log after h = absurd h
 last_tells (Set path) log after h = absurd h
 last_tells (Placed path) log after h = absurd h
 last_tells (Removed path) log after h = absurd h
@@ -97,6 +106,7 @@ last_making_tells m Barrier log after h = call_tells log (makings.sync_of m.path
 last_making_tells m (Ended ending part) log after h = (log, h)
 last_making_tells m (Began part) log after h = absurd h
 last_making_tells m (Chunk count) log after h = absurd h
+last_making_tells m (Asked question) log after h = absurd h
 last_making_tells m (Set path) log after h = absurd h
 last_making_tells m (Placed path) log after h = absurd h
 last_making_tells m (Made path) log after h = absurd h
@@ -123,6 +133,7 @@ setting_tells s (Troubled trouble) log after h = setting_stop_tells s s.stage tr
 setting_tells s (Ended ending part) log after h = (log, h)
 setting_tells s (Began part) log after h = absurd h
 setting_tells s (Chunk count) log after h = absurd h
+setting_tells s (Asked question) log after h = absurd h
 setting_tells s (Placed path) log after h = absurd h
 setting_tells s (Removed path) log after h = absurd h
 setting_tells s (Made path) log after h = absurd h
@@ -140,6 +151,7 @@ last_setting_tells s Barrier log after (left, h) = try_tells s.path left log aft
 last_setting_tells s (Ended ending part) log after h = (log, h)
 last_setting_tells s (Began part) log after h = absurd h
 last_setting_tells s (Chunk count) log after h = absurd h
+last_setting_tells s (Asked question) log after h = absurd h
 last_setting_tells s (Set path) log after h = absurd h
 last_setting_tells s (Placed path) log after h = absurd h
 last_setting_tells s (Removed path) log after h = absurd h
@@ -149,7 +161,32 @@ last_setting_tells s (Skipped path cause) log after h = absurd h
 last_setting_tells s (Cleaned part) log after h = absurd h
 last_setting_tells s (Troubled trouble) log after h = absurd h
 
--- a copy
+-- a copy, which may ask before it makes its part
+asked_stop_tells : (unclaimed : Route → Type 0) (replies : Replies) (c : Copying) (stage : Stage) (trouble : Trouble) (log : CallLog) (after : Option CallLog)
+    → AskedStops unclaimed (places_of c) replies stage trouble.cause trouble.path log after → StillTells after
+asked_stop_tells unclaimed replies c at.Begin trouble log after (inl looks) = (log, looks.1)
+asked_stop_tells unclaimed replies c at.Begin trouble log after (inr (inl names)) = (log, names.2)
+asked_stop_tells unclaimed replies c at.Begin trouble log after (inr (inr made)) = run_tells (making (current log) (places_of c) made.0 ∷ []) trouble.cause trouble.path log after made.3
+asked_stop_tells unclaimed replies c (at.Fill part facts done) trouble log after h = copy_tells unclaimed (record c { stage = at.Fill part facts done }) (Troubled trouble) c log after h
+asked_stop_tells unclaimed replies c (at.Clean part follows) trouble log after h = copy_tells unclaimed (record c { stage = at.Clean part follows }) (Troubled trouble) c log after h
+asked_stop_tells unclaimed replies c (at.Left part) trouble log after h = absurd h
+asked_stop_tells unclaimed replies c at.Decided trouble log after h = copy_tells unclaimed (record c { stage = at.Decided }) (Troubled trouble) c log after h
+
+asked_tells : (unclaimed : Route → Type 0) (replies : Replies) (c : Copying) (did : Did) (new : Copying) (log : CallLog) (after : Option CallLog) → AskedCalls unclaimed replies c did new log after → StillTells after
+asked_tells unclaimed replies c (Asked question) new log after h = (log, h.1)
+asked_tells unclaimed replies c (Kept path) new log after h = (log, h.1)
+asked_tells unclaimed replies c (Began part) new log after h = all_some (making (current log) (places_of c) h.2.0 ∷ []) log after h.2.3
+asked_tells unclaimed replies c (Chunk count) new log after h = copy_tells unclaimed c (Chunk count) new log after h
+asked_tells unclaimed replies c (Placed path) new log after h = copy_tells unclaimed c (Placed path) new log after h
+asked_tells unclaimed replies c (Cleaned part) new log after h = copy_tells unclaimed c (Cleaned part) new log after h
+asked_tells unclaimed replies c Barrier new log after h = copy_tells unclaimed c Barrier new log after h
+asked_tells unclaimed replies c (Troubled trouble) new log after h = asked_stop_tells unclaimed replies c c.stage trouble log after h
+asked_tells unclaimed replies c (Skipped path cause) new log after h = (log, h)
+asked_tells unclaimed replies c (Ended ending part) new log after h = (log, h)
+asked_tells unclaimed replies c (Removed path) new log after h = absurd h
+asked_tells unclaimed replies c (Made path) new log after h = absurd h
+asked_tells unclaimed replies c (Set path) new log after h = absurd h
+
 sync_tells : (c : Copying) (part : Option Route) (log : CallLog) (after : Option CallLog) → SyncTried c part log after → StillTells after
 sync_tells c None log after h = performs_tells log (SyncFolder (folder_of c.target)) h.0 after h.1
 sync_tells c (Some part) log after h = performs_tells h.1 (SyncFolder (folder_of c.target)) h.3.0 after h.3.1
@@ -160,6 +197,7 @@ wind_tells c Barrier log after h = sync_tells c (removable c.stage) log after h
 wind_tells c (Ended how part) log after h = (log, h)
 wind_tells c (Began part) log after h = absurd h
 wind_tells c (Chunk count) log after h = absurd h
+wind_tells c (Asked question) log after h = absurd h
 wind_tells c (Set path) log after h = absurd h
 wind_tells c (Placed path) log after h = absurd h
 wind_tells c (Removed path) log after h = absurd h
@@ -175,6 +213,7 @@ last_tree_tells part Barrier log after (folder, left, (mid, leaves, h)) = perfor
 last_tree_tells part (Ended ending stays) log after (mid, leaves, is) = (mid, is)
 last_tree_tells part (Began path) log after h = absurd h
 last_tree_tells part (Chunk count) log after h = absurd h
+last_tree_tells part (Asked question) log after h = absurd h
 last_tree_tells part (Set path) log after h = absurd h
 last_tree_tells part (Placed path) log after h = absurd h
 last_tree_tells part (Removed path) log after h = absurd h
@@ -184,20 +223,20 @@ last_tree_tells part (Skipped path cause) log after h = absurd h
 last_tree_tells part (Troubled trouble) log after h = absurd h
 
 -- any job
-work_tells : (unclaimed : Route → Type 0) (work : Work) (did : Did) (new : Work) (log : CallLog) (after : Option CallLog) → WorkCalls unclaimed work did new log after → StillTells after
-work_tells unclaimed (Copy c) did (Copy new) log after h = copy_tells unclaimed c did new log after h
-work_tells unclaimed (Copy c) did (Delete new) log after h = absurd h
-work_tells unclaimed (Copy c) did (Make new) log after h = absurd h
-work_tells unclaimed (Copy c) did (SetMode new) log after h = absurd h
-work_tells unclaimed (Copy c) did (CopyTree new) log after h = absurd h
-work_tells unclaimed (CopyTree c) did (Copy new) log after h = absurd h
-work_tells unclaimed (CopyTree c) did (Delete new) log after h = absurd h
-work_tells unclaimed (CopyTree c) did (Make new) log after h = absurd h
-work_tells unclaimed (CopyTree c) did (SetMode new) log after h = absurd h
-work_tells unclaimed (CopyTree c) did (CopyTree new) log after h = (let g = h.goes in known_law g.free c new did h.calls h.dirty h.dirty_after log after g.since h.faults_after g.steps)
-work_tells unclaimed (Delete d) did new log after h = deletion_tells did log after h
-work_tells unclaimed (Make m) did new log after h = making_tells m did log after h
-work_tells unclaimed (SetMode s) did new log after h = setting_tells s did log after h
+work_tells : (unclaimed : Route → Type 0) (replies : Replies) (work : Work) (did : Did) (new : Work) (log : CallLog) (after : Option CallLog) → WorkCalls unclaimed replies work did new log after → StillTells after
+work_tells unclaimed replies (Copy c) did (Copy new) log after h = asked_tells unclaimed replies c did new log after h
+work_tells unclaimed replies (Copy c) did (Delete new) log after h = absurd h
+work_tells unclaimed replies (Copy c) did (Make new) log after h = absurd h
+work_tells unclaimed replies (Copy c) did (SetMode new) log after h = absurd h
+work_tells unclaimed replies (Copy c) did (CopyTree new) log after h = absurd h
+work_tells unclaimed replies (CopyTree c) did (Copy new) log after h = absurd h
+work_tells unclaimed replies (CopyTree c) did (Delete new) log after h = absurd h
+work_tells unclaimed replies (CopyTree c) did (Make new) log after h = absurd h
+work_tells unclaimed replies (CopyTree c) did (SetMode new) log after h = absurd h
+work_tells unclaimed replies (CopyTree c) did (CopyTree new) log after h = (let g = h.goes in known_law g.free c new did h.calls h.dirty h.dirty_after log after g.since h.faults_after g.steps)
+work_tells unclaimed replies (Delete d) did new log after h = deletion_tells did log after h
+work_tells unclaimed replies (Make m) did new log after h = making_tells m did log after h
+work_tells unclaimed replies (SetMode s) did new log after h = setting_tells s did log after h
 
 last_work_tells : (work : Work) (did : Did) (log : CallLog) (after : Option CallLog) → WorkLastCalls work did log after → StillTells after
 last_work_tells (Copy c) did log after h = wind_tells c did log after h
@@ -207,9 +246,10 @@ last_work_tells (Make m) did log after h = last_making_tells m did log after h
 last_work_tells (SetMode s) did log after h = last_setting_tells s did log after h
 
 calls_tell : (unclaimed : Route → Type 0) (course : Course) (job : Running) (did : Did) (new : Running) (log : CallLog) (after : Option CallLog) → CallsOn unclaimed course job did new log after → StillTells after
-calls_tell unclaimed GoesOn job did new log after h = work_tells unclaimed job.work did new.work log after h
+calls_tell unclaimed GoesOn job did new log after h = work_tells unclaimed job.replies job.work did new.work log after h
 calls_tell unclaimed (InTrouble halt) job did new log after h = absurd h
 calls_tell unclaimed (OwedSyncFailed cause) job did new log after h = absurd h
+calls_tell unclaimed Asking job did new log after h = absurd h
 calls_tell unclaimed (Skips cause) job did new log after h = (log, h)
 calls_tell unclaimed (Ends ending) job did new log after h = last_work_tells job.work did log after h
 

@@ -9,25 +9,26 @@ use Rattle.job_reports.specs.declared.report.Trouble.{Trouble}
 use Rattle.job_reports.specs.declared.report.Ending.{Ending}
 use Rattle.job_reports.specs.declared.report.Ending.TheVariants.{Finished, Aborted, Killed, NoMemory}
 use Rattle.job_reports.specs.declared.report.Did.{Did}
-use Rattle.job_reports.specs.declared.report.Did.TheVariants.{Began, Chunk, Placed, Removed, Made, Set, Kept, Skipped, Cleaned, Barrier, Troubled, Ended}
+use Rattle.job_reports.specs.declared.report.Did.TheVariants.{Began, Chunk, Placed, Removed, Made, Set, Kept, Skipped, Cleaned, Barrier, Asked, Troubled, Ended}
 use Rattle.file_copy.specs.declared.stage.Next.{Next}
 use Rattle.file_copy.specs.declared.stage.Next.TheVariants as next
 use Rattle.file_copy.specs.declared.stage.Stage.{Stage}
 use Rattle.file_copy.specs.declared.stage.Stage.TheVariants as at
 use Rattle.file_copy.specs.declared.stage.FolderState.{FolderState}
 use Rattle.file_copy.specs.declared.stage.FolderState.TheVariants.{Synced, Dirty}
-use Rattle.file_copy.specs.Copying.{Copying, Tells, after_clean}
+use Rattle.file_copy.specs.AskedCopies.{AskedTells}
+use Rattle.file_copy.specs.Copying.{Copying, after_clean}
 use Rattle.file_copy.specs.Copying as copying
 use Rattle.file_copy.specs.LastSteps.{Winds, given_up}
 use Rattle.job_reports.specs.Stops.{out_of_memory_at}
 use Rattle.job_reports.specs.declared.job.Job.{Job}
 use Rattle.job_reports.specs.declared.job.Job.TheVariants as plan
 use Rattle.job_reports.specs.declared.answer.Answer.{Answer}
-use Rattle.job_reports.specs.declared.answer.Answer.TheVariants.{Retry, Skip, SkipAll, Abort}
+use Rattle.job_reports.specs.declared.answer.Answer.TheVariants.{Yes, No, All, Update, Nothing, SizeDiffers, Retry, Skip, SkipAll, Abort}
 use Rattle.copy_move.specs.declared.work.Work.{Work}
 use Rattle.copy_move.specs.declared.work.Work.TheVariants.{Copy, CopyTree, Delete, Make, SetMode}
 use Rattle.copy_move.specs.declared.run.Course.{Course}
-use Rattle.copy_move.specs.declared.run.Course.TheVariants.{GoesOn, InTrouble, OwedSyncFailed, Skips, Ends}
+use Rattle.copy_move.specs.declared.run.Course.TheVariants.{GoesOn, Asking, InTrouble, OwedSyncFailed, Skips, Ends}
 use Rattle.subtree_walk.specs.Places.{unopened}
 use Rattle.tree_deletion.specs.declared.deletion.Depth.TheVariants.{Top}
 use Rattle.tree_deletion.specs.declared.deletion.Stage.{Stage as DeletionStage}
@@ -49,6 +50,7 @@ use Rattle.mode_setting.specs.Settings.{Setting}
 use Rattle.mode_setting.specs.Settings as settings
 use Rattle.copy_move.specs.Jobs.{Running, JobTells, TellsOn, WorkTells, WorkWinds, answered, answered_on, copies, copies_tree, course_after, deletes, first_work, halt_of, is_fresh, makes, sets, PassesOver, taken_anew, unreported_skip, with_skips}
 use Rattle.job_reports.specs.Reports.{ends}
+use Rattle.job_answers.specs.declared.replies.Replies.{Replies}
 use Rattle.job_answers.specs.declared.skips.Skips.{Skips as Kinds}
 use Rattle.job_reports.specs.declared.job.Pair.{Pair}
 use Rattle.tree_copy.specs.declared.copy.Stage.{Stage as TreeStage}
@@ -63,8 +65,8 @@ use Rattle.copy_move.specs.TreeCopies as trees
 use Rattle.copy_move.specs.Told.{after_step, course_told, if_closed, running, skipped, stage_told, synced, told, work_told}
 
 -- a job, by its parts
-abbrev job_of : ℕ → Work → Course → Running
-job_of id work course = record { id = id; work = work; course = course }
+abbrev job_of : ℕ → Replies → Work → Course → Running
+job_of id replies work course = record { id = id; work = work; course = course; replies = replies }
 
 given_up_told : (stage : Stage) → given_up (stage_told stage) ≡ stage_told (given_up stage)
 given_up_told (at.Fill part facts done) = refl
@@ -216,87 +218,91 @@ and_none false = refl
 pub skip_in_trouble : (id : ℕ) (work : Work) → course_told (work_told id work) (out_of_memory_at false) ≡ InTrouble unreported_skip
 skip_in_trouble id work = in_trouble id work (out_of_memory_at false) (and_none (is_fresh work))
 
-cleaned_told : (id : ℕ) (c : Copying) (part : Route) (follows : Next) → after_step (Cleaned part) (told (job_of id (Copy (record c { stage = at.Clean part follows })) GoesOn))
-    ≡ Some (told (job_of id (Copy (record c { stage = after_clean follows })) GoesOn))
-cleaned_told id c part next.Begin = refl
-cleaned_told id c part next.Decided = refl
+cleaned_told : (id : ℕ) (replies : Replies) (c : Copying) (part : Route) (follows : Next) → after_step (Cleaned part) (told (job_of id replies (Copy (record c { stage = at.Clean part follows })) GoesOn))
+    ≡ Some (told (job_of id replies (Copy (record c { stage = after_clean follows })) GoesOn))
+cleaned_told id replies c part next.Begin = refl
+cleaned_told id replies c part next.Decided = refl
 
 -- a copy that goes on, step by step
-copy_told : (id : ℕ) (old new : Copying) (did : Did) → Tells old did new → ends did ≡ false
-    → after_step did (told (job_of id (Copy old) GoesOn)) ≡ Some (told (job_of id (Copy new) (course_after did)))
-copy_told id old new (Began part) (from, (facts, is)) h = rw is refl
-copy_told id old new (Chunk count) (part, facts, done, from, some, few, within, is) h = rw is (rw from refl)
-copy_told id old new (Set path) t h = absurd t
-copy_told id old new (Placed path) (part, facts, from, target, is) h = rw is refl
-copy_told id old new (Cleaned part) (follows, from, is) h = rw is (rw from (cleaned_told id old part follows))
-copy_told id old new Barrier (from, dirty, is) h = rw is (rw from refl)
-copy_told id old new (Troubled trouble) (barrier, is) h =
-    rw is (ap (λ course. Some (job_of id (work_told id (Copy old)) course)) (in_trouble id (Copy old) trouble (copy_bars old.stage old.folder trouble.barrier barrier)))
-copy_told id old new (Ended Finished part) t h = absurd cc
-copy_told id old new (Ended Aborted part) t h = absurd t
-copy_told id old new (Ended Killed part) t h = absurd t
-copy_told id old new (Ended NoMemory part) t h = absurd t
-copy_told id old new (Removed path) t h = absurd t
-copy_told id old new (Made made) t h = absurd t
-copy_told id old new (Kept path) t h = absurd t
-copy_told id old new (Skipped path cause) t h = absurd t
+copy_told : (id : ℕ) (replies : Replies) (old new : Copying) (did : Did) → AskedTells old did new → ends did ≡ false
+    → after_step did (told (job_of id replies (Copy old) GoesOn)) ≡ Some (told (job_of id replies (Copy new) (course_after did)))
+copy_told id replies old new (Began part) (from, (facts, is)) h = rw is refl
+copy_told id replies old new (Chunk count) (part, facts, done, from, some, few, within, is) h = rw is (rw from refl)
+copy_told id replies old new (Asked question) (from, is) h = rw is refl
+copy_told id replies old new (Set path) t h = absurd t
+copy_told id replies old new (Placed path) (part, facts, from, target, is) h = rw is refl
+copy_told id replies old new (Cleaned part) (follows, from, is) h = rw is (rw from (cleaned_told id replies old part follows))
+copy_told id replies old new Barrier (from, dirty, is) h = rw is (rw from refl)
+copy_told id replies old new (Troubled trouble) (barrier, is) h =
+    rw is (ap (λ course. Some (job_of id replies (work_told id (Copy old)) course)) (in_trouble id (Copy old) trouble (copy_bars old.stage old.folder trouble.barrier barrier)))
+copy_told id replies old new (Ended Finished part) t h = absurd cc
+copy_told id replies old new (Ended Aborted part) t h = absurd t
+copy_told id replies old new (Ended Killed part) t h = absurd t
+copy_told id replies old new (Ended NoMemory part) t h = absurd t
+copy_told id replies old new (Removed path) t h = absurd t
+copy_told id replies old new (Made made) t h = absurd t
+copy_told id replies old new (Kept path) (from, target, is) h = rw is refl
+copy_told id replies old new (Skipped path cause) t h = absurd t
 
 -- a deletion that goes on
-deletion_told : (id : ℕ) (old new : Deleting) (did : Did) → deletions.Tells old did new → ends did ≡ false
-    → after_step did (told (job_of id (Delete old) GoesOn)) ≡ Some (told (job_of id (Delete new) (course_after did)))
-deletion_told id old new (Removed path) (going, within, at) h = ap (λ w. Some (job_of id w GoesOn)) (stage_is_told id old new (after_item old.path path deletion.Going) at)
-deletion_told id old new (Kept path) (going, at) h = ap (λ w. Some (job_of id w GoesOn)) (stage_is_told id old new (after_item old.path path old.stage) at)
-deletion_told id old new Barrier (from, at) h = ap (λ w. Some (job_of id w GoesOn)) (stage_is_told id old new old.stage at)
-deletion_told id old new (Troubled trouble) (barrier, at) h =
-    ap (λ course. Some (job_of id (work_told id (Delete old)) course)) (in_trouble id (Delete old) trouble (deletion_bars old.stage trouble.barrier barrier))
-    ∙ ap (λ w. Some (job_of id w (InTrouble (halt_of trouble)))) (stage_is_told id old new old.stage at)
-deletion_told id old new (Ended Finished part) t h = absurd cc
-deletion_told id old new (Ended Aborted part) t h = absurd t
-deletion_told id old new (Ended Killed part) t h = absurd t
-deletion_told id old new (Ended NoMemory part) t h = absurd t
-deletion_told id old new (Began part) t h = absurd t
-deletion_told id old new (Chunk count) t h = absurd t
-deletion_told id old new (Set path) t h = absurd t
-deletion_told id old new (Placed path) t h = absurd t
-deletion_told id old new (Made made) t h = absurd t
-deletion_told id old new (Skipped path cause) (going, passes, at) h = ap (λ w. Some (job_of id w GoesOn)) (stage_is_told id old new (after_item old.path path old.stage) at)
-deletion_told id old new (Cleaned part) t h = absurd t
+deletion_told : (id : ℕ) (replies : Replies) (old new : Deleting) (did : Did) → deletions.Tells old did new → ends did ≡ false
+    → after_step did (told (job_of id replies (Delete old) GoesOn)) ≡ Some (told (job_of id replies (Delete new) (course_after did)))
+deletion_told id replies old new (Removed path) (going, within, at) h = ap (λ w. Some (job_of id replies w GoesOn)) (stage_is_told id old new (after_item old.path path deletion.Going) at)
+deletion_told id replies old new (Kept path) (going, at) h = ap (λ w. Some (job_of id replies w GoesOn)) (stage_is_told id old new (after_item old.path path old.stage) at)
+deletion_told id replies old new Barrier (from, at) h = ap (λ w. Some (job_of id replies w GoesOn)) (stage_is_told id old new old.stage at)
+deletion_told id replies old new (Troubled trouble) (barrier, at) h =
+    ap (λ course. Some (job_of id replies (work_told id (Delete old)) course)) (in_trouble id (Delete old) trouble (deletion_bars old.stage trouble.barrier barrier))
+    ∙ ap (λ w. Some (job_of id replies w (InTrouble (halt_of trouble)))) (stage_is_told id old new old.stage at)
+deletion_told id replies old new (Ended Finished part) t h = absurd cc
+deletion_told id replies old new (Ended Aborted part) t h = absurd t
+deletion_told id replies old new (Ended Killed part) t h = absurd t
+deletion_told id replies old new (Ended NoMemory part) t h = absurd t
+deletion_told id replies old new (Began part) t h = absurd t
+deletion_told id replies old new (Chunk count) t h = absurd t
+deletion_told id replies old new (Asked question) t h = absurd t
+deletion_told id replies old new (Set path) t h = absurd t
+deletion_told id replies old new (Placed path) t h = absurd t
+deletion_told id replies old new (Made made) t h = absurd t
+deletion_told id replies old new (Skipped path cause) (going, passes, at) h = ap (λ w. Some (job_of id replies w GoesOn)) (stage_is_told id old new (after_item old.path path old.stage) at)
+deletion_told id replies old new (Cleaned part) t h = absurd t
 
 -- a making that goes on
-making_told : (id : ℕ) (old new : Making) (did : Did) → makings.Tells old did new → ends did ≡ false
-    → after_step did (told (job_of id (Make old) GoesOn)) ≡ Some (told (job_of id (Make new) (course_after did)))
-making_told id old new (Made path) (from, path_is, is) h = rw is refl
-making_told id old new Barrier (from, is) h = rw is (ap (λ stage. Some (job_of id (Make (record old { stage = makings.after_sync stage })) GoesOn)) from)
-making_told id old new (Troubled trouble) (where_is, is) h = rw is (ap (λ course. Some (job_of id (Make old) course)) (making_in_trouble old trouble where_is))
-making_told id old new (Ended Finished part) t h = absurd cc
-making_told id old new (Ended Aborted part) t h = absurd t
-making_told id old new (Ended Killed part) t h = absurd t
-making_told id old new (Ended NoMemory part) t h = absurd t
-making_told id old new (Began part) t h = absurd t
-making_told id old new (Chunk count) t h = absurd t
-making_told id old new (Set path) t h = absurd t
-making_told id old new (Placed path) t h = absurd t
-making_told id old new (Removed made) t h = absurd t
-making_told id old new (Kept kept) t h = absurd t
-making_told id old new (Skipped path cause) t h = absurd t
-making_told id old new (Cleaned part) t h = absurd t
+making_told : (id : ℕ) (replies : Replies) (old new : Making) (did : Did) → makings.Tells old did new → ends did ≡ false
+    → after_step did (told (job_of id replies (Make old) GoesOn)) ≡ Some (told (job_of id replies (Make new) (course_after did)))
+making_told id replies old new (Made path) (from, path_is, is) h = rw is refl
+making_told id replies old new Barrier (from, is) h = rw is (ap (λ stage. Some (job_of id replies (Make (record old { stage = makings.after_sync stage })) GoesOn)) from)
+making_told id replies old new (Troubled trouble) (where_is, is) h = rw is (ap (λ course. Some (job_of id replies (Make old) course)) (making_in_trouble old trouble where_is))
+making_told id replies old new (Ended Finished part) t h = absurd cc
+making_told id replies old new (Ended Aborted part) t h = absurd t
+making_told id replies old new (Ended Killed part) t h = absurd t
+making_told id replies old new (Ended NoMemory part) t h = absurd t
+making_told id replies old new (Began part) t h = absurd t
+making_told id replies old new (Chunk count) t h = absurd t
+making_told id replies old new (Asked question) t h = absurd t
+making_told id replies old new (Set path) t h = absurd t
+making_told id replies old new (Placed path) t h = absurd t
+making_told id replies old new (Removed made) t h = absurd t
+making_told id replies old new (Kept kept) t h = absurd t
+making_told id replies old new (Skipped path cause) t h = absurd t
+making_told id replies old new (Cleaned part) t h = absurd t
 
 -- a setting that goes on
-setting_told : (id : ℕ) (old new : Setting) (did : Did) → settings.Tells old did new → ends did ≡ false
-    → after_step did (told (job_of id (SetMode old) GoesOn)) ≡ Some (told (job_of id (SetMode new) (course_after did)))
-setting_told id old new (Set path) (from, path_is, is) h = rw is refl
-setting_told id old new Barrier (from, is) h = rw is (ap (λ stage. Some (job_of id (SetMode (record old { stage = modes.after_sync stage })) GoesOn)) from)
-setting_told id old new (Troubled trouble) (barrier, is) h =
-    rw is (ap (λ course. Some (job_of id (SetMode old) course)) (in_trouble id (SetMode old) trouble (setting_bars old.stage trouble.barrier barrier)))
-setting_told id old new (Ended ending part) t h = absurd cc
-setting_told id old new (Began part) t h = absurd t
-setting_told id old new (Chunk count) t h = absurd t
-setting_told id old new (Placed path) t h = absurd t
-setting_told id old new (Removed path) t h = absurd t
-setting_told id old new (Made path) t h = absurd t
-setting_told id old new (Kept path) t h = absurd t
-setting_told id old new (Skipped path cause) t h = absurd t
-setting_told id old new (Cleaned part) t h = absurd t
+setting_told : (id : ℕ) (replies : Replies) (old new : Setting) (did : Did) → settings.Tells old did new → ends did ≡ false
+    → after_step did (told (job_of id replies (SetMode old) GoesOn)) ≡ Some (told (job_of id replies (SetMode new) (course_after did)))
+setting_told id replies old new (Set path) (from, path_is, is) h = rw is refl
+setting_told id replies old new Barrier (from, is) h = rw is (ap (λ stage. Some (job_of id replies (SetMode (record old { stage = modes.after_sync stage })) GoesOn)) from)
+setting_told id replies old new (Troubled trouble) (barrier, is) h =
+    rw is (ap (λ course. Some (job_of id replies (SetMode old) course)) (in_trouble id (SetMode old) trouble (setting_bars old.stage trouble.barrier barrier)))
+setting_told id replies old new (Ended ending part) t h = absurd cc
+setting_told id replies old new (Began part) t h = absurd t
+setting_told id replies old new (Chunk count) t h = absurd t
+setting_told id replies old new (Asked question) t h = absurd t
+setting_told id replies old new (Placed path) t h = absurd t
+setting_told id replies old new (Removed path) t h = absurd t
+setting_told id replies old new (Made path) t h = absurd t
+setting_told id replies old new (Kept path) t h = absurd t
+setting_told id replies old new (Skipped path cause) t h = absurd t
+setting_told id replies old new (Cleaned part) t h = absurd t
 
 -- the copy of a thing with all that lies in it, step by step
 bars_apart : (fresh barrier : Bool) → (fresh ≡ true → barrier ≡ false) → (fresh && barrier) ≡ false
@@ -307,172 +313,180 @@ begun_before : (stage : TreeStage) → (is_tree_fresh stage ≡ true → ⊥) �
 begun_before tree_stage.Begin h = absurd (h refl)
 begun_before tree_stage.Going h = refl
 
-tree_told : (id : ℕ) (old new : SubtreeCopying) (did : Did) → trees.Tells old did new → ends did ≡ false
-    → after_step did (told (job_of id (CopyTree old) GoesOn)) ≡ Some (told (job_of id (CopyTree new) (course_after did)))
-tree_told id old new (Began part) t h = (let a = t.after in ap (λ w. Some (job_of id w GoesOn)) (told_is id old new tree_stage.Going (Some part) a.top a.stage a.part a.skips))
-tree_told id old new (Placed path) t h = (let a = t.after in ap (λ w. Some (job_of id w GoesOn)) (told_is id old new tree_stage.Going None a.top a.stage a.part a.skips))
-tree_told id old new (Cleaned part) t h = (let a = t.after in ap (λ w. Some (job_of id w GoesOn)) (told_is id old new tree_stage.Going None a.top a.stage a.part a.skips))
-tree_told id old new (Made path) t h = (let a = t.after in ap (λ w. Some (job_of id w GoesOn)) (told_is id old new tree_stage.Going (tree.part_of old.at.item) a.top a.stage a.part a.skips))
-tree_told id old new (Set path) t h = (let a = t.after in ap (λ w. Some (job_of id w GoesOn)) (told_is id old new tree_stage.Going (tree.part_of old.at.item) a.top a.stage a.part a.skips))
-tree_told id old new (Chunk count) t h = ap (λ w. Some (job_of id w GoesOn)) (told_so id old new (Chunk count) t.after refl (sym (begun_before old.at.stage t.first)))
-tree_told id old new Barrier t h = ap (λ w. Some (job_of id w GoesOn)) (told_so id old new Barrier t.after refl (sym (begun_before old.at.stage t.first)))
-tree_told id old new (Skipped path cause) t h = ap (λ w. Some (job_of id w GoesOn)) (told_so id old new (Skipped path cause) t.after refl refl)
-tree_told id old new (Troubled trouble) t h =
-    ap (λ course. Some (job_of id (work_told id (CopyTree old)) course)) (in_trouble id (CopyTree old) trouble (bars_apart (is_tree_fresh old.at.stage) trouble.barrier (t.apart trouble refl)))
-    ∙ ap (λ w. Some (job_of id w (InTrouble (halt_of trouble)))) (told_so id old new (Troubled trouble) t.after refl refl)
-tree_told id old new (Removed path) t h = absurd t.may
-tree_told id old new (Kept path) t h = absurd t.may
-tree_told id old new (Ended ending part) t h = absurd cc
+tree_told : (id : ℕ) (replies : Replies) (old new : SubtreeCopying) (did : Did) → trees.Tells old did new → ends did ≡ false
+    → after_step did (told (job_of id replies (CopyTree old) GoesOn)) ≡ Some (told (job_of id replies (CopyTree new) (course_after did)))
+tree_told id replies old new (Began part) t h = (let a = t.after in ap (λ w. Some (job_of id replies w GoesOn)) (told_is id old new tree_stage.Going (Some part) a.top a.stage a.part a.skips))
+tree_told id replies old new (Placed path) t h = (let a = t.after in ap (λ w. Some (job_of id replies w GoesOn)) (told_is id old new tree_stage.Going None a.top a.stage a.part a.skips))
+tree_told id replies old new (Cleaned part) t h = (let a = t.after in ap (λ w. Some (job_of id replies w GoesOn)) (told_is id old new tree_stage.Going None a.top a.stage a.part a.skips))
+tree_told id replies old new (Made path) t h = (let a = t.after in ap (λ w. Some (job_of id replies w GoesOn)) (told_is id old new tree_stage.Going (tree.part_of old.at.item) a.top a.stage a.part a.skips))
+tree_told id replies old new (Set path) t h = (let a = t.after in ap (λ w. Some (job_of id replies w GoesOn)) (told_is id old new tree_stage.Going (tree.part_of old.at.item) a.top a.stage a.part a.skips))
+tree_told id replies old new (Chunk count) t h = ap (λ w. Some (job_of id replies w GoesOn)) (told_so id old new (Chunk count) t.after refl (sym (begun_before old.at.stage t.first)))
+tree_told id replies old new Barrier t h = ap (λ w. Some (job_of id replies w GoesOn)) (told_so id old new Barrier t.after refl (sym (begun_before old.at.stage t.first)))
+tree_told id replies old new (Skipped path cause) t h = ap (λ w. Some (job_of id replies w GoesOn)) (told_so id old new (Skipped path cause) t.after refl refl)
+tree_told id replies old new (Troubled trouble) t h =
+    ap (λ course. Some (job_of id replies (work_told id (CopyTree old)) course)) (in_trouble id (CopyTree old) trouble (bars_apart (is_tree_fresh old.at.stage) trouble.barrier (t.apart trouble refl)))
+    ∙ ap (λ w. Some (job_of id replies w (InTrouble (halt_of trouble)))) (told_so id old new (Troubled trouble) t.after refl refl)
+tree_told id replies old new (Asked question) t h = absurd t.may
+tree_told id replies old new (Removed path) t h = absurd t.may
+tree_told id replies old new (Kept path) t h = absurd t.may
+tree_told id replies old new (Ended ending part) t h = absurd cc
 
-tree_winds : (id : ℕ) (ending : Ending) (old new : SubtreeCopying) (did : Did) → IsWound ending old did new → ends did ≡ false
-    → after_step did (told (job_of id (CopyTree old) (Ends ending))) ≡ Some (told (job_of id (CopyTree new) (Ends ending)))
-tree_winds id ending old new (Cleaned part) w h = ap (λ x. Some (job_of id x (Ends ending))) (told_is id old new old.at.stage None w.top w.stage w.part w.skips)
-tree_winds id ending old new Barrier w h = ap (λ x. Some (job_of id x (Ends ending))) (told_is id old new old.at.stage (tree.part_of old.at.item) w.top w.stage w.part w.skips)
-tree_winds id ending old new (Ended how part) w h = absurd cc
-tree_winds id ending old new (Began part) w h = absurd w.may
-tree_winds id ending old new (Chunk count) w h = absurd w.may
-tree_winds id ending old new (Set path) w h = absurd w.may
-tree_winds id ending old new (Placed path) w h = absurd w.may
-tree_winds id ending old new (Removed path) w h = absurd w.may
-tree_winds id ending old new (Made path) w h = absurd w.may
-tree_winds id ending old new (Kept path) w h = absurd w.may
-tree_winds id ending old new (Skipped path cause) w h = absurd w.may
-tree_winds id ending old new (Troubled trouble) w h = absurd w.may
+tree_winds : (id : ℕ) (replies : Replies) (ending : Ending) (old new : SubtreeCopying) (did : Did) → IsWound ending old did new → ends did ≡ false
+    → after_step did (told (job_of id replies (CopyTree old) (Ends ending))) ≡ Some (told (job_of id replies (CopyTree new) (Ends ending)))
+tree_winds id replies ending old new (Cleaned part) w h = ap (λ x. Some (job_of id replies x (Ends ending))) (told_is id old new old.at.stage None w.top w.stage w.part w.skips)
+tree_winds id replies ending old new Barrier w h = ap (λ x. Some (job_of id replies x (Ends ending))) (told_is id old new old.at.stage (tree.part_of old.at.item) w.top w.stage w.part w.skips)
+tree_winds id replies ending old new (Ended how part) w h = absurd cc
+tree_winds id replies ending old new (Began part) w h = absurd w.may
+tree_winds id replies ending old new (Chunk count) w h = absurd w.may
+tree_winds id replies ending old new (Asked question) w h = absurd w.may
+tree_winds id replies ending old new (Set path) w h = absurd w.may
+tree_winds id replies ending old new (Placed path) w h = absurd w.may
+tree_winds id replies ending old new (Removed path) w h = absurd w.may
+tree_winds id replies ending old new (Made path) w h = absurd w.may
+tree_winds id replies ending old new (Kept path) w h = absurd w.may
+tree_winds id replies ending old new (Skipped path cause) w h = absurd w.may
+tree_winds id replies ending old new (Troubled trouble) w h = absurd w.may
 
 -- the last steps
-copy_winds : (id : ℕ) (ending : Ending) (old new : Copying) (did : Did) → Winds ending old did new → ends did ≡ false
-    → after_step did (told (job_of id (Copy old) (Ends ending))) ≡ Some (told (job_of id (Copy new) (Ends ending)))
-copy_winds id ending old new (Cleaned part) (stood, is) h = rw is refl
-copy_winds id ending old new Barrier (dirty, is) h = rw is (ap (λ stage. Some (job_of id (Copy (record old { stage = stage; folder = Synced })) (Ends ending))) (given_up_told old.stage))
-copy_winds id ending old new (Ended how part) t h = absurd cc
-copy_winds id ending old new (Began part) t h = absurd t
-copy_winds id ending old new (Chunk count) t h = absurd t
-copy_winds id ending old new (Set path) t h = absurd t
-copy_winds id ending old new (Placed path) t h = absurd t
-copy_winds id ending old new (Removed path) t h = absurd t
-copy_winds id ending old new (Made made) t h = absurd t
-copy_winds id ending old new (Kept kept) t h = absurd t
-copy_winds id ending old new (Skipped path cause) t h = absurd t
-copy_winds id ending old new (Troubled trouble) t h = absurd t
+copy_winds : (id : ℕ) (replies : Replies) (ending : Ending) (old new : Copying) (did : Did) → Winds ending old did new → ends did ≡ false
+    → after_step did (told (job_of id replies (Copy old) (Ends ending))) ≡ Some (told (job_of id replies (Copy new) (Ends ending)))
+copy_winds id replies ending old new (Cleaned part) (stood, is) h = rw is refl
+copy_winds id replies ending old new Barrier (dirty, is) h = rw is (ap (λ stage. Some (job_of id replies (Copy (record old { stage = stage; folder = Synced })) (Ends ending))) (given_up_told old.stage))
+copy_winds id replies ending old new (Ended how part) t h = absurd cc
+copy_winds id replies ending old new (Began part) t h = absurd t
+copy_winds id replies ending old new (Chunk count) t h = absurd t
+copy_winds id replies ending old new (Asked question) t h = absurd t
+copy_winds id replies ending old new (Set path) t h = absurd t
+copy_winds id replies ending old new (Placed path) t h = absurd t
+copy_winds id replies ending old new (Removed path) t h = absurd t
+copy_winds id replies ending old new (Made made) t h = absurd t
+copy_winds id replies ending old new (Kept kept) t h = absurd t
+copy_winds id replies ending old new (Skipped path cause) t h = absurd t
+copy_winds id replies ending old new (Troubled trouble) t h = absurd t
 
-deletion_winds : (id : ℕ) (ending : Ending) (old new : Deleting) (did : Did) → deletions.Winds ending old did new → ends did ≡ false
-    → after_step did (told (job_of id (Delete old) (Ends ending))) ≡ Some (told (job_of id (Delete new) (Ends ending)))
-deletion_winds id ending old new Barrier (path_is, stage_is, skips_is) h = ap (λ w. Some (job_of id w (Ends ending))) (ap (told_at old) (sym stage_is) ∙ told_same id old new path_is skips_is)
-deletion_winds id ending old new (Ended how part) t h = absurd cc
-deletion_winds id ending old new (Began part) t h = absurd t
-deletion_winds id ending old new (Chunk count) t h = absurd t
-deletion_winds id ending old new (Set path) t h = absurd t
-deletion_winds id ending old new (Placed path) t h = absurd t
-deletion_winds id ending old new (Removed path) t h = absurd t
-deletion_winds id ending old new (Made made) t h = absurd t
-deletion_winds id ending old new (Kept kept) t h = absurd t
-deletion_winds id ending old new (Skipped path cause) t h = absurd t
-deletion_winds id ending old new (Cleaned part) t h = absurd t
-deletion_winds id ending old new (Troubled trouble) t h = absurd t
+deletion_winds : (id : ℕ) (replies : Replies) (ending : Ending) (old new : Deleting) (did : Did) → deletions.Winds ending old did new → ends did ≡ false
+    → after_step did (told (job_of id replies (Delete old) (Ends ending))) ≡ Some (told (job_of id replies (Delete new) (Ends ending)))
+deletion_winds id replies ending old new Barrier (path_is, stage_is, skips_is) h = ap (λ w. Some (job_of id replies w (Ends ending))) (ap (told_at old) (sym stage_is) ∙ told_same id old new path_is skips_is)
+deletion_winds id replies ending old new (Ended how part) t h = absurd cc
+deletion_winds id replies ending old new (Began part) t h = absurd t
+deletion_winds id replies ending old new (Chunk count) t h = absurd t
+deletion_winds id replies ending old new (Asked question) t h = absurd t
+deletion_winds id replies ending old new (Set path) t h = absurd t
+deletion_winds id replies ending old new (Placed path) t h = absurd t
+deletion_winds id replies ending old new (Removed path) t h = absurd t
+deletion_winds id replies ending old new (Made made) t h = absurd t
+deletion_winds id replies ending old new (Kept kept) t h = absurd t
+deletion_winds id replies ending old new (Skipped path cause) t h = absurd t
+deletion_winds id replies ending old new (Cleaned part) t h = absurd t
+deletion_winds id replies ending old new (Troubled trouble) t h = absurd t
 
-making_winds : (id : ℕ) (ending : Ending) (old new : Making) (did : Did) → makings.Winds ending old did new → ends did ≡ false
-    → after_step did (told (job_of id (Make old) (Ends ending))) ≡ Some (told (job_of id (Make new) (Ends ending)))
-making_winds id ending old new Barrier (from, is) h = rw is (ap (λ stage. Some (job_of id (Make (record old { stage = makings.after_sync stage })) (Ends ending))) from)
-making_winds id ending old new (Ended how part) t h = absurd cc
-making_winds id ending old new (Began part) t h = absurd t
-making_winds id ending old new (Chunk count) t h = absurd t
-making_winds id ending old new (Set path) t h = absurd t
-making_winds id ending old new (Placed path) t h = absurd t
-making_winds id ending old new (Made path) t h = absurd t
-making_winds id ending old new (Removed made) t h = absurd t
-making_winds id ending old new (Kept kept) t h = absurd t
-making_winds id ending old new (Skipped path cause) t h = absurd t
-making_winds id ending old new (Cleaned part) t h = absurd t
-making_winds id ending old new (Troubled trouble) t h = absurd t
+making_winds : (id : ℕ) (replies : Replies) (ending : Ending) (old new : Making) (did : Did) → makings.Winds ending old did new → ends did ≡ false
+    → after_step did (told (job_of id replies (Make old) (Ends ending))) ≡ Some (told (job_of id replies (Make new) (Ends ending)))
+making_winds id replies ending old new Barrier (from, is) h = rw is (ap (λ stage. Some (job_of id replies (Make (record old { stage = makings.after_sync stage })) (Ends ending))) from)
+making_winds id replies ending old new (Ended how part) t h = absurd cc
+making_winds id replies ending old new (Began part) t h = absurd t
+making_winds id replies ending old new (Chunk count) t h = absurd t
+making_winds id replies ending old new (Asked question) t h = absurd t
+making_winds id replies ending old new (Set path) t h = absurd t
+making_winds id replies ending old new (Placed path) t h = absurd t
+making_winds id replies ending old new (Made path) t h = absurd t
+making_winds id replies ending old new (Removed made) t h = absurd t
+making_winds id replies ending old new (Kept kept) t h = absurd t
+making_winds id replies ending old new (Skipped path cause) t h = absurd t
+making_winds id replies ending old new (Cleaned part) t h = absurd t
+making_winds id replies ending old new (Troubled trouble) t h = absurd t
 
-setting_winds : (id : ℕ) (ending : Ending) (old new : Setting) (did : Did) → modes.Winds ending old did new → ends did ≡ false
-    → after_step did (told (job_of id (SetMode old) (Ends ending))) ≡ Some (told (job_of id (SetMode new) (Ends ending)))
-setting_winds id ending old new Barrier (from, is) h = rw is (ap (λ stage. Some (job_of id (SetMode (record old { stage = modes.after_sync stage })) (Ends ending))) from)
-setting_winds id ending old new (Ended how part) t h = absurd cc
-setting_winds id ending old new (Began part) t h = absurd t
-setting_winds id ending old new (Chunk count) t h = absurd t
-setting_winds id ending old new (Set path) t h = absurd t
-setting_winds id ending old new (Placed path) t h = absurd t
-setting_winds id ending old new (Removed path) t h = absurd t
-setting_winds id ending old new (Made path) t h = absurd t
-setting_winds id ending old new (Kept path) t h = absurd t
-setting_winds id ending old new (Skipped path cause) t h = absurd t
-setting_winds id ending old new (Cleaned part) t h = absurd t
-setting_winds id ending old new (Troubled trouble) t h = absurd t
+setting_winds : (id : ℕ) (replies : Replies) (ending : Ending) (old new : Setting) (did : Did) → modes.Winds ending old did new → ends did ≡ false
+    → after_step did (told (job_of id replies (SetMode old) (Ends ending))) ≡ Some (told (job_of id replies (SetMode new) (Ends ending)))
+setting_winds id replies ending old new Barrier (from, is) h = rw is (ap (λ stage. Some (job_of id replies (SetMode (record old { stage = modes.after_sync stage })) (Ends ending))) from)
+setting_winds id replies ending old new (Ended how part) t h = absurd cc
+setting_winds id replies ending old new (Began part) t h = absurd t
+setting_winds id replies ending old new (Chunk count) t h = absurd t
+setting_winds id replies ending old new (Asked question) t h = absurd t
+setting_winds id replies ending old new (Set path) t h = absurd t
+setting_winds id replies ending old new (Placed path) t h = absurd t
+setting_winds id replies ending old new (Removed path) t h = absurd t
+setting_winds id replies ending old new (Made path) t h = absurd t
+setting_winds id replies ending old new (Kept path) t h = absurd t
+setting_winds id replies ending old new (Skipped path cause) t h = absurd t
+setting_winds id replies ending old new (Cleaned part) t h = absurd t
+setting_winds id replies ending old new (Troubled trouble) t h = absurd t
 
-goes_told : (id : ℕ) (old new : Work) (did : Did) → WorkTells old did new → ends did ≡ false
-    → after_step did (told (job_of id old GoesOn)) ≡ Some (told (job_of id new (course_after did)))
-goes_told id (CopyTree c) (CopyTree new) did t h = tree_told id c new did t h
-goes_told id (CopyTree c) (Copy new) did t h = absurd t
-goes_told id (CopyTree c) (Delete new) did t h = absurd t
-goes_told id (CopyTree c) (Make new) did t h = absurd t
-goes_told id (CopyTree c) (SetMode new) did t h = absurd t
-goes_told id (Copy c) (CopyTree new) did t h = absurd t
-goes_told id (Delete d) (CopyTree new) did t h = absurd t
-goes_told id (Make m) (CopyTree new) did t h = absurd t
-goes_told id (SetMode s) (CopyTree new) did t h = absurd t
-goes_told id (Copy c) (Copy new) did t h = copy_told id c new did t h
-goes_told id (Copy c) (Delete new) did t h = absurd t
-goes_told id (Copy c) (Make new) did t h = absurd t
-goes_told id (Delete d) (Copy new) did t h = absurd t
-goes_told id (Delete d) (Make new) did t h = absurd t
-goes_told id (Make m) (Copy new) did t h = absurd t
-goes_told id (Make m) (Delete new) did t h = absurd t
-goes_told id (Delete d) (Delete new) did t h = deletion_told id d new did t h
-goes_told id (Make m) (Make new) did t h = making_told id m new did t h
-goes_told id (Copy c) (SetMode new) did t h = absurd t
-goes_told id (Delete d) (SetMode new) did t h = absurd t
-goes_told id (Make m) (SetMode new) did t h = absurd t
-goes_told id (SetMode s) (Copy new) did t h = absurd t
-goes_told id (SetMode s) (Delete new) did t h = absurd t
-goes_told id (SetMode s) (Make new) did t h = absurd t
-goes_told id (SetMode s) (SetMode new) did t h = setting_told id s new did t h
+goes_told : (id : ℕ) (replies : Replies) (old new : Work) (did : Did) → WorkTells old did new → ends did ≡ false
+    → after_step did (told (job_of id replies old GoesOn)) ≡ Some (told (job_of id replies new (course_after did)))
+goes_told id replies (CopyTree c) (CopyTree new) did t h = tree_told id replies c new did t h
+goes_told id replies (CopyTree c) (Copy new) did t h = absurd t
+goes_told id replies (CopyTree c) (Delete new) did t h = absurd t
+goes_told id replies (CopyTree c) (Make new) did t h = absurd t
+goes_told id replies (CopyTree c) (SetMode new) did t h = absurd t
+goes_told id replies (Copy c) (CopyTree new) did t h = absurd t
+goes_told id replies (Delete d) (CopyTree new) did t h = absurd t
+goes_told id replies (Make m) (CopyTree new) did t h = absurd t
+goes_told id replies (SetMode s) (CopyTree new) did t h = absurd t
+goes_told id replies (Copy c) (Copy new) did t h = copy_told id replies c new did t h
+goes_told id replies (Copy c) (Delete new) did t h = absurd t
+goes_told id replies (Copy c) (Make new) did t h = absurd t
+goes_told id replies (Delete d) (Copy new) did t h = absurd t
+goes_told id replies (Delete d) (Make new) did t h = absurd t
+goes_told id replies (Make m) (Copy new) did t h = absurd t
+goes_told id replies (Make m) (Delete new) did t h = absurd t
+goes_told id replies (Delete d) (Delete new) did t h = deletion_told id replies d new did t h
+goes_told id replies (Make m) (Make new) did t h = making_told id replies m new did t h
+goes_told id replies (Copy c) (SetMode new) did t h = absurd t
+goes_told id replies (Delete d) (SetMode new) did t h = absurd t
+goes_told id replies (Make m) (SetMode new) did t h = absurd t
+goes_told id replies (SetMode s) (Copy new) did t h = absurd t
+goes_told id replies (SetMode s) (Delete new) did t h = absurd t
+goes_told id replies (SetMode s) (Make new) did t h = absurd t
+goes_told id replies (SetMode s) (SetMode new) did t h = setting_told id replies s new did t h
 
-winds_told : (id : ℕ) (ending : Ending) (old new : Work) (did : Did) → WorkWinds ending old did new → ends did ≡ false
-    → after_step did (told (job_of id old (Ends ending))) ≡ Some (told (job_of id new (Ends ending)))
-winds_told id ending (CopyTree c) (CopyTree new) did t h = tree_winds id ending c new did t h
-winds_told id ending (CopyTree c) (Copy new) did t h = absurd t
-winds_told id ending (CopyTree c) (Delete new) did t h = absurd t
-winds_told id ending (CopyTree c) (Make new) did t h = absurd t
-winds_told id ending (CopyTree c) (SetMode new) did t h = absurd t
-winds_told id ending (Copy c) (CopyTree new) did t h = absurd t
-winds_told id ending (Delete d) (CopyTree new) did t h = absurd t
-winds_told id ending (Make m) (CopyTree new) did t h = absurd t
-winds_told id ending (SetMode s) (CopyTree new) did t h = absurd t
-winds_told id ending (Copy c) (Copy new) did t h = copy_winds id ending c new did t h
-winds_told id ending (Copy c) (Delete new) did t h = absurd t
-winds_told id ending (Copy c) (Make new) did t h = absurd t
-winds_told id ending (Delete d) (Copy new) did t h = absurd t
-winds_told id ending (Delete d) (Make new) did t h = absurd t
-winds_told id ending (Make m) (Copy new) did t h = absurd t
-winds_told id ending (Make m) (Delete new) did t h = absurd t
-winds_told id ending (Delete d) (Delete new) did t h = deletion_winds id ending d new did t h
-winds_told id ending (Make m) (Make new) did t h = making_winds id ending m new did t h
-winds_told id ending (Copy c) (SetMode new) did t h = absurd t
-winds_told id ending (Delete d) (SetMode new) did t h = absurd t
-winds_told id ending (Make m) (SetMode new) did t h = absurd t
-winds_told id ending (SetMode s) (Copy new) did t h = absurd t
-winds_told id ending (SetMode s) (Delete new) did t h = absurd t
-winds_told id ending (SetMode s) (Make new) did t h = absurd t
-winds_told id ending (SetMode s) (SetMode new) did t h = setting_winds id ending s new did t h
+winds_told : (id : ℕ) (replies : Replies) (ending : Ending) (old new : Work) (did : Did) → WorkWinds ending old did new → ends did ≡ false
+    → after_step did (told (job_of id replies old (Ends ending))) ≡ Some (told (job_of id replies new (Ends ending)))
+winds_told id replies ending (CopyTree c) (CopyTree new) did t h = tree_winds id replies ending c new did t h
+winds_told id replies ending (CopyTree c) (Copy new) did t h = absurd t
+winds_told id replies ending (CopyTree c) (Delete new) did t h = absurd t
+winds_told id replies ending (CopyTree c) (Make new) did t h = absurd t
+winds_told id replies ending (CopyTree c) (SetMode new) did t h = absurd t
+winds_told id replies ending (Copy c) (CopyTree new) did t h = absurd t
+winds_told id replies ending (Delete d) (CopyTree new) did t h = absurd t
+winds_told id replies ending (Make m) (CopyTree new) did t h = absurd t
+winds_told id replies ending (SetMode s) (CopyTree new) did t h = absurd t
+winds_told id replies ending (Copy c) (Copy new) did t h = copy_winds id replies ending c new did t h
+winds_told id replies ending (Copy c) (Delete new) did t h = absurd t
+winds_told id replies ending (Copy c) (Make new) did t h = absurd t
+winds_told id replies ending (Delete d) (Copy new) did t h = absurd t
+winds_told id replies ending (Delete d) (Make new) did t h = absurd t
+winds_told id replies ending (Make m) (Copy new) did t h = absurd t
+winds_told id replies ending (Make m) (Delete new) did t h = absurd t
+winds_told id replies ending (Delete d) (Delete new) did t h = deletion_winds id replies ending d new did t h
+winds_told id replies ending (Make m) (Make new) did t h = making_winds id replies ending m new did t h
+winds_told id replies ending (Copy c) (SetMode new) did t h = absurd t
+winds_told id replies ending (Delete d) (SetMode new) did t h = absurd t
+winds_told id replies ending (Make m) (SetMode new) did t h = absurd t
+winds_told id replies ending (SetMode s) (Copy new) did t h = absurd t
+winds_told id replies ending (SetMode s) (Delete new) did t h = absurd t
+winds_told id replies ending (SetMode s) (Make new) did t h = absurd t
+winds_told id replies ending (SetMode s) (SetMode new) did t h = setting_winds id replies ending s new did t h
 
-told_on : (course : Course) (id : ℕ) (work : Work) (new : Running) (did : Did) → TellsOn course (job_of id work course) did new → ends did ≡ false
-    → after_step did (told (job_of id work course)) ≡ Some (told new)
-told_on GoesOn id work new did (after, tells, is) h = rw is (goes_told id work after did tells h)
-told_on (InTrouble halt) id work new did t h = absurd t
-told_on (OwedSyncFailed cause) id work new did t h = absurd t
-told_on (Skips cause) id work new did (inl (path, after, did_is, passes, new_is)) h = rw (did_is, new_is) (ap (λ w. Some (job_of id w GoesOn)) (skipped_told id work after path passes))
-told_on (Skips cause) id work new did (inr (apart, did_is, new_is)) h = rw (did_is, new_is) (ap (λ course. Some (job_of id (work_told id work) course)) (skip_in_trouble id work))
-told_on (Ends ending) id work new did (after, tells, is) h = rw is (winds_told id ending work after did tells h)
+told_on : (course : Course) (id : ℕ) (replies : Replies) (work : Work) (new : Running) (did : Did) → TellsOn course (job_of id replies work course) did new → ends did ≡ false
+    → after_step did (told (job_of id replies work course)) ≡ Some (told new)
+told_on GoesOn id replies work new did (after, tells, is) h = rw is (goes_told id replies work after did tells h)
+told_on (InTrouble halt) id replies work new did t h = absurd t
+told_on (OwedSyncFailed cause) id replies work new did t h = absurd t
+told_on Asking id replies work new did t h = absurd t
+told_on (Skips cause) id replies work new did (inl (path, after, did_is, passes, new_is)) h = rw (did_is, new_is) (ap (λ w. Some (job_of id replies w GoesOn)) (skipped_told id work after path passes))
+told_on (Skips cause) id replies work new did (inr (apart, did_is, new_is)) h = rw (did_is, new_is) (ap (λ course. Some (job_of id replies (work_told id work) course)) (skip_in_trouble id work))
+told_on (Ends ending) id replies work new did (after, tells, is) h = rw is (winds_told id replies ending work after did tells h)
 
 -- what a history tells of a job follows its steps
 pub told_follows : (job new : Running) (did : Did) → JobTells job did new → ends did ≡ false → after_step did (told job) ≡ Some (told new)
-told_follows job new did t h = told_on job.course job.id job.work new did t h
+told_follows job new did t h = told_on job.course job.id job.replies job.work new did t h
 
 -- after an end there is none
 pub step_told : (job new : Running) (did : Did) → JobTells job did new → option_map told (if ends did then None else Some new) ≡ after_step did (told job)
 step_told job new (Began part) t = sym (told_follows job new (Began part) t refl)
 step_told job new (Chunk count) t = sym (told_follows job new (Chunk count) t refl)
+step_told job new (Asked question) t = sym (told_follows job new (Asked question) t refl)
 step_told job new (Set path) t = sym (told_follows job new (Set path) t refl)
 step_told job new (Placed path) t = sym (told_follows job new (Placed path) t refl)
 step_told job new (Removed path) t = sym (told_follows job new (Removed path) t refl)
@@ -495,15 +509,37 @@ skips_told id cause (SetMode s) = refl
 pub answered_told : (answer : Answer) (job : Running) → told (answered answer job) ≡ answered answer (told job)
 answered_told answer job = answers job.course answer
   where
-    answers : (course : Course) (answer : Answer) → told (answered_on course answer (job_of job.id job.work course)) ≡ answered_on course answer (told (job_of job.id job.work course))
-    answers (InTrouble halt) Retry = ap (λ w. job_of job.id w GoesOn) (sym (anew_told job.id job.work))
+    answers : (course : Course) (answer : Answer) → told (answered_on course answer (job_of job.id job.replies job.work course)) ≡ answered_on course answer (told (job_of job.id job.replies job.work course))
+    answers (InTrouble halt) Retry = ap (λ w. job_of job.id job.replies w GoesOn) (sym (anew_told job.id job.work))
     answers (InTrouble halt) Skip = refl
-    answers (InTrouble halt) SkipAll = ap (λ w. job_of job.id w (Skips halt.cause)) (skips_told job.id halt.cause job.work)
+    answers (InTrouble halt) SkipAll = ap (λ w. job_of job.id job.replies w (Skips halt.cause)) (skips_told job.id halt.cause job.work)
     answers (InTrouble halt) Abort = refl
-    answers (OwedSyncFailed cause) Retry = ap (λ w. job_of job.id w GoesOn) (sym (anew_told job.id job.work))
+    answers (InTrouble halt) Yes = refl
+    answers (InTrouble halt) No = refl
+    answers (InTrouble halt) All = refl
+    answers (InTrouble halt) Update = refl
+    answers (InTrouble halt) Nothing = refl
+    answers (InTrouble halt) SizeDiffers = refl
+    answers (OwedSyncFailed cause) Retry = ap (λ w. job_of job.id job.replies w GoesOn) (sym (anew_told job.id job.work))
     answers (OwedSyncFailed cause) Skip = refl
     answers (OwedSyncFailed cause) SkipAll = refl
     answers (OwedSyncFailed cause) Abort = refl
+    answers (OwedSyncFailed cause) Yes = refl
+    answers (OwedSyncFailed cause) No = refl
+    answers (OwedSyncFailed cause) All = refl
+    answers (OwedSyncFailed cause) Update = refl
+    answers (OwedSyncFailed cause) Nothing = refl
+    answers (OwedSyncFailed cause) SizeDiffers = refl
+    answers Asking Yes = refl
+    answers Asking No = refl
+    answers Asking All = refl
+    answers Asking Update = refl
+    answers Asking Nothing = refl
+    answers Asking SizeDiffers = refl
+    answers Asking Retry = refl
+    answers Asking Skip = refl
+    answers Asking SkipAll = refl
+    answers Asking Abort = refl
     answers GoesOn answer = refl
     answers (Skips cause) answer = refl
     answers (Ends ending) answer = refl
@@ -564,9 +600,9 @@ fresh_unsettled id work trouble fresh barrier =
 pub sync_told : (job : Running) (did : Did) (after : Option Running) → is_fresh job.work ≡ true
     → ((did ≡ Barrier) × (after ≡ Some job)) ⊎ ((trouble : Trouble) × (did ≡ Troubled trouble) × (trouble.barrier ≡ true) × (after ≡ Some (record job { course = OwedSyncFailed trouble.cause })))
     → option_map told after ≡ after_step did (told job)
-sync_told job did after fresh (inl h) = rw (h.0, h.1) (ap (λ w. Some (job_of job.id w job.course)) (sym (fresh_synced job.id job.work fresh)))
+sync_told job did after fresh (inl h) = rw (h.0, h.1) (ap (λ w. Some (job_of job.id job.replies w job.course)) (sym (fresh_synced job.id job.work fresh)))
 sync_told job did after fresh (inr (trouble, did_is, barred, after_is)) =
-    rw (did_is, after_is) (ap (λ course. Some (job_of job.id (work_told job.id job.work) course)) (sym (fresh_unsettled job.id job.work trouble fresh barred)))
+    rw (did_is, after_is) (ap (λ course. Some (job_of job.id job.replies (work_told job.id job.work) course)) (sym (fresh_unsettled job.id job.work trouble fresh barred)))
 
 pub closed_told : (closed : Bool) (job : Option Running) → option_map told (if_closed closed job) ≡ if_closed closed (option_map told job)
 closed_told true None = refl

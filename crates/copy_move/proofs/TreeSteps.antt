@@ -9,10 +9,11 @@ use Rattle.job_reports.specs.declared.report.Cause.{Cause}
 use Rattle.job_reports.specs.declared.report.Trouble.{Trouble}
 use Rattle.job_reports.specs.declared.report.Ending.{Ending}
 use Rattle.job_reports.specs.declared.report.Did.{Did}
-use Rattle.job_reports.specs.declared.report.Did.TheVariants.{Began, Chunk, Placed, Removed, Made, Set, Kept, Skipped, Cleaned, Barrier, Troubled, Ended}
+use Rattle.job_reports.specs.declared.report.Did.TheVariants.{Began, Chunk, Placed, Removed, Made, Set, Kept, Skipped, Cleaned, Barrier, Asked, Troubled, Ended}
 use Rattle.job_reports.specs.declared.report.LastStepResult.{LastStepResult}
 use Rattle.job_reports.specs.Reports.{ends}
 use Rattle.job_reports.specs.Stops.{out_of_memory_at}
+use Rattle.job_answers.specs.declared.replies.Replies.{Replies}
 use Rattle.tree_copy.specs.Standing.{is_fresh}
 use Rattle.subtree_copy.specs.Counted as tree
 use Rattle.subtree_copy.specs.LastCalls.{LastCalls, TellsTried}
@@ -47,6 +48,7 @@ met_so (Troubled trouble) h = h
 met_so (Skipped path cause) h = h
 met_so (Began part) h = h
 met_so (Chunk count) h = h
+met_so (Asked question) h = h
 met_so (Set path) h = h
 met_so (Placed path) h = h
 met_so (Removed path) h = h
@@ -115,6 +117,7 @@ module _ (free : Route → Bool) (c new : SubtreeCopying) (did : Did) (calls : �
   falls_on (Ended ending part) m h = absurd (true≢false h)
   falls_on (Began part) m h = above (rank new.at) (rank c.at) (rank_law free c new (Began part) calls dirty dirty_after before after f0 f1 m g.steady g.can refl)
   falls_on (Chunk count) m h = above (rank new.at) (rank c.at) (rank_law free c new (Chunk count) calls dirty dirty_after before after f0 f1 m g.steady g.can refl)
+  falls_on (Asked question) m h = absurd (let law = reporting_law in law.step free c new (Asked question) calls dirty dirty_after before after f0 f1 m)
   falls_on (Set path) m h = above (rank new.at) (rank c.at) (rank_law free c new (Set path) calls dirty dirty_after before after f0 f1 m g.steady g.can refl)
   falls_on (Placed path) m h = above (rank new.at) (rank c.at) (rank_law free c new (Placed path) calls dirty dirty_after before after f0 f1 m g.steady g.can refl)
   falls_on (Removed path) m h = above (rank new.at) (rank c.at) (rank_law free c new (Removed path) calls dirty dirty_after before after f0 f1 m g.steady g.can refl)
@@ -124,11 +127,11 @@ module _ (free : Route → Bool) (c new : SubtreeCopying) (did : Did) (calls : �
   falls_on (Cleaned part) m h = above (rank new.at) (rank c.at) (rank_law free c new (Cleaned part) calls dirty dirty_after before after f0 f1 m g.steady g.can refl)
   falls_on Barrier m h = above (rank new.at) (rank c.at) (rank_law free c new Barrier calls dirty dirty_after before after f0 f1 m g.steady g.can refl)
 
-  module _ (unclaimed : Route → Type 0) (allows : AllowsOnly unclaimed free) where
+  module _ (unclaimed : Route → Type 0) (replies : Replies) (allows : AllowsOnly unclaimed free) where
     goes_from : (b : Option CallLog) → before ≡ b → Goes unclaimed c new did calls dirty dirty_after b after f0 f1
     goes_from b is = record { free = free; allows = allows; since = f0; later = omega arith; steps = subst (λ x. SubtreeSteps free c new did calls dirty dirty_after x after f0 f1) is s }
 
-    pub tree_steps : ChangesOwn c did dirty dirty_after → WorkSteps unclaimed (CopyTree c) (CopyTree new) did calls dirty dirty_after before after f0 f1
+    pub tree_steps : ChangesOwn c did dirty dirty_after → WorkSteps unclaimed replies (CopyTree c) (CopyTree new) did calls dirty dirty_after before after f0 f1
     tree_steps own =
         let k = count_law free c new did calls dirty dirty_after before after f0 f1 s in record {
           tells = tells;

@@ -4,15 +4,16 @@ use Rattle.tree_trait.specs.declared.calls.TreeError.TheVariants as refused
 use Rattle.job_reports.specs.declared.report.Cause.{Cause}
 use Rattle.job_reports.specs.declared.report.Cause.TheVariants.{Tree}
 use Rattle.job_reports.specs.declared.report.Did.{Did}
-use Rattle.job_reports.specs.declared.report.Did.TheVariants.{Began, Chunk, Placed, Removed, Made, Set, Kept, Skipped, Cleaned, Barrier, Troubled, Ended}
+use Rattle.job_reports.specs.declared.report.Did.TheVariants.{Began, Chunk, Placed, Removed, Made, Set, Kept, Skipped, Cleaned, Barrier, Asked, Troubled, Ended}
 use Rattle.copy_move.specs.declared.run.Course.{Course}
-use Rattle.copy_move.specs.declared.run.Course.TheVariants.{GoesOn, InTrouble, OwedSyncFailed, Skips, Ends}
+use Rattle.copy_move.specs.declared.run.Course.TheVariants.{GoesOn, Asking, InTrouble, OwedSyncFailed, Skips, Ends}
 
 -- a job that goes on passes over something in the step that meets a fault; one that was told to skip it met that before
 abbrev pub PassesFault : Course → Cause → Type 0
 PassesFault GoesOn cause = cause ≡ Tree refused.Fault
 PassesFault (InTrouble halt) cause = ⊥
 PassesFault (OwedSyncFailed why) cause = ⊥
+PassesFault Asking cause = ⊥
 PassesFault (Skips why) cause = ⊥
 PassesFault (Ends ending) cause = ⊥
 
@@ -29,4 +30,5 @@ MeetsFault course (Made path) = ⊥
 MeetsFault course (Kept path) = ⊥
 MeetsFault course (Cleaned part) = ⊥
 MeetsFault course Barrier = ⊥
+MeetsFault course (Asked question) = ⊥
 MeetsFault course (Ended ending part) = ⊥

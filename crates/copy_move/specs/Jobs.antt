@@ -1,21 +1,25 @@
 -- A live job: what it does, how far it is, and whether it goes on; what a step of it may report, and what that says of the
 -- tree's calls.
-use Rattle.std.specs.Prelude.{◌≡◌, ◌⊎◌, ℕ, ⊤, Bool, true, false, ◌&&◌, nat_le, is_some, List, [], ◌∷◌, Option, Some, None, if◌then◌else◌}
+use Rattle.std.specs.Prelude.{◌≡◌, ◌⊎◌, ℕ, ⊤, Bool, true, false, ◌&&◌, nat_le, is_some, List, [], ◌∷◌, Option, Some, None, if◌then◌else◌, IsOk}
 use Rattle.mc_text.specs.Routes.{Route, parent_of}
 use Rattle.tree_trait.specs.Change.{CallLog}
 use Rattle.job_reports.specs.declared.report.Cause.{Cause}
+use Rattle.job_answers.specs.declared.answer.Waiting.{Waiting}
+use Rattle.job_answers.specs.declared.answer.Waiting.TheVariants as waits
+use Rattle.job_answers.specs.declared.replies.Replies.{Replies}
+use Rattle.job_answers.specs.Answers as answers
+use Rattle.job_answers.specs.Decisions.{with_reply}
 use Rattle.job_answers.specs.Skipping.{kind_in, no_skips, with_kind}
 use Rattle.job_answers.specs.declared.skips.Skips.{Skips as SkippedKinds}
 use Rattle.job_reports.specs.declared.report.Trouble.{Trouble}
 use Rattle.job_reports.specs.declared.report.Ending.{Ending}
 use Rattle.job_reports.specs.declared.report.Ending.TheVariants.{Aborted}
 use Rattle.job_reports.specs.declared.report.Did.{Did}
-use Rattle.job_reports.specs.declared.report.Did.TheVariants.{Began, Chunk, Placed, Removed, Made, Set, Kept, Skipped, Cleaned, Barrier, Troubled, Ended}
+use Rattle.job_reports.specs.declared.report.Did.TheVariants.{Began, Chunk, Placed, Removed, Made, Set, Kept, Skipped, Cleaned, Barrier, Asked, Troubled, Ended}
 use Rattle.job_reports.specs.Jobs.{is_link_text}
-use Rattle.job_reports.specs.Reports.{passes_over}
 use Rattle.file_copy.specs.Copying.{begun}
 use Rattle.file_copy.specs.Copying as copying
-use Rattle.file_copy.specs.CopyCalls.{CopyCalls}
+use Rattle.file_copy.specs.AskedCopies.{AskedCalls, AskedTells}
 use Rattle.file_copy.specs.LastSteps as last
 use Rattle.job_reports.specs.Stops.{out_of_memory_at}
 use Rattle.job_reports.specs.declared.job.Job.{Job}
@@ -23,7 +27,7 @@ use Rattle.job_reports.specs.declared.job.Job.TheVariants as plan
 use Rattle.job_reports.specs.declared.row.JobKind.{JobKind}
 use Rattle.job_reports.specs.declared.row.JobKind.TheVariants as kind
 use Rattle.job_reports.specs.declared.answer.Answer.{Answer}
-use Rattle.job_reports.specs.declared.answer.Answer.TheVariants.{Retry, Skip, SkipAll, Abort}
+use Rattle.job_reports.specs.declared.answer.Answer.TheVariants.{Yes, No, All, Update, Nothing, SizeDiffers, Retry, Skip, SkipAll, Abort}
 use Rattle.copy_move.specs.declared.making.MakingStage.TheVariants as making
 use Rattle.copy_move.specs.declared.new_thing.NewThing.{NewThing}
 use Rattle.copy_move.specs.declared.new_thing.NewThing.TheVariants as thing
@@ -31,7 +35,7 @@ use Rattle.copy_move.specs.declared.work.Work.{Work}
 use Rattle.copy_move.specs.declared.work.Work.TheVariants.{Copy, CopyTree, Delete, Make, SetMode}
 use Rattle.copy_move.specs.declared.run.Halt.{Halt}
 use Rattle.copy_move.specs.declared.run.Course.{Course}
-use Rattle.copy_move.specs.declared.run.Course.TheVariants.{GoesOn, InTrouble, OwedSyncFailed, Skips, Ends}
+use Rattle.copy_move.specs.declared.run.Course.TheVariants.{GoesOn, Asking, InTrouble, OwedSyncFailed, Skips, Ends}
 use Rattle.tree_deletion.specs.Standing.{after_item}
 use Rattle.tree_deletion.specs.Standing as standing
 use Rattle.copy_move.specs.Deletions.{DeletionCalls, IsAtStage, LastCalls, started}
@@ -53,11 +57,12 @@ use Rattle.mode_setting.specs.Settings.{setting}
 use Rattle.mode_setting.specs.Settings as settings
 use Rattle.mode_setting.specs.SettingSteps.{SettingCalls}
 
--- a live job: its number, what it does, and whether it goes on
+-- a live job: its number, what it does, whether it goes on, and what was answered to its questions so far
 pub record Running : Type 0 where
   pub id : ℕ
   pub work : Work
   pub course : Course
+  pub replies : Replies
 
 -- the copy of a file, just begun
 abbrev pub copies : ℕ → Route → Route → Work
@@ -134,14 +139,6 @@ is_fresh (Delete d) = standing.is_fresh d.stage
 is_fresh (Make m) = makings.is_fresh m.stage
 is_fresh (SetMode s) = settings.is_fresh s.stage
 
--- nothing can be skipped: the next call is at a barrier, or the trouble is a folder that an ended job left
-abbrev pub is_barred : Course → Work → Bool
-is_barred (OwedSyncFailed cause) work = true
-is_barred GoesOn work = at_barrier work
-is_barred (InTrouble halt) work = halt.barrier
-is_barred (Skips cause) work = at_barrier work
-is_barred (Ends ending) work = at_barrier work
-
 -- the work once what stands at this path was left as it is: the file that is copied, something of what is copied whole, or that is deleted, the thing that
 -- is not made, or the one that keeps its mode
 abbrev pub PassesOver : Work → Route → Work → Type 0
@@ -168,6 +165,19 @@ with_skips cause (CopyTree c) = CopyTree (record c { skips = with_kind (kind_in 
 with_skips cause (Delete d) = Delete (record d { skips = with_kind (kind_in cause) d.skips })
 with_skips cause (Make m) = Make m
 with_skips cause (SetMode s) = SetMode s
+
+-- the work after an answer by which what stands next is left as it is
+abbrev pub skipping_by : Answer → Cause → Work → Work
+skipping_by SkipAll cause work = with_skips cause work
+skipping_by Yes cause work = work
+skipping_by No cause work = work
+skipping_by All cause work = work
+skipping_by Update cause work = work
+skipping_by Nothing cause work = work
+skipping_by SizeDiffers cause work = work
+skipping_by Retry cause work = work
+skipping_by Skip cause work = work
+skipping_by Abort cause work = work
 
 -- the kinds of troubles that the work passes over without a question
 abbrev pub skips_of : Work → SkippedKinds
@@ -206,12 +216,13 @@ abbrev pub IsSound : Course → Work → Type 0
 IsSound GoesOn work = IsGoing work
 IsSound (InTrouble halt) work = IsGoing work × (halt.barrier ≡ at_barrier work)
 IsSound (OwedSyncFailed cause) work = IsGoing work
+IsSound Asking work = IsGoing work
 IsSound (Skips cause) work = IsGoing work × (at_barrier work ≡ false)
 IsSound (Ends ending) work = ⊤
 
 -- what a step of the work may report that goes on, and where the work stands then
 abbrev pub WorkTells : Work → Did → Work → Type 0
-WorkTells (Copy c) did (Copy new) = copying.Tells c did new
+WorkTells (Copy c) did (Copy new) = AskedTells c did new
 WorkTells (CopyTree c) did (CopyTree new) = trees.Tells c did new
 WorkTells (Delete d) did (Delete new) = deletions.Tells d did new
 WorkTells (Make m) did (Make new) = makings.Tells m did new
@@ -235,9 +246,10 @@ halt_of trouble = record { cause = trouble.cause; barrier = trouble.barrier }
 abbrev pub unreported_skip : Halt
 unreported_skip = halt_of (out_of_memory_at false)
 
--- a job whose call was refused waits for an answer, else it goes on
+-- a job that asked, or whose call was refused, waits for an answer, else it goes on
 abbrev pub course_after : Did → Course
 course_after (Troubled trouble) = InTrouble (halt_of trouble)
+course_after (Asked question) = Asking
 course_after (Began part) = GoesOn
 course_after (Chunk count) = GoesOn
 course_after (Set path) = GoesOn
@@ -256,6 +268,7 @@ abbrev pub TellsOn : Course → Running → Did → Running → Type 0
 TellsOn GoesOn job did new = (work : Work) × WorkTells job.work did work × (new ≡ record job { work = work; course = course_after did })
 TellsOn (InTrouble halt) job did new = ⊥
 TellsOn (OwedSyncFailed cause) job did new = ⊥
+TellsOn Asking job did new = ⊥
 TellsOn (Skips cause) job did new =
     ((path : Route) × (work : Work) × (did ≡ Skipped path cause) × PassesOver job.work path work × (new ≡ record job { work = work; course = GoesOn }))
     ⊎ ((at_barrier job.work ≡ false) × (did ≡ Troubled (out_of_memory_at false)) × (new ≡ record job { course = InTrouble unreported_skip }))
@@ -264,21 +277,21 @@ TellsOn (Ends ending) job did new = (work : Work) × WorkWinds ending job.work d
 abbrev pub JobTells : Running → Did → Running → Type 0
 JobTells job did new = TellsOn job.course job did new
 
--- what a step of the work says of the tree's calls; a part may have the paths that no other job claims
-abbrev pub WorkCalls : (Route → Type 0) → Work → Did → Work → CallLog → Option CallLog → Type 0
-WorkCalls unclaimed (Copy c) did (Copy new) log after = CopyCalls unclaimed c did new log after
-WorkCalls unclaimed (Copy c) did (Delete new) log after = ⊥
-WorkCalls unclaimed (Copy c) did (Make new) log after = ⊥
-WorkCalls unclaimed (Copy c) did (SetMode new) log after = ⊥
-WorkCalls unclaimed (Copy c) did (CopyTree new) log after = ⊥
-WorkCalls unclaimed (CopyTree c) did (CopyTree new) log after = trees.Calls unclaimed c did new log after
-WorkCalls unclaimed (CopyTree c) did (Copy new) log after = ⊥
-WorkCalls unclaimed (CopyTree c) did (Delete new) log after = ⊥
-WorkCalls unclaimed (CopyTree c) did (Make new) log after = ⊥
-WorkCalls unclaimed (CopyTree c) did (SetMode new) log after = ⊥
-WorkCalls unclaimed (Delete d) did new log after = DeletionCalls did log after
-WorkCalls unclaimed (Make m) did new log after = MakingCalls m did log after
-WorkCalls unclaimed (SetMode s) did new log after = SettingCalls s did log after
+-- what a step of the work says of the tree's calls, where this was answered; a part may have the paths that no other job claims
+abbrev pub WorkCalls : (Route → Type 0) → Replies → Work → Did → Work → CallLog → Option CallLog → Type 0
+WorkCalls unclaimed replies (Copy c) did (Copy new) log after = AskedCalls unclaimed replies c did new log after
+WorkCalls unclaimed replies (Copy c) did (Delete new) log after = ⊥
+WorkCalls unclaimed replies (Copy c) did (Make new) log after = ⊥
+WorkCalls unclaimed replies (Copy c) did (SetMode new) log after = ⊥
+WorkCalls unclaimed replies (Copy c) did (CopyTree new) log after = ⊥
+WorkCalls unclaimed replies (CopyTree c) did (CopyTree new) log after = trees.Calls unclaimed c did new log after
+WorkCalls unclaimed replies (CopyTree c) did (Copy new) log after = ⊥
+WorkCalls unclaimed replies (CopyTree c) did (Delete new) log after = ⊥
+WorkCalls unclaimed replies (CopyTree c) did (Make new) log after = ⊥
+WorkCalls unclaimed replies (CopyTree c) did (SetMode new) log after = ⊥
+WorkCalls unclaimed replies (Delete d) did new log after = DeletionCalls did log after
+WorkCalls unclaimed replies (Make m) did new log after = MakingCalls m did log after
+WorkCalls unclaimed replies (SetMode s) did new log after = SettingCalls s did log after
 
 -- the same of a last step
 abbrev pub WorkLastCalls : Work → Did → CallLog → Option CallLog → Type 0
@@ -290,25 +303,52 @@ WorkLastCalls (SetMode s) did log after = LastSettingCalls s did log after
 
 -- What a step of a job says of the tree's calls. The report of a skip makes none.
 abbrev pub CallsOn : (Route → Type 0) → Course → Running → Did → Running → CallLog → Option CallLog → Type 0
-CallsOn unclaimed GoesOn job did new log after = WorkCalls unclaimed job.work did new.work log after
+CallsOn unclaimed GoesOn job did new log after = WorkCalls unclaimed job.replies job.work did new.work log after
 CallsOn unclaimed (InTrouble halt) job did new log after = ⊥
 CallsOn unclaimed (OwedSyncFailed cause) job did new log after = ⊥
+CallsOn unclaimed Asking job did new log after = ⊥
 CallsOn unclaimed (Skips cause) job did new log after = after ≡ Some log
 CallsOn unclaimed (Ends ending) job did new log after = WorkLastCalls job.work did log after
 
 abbrev pub JobCalls : (Route → Type 0) → Running → Did → Running → CallLog → Option CallLog → Type 0
 JobCalls unclaimed job did new log after = CallsOn unclaimed job.course job did new log after
 
--- an answer to a trouble, as it makes a job go on
+-- what is answered to a question, as it makes a job go on
+abbrev pub replied : Answer → Running → Running
+replied answer job = record job { replies = with_reply answer job.replies; course = GoesOn }
+
+-- an answer to a question or a trouble, as it makes a job go on
 abbrev pub answered_on : Course → Answer → Running → Running
+answered_on Asking Yes job = replied Yes job
+answered_on Asking No job = replied No job
+answered_on Asking All job = replied All job
+answered_on Asking Update job = replied Update job
+answered_on Asking Nothing job = replied Nothing job
+answered_on Asking SizeDiffers job = replied SizeDiffers job
+answered_on Asking Abort job = record job { course = Ends Aborted }
+answered_on Asking Retry job = job
+answered_on Asking Skip job = job
+answered_on Asking SkipAll job = job
 answered_on (InTrouble halt) Retry job = record job { work = taken_anew job.work; course = GoesOn }
 answered_on (InTrouble halt) Skip job = record job { course = Skips halt.cause }
 answered_on (InTrouble halt) SkipAll job = record job { work = with_skips halt.cause job.work; course = Skips halt.cause }
 answered_on (InTrouble halt) Abort job = record job { course = Ends Aborted }
+answered_on (InTrouble halt) Yes job = job
+answered_on (InTrouble halt) No job = job
+answered_on (InTrouble halt) All job = job
+answered_on (InTrouble halt) Update job = job
+answered_on (InTrouble halt) Nothing job = job
+answered_on (InTrouble halt) SizeDiffers job = job
 answered_on (OwedSyncFailed cause) Retry job = record job { work = taken_anew job.work; course = GoesOn }
+answered_on (OwedSyncFailed cause) Abort job = record job { course = Ends Aborted }
 answered_on (OwedSyncFailed cause) Skip job = job
 answered_on (OwedSyncFailed cause) SkipAll job = job
-answered_on (OwedSyncFailed cause) Abort job = record job { course = Ends Aborted }
+answered_on (OwedSyncFailed cause) Yes job = job
+answered_on (OwedSyncFailed cause) No job = job
+answered_on (OwedSyncFailed cause) All job = job
+answered_on (OwedSyncFailed cause) Update job = job
+answered_on (OwedSyncFailed cause) Nothing job = job
+answered_on (OwedSyncFailed cause) SizeDiffers job = job
 answered_on GoesOn answer job = job
 answered_on (Skips cause) answer job = job
 answered_on (Ends ending) answer job = job
@@ -320,20 +360,41 @@ answered answer job = answered_on job.course answer job
 abbrev pub waits_on : Course → Bool
 waits_on (InTrouble halt) = true
 waits_on (OwedSyncFailed cause) = true
+waits_on Asking = true
 waits_on GoesOn = false
 waits_on (Skips cause) = false
 waits_on (Ends ending) = false
 
--- a trouble can be answered so: at a barrier nothing is passed over
+-- a job waits for an answer to a question
+abbrev pub asks_on : Course → Bool
+asks_on Asking = true
+asks_on (InTrouble halt) = false
+asks_on (OwedSyncFailed cause) = false
+asks_on GoesOn = false
+asks_on (Skips cause) = false
+asks_on (Ends ending) = false
+
+-- what a job waits with
+abbrev pub waiting_on : Course → Option Waiting
+waiting_on Asking = Some waits.Question
+waiting_on (InTrouble halt) = Some (if halt.barrier then waits.Barrier else waits.Trouble halt.cause)
+waiting_on (OwedSyncFailed cause) = Some waits.Barrier
+waiting_on GoesOn = None
+waiting_on (Skips cause) = None
+waiting_on (Ends ending) = None
+
+-- What the job waits with can be answered so: a question by what it offers, a trouble by a retry or a skip, but at a barrier nothing is passed over; each by the end
+-- of the job.
 pub record MayAnswer (job : Running) (answer : Answer) : Type 0 where
   pub waits : waits_on job.course ≡ true
-  pub fits : passes_over answer ≡ true → is_barred job.course job.work ≡ false
+  pub fits : IsOk (answers.answered (waiting_on job.course) answer)
 
 -- a job is ordered to end so; one that makes its last steps already ends as it was ordered first
 abbrev pub ended_course : Ending → Course → Course
 ended_course ending GoesOn = Ends ending
 ended_course ending (InTrouble halt) = Ends ending
 ended_course ending (OwedSyncFailed cause) = Ends ending
+ended_course ending Asking = Ends ending
 ended_course ending (Skips cause) = Ends ending
 ended_course ending (Ends first) = Ends first
 
@@ -342,6 +403,7 @@ abbrev pub closed_course : Course → Course
 closed_course GoesOn = GoesOn
 closed_course (InTrouble halt) = Ends Aborted
 closed_course (OwedSyncFailed cause) = Ends Aborted
+closed_course Asking = Ends Aborted
 closed_course (Skips cause) = Skips cause
 closed_course (Ends ending) = Ends ending
 

@@ -10,7 +10,7 @@ use Rattle.job_reports.specs.declared.report.Trouble.{Trouble}
 use Rattle.job_reports.specs.declared.report.Ending.{Ending}
 use Rattle.job_reports.specs.declared.report.Ending.TheVariants.{Finished}
 use Rattle.job_reports.specs.declared.report.Did.{Did}
-use Rattle.job_reports.specs.declared.report.Did.TheVariants.{Began, Chunk, Placed, Removed, Made, Set, Kept, Skipped, Cleaned, Barrier, Troubled, Ended}
+use Rattle.job_reports.specs.declared.report.Did.TheVariants.{Began, Chunk, Placed, Removed, Made, Set, Kept, Skipped, Cleaned, Barrier, Asked, Troubled, Ended}
 use Rattle.job_reports.specs.Stops.{sync_answer, cause_of, trouble_at}
 use Rattle.copy_move.specs.declared.making.MakingStage.{MakingStage}
 use Rattle.copy_move.specs.declared.making.MakingStage.TheVariants.{Make, Sync, Finish, PassedOver}
@@ -98,6 +98,7 @@ Tells m (Set path) new = ⊥
 Tells m (Placed path) new = ⊥
 Tells m (Removed path) new = ⊥
 Tells m (Kept kept) new = ⊥
+Tells m (Asked question) new = ⊥
 Tells m (Skipped path cause) new = ⊥
 Tells m (Cleaned part) new = ⊥
 
@@ -112,6 +113,7 @@ Winds ending m (Placed path) new = ⊥
 Winds ending m (Removed path) new = ⊥
 Winds ending m (Made made) new = ⊥
 Winds ending m (Kept kept) new = ⊥
+Winds ending m (Asked question) new = ⊥
 Winds ending m (Skipped path cause) new = ⊥
 Winds ending m (Cleaned part) new = ⊥
 Winds ending m (Troubled trouble) new = ⊥
@@ -134,6 +136,7 @@ MakingCalls m (Set path) log after = ⊥
 MakingCalls m (Placed path) log after = ⊥
 MakingCalls m (Removed path) log after = ⊥
 MakingCalls m (Kept kept) log after = ⊥
+MakingCalls m (Asked question) log after = ⊥
 MakingCalls m (Skipped path cause) log after = ⊥
 MakingCalls m (Cleaned part) log after = ⊥
 
@@ -148,6 +151,7 @@ LastMakingCalls m (Placed path) log after = ⊥
 LastMakingCalls m (Removed path) log after = ⊥
 LastMakingCalls m (Made made) log after = ⊥
 LastMakingCalls m (Kept kept) log after = ⊥
+LastMakingCalls m (Asked question) log after = ⊥
 LastMakingCalls m (Skipped path cause) log after = ⊥
 LastMakingCalls m (Cleaned part) log after = ⊥
 LastMakingCalls m (Troubled trouble) log after = ⊥

@@ -13,7 +13,7 @@ use Rattle.copy_move.specs.Deletions.{Deleting, left_in}
 use Rattle.copy_move.specs.declared.work.Work.{Work}
 use Rattle.copy_move.specs.declared.work.Work.TheVariants.{Copy, CopyTree, Delete, Make, SetMode}
 use Rattle.copy_move.specs.declared.run.Course.{Course}
-use Rattle.copy_move.specs.declared.run.Course.TheVariants.{GoesOn, InTrouble, OwedSyncFailed, Skips, Ends}
+use Rattle.copy_move.specs.declared.run.Course.TheVariants.{GoesOn, Asking, InTrouble, OwedSyncFailed, Skips, Ends}
 use Rattle.copy_move.specs.Jobs.{Running}
 use Rattle.subtree_copy.specs.Ranks as tree
 use Rattle.mode_setting.specs.declared.setting.Stage.{Stage as SettingStage}
@@ -88,6 +88,7 @@ abbrev pub rank_on : Course → Work → ℕ
 rank_on GoesOn work = work_rank work
 rank_on (InTrouble halt) work = last_rank work
 rank_on (OwedSyncFailed cause) work = last_rank work
+rank_on Asking work = last_rank work
 rank_on (Skips cause) work = skip_rank work
 rank_on (Ends ending) work = last_rank work
 
@@ -101,6 +102,7 @@ tries_left (Ends ending) (SetMode s) dirty = length dirty
 tries_left GoesOn work dirty = length dirty
 tries_left (InTrouble halt) work dirty = length dirty
 tries_left (OwedSyncFailed cause) work dirty = length dirty
+tries_left Asking work dirty = length dirty
 tries_left (Skips cause) work dirty = length dirty
 
 -- The same where folders are dirty: a job may have to sync each of them, and to try each in its last steps. A change adds one.

@@ -14,10 +14,11 @@ use Rattle.job_reports.specs.declared.report.Cause.{Cause}
 use Rattle.job_reports.specs.declared.report.Trouble.{Trouble}
 use Rattle.job_reports.specs.declared.report.Did.TheVariants.{Barrier, Skipped, Troubled}
 use Rattle.job_reports.specs.Stops.{out_of_memory_at}
+use Rattle.job_answers.specs.declared.replies.Replies.{Replies}
 use Rattle.copy_move.specs.declared.work.Work.{Work}
 use Rattle.copy_move.specs.declared.run.Course.{Course}
 use Rattle.copy_move.specs.declared.work.Work.TheVariants.{Copy, CopyTree, Delete, Make, SetMode}
-use Rattle.copy_move.specs.declared.run.Course.TheVariants.{GoesOn, InTrouble, OwedSyncFailed, Skips, Ends}
+use Rattle.copy_move.specs.declared.run.Course.TheVariants.{GoesOn, Asking, InTrouble, OwedSyncFailed, Skips, Ends}
 use Rattle.copy_move.specs.Faults.{MeetsFault}
 use Rattle.copy_move.specs.DeletionSteps.{Goes, Passes, TriesNext, after_try}
 use Rattle.copy_move.specs.Jobs.{Running, JobTells, JobCalls, PassesOver, WorkTells, WorkCalls, WorkWinds, WorkLastCalls, at_barrier, course_after, is_fresh}
@@ -54,6 +55,7 @@ abbrev pub LeavesDirty : Course → Work → Did → Work → List Route → Lis
 LeavesDirty GoesOn old did new dirty dirty_after before after = WorkLeaves old did new dirty dirty_after before after
 LeavesDirty (InTrouble halt) old did new dirty dirty_after before after = ⊥
 LeavesDirty (OwedSyncFailed cause) old did new dirty dirty_after before after = ⊥
+LeavesDirty Asking old did new dirty dirty_after before after = ⊥
 LeavesDirty (Skips cause) old did new dirty dirty_after before after = dirty_after ≡ dirty
 LeavesDirty (Ends ending) old did new dirty dirty_after before after = LastLeaves old did dirty dirty_after before after
 
@@ -113,15 +115,16 @@ abbrev pub WalksOn : (Route → Type 0) → Course → Work → Work → Did →
 WalksOn unclaimed GoesOn old new did calls dirty dirty_after before after faults faults_after = Walks unclaimed old new did calls dirty dirty_after before after faults faults_after
 WalksOn unclaimed (InTrouble halt) old new did calls dirty dirty_after before after faults faults_after = ⊥
 WalksOn unclaimed (OwedSyncFailed cause) old new did calls dirty dirty_after before after faults faults_after = ⊥
+WalksOn unclaimed Asking old new did calls dirty dirty_after before after faults faults_after = ⊥
 WalksOn unclaimed (Skips cause) old new did calls dirty dirty_after before after faults faults_after = SkipWalks cause old did new
 WalksOn unclaimed (Ends ending) old new did calls dirty dirty_after before after faults faults_after =
     (left : Option TreeError) × LastWalks ending old new did calls left dirty dirty_after before after faults faults_after
 
--- A piece of work, likewise. Fewer steps are left then, and at most three where it is refused.
-pub record WorkSteps (unclaimed : Route → Type 0) (old new : Work) (did : Did) (calls : ℕ) (dirty dirty_after : List Route) (before after : Option CallLog) (faults faults_after : ℕ) : Type 0 where
+-- A piece of work, where this was answered, likewise. Fewer steps are left then, and at most three where it is refused.
+pub record WorkSteps (unclaimed : Route → Type 0) (replies : Replies) (old new : Work) (did : Did) (calls : ℕ) (dirty dirty_after : List Route) (before after : Option CallLog) (faults faults_after : ℕ) : Type 0 where
   pub tells : WorkTells old did new
   pub walks : Walks unclaimed old new did calls dirty dirty_after before after faults faults_after
-  pub called : IfKnown before (λ log. WorkCalls unclaimed old did new log after)
+  pub called : IfKnown before (λ log. WorkCalls unclaimed replies old did new log after)
   pub leaves : WorkLeaves old did new dirty dirty_after before after
   pub counted : IfKnown before (λ log. IfKnown after (HasMore log calls))
   pub few : calls ≤ 3

@@ -8,7 +8,7 @@ use Rattle.job_reports.specs.declared.report.Trouble.{Trouble}
 use Rattle.job_reports.specs.Jobs.{is_workable}
 use Rattle.job_reports.specs.declared.report.Ending.TheVariants.{Finished, NoMemory}
 use Rattle.job_reports.specs.declared.report.Did.{Did}
-use Rattle.job_reports.specs.declared.report.Did.TheVariants.{Began, Chunk, Placed, Removed, Made, Set, Kept, Skipped, Cleaned, Barrier, Troubled, Ended}
+use Rattle.job_reports.specs.declared.report.Did.TheVariants.{Began, Chunk, Placed, Removed, Made, Set, Kept, Skipped, Cleaned, Barrier, Asked, Troubled, Ended}
 use Rattle.file_copy.specs.declared.stage.SourceFacts.{SourceFacts}
 use Rattle.file_copy.specs.declared.stage.Stage.{Stage}
 use Rattle.file_copy.specs.declared.stage.Stage.TheVariants as at
@@ -16,6 +16,7 @@ use Rattle.file_copy.specs.declared.stage.FolderState.TheVariants.{Synced, Dirty
 use Rattle.file_copy.specs.Copying.{after_clean}
 use Rattle.file_copy.specs.Copying as copying
 use Rattle.file_copy.specs.LastSteps.{given_up}
+use Rattle.job_answers.specs.Decisions.{no_replies}
 use Rattle.subtree_walk.specs.Places.{unopened}
 use Rattle.tree_deletion.specs.declared.deletion.Depth.TheVariants.{Top}
 use Rattle.tree_deletion.specs.declared.deletion.Stage.TheVariants.{Going}
@@ -24,7 +25,7 @@ use Rattle.copy_move.specs.declared.making.MakingStage.TheVariants as making
 use Rattle.copy_move.specs.declared.work.Work.{Work}
 use Rattle.copy_move.specs.declared.work.Work.TheVariants.{Copy, CopyTree, Delete, Make, SetMode}
 use Rattle.copy_move.specs.declared.run.Course.{Course}
-use Rattle.copy_move.specs.declared.run.Course.TheVariants.{GoesOn, InTrouble, OwedSyncFailed}
+use Rattle.copy_move.specs.declared.run.Course.TheVariants.{GoesOn, Asking, InTrouble, OwedSyncFailed}
 use Rattle.copy_move.specs.Makings as makings
 use Rattle.copy_move.specs.ModeSettings as modes
 use Rattle.mode_setting.specs.declared.setting.Stage.TheVariants as setting
@@ -97,9 +98,9 @@ mode_given (Delete d) = Delete d
 mode_given (Make m) = Make m
 mode_given (SetMode s) = SetMode (record s { stage = setting.Sync })
 
--- the work once this folder was kept
+-- the work once this folder was kept, or what stands at the target of a file's copy
 abbrev pub spared : Route → Work → Work
-spared path (Copy c) = Copy c
+spared path (Copy c) = Copy (record c { stage = at.Decided })
 spared path (CopyTree c) = CopyTree c
 spared path (Delete d) = Delete (record d { stage = after_item d.path path d.stage })
 spared path (Make m) = Make m
@@ -156,16 +157,21 @@ after_step (Kept path) job = Some (record job { work = spared path job.work })
 after_step (Skipped path cause) job = Some (record job { work = skipped path job.work; course = GoesOn })
 after_step (Cleaned part) job = Some (record job { work = cleaned job.course job.work })
 after_step Barrier job = Some (record job { work = synced job.work })
+after_step (Asked question) job = Some (record job { course = Asking })
 after_step (Troubled trouble) job = Some (record job { course = course_told job.work trouble })
 after_step (Ended ending part) job = None
 
 -- a job just begun
 abbrev pub running : ℕ → Work → Running
-running id work = record { id = id; work = work; course = GoesOn }
+running id work = record { id = id; work = work; course = GoesOn; replies = no_replies }
 
--- The job goes on with its next source, of which this is the plan. What was to be skipped of all that meets the same goes on to be.
+-- The job as it takes up this work, its next source's: what was to be skipped of all that meets the same goes on to be, and what was answered for all items goes on to hold.
+abbrev pub with_next : Running → Work → Running
+with_next job work = record { id = job.id; work = passing_over (skips_of job.work) work; course = GoesOn; replies = record job.replies { item = None } }
+
+-- the job goes on with its next source, of which this is the plan
 abbrev pub turned : Job → Running → Option Running
-turned plan job = option_map (λ work. running job.id (passing_over (skips_of job.work) work)) (first_work job.id plan)
+turned plan job = option_map (λ work. with_next job work) (first_work job.id plan)
 
 abbrev pub if_closed : Bool → Option Running → Option Running
 if_closed true job = option_map closed_job job

@@ -1,8 +1,8 @@
-//! A job that is worked, step by step: it does its work, waits in a trouble for an answer, and makes its last steps where it
-//! is to end early.
+//! A job that is worked, step by step: it does its work, waits with a question or in a trouble for an answer, and makes its last
+//! steps where it is to end early.
 ghost use Rattle.std.specs.Prelude.{◌≡◌, IfOk, Some, false, option_map, true};
 ghost use Rattle.job_reports.specs.Jobs.{is_workable};
-ghost use Rattle.copy_move.specs.Jobs.{first_work, kind_of, part_of, path_of, waits_on};
+ghost use Rattle.copy_move.specs.Jobs.{asks_on, first_work, kind_of, part_of, path_of, waits_on};
 ghost use Rattle.copy_move.specs.Steps.{RunStep};
 ghost use Rattle.copy_move.specs.Told.{running, turned};
 
@@ -12,6 +12,7 @@ mod stepping;
 use crate::starting::begun_work;
 use crate::work::Work;
 use file_copy::PartTest;
+use job_answers::Replies;
 use job_reports::{Cause, Ending, Job, JobKind, StepResult};
 use mc_text::{NoMemory, Path};
 use std::alloc::Global;
@@ -30,6 +31,8 @@ pub struct Halt {
 #[derive(Clone, Copy, Debug, Drop, PartialEq, Eq)]
 pub enum Course {
     GoesOn,
+    /// Something stands at the target of its file. The job waits for an answer.
+    Asking,
     /// A call was refused, or there was no memory. The job waits for an answer.
     InTrouble(Halt),
     /// What an ended job left dirty could not be synced. The job has changed nothing yet, and waits for an answer.
@@ -46,6 +49,7 @@ pub struct Run {
     id: u32,
     work: Work,
     course: Course,
+    replies: Replies,
 }
 
 /// Written by hand, so that it is a call wherever a job is let go of: the prover would look through a derived one there, with all that
@@ -56,6 +60,7 @@ impl Drop for Run {
             id: _,
             work,
             course: _,
+            replies: _,
         } = self;
         drop(work);
     }
@@ -67,7 +72,7 @@ impl Model for Run {
 
     ghost Value = { Running };
 
-    ghost view = { λ r. record { id = r.id; work = r.work; course = r.course } };
+    ghost view = { λ r. record { id = r.id; work = r.work; course = r.course; replies = r.replies } };
 
     ghost invariant = { λ r. IsSound r.course r.work };
 }
@@ -84,11 +89,12 @@ impl Run {
             id,
             work,
             course: Course::GoesOn,
+            replies: Replies::new(),
         })
     }
 
-    /// The job as it goes on with its next source, of which this is the plan: under its number, and what was to be skipped of all that meets
-    /// the same goes on to be.
+    /// The job as it goes on with its next source, of which this is the plan: under its number; what was to be skipped of all that meets the
+    /// same goes on to be, and what was answered for all items goes on to hold.
     pub fn turn(&self, alloc: Global, next: &Job) -> Result<Run, NoMemory>
         requires sound { is_workable next.now ≡ true }
         ensures turned { IfOk result (λ run. turned next.now self.now ≡ Some run) }
@@ -99,6 +105,7 @@ impl Run {
             id: self.id,
             work,
             course: Course::GoesOn,
+            replies: self.replies.for_next(),
         })
     }
 
@@ -123,13 +130,24 @@ impl Run {
         self.work.path()
     }
 
-    /// Whether the job is in trouble, and waits for an answer.
+    /// Whether the job waits for an answer, to a question or in a trouble.
     pub fn waits(&self) -> bool
         ensures { result ≡ waits_on self.now.course }
     {
         match self.course {
-            Course::InTrouble(_) | Course::OwedSyncFailed(_) => true,
+            Course::Asking | Course::InTrouble(_) | Course::OwedSyncFailed(_) => true,
             Course::GoesOn | Course::Skips(_) | Course::Ends(_) => false,
+        }
+    }
+
+    /// Whether it waits for an answer to a question.
+    pub fn asks(&self) -> bool
+        ensures { result ≡ asks_on self.now.course }
+    {
+        match self.course {
+            Course::Asking => true,
+            Course::GoesOn | Course::InTrouble(_) | Course::OwedSyncFailed(_) => false,
+            Course::Skips(_) | Course::Ends(_) => false,
         }
     }
 
@@ -169,7 +187,7 @@ impl Run {
             Course::GoesOn => self.go_on(alloc, tree, parts, dirty),
             Course::Skips(cause) => self.skip(alloc, cause),
             Course::Ends(ending) => self.wind_up(alloc, tree, ending, dirty),
-            Course::InTrouble(_) | Course::OwedSyncFailed(_) => unreachable!(),
+            Course::Asking | Course::InTrouble(_) | Course::OwedSyncFailed(_) => unreachable!(),
         }
     }
 
@@ -181,6 +199,7 @@ impl Run {
             id: _,
             work,
             course: _,
+            replies: _,
         } = self;
         work.into_part()
     }

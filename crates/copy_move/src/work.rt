@@ -1,7 +1,7 @@
 //! What a job does: it copies a file, or a thing with all that lies in it, deletes a thing with all that lies in it, makes a folder or a
 //! link, or sets a thing's mode. One machine for each.
 ghost use Rattle.std.specs.Prelude.{◌≡◌, false, option_map, true};
-ghost use Rattle.copy_move.specs.Jobs.{IsGoing, at_barrier, is_fresh, kind_of, part_of, passing_over, path_of, skips_of, taken_anew as anew, with_skips};
+ghost use Rattle.copy_move.specs.Jobs.{IsGoing, at_barrier, is_fresh, kind_of, part_of, passing_over, path_of, skipping_by, skips_of, taken_anew as anew, with_skips};
 ghost use Rattle.copy_move.specs.Settling.{changed_folder, is_owed_anywhere};
 ghost use Rattle.copy_move.specs.Steps.{WorkSkips, WorkSteps, WorkWindsUp};
 
@@ -11,8 +11,8 @@ use crate::dirty_making::{step_making, wind_up_making};
 use crate::dirty_setting::{step_setting, wind_up_setting};
 use crate::making::ThingMaking;
 use file_copy::{FileCopy, PartTest};
-use job_answers::Skips;
-use job_reports::{Cause, Did, Ending, JobKind, LastStepResult, StepResult};
+use job_answers::{Replies, Skips};
+use job_reports::{Answer, Cause, Did, Ending, JobKind, LastStepResult, StepResult};
 use mc_text::Path;
 use mode_setting::ModeSetting;
 use std::alloc::Global;
@@ -31,21 +31,22 @@ pub enum Work {
 }
 
 impl Work {
-    /// Does the next piece of work.
+    /// Does the next piece of work, where this was answered to the job's questions.
     pub(crate) fn step<T: Tree, P: PartTest>(
         &mut self,
         alloc: Global,
         tree: &mut T,
         parts: &P,
         dirty: &mut Dirty,
+        replies: Replies,
     ) -> StepResult
         requires going { IsGoing self.old }
-        ensures steps { WorkSteps (λ path. P.is_free parts.now path ≡ true) self.old self.new result.did result.calls
+        ensures steps { WorkSteps (λ path. P.is_free parts.now path ≡ true) replies self.old self.new result.did result.calls
             dirty.old dirty.new (T.contents tree.old) (T.contents tree.new) (T.fault_count tree.old) (T.fault_count tree.new) }
         ensures going { IsGoing self.new }
     {
         match self {
-            Work::Copy(copy) => step_copy(copy, alloc, tree, parts, dirty),
+            Work::Copy(copy) => step_copy(copy, alloc, tree, parts, dirty, replies),
             Work::CopyTree(copy) => copy.step(alloc, tree, parts, dirty),
             Work::Delete(deletion) => deletion.step(alloc, tree, dirty),
             Work::Make(making) => step_making(making, alloc, tree, dirty),
@@ -70,7 +71,7 @@ impl Work {
     }
 
     /// From now on troubles of this kind are passed over without a question.
-    pub(crate) fn skip_all(&mut self, cause: Cause)
+    fn skip_all(&mut self, cause: Cause)
         requires going { IsGoing self.old }
         ensures skips { self.new ≡ with_skips cause self.old }
         ensures going { IsGoing self.new }
@@ -82,6 +83,21 @@ impl Work {
             Work::Delete(deletion) => deletion.skip_all(cause),
             Work::Make(_) => {}
             Work::SetMode(_) => {}
+        }
+    }
+
+    /// After `SkipAll` troubles of this kind are passed over without a question.
+    pub(crate) fn note_skip(&mut self, cause: Cause, answer: Answer)
+        requires going { IsGoing self.old }
+        ensures skips { self.new ≡ skipping_by answer cause self.old }
+        ensures going { IsGoing self.new }
+        ensures barrier { at_barrier self.new ≡ at_barrier self.old }
+    {
+        match answer {
+            Answer::SkipAll => self.skip_all(cause),
+            Answer::Skip | Answer::Retry | Answer::Abort => {}
+            Answer::Yes | Answer::No => {}
+            Answer::All | Answer::Update | Answer::Nothing | Answer::SizeDiffers => {}
         }
     }
 

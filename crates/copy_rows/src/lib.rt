@@ -1,6 +1,7 @@
 //! Copies of one file over the tree in memory: what each step reports, and whether each crash image is safe.
 #![tactic(auto)]
 
+mod asked;
 mod images;
 mod judging;
 mod rows;
@@ -18,4 +19,5 @@ pub fn tell_copies(page: &mut Page) {
     rows::tell_taken(page);
     rows::tell_shrunk(page);
     wrong::tell_wrong(page);
+    asked::tell_asked(page);
 }

@@ -1,5 +1,5 @@
 //! What is left in a crash image, in words.
-use crate::scenes::{COPIED, DELETED, Original, SET, Scene};
+use crate::scenes::{COPIED, DELETED, Original, REPLACED, SET, Scene};
 use mc_text::{Kind, Name, Path};
 use row_page::Page;
 use std::convert::AsStr;
@@ -21,6 +21,7 @@ pub fn tell_left<T: Tree>(page: &mut Page, image: &mut T, scene: Scene) {
         Scene::Deletion => tell_deletion(page, image),
         Scene::Folder => tell_folder_deletion(page, image),
         Scene::Copy => tell_copy(page, image),
+        Scene::Overwriting => tell_overwriting(page, image),
         Scene::LeftFolder => tell_deletion(page, image),
         Scene::LeftTarget => tell_copy(page, image),
         Scene::NewFolder => tell_new_folder(page, image, "/a/n"),
@@ -76,6 +77,30 @@ fn tell_copy<T: Tree>(page: &mut Page, image: &mut T) {
     tell_file(page, image, "/s/e", COPIED, "missing");
     page.put(", beside it ");
     tell_beside(page, image, "/t", "e");
+}
+
+fn tell_overwriting<T: Tree>(page: &mut Page, image: &mut T) {
+    tell_target(page, image, "/t/e");
+    page.put(", the source ");
+    tell_file(page, image, "/s/e", COPIED, "missing");
+    page.put(", beside it ");
+    tell_beside(page, image, "/t", "e");
+}
+
+/// Which of two files stands where one is copied over the other.
+fn tell_target<T: Tree>(page: &mut Page, image: &mut T, path: &str) {
+    match what_stands(page, image, path, COPIED) {
+        Standing::Whole => page.put("new"),
+        _ => tell_replaced(page, image, path),
+    }
+}
+
+fn tell_replaced<T: Tree>(page: &mut Page, image: &mut T, path: &str) {
+    match what_stands(page, image, path, REPLACED) {
+        Standing::Whole => page.put("old"),
+        Standing::Missing => page.put("missing"),
+        Standing::Torn => page.put("torn"),
+    }
 }
 
 fn tell_new_folders<T: Tree>(page: &mut Page, image: &mut T) {

@@ -9,6 +9,8 @@ pub enum Scene {
     Folder,
     /// A file is copied from one folder into the other.
     Copy,
+    /// It is copied over another file, which the answer to the question allows.
+    Overwriting,
     /// Two files are deleted. The sync after the first is refused, and so is that of its last steps; the second job makes it.
     LeftFolder,
     /// A file is copied. The sync after it came to its name is refused, and so is that of the last steps. The second job, which
@@ -35,6 +37,7 @@ impl Scene {
             Scene::Deletion => "/a/x is deleted",
             Scene::Folder => "/a/d is deleted with /a/d/x",
             Scene::Copy => "/s/e is copied into /t",
+            Scene::Overwriting => "/s/e is copied over /t/e",
             Scene::LeftFolder => "/a/x is deleted and /a not synced, then /a/y is deleted",
             Scene::LeftTarget => "/s/e is copied and /t not synced, then /s/e is deleted",
             Scene::NewFolder => "/a/n is made",
@@ -50,6 +53,7 @@ impl Scene {
     pub fn writes(self) -> bool {
         match self {
             Scene::Copy => true,
+            Scene::Overwriting => true,
             Scene::LeftTarget => true,
             Scene::Tree => true,
             _ => false,
@@ -61,6 +65,9 @@ impl Scene {
         match self {
             Scene::Folder => "folder /a 755\nfolder /a/d 755\nfile /a/d/x 644 hi\nfile /a/y 644 hi",
             Scene::Copy => "folder /s 755\nfolder /t 755\nfile /s/e 640 hello",
+            Scene::Overwriting => {
+                "folder /s 755\nfolder /t 755\nfile /s/e 640 hello\nfile /t/e 600 old"
+            }
             Scene::LeftTarget => "folder /s 755\nfolder /t 755\nfile /s/e 640 hello",
             Scene::NewFolder => "folder /a 755",
             Scene::LeftNewFolder => "folder /a 755",
@@ -89,6 +96,7 @@ impl Scene {
             Scene::Deletion => Some(session("/a", "/a", DELETING)),
             Scene::Folder => Some(session("/a", "/a", DELETING)),
             Scene::Copy => Some(session("/s", "/t", COPYING)),
+            Scene::Overwriting => Some(session("/s", "/t", OVERWRITING)),
             Scene::LeftFolder => Some(session("/a", "/a", DELETING_BOTH)),
             Scene::LeftTarget => Some(session("/s", "/t", COPYING_AND_DELETING)),
             Scene::NewFolder => Some(session("/a", "/a", MAKING)),
@@ -138,11 +146,20 @@ pub const COPIED: Original = Original {
     mode: 0o640,
 };
 
+/// The file over which it is copied.
+pub const REPLACED: Original = Original {
+    bytes: b"old",
+    mode: 0o600,
+};
+
 /// Down, F8, Enter, F10.
 const DELETING: &[u8] = b"\x1b[B\x1b[19~\r\x1b[21~";
 
 /// Down, F5, Enter at the mask, Enter at the target, F10.
 const COPYING: &[u8] = b"\x1b[B\x1b[15~\r\r\x1b[21~";
+
+/// Down, F5, Enter at the mask, Enter at the target, y in the box of the question, F10.
+const OVERWRITING: &[u8] = b"\x1b[B\x1b[15~\r\ry\x1b[21~";
 
 /// Down, F8, Enter, b in the box of the refused sync, F8, Enter, F10.
 const DELETING_BOTH: &[u8] = b"\x1b[B\x1b[19~\rb\x1b[19~\r\x1b[21~";
@@ -155,9 +172,9 @@ const REFUSED_SYNCS: &[u64] = &[12, 13];
 const COPYING_AND_DELETING: &[u8] = b"\x1b[B\x1b[15~\r\rb\x1b[19~\r\x1b[21~";
 
 /// The calls that are the sync after the renaming, and the one of the last steps. Before them comes the opening: for each panel a
-/// look at its path and a listing, and a look at the file; then four looks of the keys (at the file, at it again, at the folder that
-/// was typed, and at the target), five of the copy, and the part made, filled from what is read, synced and renamed.
-const REFUSED_TARGET_SYNCS: &[u64] = &[20, 21];
+/// look at its path and a listing, and a look at the file; then three looks of the keys (at the file, at it again, and at the folder that
+/// was typed), five of the copy, and the part made, filled from what is read, synced and renamed.
+const REFUSED_TARGET_SYNCS: &[u64] = &[19, 20];
 
 /// F7, n, Enter, F10.
 const MAKING: &[u8] = b"\x1b[18~n\r\x1b[21~";

@@ -1,4 +1,6 @@
+pub mod AskedMoves
 pub mod FilledParts
+pub mod JudgedLooks
 pub mod LooksInOrder
 pub mod Naming
 pub mod Peeking

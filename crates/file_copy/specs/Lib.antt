@@ -1,3 +1,4 @@
+pub mod AskedCopies
 pub mod Chunks
 pub mod Copied
 pub mod CopyCalls
@@ -7,3 +8,4 @@ pub mod LastSteps
 pub mod Looking
 pub mod PartNames
 pub mod PartSteps
+pub mod Takings

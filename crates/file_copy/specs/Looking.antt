@@ -16,6 +16,7 @@ use Rattle.job_reports.specs.declared.report.Cause.{Cause}
 use Rattle.job_reports.specs.declared.report.Cause.TheVariants.{Tree, TargetKind, SpecialSource, TooDeep, PartTaken, TooLong, Unnamed, Changed, Memory}
 use Rattle.job_reports.specs.declared.report.Trouble.{Trouble}
 use Rattle.job_reports.specs.Reading.{IsRefusedWith}
+use Rattle.file_copy.specs.declared.looks.Seen.{Seen}
 use Rattle.file_copy.specs.declared.stage.SourceFacts.{SourceFacts}
 use Rattle.file_copy.specs.Copying.{Places}
 use Rattle.job_reports.specs.Paths.{folder_of}
@@ -56,6 +57,18 @@ IsFirstRefused s (look ∷ more) path e =
     ((path ≡ look.0) × IsRefusedWith s (Stat look.0) e × ((look.1 ≡ true) × (e ≡ refused.Missing) → ⊥))
     ⊎ (Passes s look × IsFirstRefused s more path e)
 
+-- a look is refused, the first that is, or there was no memory
+abbrev pub LookRefused : FileSystem → Places → Cause → Option Route → Type 0
+LookRefused s p (Tree e) path = (look : Route) × (path ≡ Some look) × IsFirstRefused s (looks_at p) look e
+LookRefused s p Memory path = path ≡ None
+LookRefused s p (TargetKind kind) path = ⊥
+LookRefused s p SpecialSource path = ⊥
+LookRefused s p TooDeep path = ⊥
+LookRefused s p (Unnamed count) path = ⊥
+LookRefused s p PartTaken path = ⊥
+LookRefused s p TooLong path = ⊥
+LookRefused s p (Changed said got) path = ⊥
+
 -- The trouble of the looks: one is refused, or none is, and something stands at the target, or nothing stands there, and
 -- the source is no file.
 abbrev pub LookStops : FileSystem → Places → Cause → Option Route → Type 0
@@ -81,9 +94,24 @@ pub record HasRange (facts : SourceFacts) : Type 0 where
   pub mode : facts.mode ≤ 0o7777
   pub size : facts.size ≤ 2 ^ 63
 
--- what the looks at source and target come to
+-- no look is a trouble, and this stands at source and target
+pub record AreSeen (s : FileSystem) (p : Places) (seen : Seen) : Type 0 where
+  pub passes : AllPass s (looks_at p)
+  pub source : refusal_of s (Stat p.source) ≡ None
+  pub is : IsMeta s p.source seen.source
+  pub there : IsThere s p.target seen.target
+
+-- what is said of a file
+abbrev pub facts_in : Meta → SourceFacts
+facts_in source = record { size = source.size; mode = source.mode }
+
+-- what the look at the source comes to
+abbrev pub FactsSeen : Places → Meta → Result SourceFacts Trouble → Type 0
+FactsSeen p source (Ok facts) = (source.kind ≡ File) × (facts ≡ facts_in source)
+FactsSeen p source (Err trouble) = (source.kind ≢ File) × IsTroubleWithPath SpecialSource p.source trouble
+
+-- what the looks at source and target come to, where nothing may stand at the target
 abbrev pub Judges : Places → Meta → Option Meta → Result SourceFacts Trouble → Type 0
 Judges p source (Some target) (Ok facts) = ⊥
 Judges p source (Some target) (Err trouble) = IsTroubleWithPath (TargetKind target.kind) p.target trouble
-Judges p source None (Ok facts) = (source.kind ≡ File) × (facts ≡ record { size = source.size; mode = source.mode })
-Judges p source None (Err trouble) = (source.kind ≢ File) × IsTroubleWithPath SpecialSource p.source trouble
+Judges p source None result = FactsSeen p source result

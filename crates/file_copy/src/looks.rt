@@ -4,8 +4,9 @@ ghost use Rattle.tree_trait.specs.Calls.{Stat};
 ghost use Rattle.tree_trait.specs.Change.{current};
 ghost use Rattle.tree_trait.specs.Refusals.{refusal_of};
 ghost use Rattle.tree_trait.specs.Answers.{IfKnown, IsInRange, IsMeta};
-ghost use Rattle.file_copy.specs.Looking.{AreFactsOf, HasRange, IsReady, IsThere, Judges, LookStops};
+ghost use Rattle.file_copy.specs.Looking.{AreFactsOf, AreSeen, FactsSeen, HasRange, IsReady, IsThere, Judges, LookRefused, LookStops};
 ghost use Rattle.job_reports.specs.Reading.{Peeks, StatStops, TargetStops};
+ghost use Rattle.job_reports.specs.Stops.{IsTroubleWithPath};
 
 use crate::item::Item;
 use crate::stage::SourceFacts;
@@ -14,8 +15,15 @@ use mc_text::{Kind, Path};
 use std::alloc::Global;
 use tree_trait::{Meta, Tree};
 
-/// Looks at the source, the target and the folders that hold them, in this order. What a refused look says goes before
-/// what stands at the target, and that before what the source is.
+/// What stands at the source, and at the target if anything does.
+#[derive(Clone, Copy, Debug)]
+pub(crate) struct Seen {
+    pub(crate) source: Meta,
+    pub(crate) target: Option<Meta>,
+}
+
+/// A file is at the source, and nothing at the target. What a refused look says goes before what stands at the target, and
+/// that before what the source is.
 pub(crate) fn looks<T: Tree>(
     alloc: Global,
     tree: &mut T,
@@ -27,6 +35,25 @@ pub(crate) fn looks<T: Tree>(
     ensures peeks { Peeks result (T.contents tree.old) (T.contents tree.new)
         (T.fault_count tree.old) (T.fault_count tree.new) }
     ensures in_range { IfOk result HasRange }
+{
+    match look_at_places(alloc, tree, item) {
+        Ok(seen) => judge(alloc, item, seen),
+        Err(trouble) => Err(trouble),
+    }
+}
+
+/// Looks at the source, the target and the folders that hold them, in this order.
+pub(crate) fn look_at_places<T: Tree>(
+    alloc: Global,
+    tree: &mut T,
+    item: &Item,
+) -> Result<Seen, Trouble>
+    ensures known { IfKnown (T.contents tree.old) (λ log. MatchResult result
+        (λ seen. AreSeen (current log) item.now seen)
+        (λ trouble. LookRefused (current log) item.now trouble.cause trouble.path)) }
+    ensures peeks { Peeks result (T.contents tree.old) (T.contents tree.new)
+        (T.fault_count tree.old) (T.fault_count tree.new) }
+    ensures in_range { IfOk result (λ seen. IsInRange seen.source) }
 {
     let source = match look(alloc, tree, item.source()) {
         Ok(meta) => meta,
@@ -42,7 +69,7 @@ pub(crate) fn looks<T: Tree>(
     if let Err(trouble) = look(alloc, tree, item.folder()) {
         return Err(trouble);
     }
-    judge(alloc, item, source, target)
+    Ok(Seen { source, target })
 }
 
 /// What stands at a path.
@@ -82,25 +109,32 @@ pub fn look_at_target<T: Tree>(
     }
 }
 
-/// What the looks at source and target come to.
-fn judge(
-    alloc: Global,
-    item: &Item,
-    source: Meta,
-    target: Option<Meta>,
-) -> Result<SourceFacts, Trouble>
-    ensures { Judges item.now source target result }
+/// What the looks come to, where nothing may stand at the target.
+fn judge(alloc: Global, item: &Item, seen: Seen) -> Result<SourceFacts, Trouble>
+    ensures { Judges item.now seen.source seen.target result }
 {
-    match (target, source.kind) {
-        (Some(target), _) => Err(trouble_with_path(
-            alloc,
-            Cause::TargetKind(target.kind),
-            item.target(),
-        )),
-        (None, Kind::File) => Ok(SourceFacts {
+    match seen.target {
+        Some(target) => Err(in_the_way(alloc, item, target)),
+        None => facts_of(alloc, item, seen.source),
+    }
+}
+
+/// What stands at the target is a trouble.
+pub(crate) fn in_the_way(alloc: Global, item: &Item, target: Meta) -> Trouble
+    ensures { IsTroubleWithPath (Cause.TargetKind target.kind) item.now.target result }
+{
+    trouble_with_path(alloc, Cause::TargetKind(target.kind), item.target())
+}
+
+/// What is said of a source, which is to be a file.
+pub(crate) fn facts_of(alloc: Global, item: &Item, source: Meta) -> Result<SourceFacts, Trouble>
+    ensures { FactsSeen item.now source result }
+{
+    match source.kind {
+        Kind::File => Ok(SourceFacts {
             size: source.size,
             mode: source.mode,
         }),
-        (None, _) => Err(trouble_with_path(alloc, Cause::SpecialSource, item.source())),
+        _ => Err(trouble_with_path(alloc, Cause::SpecialSource, item.source())),
     }
 }

@@ -57,7 +57,7 @@ pub(crate) fn work<T: Tree, P: PartTest>(
 }
 
 /// A trouble leaves the copy where it stood.
-fn troubled(stop: Stop, stage: Stage, folder: FolderState) -> AfterStep
+pub(crate) fn troubled(stop: Stop, stage: Stage, folder: FolderState) -> AfterStep
     ensures { result ≡ moved_by stop stage folder }
 {
     AfterStep {

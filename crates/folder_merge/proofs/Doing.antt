@@ -12,7 +12,7 @@ use Rattle.job_reports.specs.declared.stop.Stop.{Stop}
 use Rattle.job_reports.specs.CallRuns.{RunStops}
 use Rattle.job_reports.specs.Paths.{folder_of}
 use Rattle.job_reports.specs.Stops.{Ran, stopped_before_of}
-use Rattle.job_answers.specs.declared.question.Question.{Question}
+use Rattle.job_reports.specs.declared.question.Question.{Question}
 use Rattle.job_answers.specs.declared.standing.Standing.{Standing}
 use Rattle.file_copy.specs.Copying.{Places, places}
 use Rattle.subtree_walk.specs.Places.{is_empty}

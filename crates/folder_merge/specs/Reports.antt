@@ -11,7 +11,7 @@ use Rattle.job_reports.specs.declared.report.Cause.TheVariants as why
 use Rattle.job_reports.specs.declared.report.Trouble.{Trouble}
 use Rattle.job_reports.specs.CallRuns.{AllDone, RunStops}
 use Rattle.job_reports.specs.Paths.{folder_of, without}
-use Rattle.job_answers.specs.declared.question.Question.{Question}
+use Rattle.job_reports.specs.declared.question.Question.{Question}
 use Rattle.job_answers.specs.declared.standing.Standing.{Standing}
 use Rattle.file_copy.specs.Copying.{Places}
 use Rattle.thing_move.specs.declared.taking.Taking.{Taking}

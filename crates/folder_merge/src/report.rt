@@ -2,8 +2,7 @@
 ghost use Rattle.std.specs.Prelude.{◌≡◌};
 ghost use Rattle.folder_merge.specs.MergeSteps.{short_of_memory, troubled_by};
 
-use job_answers::Question;
-use job_reports::{Stop, Trouble, out_of_memory, stopped_before};
+use job_reports::{Question, Stop, Trouble, out_of_memory, stopped_before};
 use mc_text::Path;
 
 /// What a step did.

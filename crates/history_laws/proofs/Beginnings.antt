@@ -6,11 +6,12 @@ use Rattle.tree_trait.specs.Shape.{IsTree}
 use Rattle.tree_trait.specs.Change.{CallLog, current}
 use Rattle.tree_trait.proofs.Visible.{same_path-self}
 use Rattle.job_reports.specs.declared.report.Did.{Did}
-use Rattle.job_reports.specs.declared.report.Did.TheVariants.{Began, Chunk, Placed, Removed, Made, Set, Kept, Skipped, Cleaned, Barrier, Troubled, Ended}
+use Rattle.job_reports.specs.declared.report.Did.TheVariants.{Began, Chunk, Placed, Removed, Made, Set, Kept, Skipped, Cleaned, Barrier, Asked, Troubled, Ended}
 use Rattle.job_reports.specs.declared.report.Ending.{Ending}
 use Rattle.session_history.specs.Named.{begins_change}
+use Rattle.job_answers.specs.declared.replies.Replies.{Replies}
 use Rattle.copy_move.specs.declared.run.Course.{Course}
-use Rattle.copy_move.specs.declared.run.Course.TheVariants.{GoesOn, InTrouble, OwedSyncFailed, Skips, Ends}
+use Rattle.copy_move.specs.declared.run.Course.TheVariants.{GoesOn, Asking, InTrouble, OwedSyncFailed, Skips, Ends}
 use Rattle.copy_move.specs.declared.work.Work.{Work}
 use Rattle.copy_move.specs.declared.work.Work.TheVariants.{Copy, CopyTree, Delete, Make, SetMode}
 use Rattle.copy_move.specs.Jobs.{CallsOn, Running, TellsOn, WorkCalls, WorkTells, WorkWinds}
@@ -68,6 +69,7 @@ winds_none ending (Make m) (Make new) (Set path) t h = t
 winds_none ending old new (Chunk count) t h = false≢true h
 winds_none ending old new (Placed path) t h = false≢true h
 winds_none ending old new (Kept kept) t h = false≢true h
+winds_none ending old new (Asked question) t h = false≢true h
 winds_none ending old new (Skipped path why) t h = false≢true h
 winds_none ending old new (Cleaned part) t h = false≢true h
 winds_none ending old new Barrier t h = false≢true h
@@ -78,45 +80,46 @@ pub goes_then : (job new : Running) (did : Did) (course : Course) → job.course
 goes_then job new did GoesOn is (work, tells, new_is) h = (is, (work, tells))
 goes_then job new did (InTrouble halt) is t h = absurd t
 goes_then job new did (OwedSyncFailed why) is t h = absurd t
+goes_then job new did Asking is t h = absurd t
 goes_then job new did (Skips why) is (inl (path, work, did_is, passes, new_is)) h = absurd (false≢true (sym (ap begins_change did_is) ∙ h))
 goes_then job new did (Skips why) is (inr (apart, did_is, new_is)) h = absurd (false≢true (sym (ap begins_change did_is) ∙ h))
 goes_then job new did (Ends ending) is (work, winds, new_is) h = absurd (winds_none ending job.work work did winds h)
 
 -- what is removed isn't the folder in which a job changes names
-stays_by : (log now : CallLog) → IsTree (current log) → (old work new : Work) (path : Route) → WorkTells old (Removed path) work → WorkCalls IsUnclaimed old (Removed path) new log (Some now) → same_path (changed_folder old) path ≡ false
-stays_by log now tree (Delete d) (Delete work) new path (going, within, at) (inl done) = folder_apart log now d.path path within (removal_done log now path tree done)
-stays_by log now tree (Delete d) (Delete work) new path (going, within, at) (inr done) = folder_apart log now d.path path within (folder_removed log now path tree done)
-stays_by log now tree (Delete d) (Copy work) new path t calls = absurd t
-stays_by log now tree (Delete d) (Make work) new path t calls = absurd t
-stays_by log now tree (Copy c) (Copy work) new path t calls = absurd t
-stays_by log now tree (Copy c) (Delete work) new path t calls = absurd t
-stays_by log now tree (Copy c) (Make work) new path t calls = absurd t
-stays_by log now tree (Make m) (Copy work) new path t calls = absurd t
-stays_by log now tree (SetMode s) (Copy work) new path t calls = absurd t
-stays_by log now tree (CopyTree s) (Copy work) new path t calls = absurd t
-stays_by log now tree (SetMode s) (CopyTree work) new path t calls = absurd t
-stays_by log now tree (SetMode s) (Delete work) new path t calls = absurd t
-stays_by log now tree (CopyTree s) (Delete work) new path t calls = absurd t
-stays_by log now tree (SetMode s) (Make work) new path t calls = absurd t
-stays_by log now tree (CopyTree s) (Make work) new path t calls = absurd t
-stays_by log now tree (Copy c) (SetMode work) new path t calls = absurd t
-stays_by log now tree (Copy c) (CopyTree work) new path t calls = absurd t
-stays_by log now tree (CopyTree c) (SetMode work) new path t calls = absurd t
-stays_by log now tree (Delete d) (SetMode work) new path t calls = absurd t
-stays_by log now tree (Delete d) (CopyTree work) new path t calls = absurd t
-stays_by log now tree (Make m) (SetMode work) new path t calls = absurd t
-stays_by log now tree (Make m) (CopyTree work) new path t calls = absurd t
-stays_by log now tree (Make m) (Delete work) new path t calls = absurd t
-stays_by log now tree (Make m) (Make work) new path t calls = absurd t
-stays_by log now tree (SetMode s) (SetMode work) new path t calls = absurd t
-stays_by log now tree (CopyTree c) (CopyTree work) new path t calls = absurd t.may
+stays_by : (replies : Replies) (log now : CallLog) → IsTree (current log) → (old work new : Work) (path : Route) → WorkTells old (Removed path) work → WorkCalls IsUnclaimed replies old (Removed path) new log (Some now) → same_path (changed_folder old) path ≡ false
+stays_by replies log now tree (Delete d) (Delete work) new path (going, within, at) (inl done) = folder_apart log now d.path path within (removal_done log now path tree done)
+stays_by replies log now tree (Delete d) (Delete work) new path (going, within, at) (inr done) = folder_apart log now d.path path within (folder_removed log now path tree done)
+stays_by replies log now tree (Delete d) (Copy work) new path t calls = absurd t
+stays_by replies log now tree (Delete d) (Make work) new path t calls = absurd t
+stays_by replies log now tree (Copy c) (Copy work) new path t calls = absurd t
+stays_by replies log now tree (Copy c) (Delete work) new path t calls = absurd t
+stays_by replies log now tree (Copy c) (Make work) new path t calls = absurd t
+stays_by replies log now tree (Make m) (Copy work) new path t calls = absurd t
+stays_by replies log now tree (SetMode s) (Copy work) new path t calls = absurd t
+stays_by replies log now tree (CopyTree s) (Copy work) new path t calls = absurd t
+stays_by replies log now tree (SetMode s) (CopyTree work) new path t calls = absurd t
+stays_by replies log now tree (SetMode s) (Delete work) new path t calls = absurd t
+stays_by replies log now tree (CopyTree s) (Delete work) new path t calls = absurd t
+stays_by replies log now tree (SetMode s) (Make work) new path t calls = absurd t
+stays_by replies log now tree (CopyTree s) (Make work) new path t calls = absurd t
+stays_by replies log now tree (Copy c) (SetMode work) new path t calls = absurd t
+stays_by replies log now tree (Copy c) (CopyTree work) new path t calls = absurd t
+stays_by replies log now tree (CopyTree c) (SetMode work) new path t calls = absurd t
+stays_by replies log now tree (Delete d) (SetMode work) new path t calls = absurd t
+stays_by replies log now tree (Delete d) (CopyTree work) new path t calls = absurd t
+stays_by replies log now tree (Make m) (SetMode work) new path t calls = absurd t
+stays_by replies log now tree (Make m) (CopyTree work) new path t calls = absurd t
+stays_by replies log now tree (Make m) (Delete work) new path t calls = absurd t
+stays_by replies log now tree (Make m) (Make work) new path t calls = absurd t
+stays_by replies log now tree (SetMode s) (SetMode work) new path t calls = absurd t
+stays_by replies log now tree (CopyTree c) (CopyTree work) new path t calls = absurd t.may
 
 -- so that is known to be on the disk from its first change on
 pub folder_stays : (job new : Running) (did : Did) (dirty dirty_after : List Route) (log now : CallLog) (folders : Route → Bool) → IsTree (current log) → WorkLeads job did new dirty dirty_after log now
     → (folders (changed_folder job.work) ≡ true) ⊎ (begins_change did ≡ true) → folders_by did (changed_folder job.work) folders (changed_folder job.work) ≡ true
 folder_stays job new (Removed path) dirty dirty_after log now folders tree works known =
     let goes = goes_then job new (Removed path) job.course refl works.tells refl in
-    let off = stays_by log now tree job.work goes.1.0 new.work path goes.1.1 (subst (λ c. CallsOn IsUnclaimed c job (Removed path) new log (Some now)) goes.0 works.called) in
+    let off = stays_by job.replies log now tree job.work goes.1.0 new.work path goes.1.1 (subst (λ c. CallsOn IsUnclaimed c job (Removed path) new log (Some now)) goes.0 works.called) in
     and_from (same_path (changed_folder job.work) (changed_folder job.work) || folders (changed_folder job.work)) (not (same_path (changed_folder job.work) path)) (or_left _ _ (same_path-self (changed_folder job.work))) (ap not off)
 folder_stays job new (Began part) dirty dirty_after log now folders tree works known = or_left _ _ (or_left _ _ (same_path-self (changed_folder job.work)))
 folder_stays job new (Made path) dirty dirty_after log now folders tree works known = or_left _ _ (or_left _ _ (same_path-self (changed_folder job.work)))
@@ -124,6 +127,7 @@ folder_stays job new (Chunk count) dirty dirty_after log now folders tree works 
 folder_stays job new (Set path) dirty dirty_after log now folders tree works known = or_left _ _ (or_left _ _ (same_path-self (changed_folder job.work)))
 folder_stays job new (Placed path) dirty dirty_after log now folders tree works known = elim known [ inl stands ↦ stands | inr begins ↦ absurd (false≢true begins) ]
 folder_stays job new (Kept path) dirty dirty_after log now folders tree works known = elim known [ inl stands ↦ stands | inr begins ↦ absurd (false≢true begins) ]
+folder_stays job new (Asked question) dirty dirty_after log now folders tree works known = elim known [ inl stands ↦ stands | inr begins ↦ absurd (false≢true begins) ]
 folder_stays job new (Skipped path why) dirty dirty_after log now folders tree works known = elim known [ inl stands ↦ stands | inr begins ↦ absurd (false≢true begins) ]
 folder_stays job new (Cleaned part) dirty dirty_after log now folders tree works known = elim known [ inl stands ↦ stands | inr begins ↦ absurd (false≢true begins) ]
 folder_stays job new Barrier dirty dirty_after log now folders tree works known = elim known [ inl stands ↦ stands | inr begins ↦ absurd (false≢true begins) ]
@@ -164,6 +168,7 @@ calm_stays job new (Set path) dirty dirty_after log now calm q other works own k
 calm_stays job new (Chunk count) dirty dirty_after log now calm q other works own known = elim known [ inl stands ↦ stands | inr begins ↦ absurd (false≢true begins) ]
 calm_stays job new (Placed path) dirty dirty_after log now calm q other works own known = elim known [ inl stands ↦ stands | inr begins ↦ absurd (false≢true begins) ]
 calm_stays job new (Kept path) dirty dirty_after log now calm q other works own known = elim known [ inl stands ↦ stands | inr begins ↦ absurd (false≢true begins) ]
+calm_stays job new (Asked question) dirty dirty_after log now calm q other works own known = elim known [ inl stands ↦ stands | inr begins ↦ absurd (false≢true begins) ]
 calm_stays job new (Skipped path why) dirty dirty_after log now calm q other works own known = elim known [ inl stands ↦ stands | inr begins ↦ absurd (false≢true begins) ]
 calm_stays job new (Cleaned part) dirty dirty_after log now calm q other works own known = elim known [ inl stands ↦ stands | inr begins ↦ absurd (false≢true begins) ]
 calm_stays job new Barrier dirty dirty_after log now calm q other works own known = elim known [ inl stands ↦ stands | inr begins ↦ absurd (false≢true begins) ]

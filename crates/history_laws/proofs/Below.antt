@@ -1,5 +1,5 @@
--- Below the target of a file's copy no name waits once its first change was made: nothing stood there then, and no report of it names a path there.
-use Rattle.std.proofs.Common.{◌≡◌, ℕ, Bool, true, false, List, ◌∷◌, ◌++◌, refl, sym, ◌∙◌, ap, subst, inl, inr, Option, Some, None}
+-- Below the target of a file's copy no name waits once its first change was made: no folder stood there then, and no report of it names a path there.
+use Rattle.std.proofs.Common.{◌≡◌, ℕ, Bool, true, false, List, [], ◌∷◌, ◌++◌, refl, sym, ◌∙◌, ap, subst, inl, inr, Option, Some, None}
 use Rattle.std.specs.Option.{option_map_or}
 use Rattle.std.proofs.lemmas.Bool.{both_ways, false_from_ne_true, false≢true, true≢false}
 use Rattle.mc_text.specs.Routes.{Route, is_prefix, same_path}
@@ -8,15 +8,15 @@ use Rattle.tree_trait.specs.Change.{CallLog, current}
 use Rattle.tree_trait.proofs.Visible.{same_path-true}
 use Rattle.crash_law.specs.Guarded.{Marks}
 use Rattle.crash_law.proofs.Tops.{none_below, not_longer}
-use Rattle.job_reports.proofs.PermittedCalls.{stat_missing}
 use Rattle.job_reports.specs.Jobs.{Item, Copies, Removes, Makes, MakesLink, Sets}
 use Rattle.job_reports.specs.Paths.{folder_of}
 use Rattle.job_reports.specs.Reports.{ends}
 use Rattle.job_reports.specs.declared.report.Did.{Did}
-use Rattle.job_reports.specs.declared.report.Did.TheVariants.{Began, Chunk, Placed, Removed, Made, Set, Kept, Skipped, Cleaned, Barrier, Troubled, Ended}
+use Rattle.job_reports.specs.declared.report.Did.TheVariants.{Began, Chunk, Placed, Removed, Made, Set, Kept, Skipped, Cleaned, Barrier, Asked, Troubled, Ended}
 use Rattle.job_reports.specs.declared.report.Ending.{Ending}
-use Rattle.file_copy.specs.CopyCalls.{CopyCalls}
-use Rattle.file_copy.specs.Copying.{Copying, Tells}
+use Rattle.file_copy.specs.AskedCopies.{AskedCalls, AskedTells}
+use Rattle.job_answers.specs.declared.replies.Replies.{Replies}
+use Rattle.file_copy.specs.Copying.{Copying, places_of}
 use Rattle.file_copy.specs.LastSteps.{Winds, removable}
 use Rattle.file_copy.specs.PartNames.{part_name}
 use Rattle.file_copy.specs.declared.stage.Stage.{Stage}
@@ -26,14 +26,16 @@ use Rattle.copy_move.specs.Jobs.{CallsOn, Running, TellsOn, WorkCalls, WorkTells
 use Rattle.copy_move.specs.declared.new_thing.NewThing.{NewThing}
 use Rattle.copy_move.specs.declared.new_thing.NewThing.TheVariants as thing
 use Rattle.copy_move.specs.declared.run.Course.{Course}
-use Rattle.copy_move.specs.declared.run.Course.TheVariants.{GoesOn, InTrouble, OwedSyncFailed, Skips, Ends}
+use Rattle.copy_move.specs.declared.run.Course.TheVariants.{GoesOn, Asking, InTrouble, OwedSyncFailed, Skips, Ends}
 use Rattle.copy_move.specs.declared.work.Work.{Work}
 use Rattle.copy_move.specs.declared.work.Work.TheVariants.{Copy, CopyTree, Delete, Make, SetMode}
 use Rattle.history_laws.specs.Doubt.{is_pending, name_waits}
 use Rattle.history_laws.specs.Traces.{IsUnclaimed, WorkLeads}
 use Rattle.history_laws.proofs.Intact.{prefix_way}
-use Rattle.history_laws.proofs.JobKnows.{WorkKnows}
-use Rattle.history_laws.proofs.Knowing.{Said}
+use Rattle.history_laws.proofs.JobKnows.{IsBare, WorkKnows}
+use Rattle.history_laws.proofs.Changing.{none_below_file}
+use Rattle.history_laws.proofs.Filling.{open_over}
+use Rattle.history_laws.proofs.Knowing.{IsKnown, Said}
 use Rattle.history_laws.proofs.KnownParts.{FileKnows, StageKnows}
 use Rattle.history_laws.proofs.Sources.{item_in, making_item}
 use Rattle.history_laws.proofs.Unchanged.{is_tree}
@@ -56,7 +58,7 @@ some_route p q h = cc
 none_route : {A : Type 0} (part : Option Route) (p : Route) → part ≡ None → part ≡ Some p → A
 none_route part p none some = absurd (let e : (let o : Option Route = None in o) ≡ Some p = sym none ∙ some in let f : ⊥ = cc in f)
 
-module _ (told : Said) (dirty dirty_after : List Route) (marks : Marks) (log now : CallLog) (name : List ℕ) (up : Route) where
+module _ (told : Said) (dirty dirty_after : List Route) (marks : Marks) (log now : CallLog) (known : IsKnown told dirty marks log) (name : List ℕ) (up : Route) where
   abbrev path : Route
   path = name ∷ up
 
@@ -103,24 +105,32 @@ module _ (told : Said) (dirty dirty_after : List Route) (marks : Marks) (log now
         by (Left other) s r same = none_route None part refl r
         by Decided s r same = none_route None part refl r
 
-    of_tells : (new : Copying) (did : Did) → FileKnows told dirty marks (current log) GoesOn c → Tells c did new → CopyCalls IsUnclaimed c did new log (Some now) → ends did ≡ false → IsOff did
-    of_tells new (Began part) k t (ready, began_of, (number, part_is, free, rows)) on = (
+    -- no name waits in what is no folder, nor below it
+    calm_under : (rest : Route) (o : Option ℕ) → find (current log) c.target ≡ o → IsBare (current log) c.target → name_waits log (name ∷ rest ++ c.target) ≡ false
+    calm_under rest None free bare = ap (λ x. option_map_or (λ f. is_pending f name log.changes) x false) (none_below log rest c.target free)
+    calm_under [] (Some i) at bare = ap (λ x. option_map_or (λ f. is_pending f name log.changes) x false) at ∙ known.files.bare i name (bare i at)
+    calm_under (more ∷ rest) (Some i) at bare = ap (λ x. option_map_or (λ f. is_pending f name log.changes) x false) (none_below_file (current log) known.guarded.tree c.target i at (bare i at) more rest)
+
+    of_tells : (replies : Replies) (new : Copying) (did : Did) → FileKnows told dirty marks (current log) GoesOn c → AskedTells c did new → AskedCalls IsUnclaimed replies c did new log (Some now) → ends did ≡ false → IsOff did
+    of_tells replies new (Began part) k t (ready, began_of, (number, part_is, free, rows)) on = (
       unnamed part (off_part GoesOn k part (part_name c.job number) part_is),
       λ h.
           let w = prefix_way c.target up within in
-          ap (λ o. option_map_or (λ f. is_pending f name log.changes) o false) (ap (find (current log)) w.1 ∙ none_below log w.0 c.target (stat_missing (current log) c.target ready.target)),
+          let ready_here = open_over (current log) (places_of c) replies ready in
+          ap (λ q. name_waits log (name ∷ q)) w.1 ∙ calm_under w.0 (find (current log) c.target) refl ready_here.bare,
     )
-    of_tells new (Placed target) k (part, said, stage, path_is, new_is) calls on = (unnamed target (λ same. off_target GoesOn k (same ∙ path_is)), λ h. absurd (false≢true h))
-    of_tells new (Cleaned part) k (follows, stage, new_is) calls on = (off_cleaned GoesOn k part (Clean part follows) stage refl, λ h. absurd (false≢true h))
-    of_tells new (Chunk count) k t calls on = (refl, λ h. absurd (false≢true h))
-    of_tells new Barrier k t calls on = (refl, λ h. absurd (false≢true h))
-    of_tells new (Troubled trouble) k t calls on = (refl, λ h. absurd (false≢true h))
-    of_tells new (Ended ending part) k t calls on = absurd (true≢false on)
-    of_tells new (Removed file) k t calls on = absurd t
-    of_tells new (Made made) k t calls on = absurd t
-    of_tells new (Set changed) k t calls on = absurd t
-    of_tells new (Kept kept) k t calls on = absurd t
-    of_tells new (Skipped file why) k t calls on = absurd t
+    of_tells replies new (Placed target) k (part, said, stage, path_is, new_is) calls on = (unnamed target (λ same. off_target GoesOn k (same ∙ path_is)), λ h. absurd (false≢true h))
+    of_tells replies new (Cleaned part) k (follows, stage, new_is) calls on = (off_cleaned GoesOn k part (Clean part follows) stage refl, λ h. absurd (false≢true h))
+    of_tells replies new (Chunk count) k t calls on = (refl, λ h. absurd (false≢true h))
+    of_tells replies new Barrier k t calls on = (refl, λ h. absurd (false≢true h))
+    of_tells replies new (Troubled trouble) k t calls on = (refl, λ h. absurd (false≢true h))
+    of_tells replies new (Ended ending part) k t calls on = absurd (true≢false on)
+    of_tells replies new (Removed file) k t calls on = absurd t
+    of_tells replies new (Made made) k t calls on = absurd t
+    of_tells replies new (Set changed) k t calls on = absurd t
+    of_tells replies new (Kept kept) k t calls on = (refl, λ h. absurd (false≢true h))
+    of_tells replies new (Asked question) k t calls on = (refl, λ h. absurd (false≢true h))
+    of_tells replies new (Skipped file why) k t calls on = absurd t
 
     of_winds : (ending : Ending) (new : Copying) (did : Did) → FileKnows told dirty marks (current log) (Ends ending) c → Winds ending c did new → ends did ≡ false → IsOff did
     of_winds ending new (Cleaned part) k (removes, new_is) on = (off_cleaned (Ends ending) k part c.stage refl removes, λ h. absurd (false≢true h))
@@ -133,15 +143,16 @@ module _ (told : Said) (dirty dirty_after : List Route) (marks : Marks) (log now
     of_winds ending new (Made made) k t on = absurd t
     of_winds ending new (Set changed) k t on = absurd t
     of_winds ending new (Kept kept) k t on = absurd t
+    of_winds ending new (Asked question) k t on = absurd t
     of_winds ending new (Skipped file why) k t on = absurd t
     of_winds ending new (Troubled trouble) k t on = absurd t
 
-    work_tells : (work other : Work) (did : Did) → FileKnows told dirty marks (current log) GoesOn c → WorkTells (Copy c) did work → other ≡ work → WorkCalls IsUnclaimed (Copy c) did other log (Some now) → ends did ≡ false → IsOff did
-    work_tells (Copy new) other did k t is calls on = of_tells new did k t (subst (λ w. WorkCalls IsUnclaimed (Copy c) did w log (Some now)) is calls) on
-    work_tells (CopyTree new) other did k t is calls on = absurd t
-    work_tells (Delete new) other did k t is calls on = absurd t
-    work_tells (Make new) other did k t is calls on = absurd t
-    work_tells (SetMode new) other did k t is calls on = absurd t
+    work_tells : (replies : Replies) (work other : Work) (did : Did) → FileKnows told dirty marks (current log) GoesOn c → WorkTells (Copy c) did work → other ≡ work → WorkCalls IsUnclaimed replies (Copy c) did other log (Some now) → ends did ≡ false → IsOff did
+    work_tells replies (Copy new) other did k t is calls on = of_tells replies new did k t (subst (λ w. WorkCalls IsUnclaimed replies (Copy c) did w log (Some now)) is calls) on
+    work_tells replies (CopyTree new) other did k t is calls on = absurd t
+    work_tells replies (Delete new) other did k t is calls on = absurd t
+    work_tells replies (Make new) other did k t is calls on = absurd t
+    work_tells replies (SetMode new) other did k t is calls on = absurd t
 
     work_winds : (ending : Ending) (work : Work) (did : Did) → FileKnows told dirty marks (current log) (Ends ending) c → WorkWinds ending (Copy c) did work → ends did ≡ false → IsOff did
     work_winds ending (Copy new) did k t on = of_winds ending new did k t on
@@ -155,9 +166,10 @@ module _ (told : Said) (dirty dirty_after : List Route) (marks : Marks) (log now
 
     on_course : (job new : Running) (did : Did) (course : Course) → job.work ≡ Copy c → FileKnows told dirty marks (current log) course c → TellsOn course job did new → CallsOn IsUnclaimed course job did new log (Some now) → ends did ≡ false → IsOff did
     on_course job new did GoesOn is k (work, tells, new_is) calls on =
-        work_tells work new.work did k (subst (λ w. WorkTells w did work) is tells) (ap (λ (x : Running). x.work) new_is) (subst (λ w. WorkCalls IsUnclaimed w did new.work log (Some now)) is calls) on
+        work_tells job.replies work new.work did k (subst (λ w. WorkTells w did work) is tells) (ap (λ (x : Running). x.work) new_is) (subst (λ w. WorkCalls IsUnclaimed job.replies w did new.work log (Some now)) is calls) on
     on_course job new did (InTrouble halt) is k t calls on = absurd t
     on_course job new did (OwedSyncFailed why) is k t calls on = absurd t
+    on_course job new did Asking is k t calls on = absurd t
     on_course job new did (Skips why) is k (inl (file, work, did_is, passes, new_is)) calls on = plain did (Skipped file why) did_is refl refl
     on_course job new did (Skips why) is k (inr (off, did_is, new_is)) calls on = plain did (Troubled (Rattle.job_reports.specs.Stops.out_of_memory_at false)) did_is refl refl
     on_course job new did (Ends ending) is k (work, winds, new_is) calls on = work_winds ending work did k (subst (λ w. WorkWinds ending w did work) is winds) on

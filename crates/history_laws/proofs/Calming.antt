@@ -201,6 +201,7 @@ module _ (said : Said) (dirty : List Route) (marks : Marks) (log : CallLog) (kno
     calm = k.calm;
     folders = k.folders;
     aside = k.aside;
+    left = k.left;
     was_there = k.was_there;
     was_shown = k.was_shown;
     shows = k.shows;

@@ -101,6 +101,7 @@ none_below_file s tree top i at bare name rest = none_below_hollow s top i at (h
 pub record SaysGone (said after : Said) (marks : Marks) (log : CallLog) (path : Route) : Type 0 where
   pub named : (p : Route) → marks.aside p ≡ true → Among after.named p
   pub off : (p : Route) → same_path p path ≡ false → (after.tree p ≡ said.tree p) × (after.earlier p ≡ said.earlier p) × (said.part ≡ Some p → ⊥)
+  pub left : (p : Route) → same_path p path ≡ false → Among said.left p → Among after.left p
   pub gone : after.tree path ≡ nowhere
   pub was : marks.aside path ≡ false → held (current log) (marks.was path) ≡ (after.earlier path).value
   pub part : after.part ≡ None
@@ -347,6 +348,12 @@ module _ (told after : Said) (dirty dirty_after : List Route) (marks : Marks) (l
         | inr gone ↦ absurd (no_path p there.i there.at gone)
       ]
 
+  left_then : (p : Route) → marks.aside p ≡ true → is_some (find (current now) p) ≡ true → (after.part ≡ Some p) ⊎ Among after.left p
+  left_then p is there = elim (where_is p) [
+    | inl at ↦ absurd (false≢true (sym (ap is_some (ap (find (current now)) at ∙ gone_path)) ∙ there))
+    | inr off ↦ elim (known.left p is (sym (ap is_some (off_path p off)) ∙ there)) [ inl part ↦ absurd ((says.off p off).2 part) | inr among ↦ inr (says.left p off among) ]
+  ]
+
   pub removed_known : IsKnown after dirty_after marks now
   removed_known = record {
     guarded = naming_law marks log removes known.guarded naming;
@@ -360,6 +367,7 @@ module _ (told after : Said) (dirty dirty_after : List Route) (marks : Marks) (l
     calm = λ p there. elim (says.calm p there) [ inl before ↦ calm_was p (known.calm p before) | inr calm ↦ calm_was p calm ];
     folders = λ i folder. known.folders i (was_folder i folder);
     aside = says.named;
+    left = left_then;
     was_there = λ p i out is. let t = known.was_there p i out is in (subst (λ n. i < n) (sym same_count) t.0, t.1);
     was_shown = was_shown;
     shows = shows;

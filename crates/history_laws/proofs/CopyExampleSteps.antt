@@ -38,6 +38,7 @@ use Rattle.subtree_copy.specs.Standing.{SubtreeCopying, started}
 use Rattle.subtree_copy.specs.SubtreeSteps.{SubtreeSteps, step_result}
 use Rattle.subtree_copy.specs.Told.{IsAfter}
 use Rattle.subtree_copy.specs.Unbegun.{MayBegin}
+use Rattle.job_answers.specs.Decisions.{no_replies}
 use Rattle.copy_move.specs.Jobs.{Running, course_after}
 use Rattle.copy_move.specs.TreeCopies.{Goes}
 use Rattle.copy_move.specs.declared.run.Course.TheVariants.{GoesOn}
@@ -119,7 +120,7 @@ abbrev pub decided : SubtreeCopying
 decided = record around { at = at_end around.at }
 
 abbrev pub job : SubtreeCopying → Running
-job c = record { id = 1; work = CopyTree c; course = GoesOn }
+job c = record { id = 1; work = CopyTree c; course = GoesOn; replies = no_replies }
 
 -- the folder lists nothing
 abbrev pub children : Children
@@ -346,7 +347,7 @@ works old new did calls dirty dirty_after before now done step clean leaves = re
       apart = λ trouble is. absurd (done.no_trouble trouble is);
       kinds = λ path cause is. absurd (done.no_skip path cause is);
     },
-    ap (λ course. (let r : Running = record { id = 1; work = CopyTree new; course = course } in r)) (sym done.on),
+    ap (λ course. (let r : Running = record { id = 1; work = CopyTree new; course = course; replies = no_replies } in r)) (sym done.on),
   );
   called = record { calls = calls; dirty = dirty; dirty_after = dirty_after; faults = 0; faults_after = 0; goes = goes old new did calls dirty dirty_after before now step };
   settled = λ on fresh kept among. absurd (subst (λ xs. Among xs kept) (clean fresh) among);

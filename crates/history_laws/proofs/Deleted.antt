@@ -133,6 +133,7 @@ removes_thing told dirty dirty_after marks log now path work knows kept none was
     (removed_known told (said_after now (Removed path) work told) dirty dirty_after marks log kept.known path it.r it.k (record {
       named = kept.known.aside;
       off = λ p off. (put_off told.tree path None p off, put_off told.earlier path (told.tree path).value p off, no_part p);
+      left = λ p off among. Rattle.history_laws.proofs.Calming.still_listed path p told.left among off;
       gone = put_at told.tree path None ∙ ap (λ b. (let s : Spot = record { value = None; is_mount = b } in s)) mountless;
       was = λ out. ap (held (current log)) (was out) ∙ (sym (ap (λ (s : Spot). s.value) shown) ∙ sym (ap (λ (s : Spot). s.value) (put_at told.earlier path (told.tree path).value)));
       part = none;

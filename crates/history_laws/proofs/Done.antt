@@ -227,8 +227,8 @@ module _ (opening now : CallLog) (newest : List Entry) (stand : Stand) (tree : I
 
   still_named : Among (named_parts older) path → Among (named_parts (e ∷ older)) path
   still_named named = elim (done_with h.id e.what h.ended) [
-    | inl turns ↦ subst (λ w. Among (named_after w (named_parts older)) path) (sym turns.1) named
-    | inr ends ↦ subst (λ w. Among (named_after w (named_parts older)) path) (sym ends.1) named
+    | inl turns ↦ subst (λ w. Among (named_after w (Rattle.session_history.specs.Named.left_parts older) (named_parts older)) path) (sym turns.1) named
+    | inr ends ↦ subst (λ w. Among (named_after w (Rattle.session_history.specs.Named.left_parts older) (named_parts older)) path) (sym ends.1) named
   ]
 
   by_part : (IsPart (e ∷ older) at_end path → ⊥) → (stands waits : Bool) → is_some (find (current at_end) path) ≡ stands → is_unsettled at_end path ≡ waits → Holds

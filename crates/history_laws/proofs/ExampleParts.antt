@@ -12,6 +12,7 @@ use Rattle.session_history.specs.Entries.{is_closed}
 use Rattle.session_history.specs.declared.history.Entry.{Entry}
 use Rattle.session_history.specs.declared.history.Event.{Event}
 use Rattle.session_history.specs.declared.history.Event.TheVariants.{Step}
+use Rattle.job_answers.specs.Decisions.{no_replies}
 use Rattle.copy_move.specs.Deletions.{Deleting}
 use Rattle.copy_move.specs.Jobs.{Running}
 use Rattle.copy_move.specs.declared.run.Course.{Course}
@@ -29,7 +30,7 @@ entry calls what = record { seat = 0; calls = calls; faults = 0; shown = 0; what
 
 -- the job with this number, which deletes so
 abbrev pub deleting_job : ℕ → Deleting → Course → Running
-deleting_job id d course = record { id = id; work = Delete d; course = course }
+deleting_job id d course = record { id = id; work = Delete d; course = course; replies = no_replies }
 
 abbrev pub stand : List Running → List Route → Stand
 stand jobs dirty = record { jobs = jobs; dirty = dirty }

@@ -21,7 +21,7 @@ use Rattle.crash_law.proofs.Leading.{current_more}
 use Rattle.crash_law.proofs.Tops.{none_below, under_made, under_moved, under_removed}
 use Rattle.history_laws.specs.Doubt.{is_pending, name_waits}
 use Rattle.history_laws.proofs.Changing.{none_below_file, said_one, said_two, some_is, some_none}
-use Rattle.history_laws.proofs.Untouched.{IsUntouched, NoneOn, none_waits, untouched_free, way_sure}
+use Rattle.history_laws.proofs.Untouched.{IsAsFound, IsBare, found_bare, IsUntouched, NoneOn, none_waits, untouched_free, way_sure}
 use Rattle.history_laws.proofs.Knowing.{IsKept, Said}
 use Rattle.history_laws.proofs.Pending.{pending_less, pending_synced}
 use Rattle.history_laws.proofs.Resting.{IsOfFiles, IsSureFolder, folder_at, folder_at_of, stands_at, sure_path, sure_still}
@@ -54,6 +54,13 @@ pub met_untouched : (told : Said) (dirty : List Route) (marks : Marks) (log : Ca
 met_untouched told dirty marks log up coming name kept filling among free =
     let firm = filling.firm in
     untouched_free told dirty marks log (name ∷ up) kept (sure_path log (name ∷ up) firm.sure (filling.calm name among)) free
+
+-- and where no folder stands, it is as it was found
+pub met_found : (told : Said) (dirty : List Route) (marks : Marks) (log : CallLog) (up : Route) (coming : List (List ℕ)) (name : List ℕ) → IsKept told dirty marks log → IsFilling log up coming → Among coming name
+    → IsBare (current log) (name ∷ up) → IsAsFound marks (current log) (name ∷ up)
+met_found told dirty marks log up coming name kept filling among bare =
+    let firm = filling.firm in
+    found_bare told dirty marks log (name ∷ up) kept (sure_path log (name ∷ up) firm.sure (filling.calm name among)) bare
 
 -- fewer names are yet to be met
 pub filling_fewer : (log : CallLog) (up : Route) (coming fewer : List (List ℕ)) → ((name : List ℕ) → Among fewer name → Among coming name) → IsFilling log up coming → IsFilling log up fewer

@@ -1,10 +1,15 @@
 -- A part is made, and filled.
-use Rattle.std.proofs.Common.{◌≡◌, ℕ, ◌<◌, ◌≤◌, ◌+◌, Bool, true, false, List, [], ◌∷◌, length, take, drop, refl, sym, ◌∙◌, ap, subst, inl, inr, Option, Some, None, arith}
-use Rattle.std.specs.Prelude.{◌==◌, ◌||◌, not, unwrap_or}
+use Rattle.std.proofs.Common.{◌≡◌, ℕ, ◌<◌, ◌≤◌, ◌+◌, Bool, true, false, List, [], ◌∷◌, ◌++◌, length, take, drop, refl, sym, ◌∙◌, ap, subst, inl, inr, Option, Some, None, arith}
+use Rattle.std.specs.Prelude.{is_some, ◌==◌, ◌||◌, not, unwrap_or}
 use Rattle.std.proofs.lemmas.Bool.{false_from_ne_true, or_cases, or_left}
+use Rattle.mc_text.specs.declared.kind.Kind.{Kind}
 use Rattle.mc_text.specs.declared.kind.Kind.TheVariants.{File}
+use Rattle.mc_text.specs.declared.kind.Kind.TheVariants as kind
 use Rattle.mc_text.specs.Routes.{Route, is_prefix, same_path}
 use Rattle.tree_trait.specs.declared.file_system.Node.{Node}
+use Rattle.tree_trait.specs.declared.file_system.FileSystem.{FileSystem}
+use Rattle.tree_trait.specs.Calls.{Stat}
+use Rattle.tree_trait.specs.Refusals.{folder_kind, is_folder, refusal_of}
 use Rattle.tree_trait.specs.FileSystem.{find, node}
 use Rattle.tree_trait.specs.Change.{Change, Makes, Writes, CallLog, current, with_change, found, overwritten}
 use Rattle.tree_trait.specs.CrashImages.{Among}
@@ -21,9 +26,11 @@ use Rattle.file_copy.specs.declared.stage.FolderState.TheVariants.{Synced, Dirty
 use Rattle.file_copy.specs.declared.stage.SourceFacts.{SourceFacts}
 use Rattle.file_copy.specs.declared.stage.Stage.TheVariants.{Fill}
 use Rattle.file_copy.specs.CopyCalls.{making, next_bytes, part_mode, room_for, writing}
-use Rattle.file_copy.specs.Copying.{Copying, places_of, is_dirty}
+use Rattle.file_copy.specs.AskedCopies.{IsReadyOver, IsReplaceable}
+use Rattle.file_copy.specs.Copying.{Copying, Places, places_of, is_dirty}
+use Rattle.job_answers.specs.declared.replies.Replies.{Replies}
 use Rattle.job_reports.specs.Paths.{folder_of}
-use Rattle.file_copy.specs.Looking.{IsReady, AreFactsOf}
+use Rattle.file_copy.specs.Looking.{IsReady, AreFactsOf, file_at}
 use Rattle.file_copy.specs.PartNames.{IsFirstFree, part_name}
 use Rattle.job_reports.proofs.CallAnswers.{IsDoneCall}
 use Rattle.file_copy.proofs.FilledParts.{Holds, written_on}
@@ -35,10 +42,12 @@ use Rattle.copy_move.specs.Settling.{with_change as moves_dirty}
 use Rattle.history_laws.specs.Doubt.{name_waits}
 use Rattle.history_laws.specs.Staying.{may_change}
 use Rattle.history_laws.proofs.Calming.{written_known}
-use Rattle.history_laws.proofs.FilledFolders.{IsFilling, met_untouched}
+use Rattle.history_laws.proofs.FilledFolders.{IsFilling, met_found}
 use Rattle.history_laws.proofs.Intact.{prefix_way}
 use Rattle.history_laws.proofs.Knowing.{IsCalmIn, IsKept, IsKnown, Said, settled_marks}
-use Rattle.history_laws.proofs.JobKnows.{HasName, HasPart, IsFilled, IsUntouched, NoneOn, WorkKnows, calm_in, none_of_part, none_waits, part_settled, untouched_free, way_sure}
+use Rattle.history_laws.proofs.JobKnows.{HasName, HasPart, IsAsFound, IsBare, IsFilled, NoneOn, WorkKnows, bare_free, calm_in, found_bare, none_of_part, none_waits, part_settled, way_sure}
+use Rattle.history_laws.proofs.Changing.{none_below_file}
+use Rattle.history_laws.proofs.Quiet.{kind_same}
 use Rattle.history_laws.proofs.MakingParts.{MakesPart, made_known, marks_new, new_node, off_part, part_leads, part_node, with_part}
 use Rattle.history_laws.proofs.Resting.{IsSureFolder, folder_at, folder_at_of, stands_at, sure_path}
 use Rattle.history_laws.proofs.PartNodes.{other_node, part_on, part_there, written_node}
@@ -51,12 +60,42 @@ making_stands log now c k d =
     let passes = making_passes (current log) (part_name c.job k) (folder_of c.target) (part_mode (node (current log) (found (current log) c.source)).mode) d.permits in
     folder_at_of (current log) (folder_of c.target) (found (current log) (folder_of c.target)) passes.folder passes.holds
 
+-- a file stands at the source, and at the target nothing, or no folder
+pub record IsOpen (s : FileSystem) (p : Places) : Type 0 where
+  pub source : refusal_of s (Stat p.source) ≡ None
+  pub file : (file_at s p.source).kind ≡ File
+  pub bare : IsBare s p.target
+
+-- so it is where nothing stands at the target
+pub open_free : (s : FileSystem) (p : Places) → IsReady s p → IsOpen s p
+open_free s p ready = record { source = ready.source; file = ready.file; bare = bare_free s p.target (stat_missing s p.target ready.target) }
+
+no_folder : (k : Kind) → IsReplaceable k → folder_kind k ≡ false
+no_folder kind.File h = refl
+no_folder kind.Link h = refl
+no_folder kind.Folder h = absurd h
+no_folder kind.Other h = absurd h
+
+-- and where something stands there that may be replaced
+pub open_over : (s : FileSystem) (p : Places) (replies : Replies) → IsReadyOver s p replies → IsOpen s p
+open_over s p replies ready = record {
+  source = ready.source;
+  file = ready.file;
+  bare = λ i at. elim ready.target [
+    | inl missing ↦ bare_free s p.target (stat_missing s p.target missing) i at
+    | inr d ↦
+        let decided = d.1 in
+        let target = decided.of_target in
+        ap (λ j. is_folder (node s j)) (sym (ap (λ o. unwrap_or o 0) at)) ∙ (ap folder_kind (sym target.kind) ∙ no_folder decided.target.kind decided.replaceable)
+  ];
+}
+
 -- What is known of a file's folder and target where nothing was changed in that folder yet: the folder isn't in doubt, no mode waits in it, and
--- where nothing stands at the target that is untouched.
+-- where no folder stands at the target it is as it was found.
 pub record MayBegin (marks : Marks) (log : CallLog) (target : Route) : Type 0 where
   pub firm : folder_at (current log) (folder_of target) ≡ true → IsSureFolder log (folder_of target)
   pub calm : IsCalmIn marks (current log) (folder_of target)
-  pub untouched : IsSureFolder log (folder_of target) → find (current log) target ≡ None → IsUntouched marks (current log) target
+  pub found : IsSureFolder log (folder_of target) → IsBare (current log) target → IsAsFound marks (current log) target
 
 -- so it is where no dirty folder lies on the mount of its own
 pub begins_owed : (told : Said) (dirty : List Route) (marks : Marks) (log : CallLog) (target : Route) → IsKept told dirty marks log → HasName target → NoneOn (current log) (folder_of target) dirty → MayBegin marks log target
@@ -65,8 +104,8 @@ begins_owed told dirty marks log target kept name none = record {
       let there = stands_at (current log) (folder_of target) stands in
       record { stands = stands; sure = way_sure told dirty marks log (folder_of target) there.i kept.known there.at none };
   calm = calm_in told dirty marks log kept (folder_of target) none;
-  untouched = λ firm free. untouched_free told dirty marks log target kept
-      (sure_path log target firm.sure (ap (name_waits log) name.is ∙ none_waits told dirty marks log (folder_of target) kept.known none name.name)) free;
+  found = λ firm bare. found_bare told dirty marks log target kept
+      (sure_path log target firm.sure (ap (name_waits log) name.is ∙ none_waits told dirty marks log (folder_of target) kept.known none name.name)) bare;
 }
 
 -- and of what is yet to be met in a folder that is filled, whatever else is dirty
@@ -75,7 +114,7 @@ pub begins_filling : (told : Said) (dirty : List Route) (marks : Marks) (log : C
 begins_filling told dirty marks log up coming name kept filling among calm = record {
   firm = λ stands. filling.firm;
   calm = calm;
-  untouched = λ firm free. met_untouched told dirty marks log up coming name kept filling among free;
+  found = λ firm bare. met_found told dirty marks log up coming name kept filling among bare;
 }
 
 module _ (told : Said) (dirty dirty_after : List Route) (marks : Marks) (log now : CallLog) (kept : IsKept told dirty marks log) (c : Copying) where
@@ -100,10 +139,10 @@ module _ (told : Said) (dirty dirty_after : List Route) (marks : Marks) (log now
   folder_calm calm settled Synced is = let may = settled (ap (λ x. not (is_dirty x)) is) in may.calm
 
   -- the target of a copy that begins
-  pub target_free : IsSureFolder log up → IsReady (current log) (places_of c) → (c.folder ≡ Dirty → IsUntouched marks (current log) c.target)
-      → (not (is_dirty c.folder) ≡ true → MayBegin marks log c.target) → (f : FolderState) → c.folder ≡ f → IsUntouched marks (current log) c.target
-  target_free firm ready untouched settled Dirty is = untouched is
-  target_free firm ready untouched settled Synced is = let may = settled (ap (λ x. not (is_dirty x)) is) in may.untouched firm (stat_missing (current log) c.target ready.target)
+  pub target_found : IsSureFolder log up → IsBare (current log) c.target → (c.folder ≡ Dirty → IsAsFound marks (current log) c.target)
+      → (not (is_dirty c.folder) ≡ true → MayBegin marks log c.target) → (f : FolderState) → c.folder ≡ f → IsAsFound marks (current log) c.target
+  target_found firm bare found settled Dirty is = found is
+  target_found firm bare found settled Synced is = let may = settled (ap (λ x. not (is_dirty x)) is) in may.found firm bare
 
   -- the folder is listed, and what was listed is
   pub listed_now : (c.folder ≡ Dirty → Among dirty up) → dirty_after ≡ moves_dirty (is_dirty c.folder) true up dirty → (f : FolderState) → c.folder ≡ f
@@ -115,8 +154,8 @@ module _ (told : Said) (dirty dirty_after : List Route) (marks : Marks) (log now
       let same : dirty_after ≡ joined up dirty = leaves ∙ ap (λ x. moves_dirty (is_dirty x) true up dirty) is in
       (subst (λ xs. Among xs up) (sym same) (joined_holds up dirty), λ q among. subst (λ xs. Among xs q) (sym same) (joined_more up q dirty among))
 
-  module _ (unclaimed : Route → Type 0) (said : SourceFacts) (k : ℕ) (target_name : HasName c.target) (ready : IsReady (current log) (places_of c)) (is_said : AreFactsOf (current log) c.source said)
-      (free : IsFirstFree (current log) unclaimed (places_of c) k) (none : told.part ≡ None) (untouched : IsUntouched marks (current log) c.target)
+  module _ (unclaimed : Route → Type 0) (said : SourceFacts) (k : ℕ) (target_name : HasName c.target) (ready : IsOpen (current log) (places_of c)) (is_said : AreFactsOf (current log) c.source said)
+      (free : IsFirstFree (current log) unclaimed (places_of c) k) (none : told.part ≡ None) (as_it_was : IsAsFound marks (current log) c.target)
       (d : IsDoneCall log (making (current log) (places_of c) k) now) (firm : IsSureFolder log up) (calm : IsCalmIn marks (current log) up) (listed : Among dirty_after up) (more : (q : Route) → Among dirty q → Among dirty_after q) where
     abbrev name : List ℕ
     name = part_name c.job k
@@ -176,8 +215,12 @@ module _ (told : Said) (dirty dirty_after : List Route) (marks : Marks) (log now
       | inl same ↦ subst (λ q. IsCalmIn marks (current log) q) (sym (same_path-true p up same)) calm
       | inr within ↦
           let way = prefix_way c.target p within in
-          λ k i at. none_stands i (sym (ap (find (current log)) (ap (λ (q : Route). k ∷ q) way.1) ∙ none_below log (k ∷ way.0) c.target untouched.free) ∙ at)
+          λ k i at. none_stands i (sym (ap (find (current log)) (ap (λ (q : Route). k ∷ q) way.1) ∙ none_under k way.0 (find (current log) c.target) refl) ∙ at)
     ]
+      where
+        none_under : (k : List ℕ) (rest : Route) (o : Option ℕ) → find (current log) c.target ≡ o → find (current log) (k ∷ rest ++ c.target) ≡ None
+        none_under k rest None free = none_below log (k ∷ rest) c.target free
+        none_under k rest (Some j) at = none_below_file (current log) kept.known.guarded.tree c.target j at (as_it_was.bare j at) k rest
 
     has : HasPart (with_part told up own part) (marks_new marks part n) (current after) c.target part n
     has = record {
@@ -190,10 +233,12 @@ module _ (told : Said) (dirty dirty_after : List Route) (marks : Marks) (log now
       name = name;
       beside = refl;
       apart = free.free.apart;
-      untouched = record {
-        out = ap (λ b. b || marks.aside c.target) (apart_of c.target free.free.apart) ∙ untouched.out;
-        free = off c.target free.free.apart ∙ untouched.free;
-        was = untouched.was;
+      found = record {
+        bare = λ j at.
+            let before = sym (off c.target free.free.apart) ∙ at in
+            kind_same log (Makes f name made) j (found_there (current log) kept.known.guarded.tree c.target j before) ∙ as_it_was.bare j before;
+        was = λ out. as_it_was.was (sym (ap (λ b. b || marks.aside c.target) (apart_of c.target free.free.apart)) ∙ out) ∙ sym (off c.target free.free.apart);
+        stood = λ is. ap is_some (off c.target free.free.apart) ∙ as_it_was.stood (sym (ap (λ b. b || marks.aside c.target) (apart_of c.target free.free.apart)) ∙ is);
       };
     }
 

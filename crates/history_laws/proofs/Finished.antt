@@ -11,11 +11,11 @@ use Rattle.job_reports.specs.declared.report.Ending.{Ending}
 use Rattle.job_reports.specs.declared.report.Ending.TheVariants.{Aborted}
 use Rattle.job_reports.specs.declared.report.Cause.{Cause}
 use Rattle.job_reports.specs.declared.report.Did.{Did}
-use Rattle.job_reports.specs.declared.report.Did.TheVariants.{Began, Chunk, Placed, Removed, Made, Set, Kept, Skipped, Cleaned, Barrier, Troubled, Ended}
+use Rattle.job_reports.specs.declared.report.Did.TheVariants.{Began, Chunk, Placed, Removed, Made, Set, Kept, Skipped, Cleaned, Barrier, Asked, Troubled, Ended}
 use Rattle.job_reports.specs.Jobs.{Item, folder_changed}
 use Rattle.job_reports.specs.declared.job.Job.{Job}
 use Rattle.job_reports.specs.declared.answer.Answer.{Answer}
-use Rattle.job_reports.specs.declared.answer.Answer.TheVariants.{Retry, Skip, SkipAll, Abort}
+use Rattle.job_reports.specs.declared.answer.Answer.TheVariants.{Yes, No, All, Update, Nothing, SizeDiffers, Retry, Skip, SkipAll, Abort}
 use Rattle.session_history.specs.declared.history.Event.{Event}
 use Rattle.session_history.specs.declared.history.Event.TheVariants.{Key, Look, Sought, Order, Step, Next, Closed}
 use Rattle.session_history.specs.declared.history.Event.TheVariants as event
@@ -23,7 +23,7 @@ use Rattle.session_history.specs.declared.history.JobOrder.{JobOrder}
 use Rattle.session_history.specs.declared.history.JobOrder.TheVariants.{Answered}
 use Rattle.session_history.specs.declared.history.Entry.{Entry}
 use Rattle.copy_move.specs.declared.run.Course.{Course}
-use Rattle.copy_move.specs.declared.run.Course.TheVariants.{GoesOn, InTrouble, OwedSyncFailed, Skips, Ends}
+use Rattle.copy_move.specs.declared.run.Course.TheVariants.{GoesOn, Asking, InTrouble, OwedSyncFailed, Skips, Ends}
 use Rattle.copy_move.specs.declared.work.Work.{Work}
 use Rattle.tree_copy.specs.declared.item.Item.{Item as CopyItem}
 use Rattle.tree_copy.specs.declared.item.Item.TheVariants.{Next, File, Link, Stays}
@@ -33,7 +33,7 @@ use Rattle.tree_copy.specs.Skipping.{retried_at}
 use Rattle.tree_copy.specs.Standing.{Seen, is_fresh}
 use Rattle.tree_copy.specs.Steps.{idle, settled}
 use Rattle.copy_move.specs.declared.work.Work.TheVariants.{Copy, CopyTree, Delete, Make, SetMode}
-use Rattle.copy_move.specs.Jobs.{Running, TellsOn, answered_on, begun_work, closed_course, closed_job, course_after, taken_anew, unreported_skip, with_skips}
+use Rattle.copy_move.specs.Jobs.{replied, Running, TellsOn, answered_on, begun_work, closed_course, closed_job, course_after, taken_anew, unreported_skip, with_skips}
 use Rattle.job_reports.specs.Reports.{ends}
 use Rattle.copy_move.specs.Settling.{changed_folder}
 use Rattle.job_reports.specs.Paths.{folder_of, without}
@@ -86,6 +86,7 @@ after_going (Placed path) = tt
 after_going (Removed path) = tt
 after_going (Made made) = tt
 after_going (Kept kept) = tt
+after_going (Asked question) = tt
 after_going (Skipped path why) = tt
 after_going (Cleaned part) = tt
 after_going Barrier = tt
@@ -96,6 +97,7 @@ tells_aborted : (job new : Running) (did : Did) (course : Course) → job.course
 tells_aborted job new did GoesOn is (work, tells, new_is) old ending e = no_end (course_after did) ending (after_going did) (sym (ap (λ (x : Running). x.course) new_is) ∙ e)
 tells_aborted job new did (InTrouble halt) is t old ending e = absurd t
 tells_aborted job new did (OwedSyncFailed why) is t old ending e = absurd t
+tells_aborted job new did Asking is t old ending e = absurd t
 tells_aborted job new did (Skips why) is (inl (path, work, did_is, passes, new_is)) old ending e = no_end GoesOn ending tt (sym (ap (λ (x : Running). x.course) new_is) ∙ e)
 tells_aborted job new did (Skips why) is (inr (apart, did_is, new_is)) old ending e = no_end (InTrouble unreported_skip) ending tt (sym (ap (λ (x : Running). x.course) new_is) ∙ e)
 tells_aborted job new did (Ends first) is (work, winds, new_is) old ending e = old ending (sym (ap (λ (x : Running). x.course) new_is) ∙ e)
@@ -169,6 +171,34 @@ answer_tidy opening g now dirty job (OwedSyncFailed why) is Retry t =
 answer_tidy opening g now dirty job (OwedSyncFailed why) is Skip t = t
 answer_tidy opening g now dirty job (OwedSyncFailed why) is SkipAll t = t
 answer_tidy opening g now dirty job (OwedSyncFailed why) is Abort t = kept_tidy opening g now dirty job (record job { course = Ends Aborted }) refl refl (refl, refl, refl) (λ t. t) (λ going. absurd going) (λ ending e. some_end Aborted ending e) t
+answer_tidy opening g now dirty job (InTrouble halt) is Yes t = t
+answer_tidy opening g now dirty job (InTrouble halt) is No t = t
+answer_tidy opening g now dirty job (InTrouble halt) is All t = t
+answer_tidy opening g now dirty job (InTrouble halt) is Update t = t
+answer_tidy opening g now dirty job (InTrouble halt) is Nothing t = t
+answer_tidy opening g now dirty job (InTrouble halt) is SizeDiffers t = t
+answer_tidy opening g now dirty job (OwedSyncFailed why) is Yes t = t
+answer_tidy opening g now dirty job (OwedSyncFailed why) is No t = t
+answer_tidy opening g now dirty job (OwedSyncFailed why) is All t = t
+answer_tidy opening g now dirty job (OwedSyncFailed why) is Update t = t
+answer_tidy opening g now dirty job (OwedSyncFailed why) is Nothing t = t
+answer_tidy opening g now dirty job (OwedSyncFailed why) is SizeDiffers t = t
+answer_tidy opening g now dirty job Asking is Yes t =
+    kept_tidy opening g now dirty job (replied Yes job) refl refl (refl, refl, refl) (λ t. t) (λ going. subst IsGoing (sym is) tt) (λ ending e. no_end GoesOn ending tt e) t
+answer_tidy opening g now dirty job Asking is No t =
+    kept_tidy opening g now dirty job (replied No job) refl refl (refl, refl, refl) (λ t. t) (λ going. subst IsGoing (sym is) tt) (λ ending e. no_end GoesOn ending tt e) t
+answer_tidy opening g now dirty job Asking is All t =
+    kept_tidy opening g now dirty job (replied All job) refl refl (refl, refl, refl) (λ t. t) (λ going. subst IsGoing (sym is) tt) (λ ending e. no_end GoesOn ending tt e) t
+answer_tidy opening g now dirty job Asking is Update t =
+    kept_tidy opening g now dirty job (replied Update job) refl refl (refl, refl, refl) (λ t. t) (λ going. subst IsGoing (sym is) tt) (λ ending e. no_end GoesOn ending tt e) t
+answer_tidy opening g now dirty job Asking is Nothing t =
+    kept_tidy opening g now dirty job (replied Nothing job) refl refl (refl, refl, refl) (λ t. t) (λ going. subst IsGoing (sym is) tt) (λ ending e. no_end GoesOn ending tt e) t
+answer_tidy opening g now dirty job Asking is SizeDiffers t =
+    kept_tidy opening g now dirty job (replied SizeDiffers job) refl refl (refl, refl, refl) (λ t. t) (λ going. subst IsGoing (sym is) tt) (λ ending e. no_end GoesOn ending tt e) t
+answer_tidy opening g now dirty job Asking is Retry t = t
+answer_tidy opening g now dirty job Asking is Skip t = t
+answer_tidy opening g now dirty job Asking is SkipAll t = t
+answer_tidy opening g now dirty job Asking is Abort t = kept_tidy opening g now dirty job (record job { course = Ends Aborted }) refl refl (refl, refl, refl) (λ t. t) (λ going. absurd going) (λ ending e. some_end Aborted ending e) t
 answer_tidy opening g now dirty job GoesOn is answer t = t
 answer_tidy opening g now dirty job (Skips why) is answer t = t
 answer_tidy opening g now dirty job (Ends ending) is answer t = t
@@ -177,6 +207,7 @@ close_tidy : (opening : CallLog) (g : List Entry) (now : CallLog) (dirty : List 
 close_tidy opening g now dirty job GoesOn is t = kept_tidy opening g now dirty job (record job { course = GoesOn }) refl refl (refl, refl, refl) (λ t. t) (λ going. subst IsGoing (sym is) tt) (λ ending e. no_end GoesOn ending tt e) t
 close_tidy opening g now dirty job (InTrouble halt) is t = kept_tidy opening g now dirty job (record job { course = Ends Aborted }) refl refl (refl, refl, refl) (λ t. t) (λ going. absurd going) (λ ending e. some_end Aborted ending e) t
 close_tidy opening g now dirty job (OwedSyncFailed why) is t = kept_tidy opening g now dirty job (record job { course = Ends Aborted }) refl refl (refl, refl, refl) (λ t. t) (λ going. absurd going) (λ ending e. some_end Aborted ending e) t
+close_tidy opening g now dirty job Asking is t = kept_tidy opening g now dirty job (record job { course = Ends Aborted }) refl refl (refl, refl, refl) (λ t. t) (λ going. absurd going) (λ ending e. some_end Aborted ending e) t
 close_tidy opening g now dirty job (Skips why) is t = kept_tidy opening g now dirty job (record job { course = Skips why }) refl refl (refl, refl, refl) (λ t. t) (λ going. subst IsGoing (sym is) tt) (λ ending e. no_end (Skips why) ending tt e) t
 close_tidy opening g now dirty job (Ends first) is t = kept_tidy opening g now dirty job (record job { course = Ends first }) refl refl (refl, refl, refl) (λ t. t) (λ going. absurd going) (λ ending e. t.aborted ending (is ∙ e)) t
 
@@ -275,9 +306,9 @@ module _ (opening : CallLog) (tree : IsTree (current opening)) (settled : all_se
         below = λ changed other name up within.
             let whole = step_tree job new did works.tells other in
             let here = subst (λ i. lies_below i up ≡ true) same.1 within in
-            let off = below_works (told_of opening before older r.part) was.dirty dirty_after r.marks before now name up job new did knows works on whole here in
+            let off = below_works (told_of opening before older r.part) was.dirty dirty_after r.marks before now r.kept.known name up job new did knows works on whole here in
             still (name ∷ up) (elim (changed_by (has_changed job.id older) (begins_change did) (changed_is ∙ changed)) [ inl b ↦ t.below b whole name up here | inr h ↦ off.1 h ])
-            (below_part (told_of opening before older r.part) was.dirty dirty_after r.marks before now name up job.course job.work knows whole here) off.0;
+            (below_part (told_of opening before older r.part) was.dirty dirty_after r.marks before now r.kept.known name up job.course job.work knows whole here) off.0;
       }
   step_tidy e older id did was job new dirty_after before now r item_is what_is id_is on knows keeps t (inr syncs) = by syncs.synced
     where
@@ -316,7 +347,7 @@ module _ (opening : CallLog) (tree : IsTree (current opening)) (settled : all_se
           → name_waits now (name ∷ up) ≡ false
       below_still d did_is none unnamed changed other name up within =
           keeps (name ∷ up) (t.below (unchanged job.id (ap begins_change did_is ∙ none) changed) other name up within)
-          (below_part (told_of opening before older r.part) was.dirty dirty_after r.marks before now name up job.course job.work knows other within) (ap (λ x. names x (name ∷ up)) did_is ∙ unnamed (name ∷ up))
+          (below_part (told_of opening before older r.part) was.dirty dirty_after r.marks before now r.kept.known name up job.course job.work knows other within) (ap (λ x. names x (name ∷ up)) did_is ∙ unnamed (name ∷ up))
 
       by : SyncsOwed job syncs.path did new was.dirty dirty_after (Some before) (Some now) → IsTidyJob opening (e ∷ older) now dirty_after new
       by (inl s) = subst (λ (x : Running). IsTidyJob opening (e ∷ older) now dirty_after x) (sym s.new_is) (record {

@@ -20,7 +20,7 @@ use Rattle.file_copy.specs.Copying.{Copying}
 use Rattle.file_copy.specs.Copying as copying
 use Rattle.session_history.specs.declared.history.Entry.{Entry}
 use Rattle.copy_move.specs.declared.run.Course.{Course}
-use Rattle.copy_move.specs.declared.run.Course.TheVariants.{GoesOn, InTrouble, OwedSyncFailed, Skips, Ends}
+use Rattle.copy_move.specs.declared.run.Course.TheVariants.{GoesOn, Asking, InTrouble, OwedSyncFailed, Skips, Ends}
 use Rattle.copy_move.specs.Deletions.{started}
 use Rattle.copy_move.specs.declared.work.Work.{Work}
 use Rattle.copy_move.specs.declared.making.MakingStage.{MakingStage}
@@ -127,6 +127,7 @@ finished_tidy opening g log dirty dirty_after job new part before after GoesOn i
     let tidy = t.tidy changed (subst IsGoing (sym is) tt) in (is, tidy, λ other q own among. done_work job.work work new.work part dirty dirty_after before after tells leaves other tidy q own among)
 finished_tidy opening g log dirty dirty_after job new part before after (InTrouble halt) is tells leaves t changed = absurd tells
 finished_tidy opening g log dirty dirty_after job new part before after (OwedSyncFailed why) is tells leaves t changed = absurd tells
+finished_tidy opening g log dirty dirty_after job new part before after Asking is tells leaves t changed = absurd tells
 finished_tidy opening g log dirty dirty_after job new part before after (Skips why) is (inl (path, work, did_is, passes, new_is)) leaves t changed = absurd (let f : ⊥ = cc in f)
 finished_tidy opening g log dirty dirty_after job new part before after (Skips why) is (inr (apart, did_is, new_is)) leaves t changed = absurd (let f : ⊥ = cc in f)
 finished_tidy opening g log dirty dirty_after job new part before after (Ends ending) is (work, winds, new_is) leaves t changed =

@@ -13,13 +13,13 @@ use Rattle.job_reports.specs.declared.report.Ending.TheVariants.{Finished, NoMem
 use Rattle.job_reports.specs.declared.report.Did.TheVariants.{Ended}
 use Rattle.job_reports.specs.declared.job.Job.{Job}
 use Rattle.job_reports.specs.declared.answer.Answer.{Answer}
-use Rattle.job_reports.specs.declared.answer.Answer.TheVariants.{Retry, Skip, SkipAll, Abort}
+use Rattle.job_reports.specs.declared.answer.Answer.TheVariants.{Yes, No, All, Update, Nothing, SizeDiffers, Retry, Skip, SkipAll, Abort}
 use Rattle.session_history.specs.declared.history.Event.{Event}
 use Rattle.session_history.specs.declared.history.Event.TheVariants.{Key, Look, Sought, Began, Order, Step, Next, Closed}
 use Rattle.session_history.specs.declared.history.JobOrder.{JobOrder}
 use Rattle.session_history.specs.declared.history.JobOrder.TheVariants.{Answered}
 use Rattle.copy_move.specs.declared.run.Course.{Course}
-use Rattle.copy_move.specs.declared.run.Course.TheVariants.{GoesOn, InTrouble, OwedSyncFailed, Skips, Ends}
+use Rattle.copy_move.specs.declared.run.Course.TheVariants.{GoesOn, Asking, InTrouble, OwedSyncFailed, Skips, Ends}
 use Rattle.copy_move.specs.declared.work.Work.{Work}
 use Rattle.copy_move.specs.declared.work.Work.TheVariants.{Copy, CopyTree, Delete, Make, SetMode}
 use Rattle.copy_move.specs.Jobs.{Running, answered, answered_on, begun_work, closed_course, closed_job, taken_anew, with_skips}
@@ -27,7 +27,7 @@ use Rattle.copy_move.specs.Told.{running}
 use Rattle.session_history.specs.LiveJobs.{LiveJob, after_event, after_report, live, turned}
 use Rattle.session_history.specs.Sources.{sources_of}
 use Rattle.history_laws.specs.Traces.{EventLeads, IsJob, Stand, StepLeads, WorkLeads, begun, ordered, unless_ended, with_job}
-use Rattle.history_laws.proofs.JobKnows.{KnowsAfter, WorkKnows, work_course}
+use Rattle.history_laws.proofs.JobKnows.{KnowsAfter, WorkKnows, may_fill, work_course}
 use Rattle.history_laws.proofs.KnownParts.{stage_anew}
 use Rattle.job_answers.specs.Skipping.{kind_in, with_kind}
 use Rattle.history_laws.proofs.TreeKnown.{is_over, skips_kind}
@@ -61,7 +61,7 @@ module _ (told : Said) (dirty : List Route) (marks : Marks) (log : CallLog) wher
   abbrev Knows : Running → Type 0
   Knows job = WorkKnows told dirty marks log job.course job.work
 
-  on_course : (course other : Course) (work : Work) → (other ≡ GoesOn → ⊥) → is_over course ≡ false → WorkKnows told dirty marks log course work → WorkKnows told dirty marks log other work
+  on_course : (course other : Course) (work : Work) → (may_fill other ≡ true → ⊥) → is_over course ≡ false → WorkKnows told dirty marks log course work → WorkKnows told dirty marks log other work
   on_course course other work off going k = work_course told dirty marks log course other work (λ e. absurd (off e)) (λ still. going) k
 
   answer_knows : (course : Course) (answer : Answer) (job : Running) → job.course ≡ course → Knows job → Knows (answered_on course answer job)
@@ -73,6 +73,28 @@ module _ (told : Said) (dirty : List Route) (marks : Marks) (log : CallLog) wher
   answer_knows (OwedSyncFailed why) Skip job is k = k
   answer_knows (OwedSyncFailed why) SkipAll job is k = k
   answer_knows (OwedSyncFailed why) Abort job is k = on_course job.course (Ends Rattle.job_reports.specs.declared.report.Ending.TheVariants.Aborted) job.work (λ e. let f : ⊥ = cc in f) (ap is_over is) k
+  answer_knows (InTrouble halt) Yes job is k = k
+  answer_knows (InTrouble halt) No job is k = k
+  answer_knows (InTrouble halt) All job is k = k
+  answer_knows (InTrouble halt) Update job is k = k
+  answer_knows (InTrouble halt) Nothing job is k = k
+  answer_knows (InTrouble halt) SizeDiffers job is k = k
+  answer_knows (OwedSyncFailed why) Yes job is k = k
+  answer_knows (OwedSyncFailed why) No job is k = k
+  answer_knows (OwedSyncFailed why) All job is k = k
+  answer_knows (OwedSyncFailed why) Update job is k = k
+  answer_knows (OwedSyncFailed why) Nothing job is k = k
+  answer_knows (OwedSyncFailed why) SizeDiffers job is k = k
+  answer_knows Asking Yes job is k = work_course told dirty marks log job.course GoesOn job.work (λ e. ap may_fill is) (λ still. ap is_over is) k
+  answer_knows Asking No job is k = work_course told dirty marks log job.course GoesOn job.work (λ e. ap may_fill is) (λ still. ap is_over is) k
+  answer_knows Asking All job is k = work_course told dirty marks log job.course GoesOn job.work (λ e. ap may_fill is) (λ still. ap is_over is) k
+  answer_knows Asking Update job is k = work_course told dirty marks log job.course GoesOn job.work (λ e. ap may_fill is) (λ still. ap is_over is) k
+  answer_knows Asking Nothing job is k = work_course told dirty marks log job.course GoesOn job.work (λ e. ap may_fill is) (λ still. ap is_over is) k
+  answer_knows Asking SizeDiffers job is k = work_course told dirty marks log job.course GoesOn job.work (λ e. ap may_fill is) (λ still. ap is_over is) k
+  answer_knows Asking Retry job is k = k
+  answer_knows Asking Skip job is k = k
+  answer_knows Asking SkipAll job is k = k
+  answer_knows Asking Abort job is k = on_course job.course (Ends Rattle.job_reports.specs.declared.report.Ending.TheVariants.Aborted) job.work (λ e. let f : ⊥ = cc in f) (ap is_over is) k
   answer_knows GoesOn answer job is k = k
   answer_knows (Skips why) answer job is k = k
   answer_knows (Ends ending) answer job is k = k
@@ -89,10 +111,11 @@ module _ (told : Said) (dirty : List Route) (marks : Marks) (log : CallLog) wher
   orders_know id order (job ∷ []) k = order_knows id order job k
   orders_know id order (job ∷ other ∷ jobs) k = absurd k
 
-  closed_by : (course : Course) → closed_course course ≡ GoesOn → course ≡ GoesOn
+  closed_by : (course : Course) → may_fill (closed_course course) ≡ true → may_fill course ≡ true
   closed_by GoesOn e = refl
   closed_by (InTrouble halt) e = absurd (let f : ⊥ = cc in f)
   closed_by (OwedSyncFailed why) e = absurd (let f : ⊥ = cc in f)
+  closed_by Asking e = absurd (let f : ⊥ = cc in f)
   closed_by (Skips why) e = absurd (let f : ⊥ = cc in f)
   closed_by (Ends ending) e = absurd (let f : ⊥ = cc in f)
 
@@ -100,6 +123,7 @@ module _ (told : Said) (dirty : List Route) (marks : Marks) (log : CallLog) wher
   closed_over GoesOn e = refl
   closed_over (InTrouble why) e = refl
   closed_over (OwedSyncFailed why) e = refl
+  closed_over Asking e = refl
   closed_over (Skips why) e = refl
   closed_over (Ends ending) e = e
 

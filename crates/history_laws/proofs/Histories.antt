@@ -56,6 +56,7 @@ doubt_anywhere (reported.Chunk count) part = refl
 doubt_anywhere (reported.Set path) part = refl
 doubt_anywhere (reported.Made made) part = refl
 doubt_anywhere (reported.Kept kept) part = refl
+doubt_anywhere (reported.Asked question) part = refl
 doubt_anywhere (reported.Skipped path cause) part = refl
 doubt_anywhere reported.Barrier part = refl
 doubt_anywhere (reported.Troubled trouble) part = refl
@@ -71,6 +72,7 @@ modes_anywhere (reported.Chunk count) = refl
 modes_anywhere (reported.Set path) = refl
 modes_anywhere (reported.Made made) = refl
 modes_anywhere (reported.Kept kept) = refl
+modes_anywhere (reported.Asked question) = refl
 modes_anywhere (reported.Skipped path cause) = refl
 modes_anywhere reported.Barrier = refl
 modes_anywhere (reported.Troubled trouble) = refl
@@ -140,12 +142,12 @@ module _ (opening : CallLog) (older : List Entry) (calls : ℕ) (was : Stand) (b
     told_is made now_is =
         let tree : replayed_tree opening now older ≡ replayed_tree opening before older = ap (λ l. replayed_tree opening l older) now_is ∙ replayed_more opening before made older r.within in
         let earlier : earlier_tree opening now older ≡ earlier_tree opening before older = ap (λ l. earlier_tree opening l older) now_is ∙ earlier_more opening before made older r.within in
-        ap (λ t. said_by (folders_event (Step id did) (live_jobs older) (folders_told opening older)) (calm_event (Step id did) (live_jobs older) (calm_told older)) t (Rattle.history_laws.specs.Replayed.keeping (Rattle.session_history.specs.Named.changed_by did) (replayed_tree opening now older) (earlier_tree opening now older)) (Rattle.session_history.specs.Named.named_by did (Rattle.session_history.specs.Named.named_parts older)) (part_after did r.part))
+        ap (λ t. said_by (folders_event (Step id did) (live_jobs older) (folders_told opening older)) (calm_event (Step id did) (live_jobs older) (calm_told older)) t (Rattle.history_laws.specs.Replayed.keeping (Rattle.session_history.specs.Named.changed_by did) (replayed_tree opening now older) (earlier_tree opening now older)) (Rattle.session_history.specs.Named.named_by did (Rattle.session_history.specs.Named.left_parts older) (Rattle.session_history.specs.Named.named_parts older)) (Rattle.session_history.specs.Named.left_by did (Rattle.session_history.specs.Named.left_parts older)) (part_after did r.part))
         (step_view made now_is)
-        ∙ ap (λ t. said_by (folders_event (Step id did) (live_jobs older) (folders_told opening older)) (calm_event (Step id did) (live_jobs older) (calm_told older)) (replayed_step now did (Some (item_in job.work)) (replayed_tree opening before older)) t (Rattle.session_history.specs.Named.named_by did (Rattle.session_history.specs.Named.named_parts older)) (part_after did r.part))
+        ∙ ap (λ t. said_by (folders_event (Step id did) (live_jobs older) (folders_told opening older)) (calm_event (Step id did) (live_jobs older) (calm_told older)) (replayed_step now did (Some (item_in job.work)) (replayed_tree opening before older)) t (Rattle.session_history.specs.Named.named_by did (Rattle.session_history.specs.Named.left_parts older) (Rattle.session_history.specs.Named.named_parts older)) (Rattle.session_history.specs.Named.left_by did (Rattle.session_history.specs.Named.left_parts older)) (part_after did r.part))
         (ap (λ v. Rattle.history_laws.specs.Replayed.keeping (Rattle.session_history.specs.Named.changed_by did) v (earlier_tree opening now older)) tree
         ∙ ap (Rattle.history_laws.specs.Replayed.keeping (Rattle.session_history.specs.Named.changed_by did) (replayed_tree opening before older)) earlier)
-        ∙ (ap (λ o. said_by (option_map_or (λ item. folders_by did (folder_changed item) (folders_told opening older)) o (folders_told opening older)) (option_map_or (λ item. calm_by did item (calm_told older)) o (calm_told older)) (replayed_step now did (Some (item_in job.work)) (replayed_tree opening before older)) (Rattle.history_laws.specs.Replayed.keeping (Rattle.session_history.specs.Named.changed_by did) (replayed_tree opening before older) (earlier_tree opening before older)) (Rattle.session_history.specs.Named.named_by did (Rattle.session_history.specs.Named.named_parts older)) (part_after did r.part)) item_is
+        ∙ (ap (λ o. said_by (option_map_or (λ item. folders_by did (folder_changed item) (folders_told opening older)) o (folders_told opening older)) (option_map_or (λ item. calm_by did item (calm_told older)) o (calm_told older)) (replayed_step now did (Some (item_in job.work)) (replayed_tree opening before older)) (Rattle.history_laws.specs.Replayed.keeping (Rattle.session_history.specs.Named.changed_by did) (replayed_tree opening before older) (earlier_tree opening before older)) (Rattle.session_history.specs.Named.named_by did (Rattle.session_history.specs.Named.left_parts older) (Rattle.session_history.specs.Named.named_parts older)) (Rattle.session_history.specs.Named.left_by did (Rattle.session_history.specs.Named.left_parts older)) (part_after did r.part)) item_is
         ∙ (ap (λ d. (let t : Said = record (said_after now did job.work told) { doubt = d; modes = anywhere } in t)) (sym (doubt_anywhere did r.part))
         ∙ ap (λ m. (let t : Said = record (said_after now did job.work told) { modes = m } in t)) (sym (modes_anywhere did))))
 
@@ -212,6 +214,7 @@ module _ (opening : CallLog) (tree : IsTree (current opening)) (settled : all_se
       calm = λ p there name i at. inl refl;
       folders = λ i folder. (refl, refl);
       aside = λ p is. absurd (false≢true is);
+      left = λ p is there. absurd (false≢true is);
       was_there = λ p i out is. (found_there (current opening) tree p i is, refl);
       was_shown = λ p out. inl refl;
       shows = λ p other. refl;

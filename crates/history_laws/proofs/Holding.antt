@@ -87,6 +87,7 @@ module _ (path : Route) (v : Option Value) (told : Said) where
       calm = kept.known.calm;
       folders = kept.known.folders;
       aside = λ p is. still_listed path p told.named (kept.known.aside p is) (false_from_ne_true _ (λ same. both_ways _ out (subst (λ q. marks.aside q ≡ true) (same_path-true p path same) is)));
+      left = kept.known.left;
       was_there = kept.known.was_there;
       was_shown = λ p out_p. shown p out_p (same_path p path) refl;
       shows = kept.known.shows;
@@ -157,7 +158,7 @@ module _ (listed : List LiveJob) (was : Stand) (before : CallLog) (path : Route)
   keeps_then (Step id did) now said_then unnamed (job, jobs_is, id_is, is) = let k = h.keeps in subst (Keeps path v) (sym is) (
     ap (λ (s : Spot). s.value) (step_unnamed now did (Some (Rattle.history_laws.proofs.Sources.item_in job.work)) said.tree path unnamed) ∙ k.0,
     ap (λ (s : Spot). s.value) (earlier_unnamed did said.tree said.earlier path unnamed) ∙ k.1,
-    λ among. k.2 (named_step did said.named path unnamed among),
+    λ among. k.2 (named_step did said.left said.named path unnamed among),
   )
   keeps_then (Next id plan) now said_then unnamed (job, jobs_is, id_is, is) = subst (Keeps path v) (sym is) h.keeps
   keeps_then (event.Began id plan background) now said_then unnamed is = subst (Keeps path v) (sym is) h.keeps

@@ -15,7 +15,6 @@ use Rattle.job_reports.specs.declared.report.Did.{Did}
 use Rattle.job_reports.specs.declared.report.Did.TheVariants.{Ended}
 use Rattle.job_reports.proofs.PermittedCalls.{stat_missing}
 use Rattle.copy_move.specs.declared.run.Course.{Course}
-use Rattle.copy_move.specs.declared.run.Course.TheVariants.{GoesOn}
 use Rattle.copy_move.specs.declared.work.Work.{Work}
 use Rattle.copy_move.specs.declared.work.Work.TheVariants.{Copy, CopyTree, Delete, Make, SetMode}
 use Rattle.tree_deletion.specs.declared.deletion.Stage.TheVariants.{Going}
@@ -29,8 +28,8 @@ use Rattle.tree_trait.specs.Change.{Change, Nothing, Syncs, with_change}
 use Rattle.crash_law.proofs.Leading.{current_more}
 use Rattle.history_laws.proofs.KnownParts.{file_said}
 use Rattle.history_laws.proofs.TreeKnown.{IsStill, TreeKnown, is_over, tree_course, tree_said, tree_settled, tree_still}
-pub use Rattle.history_laws.proofs.KnownParts.{FileKnows, HasLink, HasName, HasPart, IsFilled, IsLeftPart, LinkKnows, StageKnows, file_course, file_settled, part_settled, stage_course, stage_settled, untouched_settled}
-pub use Rattle.history_laws.proofs.Untouched.{IsUntouched, NoneOn, none_on, none_waits, untouched_free, way_sure}
+pub use Rattle.history_laws.proofs.KnownParts.{may_fill, found_settled, FileKnows, HasLink, HasName, HasPart, IsFilled, IsLeftPart, LinkKnows, StageKnows, file_course, file_settled, part_settled, stage_course, stage_settled, untouched_settled}
+pub use Rattle.history_laws.proofs.Untouched.{IsAsFound, IsBare, IsUntouched, as_found, bare_free, found_bare, NoneOn, none_on, none_waits, untouched_free, way_sure}
 
 -- at and below the path stands what the job found there, or nothing any more
 abbrev pub IsIntact : Marks → FileSystem → Route → Type 0
@@ -113,7 +112,7 @@ module _ (log : CallLog) (marks : Marks) where
   work_settled told dirty course (SetMode s) k = k
 
 -- A job that goes on only where it went on, and isn't in its last steps where it wasn't, knows what it knew.
-pub work_course : (told : Said) (dirty : List Route) (marks : Marks) (log : CallLog) (course other : Course) (work : Work) → (other ≡ GoesOn → course ≡ GoesOn) → (is_over other ≡ false → is_over course ≡ false)
+pub work_course : (told : Said) (dirty : List Route) (marks : Marks) (log : CallLog) (course other : Course) (work : Work) → (may_fill other ≡ true → may_fill course ≡ true) → (is_over other ≡ false → is_over course ≡ false)
     → WorkKnows told dirty marks log course work → WorkKnows told dirty marks log other work
 work_course told dirty marks log course other (Copy c) on over k = file_course told dirty marks (current log) course other c on k
 work_course told dirty marks log course other (CopyTree c) on over k = tree_course told dirty marks log course other c on over k

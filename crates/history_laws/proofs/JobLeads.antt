@@ -13,8 +13,9 @@ use Rattle.file_copy.specs.Copying.{Copying}
 use Rattle.job_reports.proofs.CallAnswers.{some_log}
 use Rattle.copy_move.specs.declared.work.Work.{Work}
 use Rattle.copy_move.specs.declared.work.Work.TheVariants.{Copy, CopyTree, Delete, Make, SetMode}
+use Rattle.job_answers.specs.declared.replies.Replies.{Replies}
 use Rattle.copy_move.specs.declared.run.Course.{Course}
-use Rattle.copy_move.specs.declared.run.Course.TheVariants.{GoesOn, InTrouble, OwedSyncFailed, Skips, Ends}
+use Rattle.copy_move.specs.declared.run.Course.TheVariants.{GoesOn, Asking, InTrouble, OwedSyncFailed, Skips, Ends}
 use Rattle.copy_move.specs.Makings.{Making}
 use Rattle.copy_move.specs.Jobs.{Running, CallsOn, TellsOn, WorkCalls, WorkLastCalls, WorkTells, PassesOver, WorkWinds, course_after, is_fresh, unreported_skip}
 use Rattle.copy_move.specs.DeletionSteps.{after_try}
@@ -27,7 +28,7 @@ use Rattle.history_laws.proofs.ModeSteps.{setting_tells, setting_winds}
 use Rattle.history_laws.proofs.Deleted.{comes_refused}
 use Rattle.history_laws.proofs.DeletionSteps.{Steps, comes_thing_synced, deletion_tells, deletion_winds, stands, stays, still_going}
 use Rattle.history_laws.proofs.MakingSteps.{making_tells, making_winds}
-use Rattle.history_laws.proofs.CopySteps.{copy_tells}
+use Rattle.history_laws.proofs.CopySteps.{asked_tells}
 use Rattle.history_laws.proofs.Filling.{begins_owed}
 use Rattle.history_laws.proofs.JobSteps.{copy_winds, fresh_knows}
 use Rattle.history_laws.proofs.Knowing.{Said, IsKept}
@@ -74,34 +75,34 @@ module _ (told : Said) (dirty dirty_after : List Route) (marks : Marks) (log now
   abbrev WorkWalks : Course → Work → Did → Work → Type 0
   WorkWalks course old did new = (count : ℕ) × (f0 : ℕ) × (f1 : ℕ) × WalksOn IsUnclaimed course old new did count dirty dirty_after (Some log) (Some now) f0 f1
 
-  work_tells : (old new : Work) (did : Did) → WorkKnows told dirty marks log GoesOn old → WorkTells old did new → WorkCalls IsUnclaimed old did new log (Some now)
+  work_tells : (replies : Replies) (old new : Work) (did : Did) → WorkKnows told dirty marks log GoesOn old → WorkTells old did new → WorkCalls IsUnclaimed replies old did new log (Some now)
       → (is_fresh old ≡ true → NoneOwed (current log) old dirty) → WorkLeaves old did new dirty dirty_after (Some log) (Some now) → WorkWalks GoesOn old did new
       → Steps told dirty dirty_after marks log now kept did (course_after did) old new
-  work_tells (Copy c) (Copy new) did knows tells calls settled leaves walks = copy_tells told dirty dirty_after marks log now kept c IsUnclaimed new did knows tells calls (λ fresh. begins_owed told dirty marks log c.target kept knows.0 (none_on (current log) (Copy c) dirty (settled fresh))) leaves
-  work_tells (Delete d) (Delete new) did knows tells calls settled leaves walks = deletion_tells told dirty dirty_after marks log now kept d new did knows tells calls settled leaves
-  work_tells (Make w) (Make new) did knows tells calls settled leaves walks = making_tells told dirty dirty_after marks log now kept w new did knows tells calls (λ fresh. none_on (current log) (Make w) dirty (settled fresh)) leaves
-  work_tells (SetMode s) (SetMode new) did knows tells calls settled leaves walks = setting_tells told dirty dirty_after marks log now kept s new did knows tells calls settled leaves
-  work_tells (CopyTree c) (CopyTree new) did knows tells calls settled leaves (count, f0, f1, goes) = tree_tells told dirty dirty_after marks log now kept c new did knows tells settled goes.free count goes.since f1 goes.steps
-  work_tells (Copy c) (Delete new) did knows tells calls settled leaves walks = absurd tells
-  work_tells (Copy c) (Make new) did knows tells calls settled leaves walks = absurd tells
-  work_tells (Delete d) (Copy new) did knows tells calls settled leaves walks = absurd tells
-  work_tells (Delete d) (Make new) did knows tells calls settled leaves walks = absurd tells
-  work_tells (Make w) (Copy new) did knows tells calls settled leaves walks = absurd tells
-  work_tells (SetMode s) (Copy new) did knows tells calls settled leaves walks = absurd tells
-  work_tells (CopyTree s) (Copy new) did knows tells calls settled leaves walks = absurd tells
-  work_tells (SetMode s) (CopyTree new) did knows tells calls settled leaves walks = absurd tells
-  work_tells (SetMode s) (Delete new) did knows tells calls settled leaves walks = absurd tells
-  work_tells (CopyTree s) (Delete new) did knows tells calls settled leaves walks = absurd tells
-  work_tells (SetMode s) (Make new) did knows tells calls settled leaves walks = absurd tells
-  work_tells (CopyTree s) (Make new) did knows tells calls settled leaves walks = absurd tells
-  work_tells (Copy c) (SetMode new) did knows tells calls settled leaves walks = absurd tells
-  work_tells (Copy c) (CopyTree new) did knows tells calls settled leaves walks = absurd tells
-  work_tells (CopyTree c) (SetMode new) did knows tells calls settled leaves walks = absurd tells
-  work_tells (Delete d) (SetMode new) did knows tells calls settled leaves walks = absurd tells
-  work_tells (Delete d) (CopyTree new) did knows tells calls settled leaves walks = absurd tells
-  work_tells (Make w) (SetMode new) did knows tells calls settled leaves walks = absurd tells
-  work_tells (Make w) (CopyTree new) did knows tells calls settled leaves walks = absurd tells
-  work_tells (Make w) (Delete new) did knows tells calls settled leaves walks = absurd tells
+  work_tells replies (Copy c) (Copy new) did knows tells calls settled leaves walks = asked_tells told dirty dirty_after marks log now kept c IsUnclaimed replies new did knows tells calls (λ fresh. begins_owed told dirty marks log c.target kept knows.0 (none_on (current log) (Copy c) dirty (settled fresh))) leaves
+  work_tells replies (Delete d) (Delete new) did knows tells calls settled leaves walks = deletion_tells told dirty dirty_after marks log now kept d new did knows tells calls settled leaves
+  work_tells replies (Make w) (Make new) did knows tells calls settled leaves walks = making_tells told dirty dirty_after marks log now kept w new did knows tells calls (λ fresh. none_on (current log) (Make w) dirty (settled fresh)) leaves
+  work_tells replies (SetMode s) (SetMode new) did knows tells calls settled leaves walks = setting_tells told dirty dirty_after marks log now kept s new did knows tells calls settled leaves
+  work_tells replies (CopyTree c) (CopyTree new) did knows tells calls settled leaves (count, f0, f1, goes) = tree_tells told dirty dirty_after marks log now kept c new did knows tells settled goes.free count goes.since f1 goes.steps
+  work_tells replies (Copy c) (Delete new) did knows tells calls settled leaves walks = absurd tells
+  work_tells replies (Copy c) (Make new) did knows tells calls settled leaves walks = absurd tells
+  work_tells replies (Delete d) (Copy new) did knows tells calls settled leaves walks = absurd tells
+  work_tells replies (Delete d) (Make new) did knows tells calls settled leaves walks = absurd tells
+  work_tells replies (Make w) (Copy new) did knows tells calls settled leaves walks = absurd tells
+  work_tells replies (SetMode s) (Copy new) did knows tells calls settled leaves walks = absurd tells
+  work_tells replies (CopyTree s) (Copy new) did knows tells calls settled leaves walks = absurd tells
+  work_tells replies (SetMode s) (CopyTree new) did knows tells calls settled leaves walks = absurd tells
+  work_tells replies (SetMode s) (Delete new) did knows tells calls settled leaves walks = absurd tells
+  work_tells replies (CopyTree s) (Delete new) did knows tells calls settled leaves walks = absurd tells
+  work_tells replies (SetMode s) (Make new) did knows tells calls settled leaves walks = absurd tells
+  work_tells replies (CopyTree s) (Make new) did knows tells calls settled leaves walks = absurd tells
+  work_tells replies (Copy c) (SetMode new) did knows tells calls settled leaves walks = absurd tells
+  work_tells replies (Copy c) (CopyTree new) did knows tells calls settled leaves walks = absurd tells
+  work_tells replies (CopyTree c) (SetMode new) did knows tells calls settled leaves walks = absurd tells
+  work_tells replies (Delete d) (SetMode new) did knows tells calls settled leaves walks = absurd tells
+  work_tells replies (Delete d) (CopyTree new) did knows tells calls settled leaves walks = absurd tells
+  work_tells replies (Make w) (SetMode new) did knows tells calls settled leaves walks = absurd tells
+  work_tells replies (Make w) (CopyTree new) did knows tells calls settled leaves walks = absurd tells
+  work_tells replies (Make w) (Delete new) did knows tells calls settled leaves walks = absurd tells
 
   work_winds : (ending : Ending) (old new : Work) (did : Did) → WorkKnows told dirty marks log (Ends ending) old → WorkWinds ending old did new → WorkLastCalls old did log (Some now)
       → LeavesDirty (Ends ending) old did new dirty dirty_after (Some log) (Some now) → WorkWalks (Ends ending) old did new → Steps told dirty dirty_after marks log now kept did (Ends ending) old new
@@ -146,11 +147,12 @@ module _ (told : Said) (dirty dirty_after : List Route) (marks : Marks) (log now
       → LeavesDirty course job.work did new.work dirty dirty_after (Some log) (Some now) → WorkWalks course job.work did new.work → Leads job did new
   by_course job new did GoesOn is knows (work, tells, new_is) calls settled leaves walks =
       subst (λ (x : Running). Leads job did x) (sym new_is)
-      (work_tells job.work work did knows tells (subst (λ (x : Running). WorkCalls IsUnclaimed job.work did x.work log (Some now)) new_is calls) (settled refl)
+      (work_tells job.replies job.work work did knows tells (subst (λ (x : Running). WorkCalls IsUnclaimed job.replies job.work did x.work log (Some now)) new_is calls) (settled refl)
       (subst (λ (x : Running). WorkLeaves job.work did x.work dirty dirty_after (Some log) (Some now)) new_is leaves)
       (subst (λ (x : Running). WorkWalks GoesOn job.work did x.work) new_is walks))
   by_course job new did (InTrouble halt) is knows tells calls settled leaves walks = absurd tells
   by_course job new did (OwedSyncFailed why) is knows tells calls settled leaves walks = absurd tells
+  by_course job new did Asking is knows tells calls settled leaves walks = absurd tells
   by_course job new did (Skips why) is knows (inl (path, work, did_is, passes, new_is)) calls settled leaves (count, f0, f1, walks) =
       subst (λ x. Leads job x new) (sym did_is) (subst (λ (x : Running). Leads job (Skipped path why) x) (sym new_is)
       (stands told dirty dirty_after marks log now kept GoesOn work (skip_knows (Skips why) job.work work path why refl passes

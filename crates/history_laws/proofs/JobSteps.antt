@@ -1,6 +1,6 @@
 -- Each step of a job keeps what is known: of its work, of its last steps, a skip, the sync of a folder that an ended job left,
 -- and the end out of memory.
-use Rattle.std.proofs.Common.{◌≡◌, ℕ, Bool, true, false, List, refl, sym, ◌∙◌, ap, subst, Option, Some, None, Ok}
+use Rattle.std.proofs.Common.{◌≡◌, ℕ, Bool, true, false, List, refl, sym, ◌∙◌, ap, subst, inl, inr, Option, Some, None, Ok}
 use Rattle.std.specs.Prelude.{not}
 use Rattle.std.specs.Option.{option_map_or}
 use Rattle.std.proofs.lemmas.Bool.{false≢true, both_ways}
@@ -16,7 +16,7 @@ use Rattle.crash_law.specs.Guarded.{Marks}
 use Rattle.job_reports.specs.declared.report.Ending.{Ending}
 use Rattle.job_reports.specs.declared.report.Ending.TheVariants.{NoMemory}
 use Rattle.job_reports.specs.declared.report.Did.{Did}
-use Rattle.job_reports.specs.declared.report.Did.TheVariants.{Began, Chunk, Placed, Removed, Made, Set, Kept, Skipped, Cleaned, Barrier, Troubled, Ended}
+use Rattle.job_reports.specs.declared.report.Did.TheVariants.{Began, Chunk, Placed, Removed, Made, Set, Kept, Skipped, Cleaned, Barrier, Asked, Troubled, Ended}
 use Rattle.file_copy.specs.declared.stage.FolderState.{FolderState}
 use Rattle.file_copy.specs.declared.stage.FolderState.TheVariants.{Synced, Dirty}
 use Rattle.file_copy.specs.declared.stage.Stage.{Stage}
@@ -105,6 +105,7 @@ module _ (told : Said) (dirty dirty_after : List Route) (marks : Marks) (log now
           calm = kept.known.calm;
           folders = kept.known.folders;
           aside = kept.known.aside;
+          left = λ p is there. elim (kept.known.left p is there) [ inl at ↦ inr (inl (sym (some_route part p (sym has.part_is ∙ at)))) | inr among ↦ inr (inr among) ];
           was_there = kept.known.was_there;
           was_shown = kept.known.was_shown;
           shows = λ p other. by p (same_path p part) refl;
@@ -225,5 +226,6 @@ module _ (told : Said) (dirty dirty_after : List Route) (marks : Marks) (log now
   copy_winds c new ending (Removed path) left knows winds tells rows leaves = absurd winds
   copy_winds c new ending (Made made) left knows winds tells rows leaves = absurd winds
   copy_winds c new ending (Kept kept) left knows winds tells rows leaves = absurd winds
+  copy_winds c new ending (Asked question) left knows winds tells rows leaves = absurd winds
   copy_winds c new ending (Skipped path why) left knows winds tells rows leaves = absurd winds
   copy_winds c new ending (Troubled trouble) left knows winds tells rows leaves = absurd winds

@@ -16,13 +16,14 @@ use Rattle.crash_law.proofs.Guarding.{settle_law, guard_law, found_at}
 use Rattle.history_laws.specs.Doubt.{is_pending, is_unsettled, name_waits, node_waits, way_waits}
 use Rattle.history_laws.proofs.Resting.{IsOfFiles, IsSureFolder, settled_unless}
 
--- what a history says: what each path shows, what it showed before its last change, the paths that were named as parts, the
--- part that stands, of which names a change may wait for a sync, and where folders are known to stand on the disk; of which paths a mode may
+-- what a history says: what each path shows, what it showed before its last change, the paths that were named as parts, the parts that
+-- ended jobs left, the part that stands, of which names a change may wait for a sync, and where folders are known to stand on the disk; of which paths a mode may
 -- wait, and the folders in which none does
 pub record Said : Type 0 where
   pub tree : View
   pub earlier : View
   pub named : List Route
+  pub left : List Route
   pub part : Option Route
   pub doubt : Route → Bool
   pub folders : Route → Bool
@@ -71,6 +72,8 @@ pub record IsKnown (said : Said) (dirty : List Route) (marks : Marks) (log : Cal
   -- a folder is never loose, and never roams
   pub folders : (i : ℕ) → is_folder (node (current log) i) ≡ true → (marks.roams i ≡ false) × (marks.loose i ≡ false)
   pub aside : (p : Route) → marks.aside p ≡ true → Among said.named p
+  -- a part that stands is the live job's, or an ended one left it
+  pub left : (p : Route) → marks.aside p ≡ true → is_some (find (current log) p) ≡ true → (said.part ≡ Some p) ⊎ Among said.left p
   pub was_there : (p : Route) (i : ℕ) → marks.aside p ≡ false → marks.was p ≡ Some i → (i < length (current log).nodes) × (marks.loose i ≡ false)
   pub was_shown : (p : Route) → marks.aside p ≡ false → (marks.was p ≡ find (current log) p) ⊎ ((held (current log) (marks.was p) ≡ (said.earlier p).value) × HasNoMode marks (marks.was p))
   pub shows : (p : Route) → (said.part ≡ Some p → ⊥) → visible_tree (current log) p ≡ said.tree p
@@ -211,6 +214,7 @@ module _ (said : Said) (dirty : List Route) (marks : Marks) (log : CallLog) (kno
       calm = calm_by;
       folders = known.folders;
       aside = λ p h. known.aside p (aside_of p (marks.aside p) refl h).0;
+      left = λ p h there. known.left p (aside_of p (marks.aside p) refl h).0 there;
       was_there = λ p i h is. there_by p i h is (way_waits log p) refl;
       was_shown = λ p h. shown_by p h (way_waits log p) refl;
       shows = known.shows;

@@ -1,6 +1,7 @@
 -- What is known of a part that stands, and of the copy of a file or a link that has it.
-use Rattle.std.proofs.Common.{◌≡◌, ℕ, ◌≤◌, Bool, true, false, ◌&&◌, ◌||◌, List, ◌∷◌, length, take, ◌∙◌, ap, Some, None, cond}
+use Rattle.std.proofs.Common.{◌≡◌, ℕ, ◌≤◌, Bool, true, false, ◌&&◌, ◌||◌, List, ◌∷◌, length, take, refl, sym, ◌∙◌, ap, Some, None, cond}
 use Rattle.std.specs.Prelude.{is_some}
+use Rattle.std.proofs.lemmas.Bool.{true≢false}
 use Rattle.mc_text.specs.declared.kind.Kind.TheVariants.{File, Link}
 use Rattle.mc_text.specs.Routes.{Route}
 use Rattle.tree_trait.specs.declared.file_system.FileSystem.{FileSystem}
@@ -19,10 +20,10 @@ use Rattle.file_copy.specs.Copying.{Copying}
 use Rattle.job_reports.specs.Paths.{folder_of}
 use Rattle.file_copy.proofs.FilledParts.{Holds}
 use Rattle.copy_move.specs.declared.run.Course.{Course}
-use Rattle.copy_move.specs.declared.run.Course.TheVariants.{GoesOn}
+use Rattle.copy_move.specs.declared.run.Course.TheVariants.{GoesOn, Asking, InTrouble, OwedSyncFailed, Skips, Ends}
 use Rattle.history_laws.specs.Doubt.{way_waits}
 use Rattle.history_laws.proofs.Knowing.{Said, settled_marks}
-use Rattle.history_laws.proofs.Untouched.{IsUntouched}
+use Rattle.history_laws.proofs.Untouched.{IsAsFound, IsUntouched}
 
 -- the part stands beside the target, and leads to this node
 pub record HasPart (said : Said) (marks : Marks) (s : FileSystem) (target part : Route) (i : ℕ) : Type 0 where
@@ -35,7 +36,7 @@ pub record HasPart (said : Said) (marks : Marks) (s : FileSystem) (target part :
   pub name : List ℕ
   pub beside : part ≡ name ∷ folder_of target
   pub apart : part ≡ target → ⊥
-  pub untouched : IsUntouched marks s target
+  pub found : IsAsFound marks s target
 
 -- the part holds the first bytes of the source
 pub record IsFilled (s : FileSystem) (source part : Route) (said : SourceFacts) (done i : ℕ) : Type 0 where
@@ -53,10 +54,19 @@ pub record HasName (path : Route) : Type 0 where
   pub name : List ℕ
   pub is : path ≡ name ∷ folder_of path
 
+-- a job that goes on, or waits with a question, has copied into its part what it has read so far
+abbrev pub may_fill : Course → Bool
+may_fill GoesOn = true
+may_fill Asking = true
+may_fill (InTrouble halt) = false
+may_fill (OwedSyncFailed why) = false
+may_fill (Skips why) = false
+may_fill (Ends ending) = false
+
 abbrev pub StageKnows : Said → Marks → FileSystem → Course → Copying → Stage → Type 0
-StageKnows told marks s course c Begin = (told.part ≡ None) × (c.folder ≡ Dirty → IsUntouched marks s c.target)
+StageKnows told marks s course c Begin = (told.part ≡ None) × (c.folder ≡ Dirty → IsAsFound marks s c.target)
 StageKnows told marks s course c (Fill part said done) =
-    (c.folder ≡ Dirty) × ((i : ℕ) × HasPart told marks s c.target part i × (course ≡ GoesOn → IsFilled s c.source part said done i))
+    (c.folder ≡ Dirty) × ((i : ℕ) × HasPart told marks s c.target part i × (may_fill course ≡ true → IsFilled s c.source part said done i))
 StageKnows told marks s course c (Clean part follows) = (c.folder ≡ Dirty) × ((i : ℕ) × HasPart told marks s c.target part i)
 StageKnows told marks s course c (Left part) = (i : ℕ) × HasPart told marks s c.target part i
 StageKnows told marks s course c Decided = told.part ≡ None
@@ -120,6 +130,19 @@ module _ (log : CallLog) (marks : Marks) where
       by true = u.was
       by false = u.free
 
+  first_of : (a b : Bool) → (a && b) ≡ true → a ≡ true
+  first_of true b h = refl
+  first_of false b h = h
+
+  pub found_settled : (p : Route) → IsAsFound marks (current log) p → IsAsFound (settled_marks log marks) (current log) p
+  found_settled p u = record { bare = u.bare; was = λ out. by (marks.aside p) refl (way_waits log p) refl out; stood = λ is. u.stood (first_of (marks.aside p) (way_waits log p || is_some (find (current log) p)) is) }
+    where
+      by : (a : Bool) → marks.aside p ≡ a → (b : Bool) → way_waits log p ≡ b → (marks.aside p && (way_waits log p || is_some (find (current log) p))) ≡ false
+          → cond (way_waits log p) (marks.was p) (find (current log) p) ≡ find (current log) p
+      by a a_is false b_is out = ap (λ x. cond x (marks.was p) (find (current log) p)) b_is
+      by false a_is true b_is out = ap (λ x. cond x (marks.was p) (find (current log) p)) b_is ∙ u.was a_is
+      by true a_is true b_is out = absurd (true≢false (sym (ap (λ x. x && (way_waits log p || is_some (find (current log) p))) a_is ∙ ap (λ x. x || is_some (find (current log) p)) b_is) ∙ out))
+
   pub part_settled : (told : Said) (target part : Route) (i : ℕ) → HasPart told marks (current log) target part i → HasPart told (settled_marks log marks) (current log) target part i
   part_settled told target part i h = record {
     part_is = h.part_is;
@@ -131,11 +154,11 @@ module _ (log : CallLog) (marks : Marks) where
     name = h.name;
     beside = h.beside;
     apart = h.apart;
-    untouched = untouched_settled target h.untouched;
+    found = found_settled target h.found;
   }
 
   pub stage_settled : (told : Said) (course : Course) (c : Copying) (stage : Stage) → StageKnows told marks (current log) course c stage → StageKnows told (settled_marks log marks) (current log) course c stage
-  stage_settled told course c Begin (none, untouched) = (none, λ dirty. untouched_settled c.target (untouched dirty))
+  stage_settled told course c Begin (none, found) = (none, λ dirty. found_settled c.target (found dirty))
   stage_settled told course c (Fill part said done) (dirty, (i, has, filled)) = (dirty, (i, part_settled told c.target part i has, filled))
   stage_settled told course c (Clean part follows) (dirty, (i, has)) = (dirty, (i, part_settled told c.target part i has))
   stage_settled told course c (Left part) (i, has) = (i, part_settled told c.target part i has)
@@ -163,14 +186,14 @@ module _ (log : CallLog) (marks : Marks) where
       record { name = k.name; listed = k.listed; folder = k.folder; calm = k.calm; text = k.text; i = k.i; has = link_settled told target part k.text k.i k.has; copies = k.copies }
 
 -- a job that goes on only where it went on knows what it knew
-pub stage_course : (told : Said) (marks : Marks) (s : FileSystem) (course other : Course) (c : Copying) (stage : Stage) → (other ≡ GoesOn → course ≡ GoesOn) → StageKnows told marks s course c stage → StageKnows told marks s other c stage
+pub stage_course : (told : Said) (marks : Marks) (s : FileSystem) (course other : Course) (c : Copying) (stage : Stage) → (may_fill other ≡ true → may_fill course ≡ true) → StageKnows told marks s course c stage → StageKnows told marks s other c stage
 stage_course told marks s course other c Begin on k = k
 stage_course told marks s course other c (Fill part said done) on (dirty, (i, has, filled)) = (dirty, (i, has, λ e. filled (on e)))
 stage_course told marks s course other c (Clean part follows) on k = k
 stage_course told marks s course other c (Left part) on k = k
 stage_course told marks s course other c Decided on k = k
 
-pub file_course : (told : Said) (dirty : List Route) (marks : Marks) (s : FileSystem) (course other : Course) (c : Copying) → (other ≡ GoesOn → course ≡ GoesOn) → FileKnows told dirty marks s course c → FileKnows told dirty marks s other c
+pub file_course : (told : Said) (dirty : List Route) (marks : Marks) (s : FileSystem) (course other : Course) (c : Copying) → (may_fill other ≡ true → may_fill course ≡ true) → FileKnows told dirty marks s course c → FileKnows told dirty marks s other c
 file_course told dirty marks s course other c on (name, listed, stage) = (name, listed, stage_course told marks s course other c c.stage on stage)
 
 -- what is left, or taken anew, fills no part
@@ -210,11 +233,11 @@ module _ (told other : Said) (part_same : other.part ≡ told.part) (marks : Mar
     name = h.name;
     beside = h.beside;
     apart = h.apart;
-    untouched = h.untouched;
+    found = h.found;
   }
 
   pub stage_said : (course : Course) (c : Copying) (stage : Stage) → StageKnows told marks s course c stage → StageKnows other marks s course c stage
-  stage_said course c Begin (none, untouched) = (part_same ∙ none, untouched)
+  stage_said course c Begin (none, found) = (part_same ∙ none, found)
   stage_said course c (Fill part said done) (dirty, (i, has, filled)) = (dirty, (i, part_said c.target part i has, filled))
   stage_said course c (Clean part follows) (dirty, (i, has)) = (dirty, (i, part_said c.target part i has))
   stage_said course c (Left part) (i, has) = (i, part_said c.target part i has)

@@ -1,3 +1,4 @@
+pub mod AmongParts
 pub mod AtWork
 pub mod Beginnings
 pub mod Below

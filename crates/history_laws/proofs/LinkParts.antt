@@ -13,7 +13,7 @@ use Rattle.tree_trait.proofs.Visible.{same_path-true}
 use Rattle.crash_law.specs.Guarded.{Marks}
 use Rattle.crash_law.proofs.Leading.{clean_more}
 use Rattle.job_reports.specs.Paths.{folder_of}
-use Rattle.history_laws.proofs.JobKnows.{IsUntouched}
+use Rattle.history_laws.proofs.JobKnows.{as_found, IsUntouched}
 pub use Rattle.history_laws.proofs.KnownParts.{HasLink, link_settled}
 use Rattle.history_laws.proofs.Knowing.{IsCalmIn, IsKept, IsKnown, Said}
 use Rattle.history_laws.proofs.MakingParts.{MakesPart, made_known, marks_new, new_node, off_part, part_leads, part_node, with_part}
@@ -32,7 +32,7 @@ whole_link told marks log target part text i has clean = record {
   name = has.name;
   beside = has.beside;
   apart = has.apart;
-  untouched = has.untouched;
+  found = as_found marks (current log) target has.untouched;
 }
 
 no_more : (a b : Bool) → b ≡ true → (a && not b) ≡ false

@@ -8,7 +8,7 @@ use Rattle.job_answers.specs.declared.skips.Skips.{Skips as Kinds}
 use Rattle.job_reports.specs.declared.job.Pair.{Pair}
 use Rattle.job_reports.specs.declared.report.Cause.{Cause}
 use Rattle.job_reports.specs.declared.report.Did.{Did}
-use Rattle.job_reports.specs.declared.report.Did.TheVariants.{Began, Chunk, Placed, Removed, Made, Set, Kept, Skipped, Cleaned, Barrier, Troubled, Ended}
+use Rattle.job_reports.specs.declared.report.Did.TheVariants.{Began, Chunk, Placed, Removed, Made, Set, Kept, Skipped, Cleaned, Barrier, Asked, Troubled, Ended}
 use Rattle.job_reports.specs.declared.report.StepResult.{StepResult}
 use Rattle.file_copy.specs.Copying as file
 use Rattle.file_copy.specs.Copying.{Copying}
@@ -80,6 +80,7 @@ left_marks (Placed path) c marked = marked
 left_marks (Removed path) c marked = marked
 left_marks (Set path) c marked = marked
 left_marks (Kept path) c marked = marked
+left_marks (Asked question) c marked = marked
 left_marks (Skipped path cause) c marked = marked
 left_marks (Cleaned part) c marked = marked
 left_marks Barrier c marked = marked

@@ -1,7 +1,7 @@
 -- The making of a part, which stands aside from then on.
 use Rattle.std.proofs.Common.{◌≡◌, ◌⊎◌, ℕ, ◌<◌, ◌≤◌, Bool, true, false, ◌||◌, List, [], ◌∷◌, ◌++◌, length, refl, sym, ◌∙◌, ap, subst, inl, inr, Option, Some, None, arith, cond, length-append}
 use Rattle.std.specs.Prelude.{is_some, option_and_then, ◌==◌}
-use Rattle.std.proofs.lemmas.Bool.{true≢false, both_ways, false_from_ne_true, eqb-true, or_left, or_right}
+use Rattle.std.proofs.lemmas.Bool.{false≢true, true≢false, both_ways, false_from_ne_true, eqb-true, or_left, or_right}
 use Rattle.mc_text.specs.Routes.{Route, same_path}
 use Rattle.tree_trait.specs.declared.file_system.FileSystem.{FileSystem}
 use Rattle.tree_trait.specs.declared.file_system.Node.{Node}
@@ -93,6 +93,10 @@ module _ (told : Said) (dirty : List Route) (marks : Marks) (log : CallLog) (kno
     calm = known.calm;
     folders = λ i is. let o = older i n (there_folder i is) in let k = known.folders i is in (both_false _ _ o k.0, both_false _ _ o k.1);
     aside = λ p is. elim (either _ _ is) [ inl same ↦ inl (same_path-true p part same) | inr before ↦ inr (known.aside p before) ];
+    left = λ p is there. elim (either _ _ is) [
+      | inl same ↦ absurd (false≢true (sym (ap is_some (ap (find (current log)) (same_path-true p part same) ∙ free)) ∙ there))
+      | inr before ↦ known.left p before there
+    ];
     was_there = λ p i out is. let t = known.was_there p i (neither _ _ out).1 is in (t.0, both_false _ _ (older i n t.0) t.1);
     was_shown = λ p out. known.was_shown p (neither _ _ out).1;
     shows = known.shows;
@@ -220,6 +224,8 @@ module _ (told : Said) (dirty dirty_after : List Route) (marks : Marks) (log : C
     no_mode = λ p i at there. mode_of i (elim there [ inl before ↦ inl (sym (ap (find (current log)) (either_is p at)) ∙ before) | inr then ↦ inr (sym (ap (find (current now)) (either_is p at)) ∙ then) ]);
     touched = λ p at. or_right _ _ (subst (λ q. same_path q part ≡ true) (sym (either_is p at)) (same_path-self part));
     named = marked.aside;
+    left = λ p at is there. inl (ap (λ q. Some q) (sym (either_is p at)));
+    lefts = λ p among. among;
     off = λ p first second. (off_part p first, refl, refl, λ is. some_none_route p (sym m.none ∙ is));
     shown = λ p at other. absurd (other (ap (λ q. Some q) (sym (either_is p at))));
     was = λ p at out. absurd (both_ways _ out (subst (λ q. (same_path q part || marks.aside q) ≡ true) (sym (either_is p at)) (or_left _ _ (same_path-self part))));

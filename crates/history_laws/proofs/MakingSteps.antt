@@ -18,7 +18,7 @@ use Rattle.crash_law.specs.Guarded.{Marks}
 use Rattle.job_reports.specs.declared.report.Ending.{Ending}
 use Rattle.job_reports.specs.declared.report.Ending.TheVariants.{Finished, Aborted, Killed, NoMemory}
 use Rattle.job_reports.specs.declared.report.Did.{Did}
-use Rattle.job_reports.specs.declared.report.Did.TheVariants.{Began, Chunk, Placed, Removed, Made, Set, Kept, Skipped, Cleaned, Barrier, Troubled, Ended}
+use Rattle.job_reports.specs.declared.report.Did.TheVariants.{Began, Chunk, Placed, Removed, Made, Set, Kept, Skipped, Cleaned, Barrier, Asked, Troubled, Ended}
 use Rattle.job_reports.specs.Jobs.{folder_changed, new_folder_mode}
 use Rattle.job_reports.specs.Paths.{folder_of, without}
 use Rattle.job_reports.specs.Stops.{sync_answer}
@@ -128,6 +128,7 @@ module _ (told : Said) (dirty dirty_after : List Route) (marks : Marks) (log now
     holds = passes.holds;
     free = passes.none;
     was = untouched.was;
+    left = λ p aside. (other p aside, λ among. among);
     named = λ p aside. still_listed made_path p told.named (kept.known.aside p aside) (other p aside);
     off = λ p off. (put_off told.tree made_path (Some (made_by (Some (item_in work)) made_path told.tree)) p off, put_off told.earlier made_path (told.tree made_path).value p off);
     shown = put_at told.tree made_path (Some (made_by (Some (item_in work)) made_path told.tree)) ∙ ap (λ (s : Spot). (let t : Spot = record { value = Some (made_by (Some (item_in work)) made_path told.tree); is_mount = s.is_mount } in t)) nothing_told
@@ -207,6 +208,7 @@ module _ (told : Said) (dirty dirty_after : List Route) (marks : Marks) (log now
   making_tells w new (Placed path) knows tells done settled leaves = absurd tells
   making_tells w new (Removed path) knows tells done settled leaves = absurd tells
   making_tells w new (Kept kept) knows tells done settled leaves = absurd tells
+  making_tells w new (Asked question) knows tells done settled leaves = absurd tells
   making_tells w new (Skipped path cause) knows tells done settled leaves = absurd tells
   making_tells w new (Cleaned part) knows tells done settled leaves = absurd tells
 
@@ -225,6 +227,7 @@ module _ (told : Said) (dirty dirty_after : List Route) (marks : Marks) (log now
   making_winds w new ending (Removed path) left knows tells answer calls leaves = absurd tells
   making_winds w new ending (Made path) left knows tells answer calls leaves = absurd tells
   making_winds w new ending (Kept kept) left knows tells answer calls leaves = absurd tells
+  making_winds w new ending (Asked question) left knows tells answer calls leaves = absurd tells
   making_winds w new ending (Skipped path cause) left knows tells answer calls leaves = absurd tells
   making_winds w new ending (Cleaned part) left knows tells answer calls leaves = absurd tells
   making_winds w new ending (Troubled trouble) left knows tells answer calls leaves = absurd tells

@@ -65,6 +65,7 @@ module _ (told : Said) (dirty : List Route) (marks : Marks) (log : CallLog) (kno
     calm = known.calm;
     folders = λ i is. let k = known.folders i is in (low _ _ k.0, low _ _ k.1);
     aside = known.aside;
+    left = known.left;
     was_there = λ p i out is. let t = known.was_there p i out is in (t.0, low _ _ t.1);
     was_shown = known.was_shown;
     shows = known.shows;
@@ -83,6 +84,7 @@ pub record MakesThing (told after : Said) (marks : Marks) (log : CallLog) (name 
   pub free : lookup (current log).names f name ≡ None
   pub was : marks.was (name ∷ up) ≡ None
   pub named : (p : Route) → marks.aside p ≡ true → Among after.named p
+  pub left : (p : Route) → marks.aside p ≡ true → (same_path p (name ∷ up) ≡ false) × (Among told.left p → Among after.left p)
   pub off : (p : Route) → same_path p (name ∷ up) ≡ false → (after.tree p ≡ told.tree p) × (after.earlier p ≡ told.earlier p)
   pub shown : after.tree (name ∷ up) ≡ record { value = Some (value made); is_mount = false }
   pub earlier : (after.earlier (name ∷ up)).value ≡ None
@@ -364,6 +366,12 @@ module _ (told after : Said) (dirty dirty_after : List Route) (marks : Marks) (l
     calm = λ p there. elim (m.calm p there) [ inl before ↦ calm_was p (known.calm p before) | inr calm ↦ calm_was p calm ];
     folders = folder_marks;
     aside = m.named;
+    left = λ p is there.
+        let l = m.left p is in
+        elim (known.left p is (sym (ap is_some (off_path p l.0)) ∙ there)) [
+          | inl part ↦ absurd (let x : (let o : Option Route = None in o) ≡ Some p = sym m.none ∙ part in let f : ⊥ = cc in f)
+          | inr among ↦ inr (l.1 among)
+        ];
     was_there = λ p i out is. let t = known.was_there p i out is in let n = naming.count in let l = t.0 in (omega (arith, n, l), t.1);
     was_shown = was_shown;
     shows = shows;

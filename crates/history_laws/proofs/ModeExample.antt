@@ -15,6 +15,7 @@ use Rattle.session_history.specs.declared.history.Entry.{Entry}
 use Rattle.mode_setting.specs.declared.setting.Stage.{Stage}
 use Rattle.mode_setting.specs.declared.setting.Stage.TheVariants.{Give, Sync, Done}
 use Rattle.mode_setting.specs.Settings.{setting}
+use Rattle.job_answers.specs.Decisions.{no_replies}
 use Rattle.copy_move.specs.declared.run.Course.TheVariants.{GoesOn}
 use Rattle.copy_move.specs.declared.work.Work.TheVariants.{SetMode}
 use Rattle.copy_move.specs.Jobs.{Running}
@@ -34,7 +35,7 @@ abbrev pub given : Change
 given = Sets 1 mode
 
 abbrev pub gives : Route → Stage → Running
-gives path stage = record { id = 1; work = SetMode (setting path mode stage); course = GoesOn }
+gives path stage = record { id = 1; work = SetMode (setting path mode stage); course = GoesOn; replies = no_replies }
 
 abbrev job : Stage → Running
 job stage = gives the_file stage

@@ -15,7 +15,7 @@ use Rattle.job_reports.specs.declared.report.Cause.{Cause}
 use Rattle.job_reports.specs.declared.report.Ending.{Ending}
 use Rattle.job_reports.specs.declared.report.Ending.TheVariants.{Finished, Aborted, Killed, NoMemory}
 use Rattle.job_reports.specs.declared.report.Did.{Did}
-use Rattle.job_reports.specs.declared.report.Did.TheVariants.{Began, Chunk, Placed, Removed, Made, Set, Kept, Skipped, Cleaned, Barrier, Troubled, Ended}
+use Rattle.job_reports.specs.declared.report.Did.TheVariants.{Began, Chunk, Placed, Removed, Made, Set, Kept, Skipped, Cleaned, Barrier, Asked, Troubled, Ended}
 use Rattle.job_reports.specs.CallRuns.{AllDone}
 use Rattle.job_reports.specs.Paths.{folder_of, without}
 use Rattle.job_reports.proofs.CallAnswers.{IsDoneCall, one_done, some_log}
@@ -95,6 +95,7 @@ module _ (told : Said) (dirty dirty_after : List Route) (marks : Marks) (log now
     none = none;
     listed = subst (λ xs. Among xs s.path) (sym routes) (joined_holds s.path dirty);
     more = λ q among. subst (λ xs. Among xs q) (sym routes) (joined_more s.path q dirty among);
+    lefts = λ p among. among;
     named = kept.known.aside;
     off = λ p off. (put_off told.tree s.path (option_map (moded_value s.mode) (told.tree s.path).value) p off, put_off told.earlier s.path (told.tree s.path).value p off);
     shown = put_at told.tree s.path (option_map (moded_value s.mode) (told.tree s.path).value)
@@ -175,6 +176,7 @@ module _ (told : Said) (dirty dirty_after : List Route) (marks : Marks) (log now
   setting_tells s new (Removed path) knows tells done settled leaves = absurd tells
   setting_tells s new (Made path) knows tells done settled leaves = absurd tells
   setting_tells s new (Kept kept) knows tells done settled leaves = absurd tells
+  setting_tells s new (Asked question) knows tells done settled leaves = absurd tells
   setting_tells s new (Skipped path cause) knows tells done settled leaves = absurd tells
   setting_tells s new (Cleaned part) knows tells done settled leaves = absurd tells
 
@@ -191,6 +193,7 @@ module _ (told : Said) (dirty dirty_after : List Route) (marks : Marks) (log now
   setting_winds s new ending (Removed path) left knows tells tried calls leaves = absurd tells
   setting_winds s new ending (Made path) left knows tells tried calls leaves = absurd tells
   setting_winds s new ending (Kept kept) left knows tells tried calls leaves = absurd tells
+  setting_winds s new ending (Asked question) left knows tells tried calls leaves = absurd tells
   setting_winds s new ending (Skipped path cause) left knows tells tried calls leaves = absurd tells
   setting_winds s new ending (Cleaned part) left knows tells tried calls leaves = absurd tells
   setting_winds s new ending (Troubled trouble) left knows tells tried calls leaves = absurd tells

@@ -7,7 +7,7 @@ use Rattle.tree_trait.specs.Change.{CallLog, current}
 use Rattle.tree_trait.specs.CrashImages.{Among, all_settled}
 use Rattle.crash_law.specs.Guarded.{Marks}
 use Rattle.job_reports.specs.declared.report.Did.{Did}
-use Rattle.job_reports.specs.declared.report.Did.TheVariants.{Began, Chunk, Placed, Removed, Made, Set, Kept, Skipped, Cleaned, Barrier, Troubled, Ended}
+use Rattle.job_reports.specs.declared.report.Did.TheVariants.{Began, Chunk, Placed, Removed, Made, Set, Kept, Skipped, Cleaned, Barrier, Asked, Troubled, Ended}
 use Rattle.job_reports.specs.declared.report.Ending.TheVariants.{Finished}
 use Rattle.session_history.specs.declared.history.Event.{Event}
 use Rattle.session_history.specs.declared.history.Event.TheVariants.{Key, Look, Sought, Order, Step, Next, Closed}
@@ -54,6 +54,7 @@ unset (Placed target) before path sure unnamed = sure
 unset (Removed gone) before path sure unnamed = sure
 unset (Made folder) before path sure unnamed = sure
 unset (Kept kept) before path sure unnamed = sure
+unset (Asked question) before path sure unnamed = sure
 unset (Skipped file cause) before path sure unnamed = sure
 unset (Cleaned gone) before path sure unnamed = sure
 unset Barrier before path sure unnamed = sure
@@ -73,7 +74,7 @@ module _ (opening : CallLog) (older : List Entry) (was : Stand) (before : CallLo
     said = doubting told before;
     mids = come.mids;
     sure = unsaid_mode (doubting told before) path sure other;
-    after = unsaid_mode (said_after now did work (doubting told before)) path (unset did (node_waits before) path sure unnamed) (λ among. other (named_step did (named_parts older) path unnamed among)) dirty_after come.marks now come.kept;
+    after = unsaid_mode (said_after now did work (doubting told before)) path (unset did (node_waits before) path sure unnamed) (λ among. other (named_step did (Rattle.session_history.specs.Named.left_parts older) (named_parts older) path unnamed among)) dirty_after come.marks now come.kept;
   }
 
   step_still : (dirty_after : List Route) (now : CallLog) (did : Did) (job : Running) (after : Option Running) → was.jobs ≡ job ∷ [] → names did path ≡ false → StepLeads job did after was.dirty dirty_after before now
@@ -114,15 +115,15 @@ module _ (opening : CallLog) (older : List Entry) (was : Stand) (before : CallLo
   event_still Closed after now s unnamed = none_still now s.now_is
 
 -- what an entry doesn't name is a named part only if it was one
-named_before : (what : Event) (parts : List Route) (path : Route) → names_path what path ≡ false → Among (named_after what parts) path → Among parts path
-named_before (Step id did) parts path unnamed among = named_step did parts path unnamed among
-named_before (event.Began id plan background) parts path unnamed among = among
-named_before (Order id order) parts path unnamed among = among
-named_before (Next id plan) parts path unnamed among = among
-named_before (Key key time refusals lost) parts path unnamed among = among
-named_before (Look refusals) parts path unnamed among = among
-named_before Sought parts path unnamed among = among
-named_before Closed parts path unnamed among = among
+named_before : (what : Event) (left parts : List Route) (path : Route) → names_path what path ≡ false → Among (named_after what left parts) path → Among parts path
+named_before (Step id did) left parts path unnamed among = named_step did left parts path unnamed among
+named_before (event.Began id plan background) left parts path unnamed among = among
+named_before (Order id order) left parts path unnamed among = among
+named_before (Next id plan) left parts path unnamed among = among
+named_before (Key key time refusals lost) left parts path unnamed among = among
+named_before (Look refusals) left parts path unnamed among = among
+named_before Sought left parts path unnamed among = among
+named_before Closed left parts path unnamed among = among
 
 modes_stay : (opening now : CallLog) (newest older standing coming : List Entry) (stand : Stand) (calls : ℕ) (path : Route) → IsTree (current opening) → all_settled opening.changes ≡ true → IsTraced opening newest stand now
     → IsMoment newest standing coming calls → IsUnnamedSince older path standing → IsUnnamedSince older path coming → node_waits (log_prefix opening (calls_in older) now) path ≡ false → (Among (named_parts older) path → ⊥)
@@ -130,7 +131,7 @@ modes_stay : (opening now : CallLog) (newest older standing coming : List Entry)
 modes_stay opening now newest older standing coming stand calls path tree settled traced moment since later sure other =
     sure_moment opening tree settled now older path (λ l. node_waits l path) (λ g. Among (named_parts g) path)
     (λ e g was before after mid before_is leads unnamed calm none. event_still opening g was before (traced_reached opening tree settled g was before before_is) path calm none e.what after mid leads unnamed)
-    (λ e g unnamed among. named_before e.what (named_parts g) path unnamed among)
+    (λ e g unnamed among. named_before e.what (Rattle.session_history.specs.Named.left_parts g) (named_parts g) path unnamed among)
     sure other newest standing coming stand calls now [] traced (ap (log_of now) (sym (append-nil now.changes))) moment since later
 
 pub stays_law : StaysLaw

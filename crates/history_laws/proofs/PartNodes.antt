@@ -1,6 +1,6 @@
 -- The node of a part, as it is written and given its mode, and what is known of the part meanwhile.
 use Rattle.std.proofs.Common.{◌≡◌, ℕ, ℤ, ◌<◌, zero, suc, false, List, [], ◌∷◌, length, refl, sym, ◌∙◌, ap, Some, None, arith}
-use Rattle.std.specs.Prelude.{unwrap_or, slice_get, slice_set, ◌==◌}
+use Rattle.std.specs.Prelude.{is_some, unwrap_or, slice_get, slice_set, ◌==◌}
 use Rattle.std.proofs.lemmas.Bool.{false_from_ne_true, eqb-true}
 use Rattle.mc_text.specs.Routes.{Route}
 use Rattle.tree_trait.specs.declared.file_system.Node.{Node}
@@ -13,7 +13,8 @@ use Rattle.crash_law.specs.Guarded.{Marks}
 use Rattle.crash_law.proofs.Guarding.{same_quiet, found_at}
 use Rattle.crash_law.proofs.Leading.{current_more}
 use Rattle.history_laws.proofs.Knowing.{Said, IsKnown}
-use Rattle.history_laws.proofs.JobKnows.{HasPart}
+use Rattle.history_laws.proofs.JobKnows.{HasPart, IsBare}
+use Rattle.history_laws.proofs.Quiet.{kind_same}
 
 set_here : (xs : List Node) (i : ℕ) (n : Node) → i < length xs → unwrap_or (slice_get (slice_set xs i n) i) no_node ≡ n
 set_here [] i n there = absurd (omega (arith, there))
@@ -48,5 +49,10 @@ module _ (told : Said) (dirty : List Route) (marks : Marks) (log : CallLog) (kno
     name = has.name;
     beside = has.beside;
     apart = has.apart;
-    untouched = let u = has.untouched in record { out = u.out; free = same_quiet log c none target ∙ u.free; was = u.was };
+    found = let u = has.found in record { bare = still_bare u.bare; was = λ out. u.was out ∙ sym (same_quiet log c none target); stood = λ is. ap is_some (same_quiet log c none target) ∙ u.stood is };
   }
+    where
+      still_bare : IsBare (current log) target → IsBare (current (with_change log c)) target
+      still_bare bare j at =
+          let before = sym (same_quiet log c none target) ∙ at in
+          kind_same log c j (known.guarded.there target j (found_at log target (Some j) before)) ∙ bare j before

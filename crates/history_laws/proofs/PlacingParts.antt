@@ -52,6 +52,7 @@ firm_known told dirty marks log i clean no_mode known = record {
   calm = known.calm;
   folders = λ j is. let k = known.folders j is in (k.0, still _ _ k.1);
   aside = known.aside;
+  left = known.left;
   was_there = λ p j out is. let t = known.was_there p j out is in (t.0, still _ _ t.1);
   was_shown = known.was_shown;
   shows = known.shows;
@@ -71,14 +72,17 @@ pub record PlacesPart (told after : Said) (marks : Marks) (log : CallLog) (part 
   pub moves : marks.roams i ≡ true
   pub firm : marks.loose i ≡ false
   pub file : is_folder (node (current log) i) ≡ false
-  pub out : marks.aside (target ∷ up) ≡ false
-  pub free : find (current log) (target ∷ up) ≡ None
-  pub was : marks.was (target ∷ up) ≡ None
+  -- what stands there, if anything does, is what stood there, and no folder, and no mode of it waits
+  pub bare : (j : ℕ) → find (current log) (target ∷ up) ≡ Some j → is_folder (node (current log) j) ≡ false
+  pub was : marks.aside (target ∷ up) ≡ false → marks.was (target ∷ up) ≡ find (current log) (target ∷ up)
+  pub calm_there : (j : ℕ) → find (current log) (target ∷ up) ≡ Some j → marks.modes j ≡ None
   pub no_mount : starts_mount (current log) i ≡ false
   pub named : (p : Route) → marks.aside p ≡ true → Among after.named p
+  pub left : marks.aside (target ∷ up) ≡ true → Among after.left (target ∷ up)
+  pub lefts : (p : Route) → Among told.left p → Among after.left p
   pub off : (p : Route) → same_path p (target ∷ up) ≡ false → (after.tree p ≡ told.tree p) × (after.earlier p ≡ told.earlier p)
   pub placed : after.tree (target ∷ up) ≡ record { value = Some (value (node (current log) i)); is_mount = false }
-  pub earlier : (after.earlier (target ∷ up)).value ≡ None
+  pub earlier : (after.earlier (target ∷ up)).value ≡ held (current log) (find (current log) (target ∷ up))
   pub none : after.part ≡ None
   pub doubts : (p : Route) → told.doubt p ≡ true → after.doubt p ≡ true
   pub folders : (p : Route) → after.folders p ≡ true → told.folders p ≡ true
@@ -98,8 +102,17 @@ module _ (told after : Said) (dirty dirty_after : List Route) (marks : Marks) (l
   part_name : lookup (current log).names f part ≡ Some i
   part_name = sym (ap (option_and_then (λ g. lookup (current log).names g part)) h.at) ∙ h.leads
 
-  target_name : lookup (current log).names f target ≡ None
-  target_name = sym (ap (option_and_then (λ g. lookup (current log).names g target)) h.at) ∙ h.free
+  at_target : (j : ℕ) → lookup (current log).names f target ≡ Some j → find (current log) (target ∷ up) ≡ Some j
+  at_target j leads = ap (option_and_then (λ g. lookup (current log).names g target)) h.at ∙ leads
+
+  -- nothing stands below it
+  none_under : (more : List ℕ) (rest : Route) (o : Option ℕ) → find (current log) (target ∷ up) ≡ o → find (current log) (more ∷ rest ++ target ∷ up) ≡ None
+  none_under more rest None free = none_below log (more ∷ rest) (target ∷ up) free
+  none_under more rest (Some j) at = none_below_file (current log) known.guarded.tree (target ∷ up) j at (h.bare j at) more rest
+
+  unworked : (rest : Route) → marks.aside (rest ++ target ∷ up) ≡ false → (find (current log) (rest ++ target ∷ up) ≡ marks.was (rest ++ target ∷ up)) ⊎ (find (current log) (rest ++ target ∷ up) ≡ None)
+  unworked [] out = inl (sym (h.was out))
+  unworked (more ∷ rest) out = inr (none_under more rest (find (current log) (target ∷ up)) refl)
 
   other : same_name f target f part ≡ false
   other = false_from_ne_true _ (λ e. h.apart (sym (same_name-true f f target part e).1))
@@ -114,8 +127,8 @@ module _ (told after : Said) (dirty dirty_after : List Route) (marks : Marks) (l
     moves = h.moves;
     firm = h.firm;
     file = λ m y lead. bare_may log known.guarded.tree known.files i m y h.file lead;
-    found = λ out. h.free ∙ sym h.was;
-    under = λ rest out. inr (none_below log rest (target ∷ up) h.free);
+    found = λ out. sym (h.was out);
+    under = unworked;
   })
 
   no_longer : (rest : Route) (m : List ℕ) → up ≡ rest ++ m ∷ up → ⊥
@@ -161,7 +174,7 @@ module _ (told after : Said) (dirty dirty_after : List Route) (marks : Marks) (l
       below_target [] e = absurd (off_itself p (target ∷ up) e first)
       below_target (more ∷ rest) e =
           ap (find (current now)) e ∙ none_below_file (current now) naming.tree (target ∷ up) i target_at file_now more rest
-          ∙ sym (ap (find (current log)) e ∙ none_below log (more ∷ rest) (target ∷ up) h.free)
+          ∙ sym (ap (find (current log)) e ∙ none_under more rest (find (current log) (target ∷ up)) refl)
 
       below_part : (rest : Route) → p ≡ rest ++ part ∷ up → find (current now) p ≡ find (current log) p
       below_part [] e = absurd (off_itself p (part ∷ up) e second)
@@ -204,7 +217,7 @@ module _ (told after : Said) (dirty dirty_after : List Route) (marks : Marks) (l
       | inr e ↦ sym (same_name-true f g part m e).0
     ];
     files = λ m j s lead. elim (name_is m s) [
-      | inl e ↦ some_none j (sym lead ∙ (ap (lookup (current log).names f) (sym e) ∙ target_name))
+      | inl e ↦ h.bare j (at_target j (ap (lookup (current log).names f) e ∙ lead))
       | inr e ↦ subst (λ k. is_folder (node (current log) k) ≡ false) (sym (some_is i j (sym part_name ∙ (ap (lookup (current log).names f) e ∙ lead)))) h.file
     ];
     files_now = λ m j s lead. elim (name_is m s) [
@@ -222,30 +235,40 @@ module _ (told after : Said) (dirty dirty_after : List Route) (marks : Marks) (l
     folders = λ p there. inl (h.folders p there);
     modes = h.modes;
     calm = λ p there. inl (h.calm p there);
-    no_mode = λ p j at there. subst (λ k. marks.modes k ≡ None) (sym (moved_is p j at there)) h.no_mode;
+    no_mode = no_mode;
     touched = λ p at. elim at [
       | inl e ↦ subst (λ q. after.doubt q ≡ true) (sym e) h.doubted.0
       | inr e ↦ subst (λ q. after.doubt q ≡ true) (sym e) h.doubted.1
     ];
     named = h.named;
+    left = λ p at is there. elim at [
+      | inl e ↦ inr (subst (λ q. Among after.left q) (sym e) (h.left (subst (λ q. marks.aside q ≡ true) e is)))
+      | inr e ↦ absurd (true≢false (sym there ∙ ap is_some (ap (find (current now)) e ∙ part_at)))
+    ];
+    lefts = h.lefts;
     off = λ p first second. let o = h.off p first in (off_both p first second, o.0, o.1, other_part p second);
     shown = λ p at _. elim at [
       | inl e ↦ subst (λ q. visible_tree (current now) q ≡ after.tree q) (sym e) placed_shown
       | inr e ↦ subst (λ q. visible_tree (current now) q ≡ after.tree q) (sym e) part_shown
     ];
     was = λ p at out. elim at [
-      | inl e ↦ inr (ap (held (current log)) (ap marks.was e ∙ h.was) ∙ sym (ap (λ q. (after.earlier q).value) e ∙ h.earlier), λ j is. some_none j (sym is ∙ (ap marks.was e ∙ h.was)))
+      | inl e ↦
+          let stood = h.was (subst (λ q. marks.aside q ≡ false) e out) in
+          inr (ap (held (current log)) (ap marks.was e ∙ stood) ∙ sym (ap (λ q. (after.earlier q).value) e ∙ h.earlier), λ j is. h.calm_there j (sym stood ∙ (sym (ap marks.was e) ∙ is)))
       | inr e ↦ absurd (both_ways _ (subst (λ q. marks.aside q ≡ false) e out) (known.part (part ∷ up) h.part_is).0)
     ];
     part = λ p is. absurd (let e = h.none in let n : (let o : Option Route = None in o) ≡ Some p = sym e ∙ is in cc);
   })
     where
-      -- what stands at the two paths is what moves
-      moved_is : (p : Route) (j : ℕ) → (p ≡ target ∷ up) ⊎ (p ≡ part ∷ up) → (find (current log) p ≡ Some j) ⊎ (find (current now) p ≡ Some j) → j ≡ i
-      moved_is p j (inl e) (inl before) = some_none j (sym before ∙ (ap (find (current log)) e ∙ h.free))
-      moved_is p j (inl e) (inr then) = some_is i j (sym target_at ∙ (ap (find (current now)) (sym e) ∙ then))
-      moved_is p j (inr e) (inl before) = some_is i j (sym h.leads ∙ (ap (find (current log)) (sym e) ∙ before))
-      moved_is p j (inr e) (inr then) = some_none j (sym then ∙ (ap (find (current now)) e ∙ part_at))
+      of_moved : (j : ℕ) → j ≡ i → marks.modes j ≡ None
+      of_moved j is = subst (λ k. marks.modes k ≡ None) (sym is) h.no_mode
+
+      -- no mode waits of what is replaced, nor of what moves
+      no_mode : (p : Route) (j : ℕ) → (p ≡ target ∷ up) ⊎ (p ≡ part ∷ up) → (find (current log) p ≡ Some j) ⊎ (find (current now) p ≡ Some j) → marks.modes j ≡ None
+      no_mode p j (inl e) (inl before) = h.calm_there j (ap (find (current log)) (sym e) ∙ before)
+      no_mode p j (inl e) (inr then) = of_moved j (some_is i j (sym target_at ∙ (ap (find (current now)) (sym e) ∙ then)))
+      no_mode p j (inr e) (inl before) = of_moved j (some_is i j (sym h.leads ∙ (ap (find (current log)) (sym e) ∙ before)))
+      no_mode p j (inr e) (inr then) = some_none j (sym then ∙ (ap (find (current now)) e ∙ part_at))
 
       ap_same : (f == f) ≡ true
       ap_same = eq-eqb f f refl

@@ -1,4 +1,5 @@
 -- A full part is given its mode, synced, and gets the target's name; or one of these calls is refused.
+use Rattle.history_laws.proofs.AmongParts.{if_among_in, if_among_more}
 use Rattle.std.proofs.Common.{◌≡◌, ◌⊎◌, ℕ, ◌<◌, zero, suc, Bool, true, false, List, [], ◌∷◌, ◌++◌, take, refl, sym, ◌∙◌, ap, subst, inl, inr, Option, Some, None, Ok, arith}
 use Rattle.std.specs.Prelude.{◌==◌, unwrap_or, if◌then◌else◌}
 use Rattle.std.specs.Option.{option_map, option_map_or}
@@ -8,7 +9,7 @@ use Rattle.mc_text.specs.Routes.{Route, same_path}
 use Rattle.tree_trait.specs.declared.file_system.Node.{Node}
 use Rattle.tree_trait.specs.declared.file_system.FileSystem.{FileSystem}
 use Rattle.tree_trait.specs.declared.calls.TreeError.{TreeError}
-use Rattle.tree_trait.specs.FileSystem.{Spot, Value, find, node, value}
+use Rattle.tree_trait.specs.FileSystem.{Spot, Value, find, node, starts_mount, value}
 use Rattle.tree_trait.specs.Refusals.{is_folder, folder_kind, walk, after_walk, rename_refusal}
 use Rattle.tree_trait.specs.Calls.{Call, SetMode, SyncFile, Rename}
 use Rattle.tree_trait.specs.Change.{Change, Nothing, Moves, Sets, Syncs, CallLog, current, with_change, change_of, found}
@@ -28,7 +29,7 @@ use Rattle.file_copy.specs.CopyCalls.{part_mode, placing}
 use Rattle.file_copy.specs.Copied.{copied}
 use Rattle.file_copy.specs.Copying.{Copying}
 use Rattle.job_reports.specs.Jobs.{Copies}
-use Rattle.job_reports.specs.Paths.{folder_of}
+use Rattle.job_reports.specs.Paths.{without, folder_of}
 use Rattle.job_reports.proofs.CallAnswers.{IsDoneCall, done_call, some_log}
 use Rattle.file_copy.proofs.FilledParts.{Holds, holds_copy}
 use Rattle.copy_move.specs.declared.work.Work.TheVariants.{Copy}
@@ -37,8 +38,8 @@ use Rattle.history_laws.specs.Replayed.{keeping, mode_placed, moved_from, placed
 use Rattle.history_laws.proofs.Moved.{moved_here}
 use Rattle.history_laws.proofs.Calming.{moded_known, nothing_known, synced_known, refused_is}
 use Rattle.history_laws.proofs.Deleted.{file_no_mount, put_at, put_off}
-use Rattle.history_laws.proofs.Knowing.{Said, IsKnown, IsKept, nowhere, settled_marks}
-use Rattle.history_laws.proofs.JobKnows.{HasPart, IsFilled, IsUntouched, none_of_part, part_settled}
+use Rattle.history_laws.proofs.Knowing.{Said, IsKnown, IsKept, held, settled_marks}
+use Rattle.history_laws.proofs.JobKnows.{HasPart, IsAsFound, IsBare, IsFilled, none_of_part, part_settled}
 use Rattle.history_laws.proofs.PartNodes.{moded_node, part_on, part_there}
 use Rattle.history_laws.proofs.PlacingParts.{PlacesPart, firm_known, marks_firm, placed_known}
 use Rattle.history_laws.proofs.Stepped.{Comes, comes_none, comes_one, comes_then, doubt_by, said_after}
@@ -168,7 +169,7 @@ pub record IsWhole (said : Said) (marks : Marks) (log : CallLog) (target part : 
   pub name : List ℕ
   pub beside : part ≡ name ∷ folder_of target
   pub apart : part ≡ target → ⊥
-  pub untouched : IsUntouched marks (current log) target
+  pub found : IsAsFound marks (current log) target
 
 pub whole_part : (told : Said) (marks : Marks) (log : CallLog) (target part : Route) (i : ℕ) → HasPart told marks (current log) target part i → is_clean i log.changes ≡ true → IsWhole told marks log target part i
 whole_part told marks log target part i has clean = record {
@@ -180,7 +181,7 @@ whole_part told marks log target part i has clean = record {
   name = has.name;
   beside = has.beside;
   apart = has.apart;
-  untouched = has.untouched;
+  found = has.found;
 }
 
 -- what a history says once a part was placed at a path, by a copy of this source to that target
@@ -188,7 +189,8 @@ abbrev pub said_placed : Said → Route → Route → Route → Said
 said_placed told source to target = record {
   tree = placed_by (Some (Copies source to)) target told.tree;
   earlier = keeping (changed_by (Placed target)) told.tree told.earlier;
-  named = named_by (Placed target) told.named;
+  named = named_by (Placed target) told.left told.named;
+  left = told.left;
   part = None;
   doubt = doubt_by (Placed target) told.part told.doubt;
   folders = told.folders;
@@ -197,7 +199,7 @@ said_placed told source to target = record {
 }
 
 -- it is renamed to a path that lies at or below that target, and holds what stands where this comes from
-module _ (told : Said) (dirty : List Route) (source to target : Route) (tname : List ℕ) (target_is : target ≡ tname ∷ folder_of target) (part : Route) (i : ℕ) (listed : Among dirty (folder_of target))
+module _ (told : Said) (dirty : List Route) (source to target : Route) (tname : List ℕ) (target_is : target ≡ tname ∷ folder_of target) (part : Route) (i : ℕ) (listed : Among dirty (folder_of target)) (calm : told.calm (folder_of target) ≡ true)
     (marks : Marks) (mid now : CallLog) (kept : IsKept told dirty marks mid) (whole : IsWhole told marks mid target part i)
     (copy : option_map placed_copy (told.tree (moved_from source to target)).value ≡ Some (value (node (current mid) i))) (done : Performs {A = Unit {0}} mid (Rename part target) (Ok tt) (Some now)) where
   abbrev up : Route
@@ -246,8 +248,8 @@ module _ (told : Said) (dirty : List Route) (source to target : Route) (tname : 
       let l = last_place (current mid) tname up v.0 v.1 in
       (l.folder, l.is_one)
 
-  untouched : IsUntouched marks (current mid) target
-  untouched = whole.untouched
+  as_it_was : IsAsFound marks (current mid) target
+  as_it_was = whole.found
 
   abbrev comes_from : Route
   comes_from = moved_from source to target
@@ -255,8 +257,23 @@ module _ (told : Said) (dirty : List Route) (source to target : Route) (tname : 
   not_part : told.part ≡ Some target → ⊥
   not_part is = whole.apart (let e = sym whole.part_is ∙ is in cc)
 
-  target_seen : told.tree target ≡ nowhere
-  target_seen = sym (kept.known.shows target not_part) ∙ Rattle.history_laws.proofs.Changing.seen_nowhere (current mid) target untouched.free
+  -- what stands there begins no mount
+  no_mount_there : (o : Option ℕ) → find (current mid) target ≡ o → option_map_or (starts_mount (current mid)) (find (current mid) target) false ≡ false
+  no_mount_there None is = ap (λ x. option_map_or (starts_mount (current mid)) x false) is
+  no_mount_there (Some j) is = ap (λ x. option_map_or (starts_mount (current mid)) x false) is ∙ file_no_mount (current mid) kept.known.guarded.tree j (as_it_was.bare j is)
+
+  abbrev stood : Spot
+  stood = record { value = held (current mid) (find (current mid) target); is_mount = false }
+
+  target_seen : told.tree target ≡ stood
+  target_seen = sym (kept.known.shows target not_part) ∙ ap (λ b. (let s : Spot = record { value = held (current mid) (find (current mid) target); is_mount = b } in s)) (no_mount_there (find (current mid) target) refl)
+
+  -- nor does a mode of it wait
+  calm_there : (j : ℕ) → find (current mid) target ≡ Some j → marks.modes j ≡ None
+  calm_there j at = elim (kept.known.calm up calm tname j (ap (find (current mid)) (sym target_is) ∙ at)) [
+    | inl none ↦ none
+    | inr begins ↦ absurd (both_ways _ (file_no_mount (current mid) kept.known.guarded.tree j (as_it_was.bare j at)) begins)
+  ]
 
   bare : is_folder (node (current mid) i) ≡ false
   bare = whole.bare
@@ -265,9 +282,16 @@ module _ (told : Said) (dirty : List Route) (source to target : Route) (tname : 
   loose_no_more true = ap Rattle.std.specs.Prelude.not (eq-eqb i i refl)
   loose_no_more false = refl
 
+  -- a part that stands there an ended job left
+  was_left : marks.aside target ≡ true → Among told.left target
+  was_left is = elim (kept.known.left target is (as_it_was.stood is)) [ inl part ↦ absurd (not_part part) | inr among ↦ among ]
+
   named : (p : Route) → marks.aside p ≡ true → Among after.named p
-  named p is = Rattle.history_laws.proofs.Calming.still_listed target p told.named (kept.known.aside p is)
-      (false_from_ne_true _ (λ same. both_ways _ (subst (λ q. marks.aside q ≡ false) (sym (same_path-true p target same)) untouched.out) is))
+  named p is = by (same_path p target) refl
+    where
+      by : (b : Bool) → same_path p target ≡ b → Among after.named p
+      by true same = subst (λ q. Among after.named q) (sym (same_path-true p target same)) (if_among_in target told.left (without target told.named) (was_left (subst (λ q. marks.aside q ≡ true) (same_path-true p target same) is)))
+      by false off = if_among_more target p told.left (without target told.named) (Rattle.history_laws.proofs.Calming.still_listed target p told.named (kept.known.aside p is) off)
 
   at_name : (P : Route → Type 0) → P target → P (tname ∷ up)
   at_name P h = subst P target_is h
@@ -282,11 +306,13 @@ module _ (told : Said) (dirty : List Route) (source to target : Route) (tname : 
     moves = whole.moves;
     firm = loose_no_more (marks.loose i);
     file = bare;
-    out = subst (λ q. marks.aside q ≡ false) target_is untouched.out;
-    free = subst (λ q. find (current mid) q ≡ None) target_is untouched.free;
-    was = subst (λ q. marks.was q ≡ None) target_is untouched.was;
+    bare = subst (λ q. IsBare (current mid) q) target_is as_it_was.bare;
+    was = subst (λ q. marks.aside q ≡ false → marks.was q ≡ find (current mid) q) target_is as_it_was.was;
+    calm_there = subst (λ q. (j : ℕ) → find (current mid) q ≡ Some j → marks.modes j ≡ None) target_is calm_there;
     no_mount = file_no_mount (current mid) kept.known.guarded.tree i bare;
     named = named;
+    left = λ is. subst (λ q. Among told.left q) target_is (was_left (subst (λ q. marks.aside q ≡ true) (sym target_is) is));
+    lefts = λ p among. among;
     off = λ p off.
         let o = subst (λ q. same_path p q ≡ false) (sym target_is) off in
         (put_off told.tree target (option_map placed_copy (told.tree comes_from).value) p o, put_off told.earlier target (told.tree target).value p o);
@@ -294,7 +320,7 @@ module _ (told : Said) (dirty : List Route) (source to target : Route) (tname : 
         (put_at told.tree target (option_map placed_copy (told.tree comes_from).value)
         ∙ (ap (λ (s : Spot). (let t : Spot = record s { value = option_map placed_copy (told.tree comes_from).value } in t)) target_seen
         ∙ ap (λ v. (let t : Spot = record { value = v; is_mount = false } in t)) copy));
-    earlier = subst (λ q. (after.earlier q).value ≡ None) target_is
+    earlier = subst (λ q. (after.earlier q).value ≡ held (current mid) (find (current mid) q)) target_is
         (ap (λ (s : Spot). s.value) (put_at told.earlier target (told.tree target).value) ∙ ap (λ (s : Spot). s.value) target_seen);
     none = refl;
     doubts = λ p h. or_left _ _ (or_left _ _ h);
@@ -315,7 +341,7 @@ module _ (told : Said) (dirty : List Route) (source to target : Route) (tname : 
       (placed_known told after dirty dirty (marks_firm marks i) mid (firm_known told dirty marks mid i whole.clean (kept.modes i whole.clean) kept.known) whole.name tname up f i r places listed (λ q among. among)))
       refl
 
-module _ (told : Said) (dirty : List Route) (c : Copying) (tname : List ℕ) (target_is : c.target ≡ tname ∷ folder_of c.target) (part : Route) (i : ℕ) (listed : Among dirty (folder_of c.target)) where
+module _ (told : Said) (dirty : List Route) (c : Copying) (tname : List ℕ) (target_is : c.target ≡ tname ∷ folder_of c.target) (part : Route) (i : ℕ) (listed : Among dirty (folder_of c.target)) (calm : told.calm (folder_of c.target) ≡ true) where
   abbrev said_then : CallLog → Said
   said_then now = said_after now (Placed c.target) (Copy c) told
 
@@ -326,7 +352,7 @@ module _ (told : Said) (dirty : List Route) (c : Copying) (tname : List ℕ) (ta
   renamed : (marks : Marks) (mid now : CallLog) → IsKept told dirty marks mid → HasPart told marks (current mid) c.target part i → IsFirm told dirty c.target part i marks mid
       → option_map placed_copy (told.tree c.source).value ≡ Some (value (node (current mid) i)) → Performs {A = Unit {0}} mid (Rename part c.target) (Ok tt) (Some now) → Placing mid now
   renamed marks mid now kept has clean copy done =
-      whole_placed told dirty c.source c.target c.target tname target_is part i listed marks mid now kept (whole_part told marks mid c.target part i has clean)
+      whole_placed told dirty c.source c.target c.target tname target_is part i listed calm marks mid now kept (whole_part told marks mid c.target part i has clean)
       (ap (λ q. option_map placed_copy (told.tree q).value) (moved_here c.source c.target) ∙ copy) done
 
   -- the sync and the renaming were done

@@ -5,7 +5,7 @@ use Rattle.std.proofs.lemmas.List.{take-append-le}
 use Rattle.std.specs.Option.{option_map_or}
 use Rattle.mc_text.specs.Routes.{Route, same_path}
 use Rattle.job_reports.specs.declared.report.Did.{Did}
-use Rattle.job_reports.specs.declared.report.Did.TheVariants.{Began, Chunk, Placed, Removed, Made, Set, Kept, Skipped, Cleaned, Barrier, Troubled, Ended}
+use Rattle.job_reports.specs.declared.report.Did.TheVariants.{Began, Chunk, Placed, Removed, Made, Set, Kept, Skipped, Cleaned, Barrier, Asked, Troubled, Ended}
 use Rattle.job_reports.specs.Jobs.{Item, folder_changed}
 use Rattle.tree_trait.specs.FileSystem.{View}
 use Rattle.tree_trait.specs.Change.{Change, CallLog, current}
@@ -15,7 +15,7 @@ use Rattle.session_history.specs.declared.history.Event.TheVariants as event
 use Rattle.session_history.specs.declared.history.Entry.{Entry}
 use Rattle.session_history.specs.LiveJobs.{LiveJob, live_item, live_jobs}
 use Rattle.history_laws.specs.Replayed.{earlier_event, earlier_tree, log_prefix, replayed_event, replayed_tree}
-use Rattle.session_history.specs.Named.{IsUnnamedSince, named_after, named_parts, names, names_path}
+use Rattle.session_history.specs.Named.{left_parts, left_after, IsUnnamedSince, named_after, named_parts, names, names_path}
 use Rattle.history_laws.proofs.Knowing.{Said, anywhere}
 use Rattle.history_laws.proofs.Resting.{folder_at}
 use Rattle.history_laws.proofs.Stepped.{calm_by, folders_by, more}
@@ -59,6 +59,7 @@ told_of opening end g part = record {
   tree = replayed_tree opening end g;
   earlier = earlier_tree opening end g;
   named = named_parts g;
+  left = left_parts g;
   part = part;
   doubt = anywhere;
   folders = folders_told opening g;
@@ -71,7 +72,8 @@ abbrev pub told_with : CallLog → CallLog → List Entry → ℕ → Event → 
 told_with opening end older calls what part = record {
   tree = replayed_event (log_prefix opening calls end) what (live_jobs older) (replayed_tree opening end older);
   earlier = earlier_event what (replayed_tree opening end older) (earlier_tree opening end older);
-  named = named_after what (named_parts older);
+  named = named_after what (left_parts older) (named_parts older);
+  left = left_after what (left_parts older);
   part = part;
   doubt = anywhere;
   folders = folders_event what (live_jobs older) (folders_told opening older);
@@ -103,14 +105,14 @@ earlier_more opening now cs (e ∷ older) (few, w) =
     ap (λ v. earlier_event e.what v (earlier_tree opening (more now cs) older)) (replayed_more opening now cs older w)
     ∙ ap (earlier_event e.what (replayed_tree opening now older)) (earlier_more opening now cs older w)
 
-abbrev pub said_by : (Route → Bool) → (Route → Bool) → View → View → List Route → Option Route → Said
-said_by folders calm tree earlier named part =
-    record { tree = tree; earlier = earlier; named = named; part = part; doubt = anywhere; folders = folders; modes = anywhere; calm = calm }
+abbrev pub said_by : (Route → Bool) → (Route → Bool) → View → View → List Route → List Route → Option Route → Said
+said_by folders calm tree earlier named left part =
+    record { tree = tree; earlier = earlier; named = named; left = left; part = part; doubt = anywhere; folders = folders; modes = anywhere; calm = calm }
 
 pub told_more : (opening now : CallLog) (cs : List Change) (g : List Entry) (part : Option Route) → AreWithin opening g now → told_of opening (more now cs) g part ≡ told_of opening now g part
 told_more opening now cs g part w =
-    ap (λ v. said_by (folders_told opening g) (calm_told g) v (earlier_tree opening (more now cs) g) (named_parts g) part) (replayed_more opening now cs g w)
-    ∙ ap (λ v. said_by (folders_told opening g) (calm_told g) (replayed_tree opening now g) v (named_parts g) part) (earlier_more opening now cs g w)
+    ap (λ v. said_by (folders_told opening g) (calm_told g) v (earlier_tree opening (more now cs) g) (named_parts g) (left_parts g) part) (replayed_more opening now cs g w)
+    ∙ ap (λ v. said_by (folders_told opening g) (calm_told g) (replayed_tree opening now g) v (named_parts g) (left_parts g) part) (earlier_more opening now cs g w)
 
 -- a folder that is known to be on the disk stays known until a report names it
 known_by : (did : Did) (folder : Route) (before : Route → Bool) (p : Route) → names did p ≡ false → before p ≡ true → folders_by did folder before p ≡ true
@@ -121,6 +123,7 @@ known_by (Chunk count) folder before p unnamed h = h
 known_by (Set path) folder before p unnamed h = or_right _ _ h
 known_by (Placed path) folder before p unnamed h = h
 known_by (Kept kept) folder before p unnamed h = h
+known_by (Asked question) folder before p unnamed h = h
 known_by (Skipped path cause) folder before p unnamed h = h
 known_by (Cleaned part) folder before p unnamed h = h
 known_by Barrier folder before p unnamed h = h

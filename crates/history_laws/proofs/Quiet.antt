@@ -208,6 +208,7 @@ module _ (said : Said) (dirty : List Route) (marks : Marks) (log : CallLog) (c :
     calm = λ p there name i at. elim (known.calm p there name i (sym (same_quiet log c quiet_of.names (name ∷ p)) ∙ at)) [ inl none ↦ inl none | inr begins ↦ inr (starts_same log c i ∙ begins) ];
     folders = λ i folder. known.folders i (was_folder said dirty marks log c known nameless i folder);
     aside = known.aside;
+    left = λ p is there. known.left p is (sym (ap is_some (same_quiet log c quiet_of.names p)) ∙ there);
     was_there = λ p i out is. let t = known.was_there p i out is in (subst (λ n. i < n) (sym quiet_of.count) t.0, t.1);
     was_shown = λ p out. elim (known.was_shown p out) [
       | inl same ↦ inl (same ∙ sym (same_quiet log c quiet_of.names p))

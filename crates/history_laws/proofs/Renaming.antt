@@ -45,6 +45,9 @@ pub record IsFileNaming (said after : Said) (dirty dirty_after : List Route) (ma
   pub no_mode : (p : Route) (i : ℕ) → (p ≡ first) ⊎ (p ≡ second) → (find (current log) p ≡ Some i) ⊎ (find (current (with_change log c)) p ≡ Some i) → marks.modes i ≡ None
   pub touched : (p : Route) → (p ≡ first) ⊎ (p ≡ second) → after.doubt p ≡ true
   pub named : (p : Route) → marks.aside p ≡ true → Among after.named p
+  -- a part that stands is the live job's then, or an ended one left it
+  pub left : (p : Route) → (p ≡ first) ⊎ (p ≡ second) → marks.aside p ≡ true → is_some (find (current (with_change log c)) p) ≡ true → (after.part ≡ Some p) ⊎ Among after.left p
+  pub lefts : (p : Route) → Among said.left p → Among after.left p
   -- elsewhere all is as it was
   pub off : (p : Route) → same_path p first ≡ false → same_path p second ≡ false
       → (find (current (with_change log c)) p ≡ find (current log) p) × (after.tree p ≡ said.tree p) × (after.earlier p ≡ said.earlier p) × (said.part ≡ Some p → ⊥)
@@ -254,6 +257,14 @@ module _ (said after : Said) (dirty dirty_after : List Route) (marks : Marks) (l
       by None is = absurd (false≢true (in_now None is))
       by (Some g) is = elim (pending_less g name log.changes c (in_now (Some g) is)) [ inl old ↦ waited g is old | inr s ↦ new g is s ]
 
+  left_then : (p : Route) → marks.aside p ≡ true → is_some (find (current now) p) ≡ true → (after.part ≡ Some p) ⊎ Among after.left p
+  left_then p is there = elim (where_is p) [
+    | inl at ↦ n.left p at is there
+    | inr off ↦
+        let o = n.off p off.0 off.1 in
+        elim (known.left p is (sym (ap is_some o.0) ∙ there)) [ inl part ↦ absurd (o.3 part) | inr among ↦ inr (n.lefts p among) ]
+  ]
+
   pub naming_known : IsKnown after dirty_after marks now
   naming_known = record {
     guarded = naming_law marks log c known.guarded naming_of;
@@ -267,6 +278,7 @@ module _ (said after : Said) (dirty dirty_after : List Route) (marks : Marks) (l
     calm = λ p there. elim (n.calm p there) [ inl before ↦ calm_was p (known.calm p before) | inr calm ↦ calm_was p calm ];
     folders = λ i folder. known.folders i (was_folder i folder);
     aside = n.named;
+    left = left_then;
     was_there = λ p i out is. let t = known.was_there p i out is in (let k = naming_of.count in let l = t.0 in omega (arith, k, l), t.1);
     was_shown = was_shown;
     shows = shows;

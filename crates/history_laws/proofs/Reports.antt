@@ -6,7 +6,7 @@ use Rattle.mc_text.specs.Routes.{Route, parent_of}
 use Rattle.tree_trait.specs.Change.{CallLog}
 use Rattle.crash_law.specs.Guarded.{Marks}
 use Rattle.job_reports.specs.declared.report.Did.{Did}
-use Rattle.job_reports.specs.declared.report.Did.TheVariants.{Began, Chunk, Placed, Removed, Made, Set, Kept, Skipped, Cleaned, Barrier, Troubled, Ended}
+use Rattle.job_reports.specs.declared.report.Did.TheVariants.{Began, Chunk, Placed, Removed, Made, Set, Kept, Skipped, Cleaned, Barrier, Asked, Troubled, Ended}
 use Rattle.job_reports.specs.declared.job.Pair.{Pair}
 use Rattle.job_reports.specs.declared.job.Job.{Job}
 use Rattle.job_reports.specs.declared.job.Job.TheVariants as plan
@@ -53,6 +53,7 @@ module _ (told : Said) (dirty : List Route) (marks : Marks) (log : CallLog) (new
   knows_after (Removed path) k = k
   knows_after (Made made) k = k
   knows_after (Kept kept) k = k
+  knows_after (Asked question) k = k
   knows_after (Skipped path why) k = k
   knows_after (Cleaned part) k = k
   knows_after Barrier k = k
@@ -80,6 +81,7 @@ module _ (id : ℕ) (item : Item) (part : Option Route) (new : Running) (same : 
   live_after (Removed path) = stays part _ (kept_if (id == id) _ _ (same_id id))
   live_after (Made made) = stays part _ (kept_if (id == id) _ _ (same_id id))
   live_after (Kept kept) = stays part _ (kept_if (id == id) _ _ (same_id id))
+  live_after (Asked question) = stays part _ (kept_if (id == id) _ _ (same_id id))
   live_after (Skipped path why) = stays part _ (kept_if (id == id) _ _ (same_id id))
   live_after (Cleaned p) = stays None _ (kept_if (id == id) _ _ (same_id id))
   live_after Barrier = stays part _ (kept_if (id == id) _ _ (same_id id))

@@ -28,6 +28,7 @@ module _ (told : Said) (folders calm : Route → Bool) where
           calm = quiet;
           folders = k.folders;
           aside = k.aside;
+          left = k.left;
           was_there = k.was_there;
           was_shown = k.was_shown;
           shows = k.shows;

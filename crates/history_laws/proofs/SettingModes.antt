@@ -1,6 +1,6 @@
 -- A mode is set where nothing of the thing waits: so after a crash it has that mode, or the one before.
 use Rattle.std.proofs.Common.{◌≡◌, ◌⊎◌, ℕ, ◌<◌, Bool, true, false, not, ◌&&◌, ◌||◌, List, [], ◌∷◌, length, refl, sym, ◌∙◌, ap, subst, inl, inr, Option, Some, None, arith, cond}
-use Rattle.std.specs.Prelude.{◌==◌}
+use Rattle.std.specs.Prelude.{is_some, ◌==◌}
 use Rattle.std.specs.Option.{option_map, option_map_or}
 use Rattle.std.proofs.lemmas.Bool.{true≢false, false≢true, both_ways, eqb-true, eq-eqb, false_from_ne_true}
 use Rattle.std.proofs.lemmas.List.{length-set}
@@ -43,6 +43,7 @@ pub record SetsMode (told after : Said) (dirty dirty_after : List Route) (marks 
   pub listed : Among dirty_after path
   pub more : (q : Route) → Among dirty q → Among dirty_after q
   pub named : (p : Route) → marks.aside p ≡ true → Among after.named p
+  pub lefts : (p : Route) → Among told.left p → Among after.left p
   pub off : (p : Route) → same_path p path ≡ false → (after.tree p ≡ told.tree p) × (after.earlier p ≡ told.earlier p)
   pub shown : after.tree path ≡ record (told.tree path) { value = Some (value (with_mode mode (node (current log) i))) }
   pub earlier : (after.earlier path).value ≡ (told.tree path).value
@@ -377,6 +378,10 @@ module _ (told after : Said) (dirty dirty_after : List Route) (marks : Marks) (l
           let k = kept.known.folders j (was_folder told dirty marks log sets kept.known nameless j folder) in
           (ap (λ (f : ℕ → Bool). f j) m.roams ∙ k.0, ap (λ (f : ℕ → Bool). f j) m.loose ∙ k.1);
       aside = λ p is. s.named p (m.aside p is);
+      left = λ p is there. elim (kept.known.left p (m.aside p is) (sym (ap is_some (same_quiet log sets (λ g n. refl) p)) ∙ there)) [
+        | inl part ↦ absurd (let e : (let o : Option Route = None in o) ≡ Some p = sym s.no_part ∙ part in let x : ⊥ = cc in x)
+        | inr among ↦ inr (s.lefts p among)
+      ];
       was_there = was_there_then;
       was_shown = was_shown_then;
       shows = λ p other. shows_then p (same_path p path) refl;

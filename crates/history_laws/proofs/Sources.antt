@@ -11,18 +11,19 @@ use Rattle.job_reports.specs.declared.report.Ending.{Ending}
 use Rattle.job_reports.specs.declared.report.Ending.TheVariants.{Finished, Aborted, Killed, NoMemory}
 use Rattle.job_reports.specs.declared.report.Cause.{Cause}
 use Rattle.job_reports.specs.declared.report.Did.{Did}
-use Rattle.job_reports.specs.declared.report.Did.TheVariants.{Began, Chunk, Placed, Removed, Made, Set, Kept, Skipped, Cleaned, Barrier, Troubled, Ended}
+use Rattle.job_reports.specs.declared.report.Did.TheVariants.{Began, Chunk, Placed, Removed, Made, Set, Kept, Skipped, Cleaned, Barrier, Asked, Troubled, Ended}
 use Rattle.job_reports.specs.Paths.{folder_of}
-use Rattle.file_copy.specs.Copying.{Copying, Tells}
+use Rattle.file_copy.specs.AskedCopies.{AskedTells}
+use Rattle.file_copy.specs.Copying.{Copying}
 use Rattle.file_copy.specs.LastSteps.{Winds}
 use Rattle.job_reports.specs.declared.answer.Answer.{Answer}
-use Rattle.job_reports.specs.declared.answer.Answer.TheVariants.{Retry, Skip, SkipAll, Abort}
+use Rattle.job_reports.specs.declared.answer.Answer.TheVariants.{Yes, No, All, Update, Nothing, SizeDiffers, Retry, Skip, SkipAll, Abort}
 use Rattle.copy_move.specs.declared.new_thing.NewThing.{NewThing}
 use Rattle.copy_move.specs.declared.new_thing.NewThing.TheVariants as thing
 use Rattle.copy_move.specs.declared.work.Work.{Work}
 use Rattle.copy_move.specs.declared.work.Work.TheVariants.{Copy, CopyTree, Delete, Make, SetMode}
 use Rattle.copy_move.specs.declared.run.Course.{Course}
-use Rattle.copy_move.specs.declared.run.Course.TheVariants.{GoesOn, InTrouble, OwedSyncFailed, Skips, Ends}
+use Rattle.copy_move.specs.declared.run.Course.TheVariants.{GoesOn, Asking, InTrouble, OwedSyncFailed, Skips, Ends}
 use Rattle.copy_move.specs.Deletions.{Deleting}
 use Rattle.copy_move.specs.Deletions as deletions
 use Rattle.copy_move.specs.Makings.{Making}
@@ -99,7 +100,7 @@ first_item id (plan.SetMode [] mode) = refl
 first_item id (plan.SetMode (path ∷ []) mode) = first_if (is_some (parent_of path) && nat_le mode 0o7777) (sets path mode)
 first_item id (plan.SetMode (path ∷ more ∷ paths) mode) = refl
 
-copy_paths : (c new : Copying) (did : Did) → Tells c did new → item_in (Copy new) ≡ item_in (Copy c)
+copy_paths : (c new : Copying) (did : Did) → AskedTells c did new → item_in (Copy new) ≡ item_in (Copy c)
 copy_paths c new (Began part) t = ap (λ (x : Copying). item_in (Copy x)) t.1.1
 copy_paths c new (Chunk count) (part, said, done, stage, least, most, fits, new_is) = ap (λ (x : Copying). item_in (Copy x)) new_is
 copy_paths c new (Set path) t = absurd t
@@ -113,7 +114,8 @@ copy_paths c new (Ended Killed part) t = absurd t
 copy_paths c new (Ended NoMemory part) t = absurd t
 copy_paths c new (Removed path) t = absurd t
 copy_paths c new (Made made) t = absurd t
-copy_paths c new (Kept path) t = absurd t
+copy_paths c new (Kept path) (stage, path_is, new_is) = ap (λ (x : Copying). item_in (Copy x)) new_is
+copy_paths c new (Asked question) (stage, new_is) = ap (λ (x : Copying). item_in (Copy x)) new_is
 copy_paths c new (Skipped path why) t = absurd t
 
 deletion_paths : (d new : Deleting) (did : Did) → deletions.Tells d did new → item_in (Delete new) ≡ item_in (Delete d)
@@ -130,6 +132,7 @@ deletion_paths d new (Set path) t = absurd t
 deletion_paths d new (Placed path) t = absurd t
 deletion_paths d new (Made made) t = absurd t
 deletion_paths d new (Kept path) (going, at) = ap Removes at.path_is
+deletion_paths d new (Asked question) t = absurd t
 deletion_paths d new (Skipped path why) (going, passes, at) = ap Removes at.path_is
 deletion_paths d new (Cleaned part) t = absurd t
 
@@ -147,6 +150,7 @@ making_paths m new (Set path) t = absurd t
 making_paths m new (Placed path) t = absurd t
 making_paths m new (Removed made) t = absurd t
 making_paths m new (Kept kept) t = absurd t
+making_paths m new (Asked question) t = absurd t
 making_paths m new (Skipped path why) t = absurd t
 making_paths m new (Cleaned part) t = absurd t
 
@@ -161,6 +165,7 @@ copy_winds ending c new (Placed path) t = absurd t
 copy_winds ending c new (Removed path) t = absurd t
 copy_winds ending c new (Made made) t = absurd t
 copy_winds ending c new (Kept kept) t = absurd t
+copy_winds ending c new (Asked question) t = absurd t
 copy_winds ending c new (Skipped path why) t = absurd t
 copy_winds ending c new (Troubled trouble) t = absurd t
 
@@ -174,6 +179,7 @@ deletion_winds ending d new (Placed path) t = absurd t
 deletion_winds ending d new (Removed path) t = absurd t
 deletion_winds ending d new (Made made) t = absurd t
 deletion_winds ending d new (Kept kept) t = absurd t
+deletion_winds ending d new (Asked question) t = absurd t
 deletion_winds ending d new (Skipped path why) t = absurd t
 deletion_winds ending d new (Cleaned part) t = absurd t
 deletion_winds ending d new (Troubled trouble) t = absurd t
@@ -188,6 +194,7 @@ making_winds ending m new (Placed path) t = absurd t
 making_winds ending m new (Made path) t = absurd t
 making_winds ending m new (Removed made) t = absurd t
 making_winds ending m new (Kept kept) t = absurd t
+making_winds ending m new (Asked question) t = absurd t
 making_winds ending m new (Skipped path why) t = absurd t
 making_winds ending m new (Cleaned part) t = absurd t
 making_winds ending m new (Troubled trouble) t = absurd t
@@ -206,6 +213,7 @@ setting_paths s new (Made path) t = absurd t
 setting_paths s new (Placed path) t = absurd t
 setting_paths s new (Removed made) t = absurd t
 setting_paths s new (Kept kept) t = absurd t
+setting_paths s new (Asked question) t = absurd t
 setting_paths s new (Skipped path why) t = absurd t
 setting_paths s new (Cleaned part) t = absurd t
 
@@ -219,6 +227,7 @@ setting_winds ending s new (Placed path) t = absurd t
 setting_winds ending s new (Made path) t = absurd t
 setting_winds ending s new (Removed made) t = absurd t
 setting_winds ending s new (Kept kept) t = absurd t
+setting_winds ending s new (Asked question) t = absurd t
 setting_winds ending s new (Skipped path why) t = absurd t
 setting_winds ending s new (Cleaned part) t = absurd t
 setting_winds ending s new (Troubled trouble) t = absurd t
@@ -318,6 +327,7 @@ on_same : (old new : Running) (did : Did) (course : Course) → TellsOn course o
 on_same old new did GoesOn (work, tells, new_is) = (ap (λ (x : Running). x.id) new_is, ap (λ (x : Running). item_in x.work) new_is ∙ work_paths old.work work did tells)
 on_same old new did (InTrouble halt) t = absurd t
 on_same old new did (OwedSyncFailed why) t = absurd t
+on_same old new did Asking t = absurd t
 on_same old new did (Skips why) (inl (path, work, did_is, passes, new_is)) = (ap (λ (x : Running). x.id) new_is, ap (λ (x : Running). item_in x.work) new_is ∙ skip_paths old.work work path passes)
 on_same old new did (Skips why) (inr (apart, did_is, new_is)) = (ap (λ (x : Running). x.id) new_is, ap (λ (x : Running). item_in x.work) new_is)
 on_same old new did (Ends ending) (work, winds, new_is) = (ap (λ (x : Running). x.id) new_is, ap (λ (x : Running). item_in x.work) new_is ∙ wind_paths ending old.work work did winds)
@@ -341,6 +351,28 @@ answer_on (OwedSyncFailed why) Retry job = (refl, anew_paths job.work)
 answer_on (OwedSyncFailed why) Skip job = (refl, refl)
 answer_on (OwedSyncFailed why) SkipAll job = (refl, refl)
 answer_on (OwedSyncFailed why) Abort job = (refl, refl)
+answer_on (InTrouble halt) Yes job = (refl, refl)
+answer_on (InTrouble halt) No job = (refl, refl)
+answer_on (InTrouble halt) All job = (refl, refl)
+answer_on (InTrouble halt) Update job = (refl, refl)
+answer_on (InTrouble halt) Nothing job = (refl, refl)
+answer_on (InTrouble halt) SizeDiffers job = (refl, refl)
+answer_on (OwedSyncFailed why) Yes job = (refl, refl)
+answer_on (OwedSyncFailed why) No job = (refl, refl)
+answer_on (OwedSyncFailed why) All job = (refl, refl)
+answer_on (OwedSyncFailed why) Update job = (refl, refl)
+answer_on (OwedSyncFailed why) Nothing job = (refl, refl)
+answer_on (OwedSyncFailed why) SizeDiffers job = (refl, refl)
+answer_on Asking Yes job = (refl, refl)
+answer_on Asking No job = (refl, refl)
+answer_on Asking All job = (refl, refl)
+answer_on Asking Update job = (refl, refl)
+answer_on Asking Nothing job = (refl, refl)
+answer_on Asking SizeDiffers job = (refl, refl)
+answer_on Asking Retry job = (refl, refl)
+answer_on Asking Skip job = (refl, refl)
+answer_on Asking SkipAll job = (refl, refl)
+answer_on Asking Abort job = (refl, refl)
 answer_on GoesOn answer job = (refl, refl)
 answer_on (Skips why) answer job = (refl, refl)
 answer_on (Ends ending) answer job = (refl, refl)

@@ -9,11 +9,11 @@ use Rattle.crash_law.specs.Guarded.{Marks}
 use Rattle.job_reports.specs.Jobs.{Item, folder_changed}
 use Rattle.job_reports.specs.Paths.{folder_of}
 use Rattle.job_reports.specs.declared.report.Did.{Did}
-use Rattle.job_reports.specs.declared.report.Did.TheVariants.{Began, Chunk, Placed, Removed, Made, Set, Kept, Skipped, Cleaned, Barrier, Troubled, Ended}
+use Rattle.job_reports.specs.declared.report.Did.TheVariants.{Began, Chunk, Placed, Removed, Made, Set, Kept, Skipped, Cleaned, Barrier, Asked, Troubled, Ended}
 use Rattle.copy_move.specs.declared.work.Work.{Work}
 use Rattle.history_laws.specs.Replayed.{replayed_step, keeping}
 use Rattle.history_laws.specs.Staying.{may_change}
-use Rattle.session_history.specs.Named.{changed_by, named_by}
+use Rattle.session_history.specs.Named.{left_by, changed_by, named_by}
 use Rattle.history_laws.proofs.Knowing.{Said, IsKnown, IsKept, settled_kept, settled_marks}
 use Rattle.history_laws.proofs.Sources.{item_in}
 
@@ -70,6 +70,7 @@ part_after (Set path) before = before
 part_after (Removed path) before = before
 part_after (Made made) before = before
 part_after (Kept kept) before = before
+part_after (Asked question) before = before
 part_after (Skipped path cause) before = before
 part_after Barrier before = before
 part_after (Troubled trouble) before = before
@@ -84,6 +85,7 @@ doubt_by (Chunk count) part before = before
 doubt_by (Set path) part before = λ p. before p || same_path p path
 doubt_by (Made path) part before = λ p. before p || same_path p path
 doubt_by (Kept kept) part before = before
+doubt_by (Asked question) part before = before
 doubt_by (Skipped path cause) part before = before
 doubt_by Barrier part before = before
 doubt_by (Troubled trouble) part before = before
@@ -99,6 +101,7 @@ folders_by (Cleaned gone) folder before = before
 folders_by (Chunk count) folder before = before
 folders_by (Set path) folder before = λ p. (same_path p folder || same_path p (folder_of path)) || before p
 folders_by (Kept kept) folder before = before
+folders_by (Asked question) folder before = before
 folders_by (Skipped path cause) folder before = before
 folders_by Barrier folder before = before
 folders_by (Troubled trouble) folder before = before
@@ -113,6 +116,7 @@ modes_by (Placed path) before = before
 modes_by (Removed path) before = before
 modes_by (Made path) before = before
 modes_by (Kept kept) before = before
+modes_by (Asked question) before = before
 modes_by (Skipped path cause) before = before
 modes_by (Cleaned gone) before = before
 modes_by Barrier before = before
@@ -129,6 +133,7 @@ calm_by (Placed path) item before = before
 calm_by (Cleaned gone) item before = before
 calm_by (Chunk count) item before = before
 calm_by (Kept kept) item before = before
+calm_by (Asked question) item before = before
 calm_by (Skipped path cause) item before = before
 calm_by Barrier item before = before
 calm_by (Troubled trouble) item before = before
@@ -138,7 +143,8 @@ abbrev pub said_after : CallLog → Did → Work → Said → Said
 said_after now did work told = record {
   tree = replayed_step now did (Some (item_in work)) told.tree;
   earlier = keeping (changed_by did) told.tree told.earlier;
-  named = named_by did told.named;
+  named = named_by did told.left told.named;
+  left = left_by did told.left;
   part = part_after did told.part;
   doubt = doubt_by did told.part told.doubt;
   folders = folders_by did (folder_changed (item_in work)) told.folders;

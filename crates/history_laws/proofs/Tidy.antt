@@ -10,12 +10,14 @@ use Rattle.tree_trait.specs.Change.{CallLog, current, found}
 use Rattle.tree_trait.specs.CrashImages.{Among}
 use Rattle.tree_trait.proofs.Visible.{same_path-self}
 use Rattle.job_reports.specs.declared.report.Did.{Did}
-use Rattle.job_reports.specs.declared.report.Did.TheVariants.{Began, Chunk, Placed, Removed, Made, Set, Kept, Skipped, Cleaned, Barrier, Troubled, Ended}
+use Rattle.job_reports.specs.declared.report.Did.TheVariants.{Began, Chunk, Placed, Removed, Made, Set, Kept, Skipped, Cleaned, Barrier, Asked, Troubled, Ended}
 use Rattle.job_reports.proofs.CallAnswers.{IsDoneCall, one_done}
 use Rattle.file_copy.specs.Copying.{Copying}
 use Rattle.file_copy.specs.Copying as copying
+use Rattle.file_copy.specs.AskedCopies.{AskedTells}
+use Rattle.job_answers.specs.declared.replies.Replies.{Replies}
 use Rattle.copy_move.specs.declared.run.Course.{Course}
-use Rattle.copy_move.specs.declared.run.Course.TheVariants.{GoesOn, InTrouble, OwedSyncFailed, Skips, Ends}
+use Rattle.copy_move.specs.declared.run.Course.TheVariants.{GoesOn, Asking, InTrouble, OwedSyncFailed, Skips, Ends}
 use Rattle.copy_move.specs.declared.work.Work.{Work}
 use Rattle.copy_move.specs.declared.making.MakingStage.{MakingStage}
 use Rattle.copy_move.specs.declared.making.MakingStage.TheVariants as making
@@ -44,7 +46,7 @@ use Rattle.history_laws.proofs.Owing.{changed_or_before}
 use Rattle.history_laws.proofs.Unchanged.{skip_setting}
 
 -- a copy that begins a change is dirty then
-dirty_then : (c new : Copying) (did : Did) → copying.Tells c did new → begins_change did ≡ true → copying.is_dirty new.folder ≡ true
+dirty_then : (c new : Copying) (did : Did) → AskedTells c did new → begins_change did ≡ true → copying.is_dirty new.folder ≡ true
 dirty_then c new (Began part) t h = ap (λ (x : Copying). copying.is_dirty x.folder) t.1.1
 dirty_then c new (Removed path) t h = absurd t
 dirty_then c new (Chunk count) t h = absurd (false≢true h)
@@ -52,6 +54,7 @@ dirty_then c new (Set path) t h = absurd t
 dirty_then c new (Placed path) t h = absurd (false≢true h)
 dirty_then c new (Made made) t h = absurd t
 dirty_then c new (Kept kept) t h = absurd (false≢true h)
+dirty_then c new (Asked question) t h = absurd (false≢true h)
 dirty_then c new (Skipped path why) t h = absurd (false≢true h)
 dirty_then c new (Cleaned part) t h = absurd (false≢true h)
 dirty_then c new Barrier t h = absurd (false≢true h)
@@ -67,6 +70,7 @@ making_dirty m new (Chunk count) t h = absurd (false≢true h)
 making_dirty m new (Set path) t h = absurd t
 making_dirty m new (Placed path) t h = absurd (false≢true h)
 making_dirty m new (Kept kept) t h = absurd (false≢true h)
+making_dirty m new (Asked question) t h = absurd (false≢true h)
 making_dirty m new (Skipped path why) t h = absurd (false≢true h)
 making_dirty m new (Cleaned part) t h = absurd (false≢true h)
 making_dirty m new Barrier t h = absurd (false≢true h)
@@ -82,6 +86,7 @@ setting_dirty s new (Made path) t h = absurd t
 setting_dirty s new (Chunk count) t h = absurd (false≢true h)
 setting_dirty s new (Placed path) t h = absurd (false≢true h)
 setting_dirty s new (Kept kept) t h = absurd (false≢true h)
+setting_dirty s new (Asked question) t h = absurd (false≢true h)
 setting_dirty s new (Skipped path why) t h = absurd (false≢true h)
 setting_dirty s new (Cleaned part) t h = absurd (false≢true h)
 setting_dirty s new Barrier t h = absurd (false≢true h)
@@ -107,6 +112,7 @@ IsGoing (Ends ending) = ⊥
 IsGoing GoesOn = Unit {0}
 IsGoing (InTrouble halt) = Unit {0}
 IsGoing (OwedSyncFailed why) = Unit {0}
+IsGoing Asking = Unit {0}
 IsGoing (Skips why) = Unit {0}
 
 -- the folder around isn't listed
@@ -161,19 +167,20 @@ begins_set s (SetMode new) (Made path) dirty log now t calls owed h = absurd t
 begins_set s (SetMode new) (Chunk count) dirty log now t calls owed h = absurd (false≢true h)
 begins_set s (SetMode new) (Placed path) dirty log now t calls owed h = absurd (false≢true h)
 begins_set s (SetMode new) (Kept kept) dirty log now t calls owed h = absurd (false≢true h)
+begins_set s (SetMode new) (Asked question) dirty log now t calls owed h = absurd (false≢true h)
 begins_set s (SetMode new) (Skipped path why) dirty log now t calls owed h = absurd (false≢true h)
 begins_set s (SetMode new) (Cleaned part) dirty log now t calls owed h = absurd (false≢true h)
 begins_set s (SetMode new) Barrier dirty log now t calls owed h = absurd (false≢true h)
 begins_set s (SetMode new) (Troubled trouble) dirty log now t calls owed h = absurd (false≢true h)
 begins_set s (SetMode new) (Ended ending part) dirty log now t calls owed h = absurd (false≢true h)
 
-begins_apart : (old work new : Work) (did : Did) (dirty : List Route) (log now : CallLog) → WorkTells old did work → WorkCalls IsUnclaimed old did new log (Some now) → (is_fresh old ≡ true → NoneOwed (current log) old dirty)
+begins_apart : (replies : Replies) (old work new : Work) (did : Did) (dirty : List Route) (log now : CallLog) → WorkTells old did work → WorkCalls IsUnclaimed replies old did new log (Some now) → (is_fresh old ≡ true → NoneOwed (current log) old dirty)
     → begins_change did ≡ true → BeginsApart old dirty
-begins_apart (Copy c) work new did dirty log now t calls owed h = tt
-begins_apart (CopyTree c) work new did dirty log now t calls owed h = tt
-begins_apart (Delete d) work new did dirty log now t calls owed h = tt
-begins_apart (Make m) work new did dirty log now t calls owed h = tt
-begins_apart (SetMode s) work new did dirty log now t calls owed h = begins_set s work did dirty log now t calls owed h
+begins_apart replies (Copy c) work new did dirty log now t calls owed h = tt
+begins_apart replies (CopyTree c) work new did dirty log now t calls owed h = tt
+begins_apart replies (Delete d) work new did dirty log now t calls owed h = tt
+begins_apart replies (Make m) work new did dirty log now t calls owed h = tt
+begins_apart replies (SetMode s) work new did dirty log now t calls owed h = begins_set s work did dirty log now t calls owed h
 
 -- it stays so, but for the thing itself
 apart_by : (was now : Bool) (path q : Route) (dirty dirty_after : List Route) → dirty_after ≡ with_change was now path dirty → q ≡ path → IsApartFrom path dirty → IsApartFrom q dirty_after
@@ -196,6 +203,7 @@ going_then (Set path) stage h = refl
 going_then (Chunk count) stage h = absurd (false≢true h)
 going_then (Placed path) stage h = absurd (false≢true h)
 going_then (Kept kept) stage h = absurd (false≢true h)
+going_then (Asked question) stage h = absurd (false≢true h)
 going_then (Skipped path why) stage h = absurd (false≢true h)
 going_then (Cleaned part) stage h = absurd (false≢true h)
 going_then Barrier stage h = absurd (false≢true h)
@@ -299,6 +307,7 @@ module _ (job new : Running) (did : Did) (dirty dirty_after : List Route) (log n
       (λ h. apart work refl tells h))
   tidy_on (InTrouble halt) is t leaves old apart changed going = absurd t
   tidy_on (OwedSyncFailed why) is t leaves old apart changed going = absurd t
+  tidy_on Asking is t leaves old apart changed going = absurd t
   tidy_on (Skips why) is (inl (path, work, did_is, passes, new_is)) leaves old apart changed going =
       subst (λ (x : Running). TidyFolder x.work dirty_after) (sym new_is) (subst (λ xs. TidyFolder work xs) (sym leaves) (tidy_passes job.work work path dirty passes
       (elim (changed_by before (begins_change did) changed) [ inl b ↦ old b (subst IsGoing (sym is) tt) | inr h ↦ absurd (false≢true (sym (ap begins_change did_is) ∙ h)) ])))
@@ -309,4 +318,4 @@ module _ (job new : Running) (did : Did) (dirty dirty_after : List Route) (log n
 
   pub tidy_works : WorkLeads job did new dirty dirty_after log now → IsTidy before dirty job → IsTidy (before || begins_change did) dirty_after new
   tidy_works w old = tidy_on job.course refl w.tells w.leaves old (λ work goes tells h.
-      begins_apart job.work work new.work did dirty log now tells (subst (λ c. CallsOn IsUnclaimed c job did new log (Some now)) goes w.called) (λ fresh. w.settled goes fresh) h)
+      begins_apart job.replies job.work work new.work did dirty log now tells (subst (λ c. CallsOn IsUnclaimed c job did new log (Some now)) goes w.called) (λ fresh. w.settled goes fresh) h)

@@ -36,7 +36,7 @@ use Rattle.tree_copy.specs.declared.item.Item.TheVariants.{Next}
 use Rattle.subtree_copy.specs.Marks.{brings_in, folder_worked, is_dirty_after, is_left_dirty, was_dirty}
 use Rattle.subtree_copy.specs.Standing.{SubtreeCopying}
 use Rattle.copy_move.specs.declared.run.Course.{Course}
-use Rattle.copy_move.specs.declared.run.Course.TheVariants.{GoesOn}
+use Rattle.history_laws.proofs.KnownParts.{may_fill}
 use Rattle.history_laws.proofs.Calming.{cleared_known, nothing_known, refused_is}
 use Rattle.history_laws.proofs.Knowing.{IsKept, IsKnown, Said, settled_marks}
 use Rattle.history_laws.proofs.QuietRuns.{row_done, row_stops}
@@ -192,7 +192,7 @@ left_part told dirty marks s course c n old mid l (item, around) = (
 
 -- nor does what is passed over in the same step, which called nothing more
 pub passed_part : (told : Said) (dirty : List Route) (marks : Marks) (s : FileSystem) (course other : Course) (c : SubtreeCopying) (cause : Cause) (old new : Seen) (did : Did)
-    → ((trouble : Trouble) → did ≡ common.Troubled trouble → other ≡ GoesOn → ⊥) → machine.Skips cause old did new → PartAt told dirty marks s course c old → PartAt told dirty marks s other c new
+    → ((trouble : Trouble) → did ≡ common.Troubled trouble → may_fill other ≡ true → ⊥) → machine.Skips cause old did new → PartAt told dirty marks s course c old → PartAt told dirty marks s other c new
 passed_part told dirty marks s course other c cause old new did off skips (item, around) = (
   skipped_item told dirty marks s course other cause did off old.item old new refl skips item,
   around_at told marks s c old new (λ none. skips_none cause old new did none skips) around,

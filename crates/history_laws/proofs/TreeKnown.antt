@@ -23,7 +23,7 @@ use Rattle.subtree_copy.specs.Standing.{SubtreeCopying, is_own, part_of}
 use Rattle.subtree_copy.specs.Unbegun.{IsUnbegun}
 use Rattle.job_answers.specs.declared.skips.Skips.{Skips as Kinds}
 use Rattle.copy_move.specs.declared.run.Course.{Course}
-use Rattle.copy_move.specs.declared.run.Course.TheVariants.{GoesOn, InTrouble, OwedSyncFailed, Skips, Ends}
+use Rattle.copy_move.specs.declared.run.Course.TheVariants.{GoesOn, Asking, InTrouble, OwedSyncFailed, Skips, Ends}
 use Rattle.history_laws.proofs.AtWork.{ItemKnown}
 use Rattle.history_laws.proofs.Calm.{IsCalm, IsCalmOr, MayWait, PartCalm}
 use Rattle.history_laws.proofs.CalmChanges.{calm_quiet}
@@ -31,7 +31,7 @@ use Rattle.history_laws.proofs.CopyLaws.{CopyKnown}
 use Rattle.history_laws.proofs.DirtyListed.{MarksListed}
 use Rattle.history_laws.proofs.FoldersEnd.{EndsLast}
 use Rattle.history_laws.proofs.FoldersLie.{AreLaid}
-use Rattle.history_laws.proofs.KnownParts.{FileKnows, HasName, IsLeftPart, LinkKnows, StageKnows, file_course, file_said, file_settled, link_knows_settled, link_left, link_said, part_left}
+use Rattle.history_laws.proofs.KnownParts.{may_fill, FileKnows, HasName, IsLeftPart, LinkKnows, StageKnows, file_course, file_said, file_settled, link_knows_settled, link_left, link_said, part_left}
 use Rattle.history_laws.proofs.Knowing.{Said, settled_marks}
 use Rattle.history_laws.proofs.NameChanges.{waits_quiet}
 use Rattle.history_laws.proofs.Names.{IsMarked, IsMarkedIn, WaitsMarked}
@@ -47,6 +47,7 @@ is_over (Ends ending) = true
 is_over GoesOn = false
 is_over (InTrouble why) = false
 is_over (OwedSyncFailed why) = false
+is_over Asking = false
 is_over (Skips why) = false
 
 -- what is known of the part, by what is at work
@@ -165,13 +166,13 @@ module _ (log : CallLog) (marks : Marks) (told : Said) where
   }
 
 -- a job that goes on only where it went on, and isn't over where it wasn't, knows what it knew
-pub item_course : (told : Said) (dirty : List Route) (marks : Marks) (s : FileSystem) (course other : Course) (item : Item) → (other ≡ GoesOn → course ≡ GoesOn) → ItemHas told dirty marks s course item → ItemHas told dirty marks s other item
+pub item_course : (told : Said) (dirty : List Route) (marks : Marks) (s : FileSystem) (course other : Course) (item : Item) → (may_fill other ≡ true → may_fill course ≡ true) → ItemHas told dirty marks s course item → ItemHas told dirty marks s other item
 item_course told dirty marks s course other Next on none = none
 item_course told dirty marks s course other (File f) on k = file_course told dirty marks s course other f on k
 item_course told dirty marks s course other (Link l) on k = k
 item_course told dirty marks s course other (Stays part) on k = k
 
-pub tree_course : (told : Said) (dirty : List Route) (marks : Marks) (log : CallLog) (course other : Course) (c : SubtreeCopying) → (other ≡ GoesOn → course ≡ GoesOn) → (is_over other ≡ false → is_over course ≡ false)
+pub tree_course : (told : Said) (dirty : List Route) (marks : Marks) (log : CallLog) (course other : Course) (c : SubtreeCopying) → (may_fill other ≡ true → may_fill course ≡ true) → (is_over other ≡ false → is_over course ≡ false)
     → TreeKnown told dirty marks log course c → TreeKnown told dirty marks log other c
 tree_course told dirty marks log course other c on over k =
     record { name = k.name; part = item_course told dirty marks (current log) course other c.at.item on k.part; goes = λ still. k.goes (over still) }

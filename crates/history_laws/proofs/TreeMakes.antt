@@ -203,6 +203,7 @@ module _ (told : Said) (dirty dirty_after : List Route) (marks : Marks) (log now
         holds = passes.holds;
         free = passes.none;
         was = untouched.was;
+        left = λ p aside. (other p aside, λ among. among);
         named = λ p aside. still_listed made_path p told.named (kept.known.aside p aside) (other p aside);
         off = λ p off. (put_off told.tree made_path (Some what) p off, put_off told.earlier made_path (told.tree made_path).value p off);
         shown = put_at told.tree made_path (Some what) ∙ ap (λ (s : Spot). (let x : Spot = record { value = Some what; is_mount = s.is_mount } in x)) nothing_told

@@ -176,6 +176,7 @@ module _ (told : Said) (dirty dirty_after : List Route) (marks : Marks) (log now
       none = part_none;
       listed = subst (λ xs. Among xs up) (sym list) (joined_holds up dirty);
       more = λ q among. subst (λ xs. Among xs q) (sym list) (joined_more up q dirty among);
+      lefts = λ p among. among;
       named = kept.known.aside;
       off = λ p off. (put_off told.tree up given p off, put_off told.earlier up (told.tree up).value p off);
       shown = put_at told.tree up given ∙ ap (λ x. (let s : Spot = record (told.tree up) { value = x } in s)) given_is;

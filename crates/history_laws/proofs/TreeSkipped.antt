@@ -40,7 +40,7 @@ use Rattle.copy_move.specs.declared.run.Course.{Course}
 use Rattle.copy_move.specs.declared.run.Course.TheVariants.{GoesOn}
 use Rattle.history_laws.proofs.CalmLaws.{calm_law}
 use Rattle.history_laws.proofs.EndSteps.{end_law}
-use Rattle.history_laws.proofs.KnownParts.{FileKnows, HasName, LinkKnows, StageKnows, file_course, stage_anew, stage_skipped}
+use Rattle.history_laws.proofs.KnownParts.{may_fill, FileKnows, HasName, LinkKnows, StageKnows, file_course, stage_anew, stage_skipped}
 use Rattle.history_laws.proofs.Knowing.{Said}
 use Rattle.history_laws.proofs.ListSteps.{list_law}
 use Rattle.history_laws.proofs.NameLaws.{names_law}
@@ -110,7 +110,7 @@ module _ (told : Said) (dirty : List Route) (marks : Marks) (s : FileSystem) whe
   link_has course l old link_stage.Decided is has k = absurd (false≢true (sym (ap link.has_part is) ∙ has))
 
   -- what is left keeps its part; where there is no memory to tell it, the job doesn't go on
-  module _ (course other : Course) (cause : Cause) (did : Did) (off : (trouble : Trouble) → did ≡ Troubled trouble → other ≡ GoesOn → ⊥) where
+  module _ (course other : Course) (cause : Cause) (did : Did) (off : (trouble : Trouble) → did ≡ Troubled trouble → may_fill other ≡ true → ⊥) where
     skipped_file : (f moved : Copying) → file_steps.Skips cause f did moved → FileKnows told dirty marks s course f → FileKnows told dirty marks s other moved
     skipped_file f moved (inl done) (name, listed, k) = subst (λ (x : Copying). FileKnows told dirty marks s other x) (sym done.1) (name, listed, stage_skipped told marks s course other f f.stage k)
     skipped_file f moved (inr room) k = subst (λ (x : Copying). FileKnows told dirty marks s other x) (sym room.1) (file_course told dirty marks s course other f (λ on. absurd (off _ room.0 on)) k)
@@ -194,7 +194,7 @@ module _ (told : Said) (dirty : List Route) (marks : Marks) (log : CallLog) wher
     }
 
   -- a skip that is answered
-  pub skips_tree : (course other : Course) (cause : Cause) (old new : SubtreeCopying) (did : Did) → is_over course ≡ false → ((trouble : Trouble) → did ≡ Troubled trouble → other ≡ GoesOn → ⊥) → SubtreeSkips cause old did new
+  pub skips_tree : (course other : Course) (cause : Cause) (old new : SubtreeCopying) (did : Did) → is_over course ≡ false → ((trouble : Trouble) → did ≡ Troubled trouble → may_fill other ≡ true → ⊥) → SubtreeSkips cause old did new
       → TreeKnown told dirty marks log course old → TreeKnown told dirty marks log other new
   skips_tree course other cause old new did going off s k =
       subst (λ (c : SubtreeCopying). TreeKnown told dirty marks log other c) (sym s.stands) (record {

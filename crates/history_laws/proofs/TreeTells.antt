@@ -9,7 +9,7 @@ use Rattle.job_reports.specs.Paths.{folder_of}
 use Rattle.job_reports.specs.Stops.{out_of_memory_at}
 use Rattle.job_reports.specs.declared.report.Cause.{Cause}
 use Rattle.job_reports.specs.declared.report.Did.{Did}
-use Rattle.job_reports.specs.declared.report.Did.TheVariants.{Began, Chunk, Placed, Removed, Made, Set, Kept, Skipped, Cleaned, Barrier, Troubled, Ended}
+use Rattle.job_reports.specs.declared.report.Did.TheVariants.{Began, Chunk, Placed, Removed, Made, Set, Kept, Skipped, Cleaned, Barrier, Asked, Troubled, Ended}
 use Rattle.job_reports.specs.declared.report.StepResult.{StepResult}
 use Rattle.job_reports.specs.declared.report.Trouble.{Trouble}
 use Rattle.job_reports.proofs.CallAnswers.{some_log}
@@ -31,7 +31,7 @@ use Rattle.copy_move.specs.declared.run.Course.TheVariants.{GoesOn}
 use Rattle.copy_move.specs.declared.work.Work.TheVariants.{CopyTree}
 use Rattle.history_laws.proofs.DeletionSteps.{Steps}
 use Rattle.history_laws.proofs.GivenModes.{leaves_owe}
-use Rattle.history_laws.proofs.JobKnows.{KnowsAfter}
+use Rattle.history_laws.proofs.JobKnows.{KnowsAfter, may_fill}
 use Rattle.history_laws.proofs.Knowing.{IsKept, Said}
 use Rattle.history_laws.proofs.OwedModes.{AllOwe, OwedModes}
 use Rattle.history_laws.proofs.SetFolders.{owed_mode_law}
@@ -129,7 +129,7 @@ module _ (told : Said) (dirty dirty_after : List Route) (marks : Marks) (log now
 
   -- what is in trouble is passed over in the same step
   module _ (trouble : Trouble) (come : Comes_to (Troubled trouble) s.moved) (why : Cause) (skips : machine.Skips why s.moved did new.at) where
-    passed_known : (d : Did) → did ≡ d → ((t : Trouble) → d ≡ Troubled t → course_after d ≡ GoesOn → ⊥) → (m : Marks) → Then told dirty_after log now c (Troubled trouble) s.moved m
+    passed_known : (d : Did) → did ≡ d → ((t : Trouble) → d ≡ Troubled t → may_fill (course_after d) ≡ true → ⊥) → (m : Marks) → Then told dirty_after log now c (Troubled trouble) s.moved m
         → ItemHas told dirty_after m (current now) (course_after d) new.at.item × (is_fresh c.at.stage ≡ false → AroundKnows told m (current now) (record c { at = new.at }))
     passed_known d is off m h =
         let at = subst (λ x. machine.Skips why s.moved x new.at) is skips in (
@@ -184,6 +184,7 @@ module _ (told : Said) (dirty dirty_after : List Route) (marks : Marks) (log now
   folder_then (Cleaned part) is some = some_before (Cleaned part) is (λ may. may)
   folder_then Barrier is some = some_before Barrier is (λ may. may)
   folder_then (Kept path) is some = some_before (Kept path) is (λ may. may)
+  folder_then (Asked question) is some = some_before (Asked question) is (λ may. may)
   folder_then (Removed path) is some = absurd (subst MayTell is tells.may)
   folder_then (Skipped path cause) is some = still_so some
   folder_then (Troubled trouble) is some = still_so some
@@ -212,6 +213,7 @@ module _ (told : Said) (dirty dirty_after : List Route) (marks : Marks) (log now
   knows_after (Made path) m known = known
   knows_after (Set path) m known = known
   knows_after (Kept path) m known = known
+  knows_after (Asked question) m known = known
   knows_after (Skipped path cause) m known = known
   knows_after (Cleaned part) m known = known
   knows_after Barrier m known = known

@@ -17,7 +17,7 @@ use Rattle.job_reports.specs.Paths.{folder_of}
 use Rattle.job_reports.specs.declared.job.Pair.{Pair}
 use Rattle.job_reports.specs.declared.report.Ending.{Ending}
 use Rattle.job_reports.specs.declared.report.Did.{Did}
-use Rattle.job_reports.specs.declared.report.Did.TheVariants.{Began, Chunk, Placed, Removed, Made, Set, Kept, Skipped, Cleaned, Barrier, Troubled, Ended}
+use Rattle.job_reports.specs.declared.report.Did.TheVariants.{Began, Chunk, Placed, Removed, Made, Set, Kept, Skipped, Cleaned, Barrier, Asked, Troubled, Ended}
 use Rattle.job_reports.specs.declared.report.LastStepResult.{LastStepResult}
 use Rattle.job_reports.proofs.CallAnswers.{some_log}
 use Rattle.file_copy.specs.Copying as file
@@ -121,6 +121,7 @@ module _ (told : Said) (dirty dirty_after : List Route) (marks : Marks) (log now
           let known = removed_known told (said_after now (Cleaned part) work told) dirty dirty marks log kept.known part it.r it.k (record {
             named = kept.known.aside;
             off = λ p off. (refl, refl, same_part p off);
+            left = λ p off among. among;
             gone = (kept.known.part part left.part_is).1;
             was = λ out. absurd (both_ways _ out aside);
             part = refl;
@@ -212,5 +213,6 @@ module _ (told : Said) (dirty dirty_after : List Route) (marks : Marks) (log now
     tree_winds (Made path) count tells f0 f1 wound s rows leaves = absurd wound.may
     tree_winds (Set path) count tells f0 f1 wound s rows leaves = absurd wound.may
     tree_winds (Kept path) count tells f0 f1 wound s rows leaves = absurd wound.may
+    tree_winds (Asked question) count tells f0 f1 wound s rows leaves = absurd wound.may
     tree_winds (Skipped path cause) count tells f0 f1 wound s rows leaves = absurd wound.may
     tree_winds (Troubled trouble) count tells f0 f1 wound s rows leaves = absurd wound.may

@@ -13,9 +13,9 @@ use Rattle.job_reports.specs.CallRuns.{AllDone}
 use Rattle.job_reports.specs.Paths.{folder_of}
 use Rattle.job_reports.specs.declared.report.Cause.{Cause}
 use Rattle.job_reports.specs.declared.report.Did.{Did}
-use Rattle.job_reports.specs.declared.report.Did.TheVariants.{Began, Chunk, Placed, Removed, Made, Set, Kept, Skipped, Cleaned, Barrier, Troubled, Ended}
+use Rattle.job_reports.specs.declared.report.Did.TheVariants.{Began, Chunk, Placed, Removed, Made, Set, Kept, Skipped, Cleaned, Barrier, Asked, Troubled, Ended}
 use Rattle.job_reports.specs.declared.report.Trouble.{Trouble}
-use Rattle.file_copy.specs.Copying.{Copying, Tells}
+use Rattle.file_copy.specs.Copying.{part_at, Copying, Tells}
 use Rattle.folder_copy.specs.FolderCopying as folder
 use Rattle.link_copy.specs.LinkCopying as link
 use Rattle.link_copy.specs.LinkCopying.{LinkCopying}
@@ -105,8 +105,14 @@ module _ (told : Said) (dirty dirty_after : List Route) (marks : Marks) (log now
     calm_file : told.calm (folder_of c.top.target) ≡ true
     calm_file = elim (b.around some) [ inl calm ↦ calm | inr but ↦ absurd (let e : File f ≡ Next = sym item ∙ but.0 in let x : ⊥ = cc in x) ]
 
+    known_item : ItemKnown log mid (File f)
+    known_item = let copy = has.copy in subst (ItemKnown log mid) item copy.1
+
     going : progress f.stage ≡ UnderWay
-    going = (let copy = has.copy in let k = subst (ItemKnown log mid) item copy.1 in k.1)
+    going = known_item.1
+
+    target_free : (part : Route) → part_at f.stage ≡ Some part → find (current log) f.target ≡ None
+    target_free part is = let h = known_item.3 part is in let work = h.work in work.free
 
     known_file : FileKnows told dirty marks (current log) GoesOn f
     known_file = subst (λ i. ItemHas told dirty marks (current log) GoesOn i) item b.part
@@ -116,8 +122,7 @@ module _ (told : Said) (dirty dirty_after : List Route) (marks : Marks) (log now
     file_free part said stage =
         let k = subst (λ x. StageKnows told marks (current log) GoesOn f x) stage known_file.2 in
         let h = k.1.1 in
-        let u = h.untouched in
-        free_shown (kept.known.shows f.target (λ is. h.apart (some_path part f.target (sym h.part_is ∙ is)))) (ap (option_map (λ j. value (node (current log) j))) u.free)
+        free_shown (kept.known.shows f.target (λ is. h.apart (some_path part f.target (sym h.part_is ∙ is)))) (ap (option_map (λ j. value (node (current log) j))) (target_free part (ap part_at stage)))
 
     file_modes : (did : Did) (moved : Copying) → Tells f did moved → (new : Seen) → OwedModes told.tree new → OwedModes (let s : Said = said_after now did (CopyTree c) told in s.tree) new
     file_modes (Placed path) moved (part, said, stage, path_is, new_is) new h =
@@ -136,6 +141,7 @@ module _ (told : Said) (dirty dirty_after : List Route) (marks : Marks) (log now
     file_modes (Made path) moved t new h = absurd t
     file_modes (Set path) moved t new h = absurd t
     file_modes (Kept path) moved t new h = absurd t
+    file_modes (Asked question) moved t new h = absurd t
     file_modes (Skipped path cause) moved t new h = absurd t
 
     pub works_file : (did : Did) (new : Seen) → FileWorks unclaimed f mid new did (Some log) (Some now) → Listed did new → Comes_to did new
@@ -223,7 +229,7 @@ module _ (told : Said) (dirty dirty_after : List Route) (marks : Marks) (log now
           had = λ begun. had_begun told dirty marks log c mid b some;
           modes = λ owed. free_owes told.tree (placed_by (Some (Copies c.top.source c.top.target)) l.target told.tree) l.target (λ p off. put_off told.tree l.target _ p off) link_free new.levels.inner new.levels.around owed;
         })
-        (whole_placed told dirty c.top.source c.top.target l.target name.name name.is l.part k.i k.listed marks log now kept (whole_link told marks log l.target l.part k.text k.i h (clean_part (k.i) h.leads)) (copy_shown item_moved) (row_done log now (Rename l.part l.target) rows)))
+        (whole_placed told dirty c.top.source c.top.target l.target name.name name.is l.part k.i k.listed k.calm marks log now kept (whole_link told marks log l.target l.part k.text k.i h (clean_part (k.i) h.leads)) (copy_shown item_moved) (row_done log now (Rename l.part l.target) rows)))
       where
         link_free : (told.tree l.target).value ≡ None
         link_free =
@@ -303,4 +309,5 @@ module _ (told : Said) (dirty dirty_after : List Route) (marks : Marks) (log now
     works_link (Made path) w list = absurd w.tells
     works_link (Set path) w list = absurd w.tells
     works_link (Kept path) w list = absurd w.tells
+    works_link (Asked question) w list = absurd w.tells
     works_link (Skipped path cause) w list = absurd w.tells

@@ -9,7 +9,7 @@ use Rattle.job_answers.specs.declared.skips.Skips.{Skips}
 use Rattle.job_reports.specs.declared.job.Job.{Job}
 use Rattle.job_reports.specs.Jobs.{Item, item_of}
 use Rattle.job_reports.specs.declared.report.Ending.TheVariants.{Finished, Aborted, Killed, NoMemory}
-use Rattle.job_reports.specs.declared.report.Did.TheVariants.{Began, Chunk, Placed, Removed, Made, Set, Kept, Skipped, Cleaned, Barrier, Troubled, Ended}
+use Rattle.job_reports.specs.declared.report.Did.TheVariants.{Began, Chunk, Placed, Removed, Made, Set, Kept, Skipped, Cleaned, Barrier, Asked, Troubled, Ended}
 use Rattle.session_history.specs.declared.history.Event.{Event}
 use Rattle.session_history.specs.declared.history.Event.TheVariants.{Key, Look, Sought, Order, Step, Next, Closed}
 use Rattle.session_history.specs.declared.history.Event.TheVariants as event
@@ -18,7 +18,7 @@ use Rattle.copy_move.specs.declared.run.Course.TheVariants.{GoesOn}
 use Rattle.copy_move.specs.declared.work.Work.{Work}
 use Rattle.copy_move.specs.declared.work.Work.TheVariants.{Copy, CopyTree, Delete, Make, SetMode}
 use Rattle.copy_move.specs.Jobs.{Running, begun_work, first_work, passing_over, skips_of}
-use Rattle.copy_move.specs.Told.{running, turned}
+use Rattle.copy_move.specs.Told.{turned, with_next}
 use Rattle.history_laws.proofs.JobKnows.{WorkKnows}
 use Rattle.history_laws.proofs.Knowing.{Said}
 use Rattle.history_laws.specs.Traces.{with_job}
@@ -46,13 +46,13 @@ passing_begun skips (SetMode s) = refl
 pub record Turned (plan : Job) (job next : Running) : Type 0 where
   pub work : Work
   pub first : first_work job.id plan ≡ Some work
-  pub next_is : next ≡ running job.id (passing_over (skips_of job.work) work)
+  pub next_is : next ≡ with_next job work
 
 pub turned_to : (plan : Job) (job next : Running) → turned plan job ≡ Some next → Turned plan job next
 turned_to plan job next is = by (first_work job.id plan) refl
   where
     over : Work → Running
-    over work = running job.id (passing_over (skips_of job.work) work)
+    over work = with_next job work
 
     by : (o : Option Work) → first_work job.id plan ≡ o → Turned plan job next
     by None none = absurd (let e : (let o : Option Running = None in o) ≡ Some next = sym (ap (option_map over) none) ∙ is in let f : ⊥ = cc in f)
@@ -76,6 +76,7 @@ done_with id (Step number (Placed path)) is = absurd is
 done_with id (Step number (Removed path)) is = absurd is
 done_with id (Step number (Made made)) is = absurd is
 done_with id (Step number (Kept kept)) is = absurd is
+done_with id (Step number (Asked question)) is = absurd is
 done_with id (Step number (Skipped path why)) is = absurd is
 done_with id (Step number (Cleaned part)) is = absurd is
 done_with id (Step number Barrier) is = absurd is

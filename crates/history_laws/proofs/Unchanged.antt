@@ -4,7 +4,7 @@ use Rattle.std.specs.Prelude.{if◌then◌else◌, is_some, nat_le, not, ◌&&�
 use Rattle.std.proofs.lemmas.Bool.{true≢false}
 use Rattle.mc_text.specs.Routes.{Route, parent_of, same_path}
 use Rattle.job_reports.specs.declared.report.Did.{Did}
-use Rattle.job_reports.specs.declared.report.Did.TheVariants.{Began, Chunk, Placed, Removed, Made, Set, Kept, Skipped, Cleaned, Barrier, Troubled, Ended}
+use Rattle.job_reports.specs.declared.report.Did.TheVariants.{Began, Chunk, Placed, Removed, Made, Set, Kept, Skipped, Cleaned, Barrier, Asked, Troubled, Ended}
 use Rattle.copy_move.specs.declared.making.MakingStage.{MakingStage}
 use Rattle.copy_move.specs.declared.making.MakingStage.TheVariants as making
 use Rattle.job_reports.specs.declared.job.Job.{Job}
@@ -29,7 +29,7 @@ use Rattle.copy_move.specs.Jobs.{JobTells, PassesOver, Running, TellsOn, WorkTel
 use Rattle.job_reports.specs.Reports.{ends}
 use Rattle.copy_move.specs.Told.{after_step, cleaned, placed, skipped, spared, synced, told, work_told}
 use Rattle.copy_move.specs.declared.run.Course.{Course}
-use Rattle.copy_move.specs.declared.run.Course.TheVariants.{GoesOn, InTrouble, OwedSyncFailed, Skips, Ends}
+use Rattle.copy_move.specs.declared.run.Course.TheVariants.{GoesOn, Asking, InTrouble, OwedSyncFailed, Skips, Ends}
 use Rattle.subtree_copy.specs.Standing.{SubtreeCopying}
 use Rattle.subtree_copy.specs.Unbegun.{MayBegin}
 use Rattle.tree_copy.specs.Standing.{after_report, is_fresh}
@@ -147,6 +147,7 @@ on_tree : (old new : Running) (did : Did) (course : Course) → TellsOn course o
 on_tree old new did GoesOn (work, tells, new_is) other = tells_tree old.work work did tells (sym (ap (λ (x : Running). is_tree x.work) new_is) ∙ other)
 on_tree old new did (InTrouble halt) t other = absurd t
 on_tree old new did (OwedSyncFailed why) t other = absurd t
+on_tree old new did Asking t other = absurd t
 on_tree old new did (Skips why) (inl (path, work, did_is, passes, new_is)) other = passes_tree old.work work path passes (sym (ap (λ (x : Running). is_tree x.work) new_is) ∙ other)
 on_tree old new did (Skips why) (inr (apart, did_is, new_is)) other = sym (ap (λ (x : Running). is_tree x.work) new_is) ∙ other
 on_tree old new did (Ends ending) (work, winds, new_is) other = winds_tree ending old.work work did winds (sym (ap (λ (x : Running). is_tree x.work) new_is) ∙ other)
@@ -194,6 +195,7 @@ clean_after (Set path) job new other none h clean = absurd (true≢false none)
 clean_after (Placed path) job new other none h clean = some_job (record job { work = placed job.work }) new h ∙ (placed_begun job.work other ∙ clean)
 clean_after (Made path) job new other none h clean = absurd (true≢false none)
 clean_after (Kept path) job new other none h clean = some_job (record job { work = spared path job.work }) new h ∙ spared_begun path job.work clean
+clean_after (Asked question) job new other none h clean = some_job (record job { course = Rattle.copy_move.specs.declared.run.Course.TheVariants.Asking }) new h ∙ clean
 clean_after (Skipped path why) job new other none h clean = some_job (record job { work = skipped path job.work; course = Rattle.copy_move.specs.declared.run.Course.TheVariants.GoesOn }) new h ∙ skipped_begun path job.work clean
 clean_after (Cleaned part) job new other none h clean = some_job (record job { work = cleaned job.course job.work }) new h ∙ (cleaned_begun job.course job.work other ∙ clean)
 clean_after Barrier job new other none h clean = some_job (record job { work = synced job.work }) new h ∙ synced_begun job.work clean
@@ -212,6 +214,7 @@ stage_stays (Placed path) stage may none = absurd may
 stage_stays (Removed path) stage may none = absurd may
 stage_stays (Set path) stage may none = absurd may
 stage_stays (Kept path) stage may none = absurd may
+stage_stays (Asked question) stage may none = absurd may
 stage_stays (Cleaned part) stage may none = absurd may
 stage_stays Barrier stage may none = absurd may
 
@@ -249,6 +252,7 @@ tree_clean job new did c GoesOn is (work, tells, new_is) none clean =
     ap (λ (x : Running). has_begun x.work) new_is ∙ tree_tells c work did (subst (λ w. WorkTells w did work) is tells) none (sym (ap has_begun is) ∙ clean)
 tree_clean job new did c (InTrouble halt) is t none clean = absurd t
 tree_clean job new did c (OwedSyncFailed why) is t none clean = absurd t
+tree_clean job new did c Asking is t none clean = absurd t
 tree_clean job new did c (Skips why) is (inl (path, work, did_is, passes, new_is)) none clean =
     ap (λ (x : Running). has_begun x.work) new_is ∙ tree_passes c work path (subst (λ w. PassesOver w path work) is passes) (sym (ap has_begun is) ∙ clean)
 tree_clean job new did c (Skips why) is (inr (apart, did_is, new_is)) none clean = ap (λ (x : Running). has_begun x.work) new_is ∙ clean

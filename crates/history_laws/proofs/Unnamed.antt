@@ -1,4 +1,5 @@
 -- What the entries of a history say of a path that they don't name: what it shows, what it showed before, and whether it was a part.
+use Rattle.job_reports.specs.Paths.{without}
 use Rattle.std.proofs.Common.{◌≡◌, true, false, not, List, [], ◌∷◌, refl, sym, ◌∙◌, ap, subst, inl, inr, Option, Some, None}
 use Rattle.std.proofs.lemmas.Bool.{both_ways}
 use Rattle.mc_text.specs.Routes.{Route, same_path}
@@ -7,7 +8,7 @@ use Rattle.tree_trait.specs.Change.{CallLog, current}
 use Rattle.tree_trait.specs.CrashImages.{Among}
 use Rattle.tree_trait.proofs.Visible.{same_path-self}
 use Rattle.job_reports.specs.declared.report.Did.{Did}
-use Rattle.job_reports.specs.declared.report.Did.TheVariants.{Began, Chunk, Placed, Removed, Made, Set, Kept, Skipped, Cleaned, Barrier, Troubled, Ended}
+use Rattle.job_reports.specs.declared.report.Did.TheVariants.{Began, Chunk, Placed, Removed, Made, Set, Kept, Skipped, Cleaned, Barrier, Asked, Troubled, Ended}
 use Rattle.job_reports.specs.Jobs.{Item, Copies, Removes, Makes, MakesLink, Sets}
 use Rattle.session_history.specs.declared.history.Event.{Event}
 use Rattle.session_history.specs.declared.history.Event.TheVariants.{Key, Look, Sought, Order, Step, Next, Closed}
@@ -16,6 +17,7 @@ use Rattle.session_history.specs.declared.history.Entry.{Entry}
 use Rattle.session_history.specs.LiveJobs.{LiveJob, live_jobs, live_item}
 use Rattle.session_history.specs.Named.{IsUnnamedSince, changed_by, named_by, names, names_path}
 use Rattle.history_laws.specs.Replayed.{keeping, log_prefix, made_by, moved_from, placed_by, placed_copy, replayed_event, replayed_step, replayed_tree, set_by, with_mode, with_mode_of}
+use Rattle.history_laws.proofs.AmongParts.{if_among_other}
 use Rattle.history_laws.proofs.Deleted.{put_off}
 use Rattle.history_laws.proofs.Owing.{in_filter}
 
@@ -46,6 +48,7 @@ step_unnamed log (Chunk count) item v path unnamed = refl
 step_unnamed log (Set changed) item v path unnamed = set_unnamed item changed v path unnamed
 step_unnamed log (Made folder) item v path unnamed = put_off v folder (Some (made_by item folder v)) path unnamed
 step_unnamed log (Kept kept) item v path unnamed = refl
+step_unnamed log (Asked question) item v path unnamed = refl
 step_unnamed log (Skipped file cause) item v path unnamed = refl
 step_unnamed log (Cleaned part) item v path unnamed = refl
 step_unnamed log Barrier item v path unnamed = refl
@@ -68,20 +71,21 @@ replayed_since opening end older (e ∷ g) path (inr (unnamed, since)) =
     event_unnamed (log_prefix opening e.calls end) e.what (live_jobs g) (replayed_tree opening end g) path unnamed ∙ replayed_since opening end older g path since
 
 -- a path that no entry names is a named part only if it was one
-pub named_step : (did : Did) (parts : List Route) (path : Route) → names did path ≡ false → Among (named_by did parts) path → Among parts path
-named_step (Began part) parts path unnamed (inl same) = absurd (both_ways _ unnamed (subst (λ q. same_path path q ≡ true) same (same_path-self path)))
-named_step (Began part) parts path unnamed (inr among) = among
-named_step (Placed target) parts path unnamed among = in_filter (λ kept. Rattle.std.specs.Prelude.not (same_path kept target)) path parts among
-named_step (Chunk count) parts path unnamed among = among
-named_step (Set changed) parts path unnamed among = among
-named_step (Removed file) parts path unnamed among = among
-named_step (Made folder) parts path unnamed among = in_filter (λ kept. Rattle.std.specs.Prelude.not (same_path kept folder)) path parts among
-named_step (Kept kept) parts path unnamed among = among
-named_step (Skipped file cause) parts path unnamed among = among
-named_step (Cleaned part) parts path unnamed among = among
-named_step Barrier parts path unnamed among = among
-named_step (Troubled trouble) parts path unnamed among = among
-named_step (Ended ending part) parts path unnamed among = among
+pub named_step : (did : Did) (left parts : List Route) (path : Route) → names did path ≡ false → Among (named_by did left parts) path → Among parts path
+named_step (Began part) left parts path unnamed (inl same) = absurd (both_ways _ unnamed (subst (λ q. same_path path q ≡ true) same (same_path-self path)))
+named_step (Began part) left parts path unnamed (inr among) = among
+named_step (Placed target) left parts path unnamed among = in_filter (λ kept. Rattle.std.specs.Prelude.not (same_path kept target)) path parts (if_among_other target path left (without target parts) unnamed among)
+named_step (Chunk count) left parts path unnamed among = among
+named_step (Set changed) left parts path unnamed among = among
+named_step (Removed file) left parts path unnamed among = among
+named_step (Made folder) left parts path unnamed among = in_filter (λ kept. Rattle.std.specs.Prelude.not (same_path kept folder)) path parts among
+named_step (Kept kept) left parts path unnamed among = among
+named_step (Asked question) left parts path unnamed among = among
+named_step (Skipped file cause) left parts path unnamed among = among
+named_step (Cleaned part) left parts path unnamed among = among
+named_step Barrier left parts path unnamed among = among
+named_step (Troubled trouble) left parts path unnamed among = among
+named_step (Ended ending part) left parts path unnamed among = among
 
 -- what it showed before its last change stays so, too
 pub earlier_unnamed : (did : Did) (v before : View) (path : Route) → names did path ≡ false → keeping (changed_by did) v before path ≡ before path
@@ -92,6 +96,7 @@ earlier_unnamed (Began part) v before path unnamed = refl
 earlier_unnamed (Chunk count) v before path unnamed = refl
 earlier_unnamed (Set changed) v before path unnamed = put_off before changed (v changed).value path unnamed
 earlier_unnamed (Kept kept) v before path unnamed = refl
+earlier_unnamed (Asked question) v before path unnamed = refl
 earlier_unnamed (Skipped file cause) v before path unnamed = refl
 earlier_unnamed (Cleaned part) v before path unnamed = refl
 earlier_unnamed Barrier v before path unnamed = refl

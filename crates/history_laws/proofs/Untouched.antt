@@ -7,8 +7,8 @@ use Rattle.mc_text.specs.Routes.{Route}
 use Rattle.tree_trait.specs.declared.file_system.FileSystem.{FileSystem}
 use Rattle.tree_trait.specs.declared.calls.TreeError.TheVariants.{Missing}
 use Rattle.tree_trait.specs.Calls.{Stat}
-use Rattle.tree_trait.specs.FileSystem.{find, lookup, starts_mount}
-use Rattle.tree_trait.specs.Refusals.{mount_here, mount_of, refusal_of}
+use Rattle.tree_trait.specs.FileSystem.{find, lookup, node, starts_mount}
+use Rattle.tree_trait.specs.Refusals.{is_folder, mount_here, mount_of, refusal_of}
 use Rattle.tree_trait.specs.Answers.{mount_number}
 use Rattle.tree_trait.specs.Change.{CallLog, current}
 use Rattle.tree_trait.specs.CrashImages.{Among}
@@ -25,6 +25,31 @@ pub record IsUntouched (marks : Marks) (s : FileSystem) (target : Route) : Type 
   pub out : marks.aside target ≡ false
   pub free : find s target ≡ None
   pub was : marks.was target ≡ None
+
+-- at the target stands nothing, or no folder
+abbrev pub IsBare : FileSystem → Route → Type 0
+IsBare s target = (i : ℕ) → find s target ≡ Some i → is_folder (node s i) ≡ false
+
+-- Nothing was done at the target yet: what stands there, if anything does, is what stood there, and no folder. It may be a part that an ended job left, of which
+-- nothing is said.
+pub record IsAsFound (marks : Marks) (s : FileSystem) (target : Route) : Type 0 where
+  pub bare : IsBare s target
+  pub was : marks.aside target ≡ false → marks.was target ≡ find s target
+  pub stood : marks.aside target ≡ true → is_some (find s target) ≡ true
+
+no_node : {A : Type 0} (o : Option ℕ) (i : ℕ) → o ≡ None → o ≡ Some i → A
+no_node o i none some = absurd (let e : (let x : Option ℕ = None in x) ≡ Some i = sym none ∙ some in let f : ⊥ = cc in f)
+
+pub bare_free : (s : FileSystem) (target : Route) → find s target ≡ None → IsBare s target
+bare_free s target free i at = no_node (find s target) i free at
+
+-- so it is where nothing stands
+pub as_found : (marks : Marks) (s : FileSystem) (target : Route) → IsUntouched marks s target → IsAsFound marks s target
+as_found marks s target u = record { bare = bare_free s target u.free; was = λ out. u.was ∙ sym u.free; stood = λ is. absurd (both_ways _ u.out is) }
+
+-- a path at which no folder stands, and of whose name nothing waits
+pub found_bare : (told : Said) (dirty : List Route) (marks : Marks) (log : CallLog) (p : Route) → IsKept told dirty marks log → way_waits log p ≡ false → IsBare (current log) p → IsAsFound marks (current log) p
+found_bare told dirty marks log p kept sure bare = record { bare = bare; was = λ out. kept.was p out sure; stood = λ is. elim (kept.aside p is) [ inl waits ↦ absurd (both_ways _ sure waits) | inr stands ↦ stands ] }
 
 -- a path at which nothing stands, and of whose name nothing waits
 pub untouched_free : (told : Said) (dirty : List Route) (marks : Marks) (log : CallLog) (p : Route) → IsKept told dirty marks log → way_waits log p ≡ false → find (current log) p ≡ None → IsUntouched marks (current log) p

@@ -1,4 +1,5 @@
 pub mod Answers
+pub mod Decisions
 pub mod Questions
 pub mod Skipping
 pub mod Standings

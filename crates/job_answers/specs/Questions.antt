@@ -1,14 +1,11 @@
--- When it is asked whether a thing is to be replaced, and what the question tells.
+-- When it is asked whether a thing is to be replaced.
 use Rattle.std.specs.Prelude.{◌≡◌, Option, Some, None}
-use Rattle.mc_text.specs.Routes.{Route}
 use Rattle.mc_text.specs.declared.kind.Kind.{Kind}
 use Rattle.mc_text.specs.declared.kind.Kind.TheVariants.{File, Folder, Link, Other}
-use Rattle.tree_trait.specs.declared.calls.Meta.{Meta}
 use Rattle.job_answers.specs.declared.placing.Origin.{Origin}
 use Rattle.job_answers.specs.declared.placing.Origin.TheVariants.{Copied, Moved, Saved}
 use Rattle.job_answers.specs.declared.placing.Placing.{Placing}
 use Rattle.job_answers.specs.declared.placing.Placing.TheVariants.{Free, Merges, Asks, Replaces, TargetKind, SpecialSource}
-use Rattle.job_answers.specs.declared.question.Question.{Question}
 
 -- a thing that is no folder comes to a target where a file or a link stands
 abbrev pub onto_a_file : Origin → Placing
@@ -37,14 +34,3 @@ placing_at (Moved Folder) (Some kind) = folder_onto kind
 placing_at origin (Some kind) = onto origin kind
 placing_at (Copied Other) None = SpecialSource
 placing_at origin None = Free
-
--- the question on two paths, at which these things stand
-abbrev pub question_on : Route → Meta → Route → Meta → Question
-question_on source source_meta target target_meta = record {
-  source = source;
-  target = target;
-  source_size = source_meta.size;
-  target_size = target_meta.size;
-  source_time = source_meta.mtime;
-  target_time = target_meta.mtime;
-}

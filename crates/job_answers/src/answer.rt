@@ -2,31 +2,7 @@
 ghost use Rattle.std.specs.Prelude.{◌≡◌};
 ghost use Rattle.job_answers.specs.Answers.{answered, to_barrier, to_question, to_trouble, waiting_of};
 
-use job_reports::{AnswerError, Cause, Trouble};
-
-/// What is answered to a job that waits.
-#[derive(Clone, Copy, Debug, Drop, PartialEq, Eq)]
-pub enum Answer {
-    /// This item replaces what stands at its target.
-    Yes,
-    /// This item doesn't.
-    No,
-    /// This and each later item replaces what stands at its target.
-    All,
-    /// They do where the source was changed later than the target.
-    Update,
-    /// None does.
-    Nothing,
-    /// They do where source and target differ in size.
-    SizeDiffers,
-    /// What was refused is tried again.
-    Retry,
-    /// The item is left as it is.
-    Skip,
-    /// So is each later one that meets a trouble of the same kind.
-    SkipAll,
-    Abort,
-}
+use job_reports::{Answer, AnswerError, Cause, Trouble};
 
 /// What a job waits with.
 #[derive(Clone, Copy, Debug, Drop, PartialEq, Eq)]

@@ -3,12 +3,12 @@
 
 mod answer;
 mod placing;
-mod question;
+mod replies;
 mod skips;
 mod standing;
 
-pub use answer::{Answer, Then, Waiting, then_after, waiting_in};
+pub use answer::{Then, Waiting, then_after, waiting_in};
 pub use placing::{Origin, Placing, placing_of};
-pub use question::Question;
+pub use replies::{Decision, ItemAnswer, Replies, Rule};
 pub use skips::{CauseKind, SkippedRefusals, Skips, kind_of};
-pub use standing::{Decision, ItemAnswer, Rule, Standing};
+pub use standing::Standing;

@@ -1,44 +1,17 @@
-//! What was answered: for the item that is at hand, and for all later items.
-ghost use Rattle.std.specs.Prelude.{◌≡◌, Some, None, if◌then◌else◌};
+//! What was answered to the questions and the troubles of a job.
+ghost use Rattle.std.specs.Prelude.{◌≡◌, Some};
 ghost use Rattle.job_answers.specs.Answers.{answered};
-ghost use Rattle.job_answers.specs.Standings.{decision_of, nothing_answered, passes_over as passes, rule_decides, standing_after};
+ghost use Rattle.job_answers.specs.Standings.{decision_of, nothing_answered, passes_over as passes, standing_after};
 
-use crate::answer::{Answer, Then, Waiting, then_after};
-use crate::question::Question;
+use crate::answer::{Then, Waiting, then_after};
+use crate::replies::{Decision, Replies};
 use crate::skips::{Skips, kind_of};
-use job_reports::{AnswerError, Cause, Trouble};
-
-/// An answer for one item: whether it replaces what stands at its target.
-#[derive(Clone, Copy, Debug, Drop, PartialEq, Eq)]
-pub enum ItemAnswer {
-    Yes,
-    No,
-}
-
-/// An answer for all later items: which of them replace what stands at their targets.
-#[derive(Clone, Copy, Debug, Drop, PartialEq, Eq)]
-pub enum Rule {
-    All,
-    /// Those whose source was changed later than the target.
-    Update,
-    Nothing,
-    /// Those whose source and target differ in size.
-    SizeDiffers,
-}
-
-/// What becomes of an item at whose target something stands.
-#[derive(Clone, Copy, Debug, Drop, PartialEq, Eq)]
-pub enum Decision {
-    Replace,
-    Keep,
-    Ask,
-}
+use job_reports::{Answer, AnswerError, Cause, Question, Trouble};
 
 /// What was answered in a job so far, and still holds.
 #[derive(Clone, Copy, Debug, Drop)]
 pub struct Standing {
-    item: Option<ItemAnswer>,
-    rule: Option<Rule>,
+    replies: Replies,
     skips: Skips,
 }
 
@@ -48,8 +21,7 @@ impl Standing {
         ensures { result ≡ nothing_answered }
     {
         Standing {
-            item: None,
-            rule: None,
+            replies: Replies::new(),
             skips: Skips::new(),
         }
     }
@@ -58,12 +30,7 @@ impl Standing {
     pub fn decide(&self, question: &Question) -> Decision
         ensures { result ≡ decision_of self.now question.now }
     {
-        match (self.item, self.rule) {
-            (Some(ItemAnswer::Yes), _) => Decision::Replace,
-            (Some(ItemAnswer::No), _) => Decision::Keep,
-            (None, Some(rule)) => decide_by(rule, question),
-            (None, None) => Decision::Ask,
-        }
+        self.replies.decide(question)
     }
 
     /// Whether a trouble is skipped without a question. At a barrier nothing is skipped.
@@ -79,7 +46,7 @@ impl Standing {
         ensures stands { self.new ≡ standing_after waiting answer self.old }
     {
         match waiting {
-            Some(Waiting::Question) => self.note_reply(answer),
+            Some(Waiting::Question) => self.replies.note(answer),
             Some(Waiting::Trouble(cause)) => self.note_skip(cause, answer),
             Some(Waiting::Barrier) | None => {}
         }
@@ -88,24 +55,9 @@ impl Standing {
 
     /// The next item is at hand. An answer for the one before holds no more.
     pub fn next_item(&mut self)
-        ensures { self.new ≡ record self.old { item = None } }
+        ensures { self.new ≡ record self.old { replies = record self.old.replies { item = None } } }
     {
-        self.item = None;
-    }
-
-    /// Keeps what is answered to a question.
-    fn note_reply(&mut self, answer: Answer)
-        ensures { self.new ≡ standing_after (Some Waiting.Question) answer self.old }
-    {
-        match answer {
-            Answer::Yes => self.item = Some(ItemAnswer::Yes),
-            Answer::No => self.item = Some(ItemAnswer::No),
-            Answer::All => self.rule = Some(Rule::All),
-            Answer::Update => self.rule = Some(Rule::Update),
-            Answer::Nothing => self.rule = Some(Rule::Nothing),
-            Answer::SizeDiffers => self.rule = Some(Rule::SizeDiffers),
-            Answer::Retry | Answer::Skip | Answer::SkipAll | Answer::Abort => {}
-        }
+        self.replies = self.replies.for_next();
     }
 
     /// Keeps what is answered to a trouble with this cause.
@@ -118,27 +70,5 @@ impl Standing {
             Answer::Yes | Answer::No => {}
             Answer::All | Answer::Update | Answer::Nothing | Answer::SizeDiffers => {}
         }
-    }
-}
-
-/// Whether an item replaces what stands at its target, by an answer for all.
-fn decide_by(rule: Rule, question: &Question) -> Decision
-    ensures { result ≡ rule_decides rule question.now }
-{
-    match rule {
-        Rule::All => Decision::Replace,
-        Rule::Nothing => Decision::Keep,
-        Rule::Update => replace_if(question.target_time < question.source_time),
-        Rule::SizeDiffers => replace_if(question.source_size != question.target_size),
-    }
-}
-
-fn replace_if(replaces: bool) -> Decision
-    ensures { result ≡ if replaces then Decision.Replace else Decision.Keep }
-{
-    if replaces {
-        Decision::Replace
-    } else {
-        Decision::Keep
     }
 }

@@ -5,7 +5,7 @@ use Rattle.key_screen.specs.declared.keys.Base.TheVariants.{Unknown}
 use Rattle.tree_trait.specs.Change.{CallLog}
 use Rattle.job_boxes.specs.declared.job_box.JobReply.{JobReply}
 use Rattle.job_boxes.specs.declared.job_box.JobReply.TheVariants.{Stays}
-use Rattle.job_boxes.specs.JobBoxes.{Around, JobBoxState, DeleteBox, MaskBox, TargetBox, FolderBox, LinkTextBox, LinkNameBox, NewModeBox, TroubleBox}
+use Rattle.job_boxes.specs.JobBoxes.{Around, JobBoxState, DeleteBox, MaskBox, TargetBox, FolderBox, LinkTextBox, LinkNameBox, NewModeBox, AnswerBox}
 use Rattle.job_boxes.specs.Replies.{BoxLeads, box_after}
 
 abbrev unknown_key : Bool → Key
@@ -28,5 +28,5 @@ unknown_stays (LinkNameBox text typed) contents around true reply h = (h, refl)
 unknown_stays (LinkNameBox text typed) contents around false reply h = (h, refl)
 unknown_stays (NewModeBox paths typed) contents around true reply h = (h, refl)
 unknown_stays (NewModeBox paths typed) contents around false reply h = (h, refl)
-unknown_stays (TroubleBox told) contents around true reply h = (h, refl)
-unknown_stays (TroubleBox told) contents around false reply h = (h, refl)
+unknown_stays (AnswerBox waits) contents around true reply h = (h, refl)
+unknown_stays (AnswerBox waits) contents around false reply h = (h, refl)

@@ -2,8 +2,8 @@
 use Rattle.std.specs.Prelude.{ℕ, List, Option}
 use Rattle.mc_text.specs.declared.kind.Kind.{Kind}
 use Rattle.mc_text.specs.Routes.{Route}
-use Rattle.job_reports.specs.declared.report.Trouble.{Trouble}
 use Rattle.job_reports.specs.declared.row.JobRow.{JobRow}
+use Rattle.job_reports.specs.declared.waits.Waits.{Waits}
 use Rattle.mc_dialogs.specs.InputKeys.{InputState}
 use Rattle.mc_dialogs.specs.ModeKeys.{ModeState}
 use Rattle.job_boxes.specs.declared.job_box.JobBox.{JobBox}
@@ -11,7 +11,7 @@ use Rattle.job_boxes.specs.declared.job_box.JobBox.TheVariants as box
 use Rattle.job_boxes.specs.declared.job_box.Surroundings.{Surroundings}
 
 -- A box that asks whether to delete things, asks for the source mask of a copy or, with that mask, for its destination, for a new folder,
--- for what a new link is to say or, with that, for its name, or for the mode of things, or tells of a job's trouble. Of one thing alone the boxes
+-- for what a new link is to say or, with that, for its name, or for the mode of things, or tells what a job waits with. Of one thing alone the boxes
 -- of a copy keep its kind.
 pub data JobBoxState : Type 0 where
   DeleteBox : (paths : List Route) → JobBoxState
@@ -21,7 +21,7 @@ pub data JobBoxState : Type 0 where
   LinkTextBox : (typed : InputState) → JobBoxState
   LinkNameBox : (text : List ℕ) → (typed : InputState) → JobBoxState
   NewModeBox : (paths : List Route) → (asked : ModeState) → JobBoxState
-  TroubleBox : (trouble : Trouble) → JobBoxState
+  AnswerBox : (waits : Waits) → JobBoxState
 
 -- a box as it is seen
 abbrev pub seen : JobBox → JobBoxState
@@ -32,7 +32,7 @@ seen (box.MakeFolder typed) = FolderBox typed
 seen (box.LinkText typed) = LinkTextBox typed
 seen (box.LinkName text typed) = LinkNameBox text typed
 seen (box.Mode chosen asked) = NewModeBox chosen.paths asked
-seen (box.Trouble trouble) = TroubleBox trouble
+seen (box.Answer waits) = AnswerBox waits
 
 -- what a box goes by besides the tree: the live jobs, the folders of the current panel and of the other one, and HOME
 pub record Around : Type 0 where

@@ -1,31 +1,31 @@
 -- What the live jobs allow. Today one job is live at a time.
-use Rattle.std.specs.Prelude.{Bool, true, false, not, ◌&&◌, if◌then◌else◌, List, [], ◌∷◌}
-use Rattle.std.specs.Option.{option_map_or}
+use Rattle.std.specs.Prelude.{Bool, true, false, List, [], ◌∷◌, Option, is_ok}
+use Rattle.std.specs.Option.{option_map}
 use Rattle.job_reports.specs.declared.answer.Answer.{Answer}
-use Rattle.job_reports.specs.declared.report.Trouble.{Trouble}
 use Rattle.job_reports.specs.declared.row.JobRow.{JobRow}
-use Rattle.job_reports.specs.declared.row.JobState.{JobState}
-use Rattle.job_reports.specs.declared.row.JobState.TheVariants.{Ready, Asking, Troubled, Stopped}
-use Rattle.job_reports.specs.Reports.{passes_over}
+use Rattle.job_reports.specs.declared.waits.Waits.{Waits}
+use Rattle.job_reports.specs.declared.waits.Waits.TheVariants as waits
+use Rattle.job_reports.specs.Waits.{waits_of}
+use Rattle.job_answers.specs.declared.answer.Waiting.{Waiting}
+use Rattle.job_answers.specs.declared.answer.Waiting.TheVariants as waiting
+use Rattle.job_answers.specs.Answers.{answered, waiting_of}
 
 -- no job is live
 abbrev pub none_live : List JobRow → Bool
 none_live [] = true
 none_live (row ∷ rows) = false
 
-abbrev pub is_troubled : JobState → Bool
-is_troubled Troubled = true
-is_troubled Ready = false
-is_troubled Asking = false
-is_troubled Stopped = false
+-- what decides of an answer to a question, and to a trouble
+abbrev pub waiting_with : Waits → Waiting
+waiting_with (waits.Question question) = waiting.Question
+waiting_with (waits.Trouble trouble) = waiting_of trouble
 
--- at a barrier nothing is passed over
-abbrev pub fits : Answer → Trouble → Bool
-fits answer trouble = if passes_over answer then not trouble.barrier else true
+abbrev pub row_waiting : JobRow → Option Waiting
+row_waiting row = option_map waiting_with (waits_of row)
 
--- a job in trouble can be answered so
+-- what a job waits with can be answered so
 abbrev pub takes_answer : JobRow → Answer → Bool
-takes_answer row answer = is_troubled row.state && option_map_or (fits answer) row.trouble false
+takes_answer row answer = is_ok (answered (row_waiting row) answer)
 
 -- the live job can be answered so
 abbrev pub can_answer : List JobRow → Answer → Bool

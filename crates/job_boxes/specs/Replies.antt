@@ -13,15 +13,15 @@ use Rattle.session_history.specs.declared.refusal.Refusal.{Refusal}
 use Rattle.session_history.specs.declared.refusal.Refusal.TheVariants.{Begin}
 use Rattle.mc_dialogs.specs.InputKeys.{input_after, input_shut}
 use Rattle.mc_dialogs.specs.ModeKeys.{mode_after, mode_shut}
+use Rattle.box_words.specs.declared.replies.AnswerReply.{AnswerReply}
+use Rattle.box_words.specs.declared.replies.AnswerReply.TheVariants as answer
 use Rattle.box_words.specs.declared.replies.DeleteReply.{DeleteReply}
 use Rattle.box_words.specs.declared.replies.DeleteReply.TheVariants as delete
 use Rattle.box_words.specs.declared.replies.LineReply.{LineReply}
 use Rattle.box_words.specs.declared.replies.LineReply.TheVariants as line
 use Rattle.box_words.specs.declared.replies.ModeReply.{ModeReply}
 use Rattle.box_words.specs.declared.replies.ModeReply.TheVariants as asked
-use Rattle.box_words.specs.declared.replies.TroubleReply.{TroubleReply}
-use Rattle.box_words.specs.declared.replies.TroubleReply.TheVariants as trouble
-use Rattle.box_words.specs.BoxKeys.{delete_reply_to, line_reply, mode_reply, trouble_reply_to}
+use Rattle.box_words.specs.BoxKeys.{answer_reply_to, delete_reply_to, line_reply, mode_reply}
 use Rattle.box_words.specs.BoxLines.{link_name_line, target_line}
 use Rattle.job_plans.specs.declared.copying.JobPlan.{JobPlan}
 use Rattle.job_plans.specs.declared.copying.JobPlan.TheVariants as plan
@@ -31,7 +31,7 @@ use Rattle.job_plans.specs.Folders.{FolderLeads}
 use Rattle.job_plans.specs.Links.{LinkLeads}
 use Rattle.job_boxes.specs.declared.job_box.JobReply.{JobReply}
 use Rattle.job_boxes.specs.declared.job_box.JobReply.TheVariants.{Stays, Shuts, Opens, Begins, Answers, Refuses}
-use Rattle.job_boxes.specs.JobBoxes.{Around, JobBoxState, DeleteBox, MaskBox, TargetBox, FolderBox, LinkTextBox, LinkNameBox, NewModeBox, TroubleBox, seen}
+use Rattle.job_boxes.specs.JobBoxes.{Around, JobBoxState, DeleteBox, MaskBox, TargetBox, FolderBox, LinkTextBox, LinkNameBox, NewModeBox, AnswerBox, seen}
 use Rattle.job_boxes.specs.LiveJobs.{can_answer, none_live}
 
 -- JOBS THAT ARE CONFIRMED
@@ -94,11 +94,11 @@ mode_answer rows paths asked.Stays = Stays
 mode_answer rows paths asked.Shuts = Shuts
 mode_answer rows paths (asked.Takes mode) = begun_alone rows (mode_plan paths mode)
 
--- a trouble, which is answered where the live job can be answered so
-abbrev pub trouble_answer : List JobRow → TroubleReply → JobReply
-trouble_answer rows trouble.Stays = Stays
-trouble_answer rows trouble.Shuts = Shuts
-trouble_answer rows (trouble.Gives answer) = if can_answer rows answer then Answers answer else Stays
+-- what a job waits with, which is answered where the live job can be answered so
+abbrev pub given_answer : List JobRow → AnswerReply → JobReply
+given_answer rows answer.Stays = Stays
+given_answer rows answer.Shuts = Shuts
+given_answer rows (answer.Gives given) = if can_answer rows given then Answers given else Stays
 
 -- KEYS
 
@@ -118,7 +118,7 @@ BoxLeads (LinkNameBox text typed) contents around key reply =
     PathLeads (line_reply (input_shut typed key)) around.rows
     (λ name planned. LinkLeads contents around.current (with_home around.home name) text planned) reply
 BoxLeads (NewModeBox paths typed) contents around key reply = reply ≡ mode_answer around.rows paths (mode_reply (mode_shut typed key))
-BoxLeads (TroubleBox told) contents around key reply = reply ≡ trouble_answer around.rows (trouble_reply_to told.barrier key)
+BoxLeads (AnswerBox waits) contents around key reply = reply ≡ given_answer around.rows (answer_reply_to waits key)
 
 -- a box after a key
 abbrev pub box_after : JobBoxState → Key → JobBoxState
@@ -129,7 +129,7 @@ box_after (FolderBox typed) key = FolderBox (input_after typed key)
 box_after (LinkTextBox typed) key = LinkTextBox (input_after typed key)
 box_after (LinkNameBox text typed) key = LinkNameBox text (input_after typed key)
 box_after (NewModeBox paths typed) key = NewModeBox paths (mode_after typed key)
-box_after (TroubleBox told) key = TroubleBox told
+box_after (AnswerBox waits) key = AnswerBox waits
 
 -- The box stays, and the key has worked in it. In all other cases it is as it was.
 abbrev pub stays : JobReply → Bool
@@ -145,7 +145,7 @@ AsksNothing (Begins job) = ⊥
 AsksNothing (Answers answer) = ⊥
 AsksNothing (Refuses refusal) = ⊥
 
--- a job is begun while none is live, and is one that can be worked; a trouble is answered as it may be
+-- a job is begun while none is live, and is one that can be worked; one that waits is answered as it may be
 abbrev pub IsAllowed : List JobRow → JobReply → Type 0
 IsAllowed rows (Begins job) = (rows ≡ []) × (are_workable job ≡ true)
 IsAllowed rows (Answers answer) = can_answer rows answer ≡ true

@@ -1,6 +1,6 @@
 //! A box of a job, and what a key comes to in it.
 use box_words::Chosen;
-use job_reports::{Answer, Job, JobRows, Trouble};
+use job_reports::{Answer, Job, JobRows, Waits};
 use mc_dialogs::{InputLine, ModeBox};
 use mc_text::{Path, Text};
 use session_history::Refusal;
@@ -12,7 +12,7 @@ pub struct MaskedSource {
     pub mask: Text,
 }
 
-/// A box that asks of a job, or tells of its trouble.
+/// A box that asks of a job, or tells what it waits with.
 #[derive(Debug, Drop)]
 pub enum JobBox {
     /// Asks whether to delete these things.
@@ -29,8 +29,8 @@ pub enum JobBox {
     LinkName(Text, InputLine),
     /// Asks which mode these things are to have.
     Mode(Chosen, ModeBox),
-    /// Tells of a job's trouble, and takes an answer.
-    Trouble(Trouble),
+    /// Tells what a job waits with, and takes an answer.
+    Answer(Waits),
 }
 
 /// What a box goes by besides the tree: the live jobs, the folders of the current panel and of the other one, and HOME.
@@ -51,7 +51,7 @@ pub enum JobReply {
     Opens(JobBox),
     /// This job is to be begun. The box stays until it is.
     Begins(Job),
-    /// The trouble is to be answered so. The box stays until it is.
+    /// The job is to be answered so. The box stays until it is.
     Answers(Answer),
     /// That is refused. The box stays.
     Refuses(Refusal),

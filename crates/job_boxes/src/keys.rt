@@ -4,7 +4,7 @@ ghost use Rattle.job_plans.specs.Reading.{ReadsTree};
 ghost use Rattle.job_boxes.specs.JobBoxes.{seen, seen_around};
 ghost use Rattle.job_boxes.specs.Replies.{BoxLeads, IsAllowed, box_after, reply_refusals, stays};
 
-use crate::answering::key_in_trouble;
+use crate::answering::key_in_answer;
 use crate::deleting::key_in_delete;
 use crate::job_box::{JobBox, JobReply, Surroundings};
 use crate::lines::{key_in_link_text, key_in_mask};
@@ -50,7 +50,7 @@ impl JobBox {
                 key_in_path(alloc, tree, around, &PlanOf::Link(text), line, key)
             }
             JobBox::Mode(chosen, asked) => key_in_mode(alloc, around.rows, chosen, asked, key),
-            JobBox::Trouble(trouble) => Ok(key_in_trouble(around.rows, trouble, key)),
+            JobBox::Answer(waits) => Ok(key_in_answer(around.rows, waits, key)),
         }
     }
 }

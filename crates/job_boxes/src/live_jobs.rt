@@ -1,9 +1,9 @@
 //! What the live jobs allow.
-ghost use Rattle.std.specs.Prelude.{◌≡◌, not, true, if◌then◌else◌};
-ghost use Rattle.job_reports.specs.Reports.{passes_over};
-ghost use Rattle.job_boxes.specs.LiveJobs.{can_answer as may_answer, none_live as is_idle, takes_answer as may_take};
+ghost use Rattle.std.specs.Prelude.{◌≡◌};
+ghost use Rattle.job_boxes.specs.LiveJobs.{can_answer as may_answer, none_live as is_idle, row_waiting, takes_answer as may_take};
 
 use crate::job_box::JobReply;
+use job_answers::{Waiting, then_after, waiting_in};
 use job_reports::{Answer, JobRow, JobRows, JobState};
 use session_history::{BeginError, Refusal};
 
@@ -31,22 +31,20 @@ pub(crate) fn can_answer(rows: &JobRows, answer: Answer) -> bool
     }
 }
 
-/// Whether a job is in a trouble that can be answered so.
+/// Whether a job waits with what can be answered so.
 fn takes_answer(row: &JobRow, answer: Answer) -> bool
     ensures { result ≡ may_take row.now answer }
 {
-    match (row.state, &row.trouble) {
-        (JobState::Troubled, Some(trouble)) => fits(trouble.barrier, answer),
-        _ => false,
-    }
+    then_after(waiting_of(row), answer).is_ok()
 }
 
-/// Whether an answer fits a trouble: at a barrier nothing is passed over.
-fn fits(at_barrier: bool, answer: Answer) -> bool
-    ensures { result ≡ (if passes_over answer then not at_barrier else true) }
+/// What a job waits with.
+fn waiting_of(row: &JobRow) -> Option<Waiting>
+    ensures { result ≡ row_waiting row.now }
 {
-    match answer {
-        Answer::Skip | Answer::SkipAll => !at_barrier,
-        Answer::Retry | Answer::Abort => true,
+    match (row.state, &row.asked, &row.trouble) {
+        (JobState::Asking, Some(_), _) => Some(Waiting::Question),
+        (JobState::Troubled, _, Some(trouble)) => Some(waiting_in(trouble)),
+        _ => None,
     }
 }

@@ -6,7 +6,7 @@ ghost use Rattle.job_boxes.specs.JobBoxes.{seen};
 ghost use Rattle.job_boxes.specs.Paintings.{with_job_box};
 
 use crate::job_box::JobBox;
-use box_words::{delete_lines, trouble_lines};
+use box_words::{delete_lines, waits_lines};
 use key_screen::Grid;
 use mc_dialogs::{paint_box, plain_lines};
 use mc_text::{NoMemory, Rows};
@@ -47,8 +47,8 @@ impl JobBox {
                 asked.paint(alloc, grid)?;
                 Ok(())
             }
-            JobBox::Trouble(trouble) => {
-                let lines = trouble_lines(alloc, trouble)?;
+            JobBox::Answer(waits) => {
+                let lines = waits_lines(alloc, waits)?;
                 paint_lines(grid, alloc, lines)?;
                 Ok(())
             }

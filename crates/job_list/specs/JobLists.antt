@@ -1,7 +1,9 @@
 -- The list of the live jobs: where its cursor stands, what a key comes to, and what it shows. Own, after the listboxes of mc(1).
 use Rattle.std.specs.Prelude.{ℕ, ◌-◌, min, List, length, map, take, drop, Option, Some, None, slice_get, codes}
-use Rattle.job_reports.specs.declared.report.Trouble.{Trouble}
+use Rattle.std.specs.Option.{option_map_or}
 use Rattle.job_reports.specs.declared.row.JobRow.{JobRow}
+use Rattle.job_reports.specs.declared.waits.Waits.{Waits}
+use Rattle.job_reports.specs.Waits.{waits_of}
 use Rattle.key_screen.specs.declared.keys.Base.{Base}
 use Rattle.key_screen.specs.declared.keys.Key.{Key}
 use Rattle.key_screen.specs.Grids.{CellGrid}
@@ -37,19 +39,18 @@ moved_by count base l =
     let current = moved_to count (page_of l) cut.current base in
     record { lines = l.lines; current = current; first = scrolled_to (page_of l) cut.first current }
 
--- the trouble in which a job waits is opened; where it waits in none the list is shut
-abbrev pub trouble_opened : Option Trouble → JobsAct
-trouble_opened None = Leaves
-trouble_opened (Some trouble) = Opens trouble
+-- what a job waits with is opened; where it waits with nothing the list is shut
+abbrev pub waits_opened : Option Waits → JobsAct
+waits_opened None = Leaves
+waits_opened (Some waits) = Opens waits
 
--- Enter on a row; without one the list is shut
-abbrev pub row_opened : Option JobRow → JobsAct
-row_opened None = Leaves
-row_opened (Some row) = trouble_opened row.trouble
+-- Enter on a row
+abbrev pub row_opened : JobRow → JobsAct
+row_opened row = waits_opened (waits_of row)
 
--- what Enter comes to while these jobs are live
+-- what Enter comes to while these jobs are live; without one the list is shut
 abbrev pub enter_act : List JobRow → JobList → JobsAct
-enter_act rows l = row_opened (slice_get rows (cut_to (length rows) l).current)
+enter_act rows l = option_map_or row_opened (slice_get rows (cut_to (length rows) l).current) Leaves
 
 -- what a command comes to, and how it leaves the list
 abbrev pub act_of : JobsCommand → List JobRow → JobList → JobsAct

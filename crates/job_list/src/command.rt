@@ -9,7 +9,7 @@ use key_screen::{Base, Key};
 pub enum JobsCommand {
     /// Another job is current, as this key moves.
     Move(Base),
-    /// Opens the trouble of the current job.
+    /// Opens what the current job waits with.
     Open,
     Leave,
     Nothing,

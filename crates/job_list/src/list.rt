@@ -1,10 +1,10 @@
 //! The list, and what a key comes to in it.
 ghost use Rattle.std.specs.Prelude.{◌≡◌, ◌<◌, ◌^◌, length, IfOk, OnErr, OnOk};
-ghost use Rattle.job_list.specs.JobLists.{act_by, cut_to, enter_act, list_by, moved_by, opened_list, page_of as rows_on, trouble_opened};
+ghost use Rattle.job_list.specs.JobLists.{act_by, cut_to, enter_act, list_by, moved_by, opened_list, page_of as rows_on, row_opened};
 
 use crate::act::JobsAct;
 use crate::command::{JobsCommand, jobs_command};
-use job_reports::{JobRow, JobRows, Trouble};
+use job_reports::{JobRow, JobRows};
 use key_screen::{Base, Key};
 use mc_dialogs::{moved, scrolled};
 use mc_text::NoMemory;
@@ -31,7 +31,7 @@ impl JobList {
         }
     }
 
-    /// Works a key while these jobs are live. Without memory the list stays as it was. It takes the time of one trouble's path at most.
+    /// Works a key while these jobs are live. Without memory the list stays as it was. It takes the time of the paths of one question or trouble at most.
     pub fn key(&mut self, alloc: Global, rows: &JobRows, key: Key) -> Result<JobsAct, NoMemory>
         ensures act { IfOk result (λ act. act ≡ act_by rows.now self.old key) }
         ensures state { OnOk result (self.new ≡ list_by rows.now self.old key) }
@@ -91,16 +91,16 @@ fn open_current(alloc: Global, list: JobList, rows: &[JobRow]) -> Result<JobsAct
 {
     match rows.get(list.cut_to(rows).current) {
         None => Ok(JobsAct::Leaves),
-        Some(row) => open_trouble(alloc, &row.trouble),
+        Some(row) => open_row(alloc, row),
     }
 }
 
-/// The box of a job's trouble is opened, if it is in one.
-fn open_trouble(alloc: Global, trouble: &Option<Trouble>) -> Result<JobsAct, NoMemory>
-    ensures { IfOk result (λ act. act ≡ trouble_opened trouble.now) }
+/// The box of what a job waits with is opened, if it waits.
+fn open_row(alloc: Global, row: &JobRow) -> Result<JobsAct, NoMemory>
+    ensures { IfOk result (λ act. act ≡ row_opened row.now) }
 {
-    match trouble {
+    match row.waits(alloc)? {
         None => Ok(JobsAct::Leaves),
-        Some(trouble) => Ok(JobsAct::Opens(trouble.copy(alloc)?)),
+        Some(waits) => Ok(JobsAct::Opens(waits)),
     }
 }

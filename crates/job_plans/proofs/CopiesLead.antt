@@ -18,11 +18,10 @@ use Rattle.job_plans.specs.declared.copying.JobPlan.{JobPlan}
 use Rattle.job_plans.specs.declared.copying.JobPlan.TheVariants.{Begins, Refuses}
 use Rattle.job_plans.specs.Choices.{plan_refusals}
 use Rattle.job_plans.specs.Copies.{can_be_copied}
-use Rattle.job_plans.specs.CopyPlans.{CopyLeads, IsCopy, IsPlanned, PlanLeads, copy_request}
+use Rattle.job_plans.specs.CopyPlans.{BeginsCopy, CopyLeads, IsCopy, IsPlanned, copy_request}
 use Rattle.job_plans.specs.Places.{is_below_home}
-use Rattle.job_plans.specs.Reading.{ReadsTree, sight}
+use Rattle.job_plans.specs.Reading.{ReadsTree}
 use Rattle.job_plans.specs.Told.{IsToldAs}
-use Rattle.job_plans.proofs.TargetLemmas.{reads_later}
 use Rattle.job_plans.proofs.Within.{copied_within}
 
 module _ (paths : List Route) (mask : List ℕ) (from : Route) (typed : List ℕ) where
@@ -49,28 +48,28 @@ module _ (paths : List Route) (mask : List ℕ) (from : Route) (typed : List ℕ
   module _ (kind : Option Kind) (contents : Option CallLog) where
     leads : (pairs : List Pair) (plan : JobPlan) → is_below_home typed ≡ false → IsSound (planned.Copy pairs)
         → IsJobFor (copy_request paths mask from typed) (planned.Copy pairs)
-        → IsPlanned contents (copy_request paths mask from typed) (Ok (planned.Copy pairs)) → PlanLeads (sight contents) kind pairs plan
+        → IsPlanned contents (copy_request paths mask from typed) (Ok (planned.Copy pairs)) → BeginsCopy kind pairs plan
         → CopyLeads contents kind paths mask from typed plan
     leads pairs (Begins plan) not_home sound asked known at =
-        (pairs, record { not_home = not_home; asked_for = asked; apart = sound; planned = known; vacant = at.0 }, at.1, at.2)
-    leads pairs (Refuses refusal) not_home sound asked known at = inr (not_home, inr (record { pairs = pairs; planned = known; blocked = at }))
+        (pairs, record { not_home = not_home; asked_for = asked; apart = sound; planned = known }, at.0, at.1)
+    leads pairs (Refuses refusal) not_home sound asked known at = absurd at
 
-    pub copy_leads : (after : Option CallLog) (request : Request) (job : Planned) (pairs : List Pair) (result : Result JobPlan NoMemory) → is_below_home typed ≡ false
+    pub copy_leads : (request : Request) (job : Planned) (pairs : List Pair) (result : Result JobPlan NoMemory) → is_below_home typed ≡ false
         → request ≡ copy_request paths mask from typed → IsSound job → IsJobFor request job → IsPlanned contents request (Ok job)
-        → job ≡ planned.Copy pairs → after ≡ contents → IfOk result (PlanLeads (sight after) kind pairs)
+        → job ≡ planned.Copy pairs → IfOk result (BeginsCopy kind pairs)
         → IfOk result (CopyLeads contents kind paths mask from typed)
-    copy_leads after request job pairs (Err e) not_home is sound asked known are same told = tt
-    copy_leads after request job pairs (Ok plan) not_home is sound asked known are same told =
+    copy_leads request job pairs (Err e) not_home is sound asked known are told = tt
+    copy_leads request job pairs (Ok plan) not_home is sound asked known are told =
         leads pairs plan not_home (subst IsSound are sound)
         (subst (λ (j : Planned). IsJobFor (copy_request paths mask from typed) j) are (subst (λ (r : Request). IsJobFor r job) is asked))
         (subst (λ (j : Planned). IsPlanned contents (copy_request paths mask from typed) (Ok j)) are
         (subst (λ (r : Request). IsPlanned contents r (Ok job)) is known))
-        (subst (λ (c : Option CallLog). PlanLeads (sight c) kind pairs plan) same told)
+        told
 
     refuses : (error : PlanError) (plan : JobPlan) → is_below_home typed ≡ false → IsPlanned contents (copy_request paths mask from typed) (Err error)
         → IsToldAs error plan → CopyLeads contents kind paths mask from typed plan
     refuses error (Begins plan) not_home known told = absurd told
-    refuses error (Refuses refusal) not_home known told = inr (not_home, inl (record { error = error; planned = known; told = told }))
+    refuses error (Refuses refusal) not_home known told = inr (not_home, record { error = error; planned = known; told = told })
 
     pub refused_copy : (request : Request) (error : PlanError) (result : Result JobPlan NoMemory) → is_below_home typed ≡ false
         → request ≡ copy_request paths mask from typed → IsPlanned contents request (Err error) → IfOk result (IsToldAs error)
@@ -79,7 +78,9 @@ module _ (paths : List Route) (mask : List ℕ) (from : Route) (typed : List ℕ
     refused_copy request error (Ok plan) not_home is known told =
         refuses error plan not_home (subst (λ (r : Request). IsPlanned contents r (Err error)) is known) told
 
--- what is read: a plan that was made, and the looks at its targets
-pub copy_reads : {A : Type 0} (contents after last : Option CallLog) (f0 f1 f2 : ℕ) (made : Result A PlanError) (result : Result JobPlan NoMemory) → after ≡ contents
-    → HasPlanCause f0 f1 made → ReadsTree plan_refusals result after last f1 f2 → ReadsTree plan_refusals result contents last f0 f2
-copy_reads contents after last f0 f1 f2 made result same cause reads = reads_later plan_refusals result contents after last f0 f1 f2 same cause.later reads
+-- what is read by a plan that was made
+pub copy_reads : {A : Type 0} (contents after : Option CallLog) (f0 f1 : ℕ) (made : Result A PlanError) (kind : Option Kind) (pairs : List Pair) (result : Result JobPlan NoMemory)
+    → after ≡ contents → HasPlanCause f0 f1 made → IfOk result (BeginsCopy kind pairs) → ReadsTree plan_refusals result contents after f0 f1
+copy_reads contents after f0 f1 made kind pairs (Err e) same cause begins = record { same = same; later = cause.later; called = λ log is. tt; fault = tt }
+copy_reads contents after f0 f1 made kind pairs (Ok (Begins plan)) same cause begins = record { same = same; later = cause.later; called = λ log is. tt; fault = λ h. absurd cc }
+copy_reads contents after f0 f1 made kind pairs (Ok (Refuses refusal)) same cause begins = absurd begins

@@ -3,7 +3,6 @@ mod Refusing
 mod NewPlaces
 mod CopyCauses
 mod Within
-mod TargetLemmas
 mod CopiesLead
 mod Sights
 mod ChoiceLemmas

@@ -1,20 +1,27 @@
 -- What choosing the things that are selected comes to.
-use Rattle.std.specs.Prelude.{◌≡◌, ⊤, ℕ, Bool, true, false, List, [], ◌∷◌, length, map, nat_lt, Option, Some, None}
+use Rattle.std.specs.Prelude.{◌≡◌, ⊤, ℕ, Bool, true, false, not, ◌&&◌, if◌then◌else◌, List, [], ◌∷◌, length, map, nat_lt, Option, Some, None}
+use Rattle.std.specs.FinSet as set
 use Rattle.std.specs.List.{list_any}
 use Rattle.mc_text.specs.declared.kind.Kind.{Kind}
+use Rattle.mc_text.specs.declared.kind.Kind.TheVariants.{File}
 use Rattle.mc_text.specs.Routes.{Route, spelled}
 use Rattle.tree_trait.specs.declared.calls.Meta.{Meta}
 use Rattle.tree_trait.specs.FileSystem.{View}
 use Rattle.session_history.specs.declared.refusal.PlanError.TheVariants as plan
 use Rattle.session_history.specs.declared.refusal.Refusal.{Refusal}
 use Rattle.session_history.specs.declared.refusal.Refusal.TheVariants.{Plan, Tree}
+use Rattle.tagging.specs.TagSets.{TagSet}
+use Rattle.panel_listing.specs.declared.item.Item.{Item}
+use Rattle.panel_listing.specs.Listings.{rows_in}
+use Rattle.mc_panels.specs.Panels.{PanelState, tag_set}
+use Rattle.mc_panels.specs.Selections.{selection}
 use Rattle.job_plans.specs.declared.choosing.Opens.{Opens}
 use Rattle.job_plans.specs.declared.choosing.Opens.TheVariants as opens
 use Rattle.job_plans.specs.declared.choosing.Choice.{Choice}
 use Rattle.job_plans.specs.declared.choosing.Choice.TheVariants.{NoSelection, Nothing, Things, Refused}
 use Rattle.job_plans.specs.declared.copying.JobPlan.{JobPlan}
 use Rattle.job_plans.specs.declared.copying.JobPlan.TheVariants.{Begins, Refuses}
-use Rattle.job_plans.specs.Copies.{HasKind, HasMode, MayAsk}
+use Rattle.job_plans.specs.Copies.{HasKind, HasMode, MayAsk, is_file}
 
 -- the things of these names in a folder
 abbrev pub paths_in : Route → List (List ℕ) → List Route
@@ -29,6 +36,21 @@ are_several [] = false
 are_several (one ∷ []) = false
 are_several (one ∷ other ∷ more) = true
 
+-- a row that is tagged and no file
+abbrev pub is_tagged_otherwise : TagSet → Option Item → Bool
+is_tagged_otherwise tags None = false
+is_tagged_otherwise tags (Some item) = set.contains tags item.name && not (is_file item.kind)
+
+-- the kind of several things that are tagged, as the panel lists them: that of a file, where each is one
+abbrev pub listed_kind : PanelState → Option Kind
+listed_kind p = if list_any (is_tagged_otherwise (tag_set p)) (rows_in p.listing) then None else Some File
+
+-- of several things that are to be copied their kind is kept, as it is listed
+abbrev pub kind_kept : Opens → Option Kind → Option Kind
+kind_kept opens.SourceMask listed = listed
+kind_kept opens.Delete listed = None
+kind_kept opens.Mode listed = None
+
 -- what is looked at before a box asks: one thing, and of several the first, where a mode is asked for
 abbrev pub looked_at : Opens → List Route → Option Route
 looked_at box [] = None
@@ -42,29 +64,29 @@ abbrev pub HasSeenMode : Option View → Option Route → ℕ → Type 0
 HasSeenMode tree None mode = ⊤
 HasSeenMode tree (Some path) mode = HasMode tree path mode
 
--- A box may ask of these things: of one, where one of its kinds stands there, which is told, too; of several, whatever they are.
-abbrev pub MayAskOf : Opens → Option View → List Route → Option Kind → ℕ → Type 0
-MayAskOf box tree [] kind mode = ⊥
-MayAskOf box tree (path ∷ []) kind mode = MayAsk box tree path true × HasMode tree path mode × HasKind tree path kind
-MayAskOf box tree (path ∷ other ∷ more) kind mode =
-    (list_any is_too_long (path ∷ other ∷ more) ≡ false) × HasSeenMode tree (looked_at box (path ∷ other ∷ more)) mode × (kind ≡ None)
+-- A box may ask of these things: of one, where something stands there, whose kind is told, too; of several, whatever they are, of which the panel lists this kind.
+abbrev pub MayAskOf : Opens → Option View → Option Kind → List Route → Option Kind → ℕ → Type 0
+MayAskOf box tree listed [] kind mode = ⊥
+MayAskOf box tree listed (path ∷ []) kind mode = MayAsk tree path true × HasMode tree path mode × HasKind tree path kind
+MayAskOf box tree listed (path ∷ other ∷ more) kind mode =
+    (list_any is_too_long (path ∷ other ∷ more) ≡ false) × HasSeenMode tree (looked_at box (path ∷ other ∷ more)) mode × (kind ≡ kind_kept box listed)
 
--- or it may not: of one, where no such thing stands there or its path is too long; of several, where some path is too long
-abbrev pub MayNotAskOf : Opens → Option View → List Route → Type 0
-MayNotAskOf box tree [] = ⊥
-MayNotAskOf box tree (path ∷ []) = MayAsk box tree path false
-MayNotAskOf box tree (path ∷ other ∷ more) = list_any is_too_long (path ∷ other ∷ more) ≡ true
+-- or none may: of one, where nothing stands there or its path is too long; of several, where some path is too long
+abbrev pub MayNotAskOf : Option View → List Route → Type 0
+MayNotAskOf tree [] = ⊥
+MayNotAskOf tree (path ∷ []) = MayAsk tree path false
+MayNotAskOf tree (path ∷ other ∷ more) = list_any is_too_long (path ∷ other ∷ more) ≡ true
 
 -- of these things: there are none; the box may ask of them, or may not; or the look at one was refused
-abbrev pub IsChoiceOf : Opens → Option View → List Route → Choice → Type 0
-IsChoiceOf box tree paths NoSelection = paths ≡ []
-IsChoiceOf box tree paths Nothing = MayNotAskOf box tree paths
-IsChoiceOf box tree paths (Things chosen mode) = MayAskOf box tree paths chosen.kind mode × (chosen.paths ≡ paths)
-IsChoiceOf box tree paths (Refused refused e) = looked_at box paths ≡ Some refused
+abbrev pub IsChoiceOf : Opens → Option View → Option Kind → List Route → Choice → Type 0
+IsChoiceOf box tree listed paths NoSelection = paths ≡ []
+IsChoiceOf box tree listed paths Nothing = MayNotAskOf tree paths
+IsChoiceOf box tree listed paths (Things chosen mode) = MayAskOf box tree listed paths chosen.kind mode × (chosen.paths ≡ paths)
+IsChoiceOf box tree listed paths (Refused refused e) = looked_at box paths ≡ Some refused
 
--- of what is selected in a folder
-abbrev pub IsChoice : Opens → Option View → Route → List (List ℕ) → Choice → Type 0
-IsChoice box tree folder names choice = IsChoiceOf box tree (paths_in folder names) choice
+-- of what is selected in a panel
+abbrev pub IsChoice : Opens → Option View → PanelState → Choice → Type 0
+IsChoice box tree p choice = IsChoiceOf box tree (listed_kind p) (paths_in p.folder (selection p)) choice
 
 -- what was refused: nothing was selected, or the look at a thing
 abbrev pub choice_refusals : Choice → List Refusal

@@ -1,40 +1,27 @@
 -- What a box may ask of, and the plans that it confirms.
-use Rattle.std.specs.Prelude.{◌≡◌, ℕ, Bool, true, false, ◌&&◌, nat_le, ⊤, List, [], ◌∷◌, length, map, IsSome, Option, Some, None}
+use Rattle.std.specs.Prelude.{◌≡◌, ℕ, Bool, true, false, ◌&&◌, is_some, nat_le, ⊤, List, [], ◌∷◌, length, map, Option, Some, None}
 use Rattle.std.specs.List.{list_all}
-use Rattle.std.specs.Option.{option_map, option_map_or}
+use Rattle.std.specs.Option.{option_map}
 use Rattle.mc_text.specs.declared.kind.Kind.{Kind}
 use Rattle.mc_text.specs.declared.kind.Kind.TheVariants.{File, Folder, Link, Other}
 use Rattle.mc_text.specs.Routes.{Route, spelled}
-use Rattle.tree_trait.specs.FileSystem.{Spot, Value, View}
+use Rattle.tree_trait.specs.FileSystem.{Value, View}
 use Rattle.op_plan.specs.declared.job.Pair.{Pair as PlannedPair}
 use Rattle.job_reports.specs.declared.job.Job.{Job}
 use Rattle.job_reports.specs.declared.job.Job.TheVariants as plan
 use Rattle.job_reports.specs.declared.job.Pair.{Pair}
 use Rattle.box_words.specs.Chosen.{is_within}
-use Rattle.job_plans.specs.declared.choosing.Opens.{Opens}
-use Rattle.job_plans.specs.declared.choosing.Opens.TheVariants as opens
 
--- a file, a folder or a link may be copied
-abbrev pub may_copy : Kind → Bool
-may_copy File = true
-may_copy Folder = true
-may_copy Link = true
-may_copy Other = false
+abbrev pub is_file : Kind → Bool
+is_file File = true
+is_file Folder = false
+is_file Link = false
+is_file Other = false
 
--- and anything deleted or given a mode
-abbrev pub may_open : Opens → Kind → Bool
-may_open opens.SourceMask kind = may_copy kind
-may_open opens.Delete kind = true
-may_open opens.Mode kind = true
-
--- a thing of such a kind stands there
-abbrev pub is_spot_of : Opens → Spot → Bool
-is_spot_of box spot = option_map_or (λ v. may_open box v.kind) spot.value false
-
--- a box may ask of the thing at a path: exactly where a thing of its kinds stands there, as far as the tree can be seen
-abbrev pub MayAsk : Opens → Option View → Route → Bool → Type 0
-MayAsk box None path asks = ⊤
-MayAsk box (Some view) path asks = asks ≡ (is_spot_of box (view path) && nat_le (length (spelled path)) 4096)
+-- a box may ask of the thing at a path: exactly where something stands there, as far as the tree can be seen, and the path isn't too long
+abbrev pub MayAsk : Option View → Route → Bool → Type 0
+MayAsk None path asks = ⊤
+MayAsk (Some view) path asks = asks ≡ (is_some (view path).value && nat_le (length (spelled path)) 4096)
 
 -- the thing at a path has a mode, as far as the tree can be seen
 abbrev pub HasMode : Option View → Route → ℕ → Type 0
@@ -53,7 +40,7 @@ delete_plan paths = plan.Delete paths
 abbrev pub mode_plan : List Route → ℕ → Job
 mode_plan paths mode = plan.SetMode paths mode
 
--- the copy of one thing that is a file, or of things with all that lies in them
+-- the copy of things that are all files, or of things with all that lies in them
 abbrev pub copies : Option Kind → List Pair → Job
 copies (Some File) pairs = plan.Copy pairs
 copies (Some Folder) pairs = plan.CopyTree pairs
@@ -75,10 +62,6 @@ lie_within pair = is_within pair.source && is_within pair.target
 abbrev pub can_be_copied : List PlannedPair → Bool
 can_be_copied [] = false
 can_be_copied (pair ∷ pairs) = list_all lie_within (pair ∷ pairs)
-
--- something stands at a path, as far as the tree can be seen
-abbrev pub IsTaken : Option View → Route → Type 0
-IsTaken tree path = (view : View) → tree ≡ Some view → IsSome (view path).value
 
 -- nothing stands at a path, as far as the tree can be seen
 abbrev pub IsVacant : Option View → Route → Type 0

@@ -2,7 +2,6 @@
 use Rattle.std.specs.Prelude.{◌≡◌, ◌⊎◌, ⊤, ℕ, true, false, List, Option, Some, Result, Ok, Err}
 use Rattle.mc_text.specs.declared.kind.Kind.{Kind}
 use Rattle.mc_text.specs.Routes.{Route}
-use Rattle.tree_trait.specs.FileSystem.{View}
 use Rattle.tree_trait.specs.Change.{CallLog, current}
 use Rattle.tree_trait.specs.Answers.{IfKnown}
 use Rattle.op_plan.specs.declared.error.PlanError.{PlanError}
@@ -13,7 +12,6 @@ use Rattle.op_plan.specs.declared.request.Request.{Request}
 use Rattle.op_plan.specs.declared.request.Request.TheVariants as asked
 use Rattle.op_plan.specs.Answering.{Plans}
 use Rattle.op_plan.specs.Asking.{ArePairsFor}
-use Rattle.op_plan.specs.Checks.{targets_from}
 use Rattle.op_plan.specs.Planning.{plan_of}
 use Rattle.op_plan.specs.Soundness.{ArePairsApart}
 use Rattle.session_history.specs.Sources.{are_workable}
@@ -24,8 +22,6 @@ use Rattle.job_plans.specs.declared.copying.JobPlan.{JobPlan}
 use Rattle.job_plans.specs.declared.copying.JobPlan.TheVariants.{Begins, Refuses}
 use Rattle.job_plans.specs.Copies.{copy_plan}
 use Rattle.job_plans.specs.Places.{is_below_home}
-use Rattle.job_plans.specs.Reading.{sight}
-use Rattle.job_plans.specs.Targets.{AreBlocked, AreVacant}
 use Rattle.job_plans.specs.Told.{told_as}
 
 -- what is asked for: the sources, the mask that they are to match, and the destination that was typed in a folder
@@ -41,14 +37,13 @@ IsCopy job = ⊥
 abbrev pub IsPlanned : Option CallLog → Request → Result Planned PlanError → Type 0
 IsPlanned contents request result = IfKnown contents (λ log. Plans (plan_of (current log) request) result)
 
--- Sources may be copied to their targets: they are those that were asked for, in their order, none of the sources and the targets is, holds or
--- lies in another, they are what the plan comes to, and nothing stands at the targets.
-pub record AreNewCopies (contents : Option CallLog) (paths : List Route) (mask : List ℕ) (from : Route) (typed : List ℕ) (pairs : List PlannedPair) : Type 0 where
+-- Sources are to be copied to their targets: they are those that were asked for, in their order, none of the sources and the targets is, holds or
+-- lies in another, and they are what the plan comes to. What stands at a target is the job's to ask about.
+pub record AreCopies (contents : Option CallLog) (paths : List Route) (mask : List ℕ) (from : Route) (typed : List ℕ) (pairs : List PlannedPair) : Type 0 where
   pub not_home : is_below_home typed ≡ false
   pub asked_for : ArePairsFor paths mask typed pairs
   pub apart : ArePairsApart pairs
   pub planned : IsPlanned contents (copy_request paths mask from typed) (Ok (planned.Copy pairs))
-  pub vacant : AreVacant (sight contents) (targets_from pairs)
 
 -- the plan comes to this refusal
 pub record HasNoPlan (contents : Option CallLog) (request : Request) (refusal : Refusal) : Type 0 where
@@ -56,26 +51,19 @@ pub record HasNoPlan (contents : Option CallLog) (request : Request) (refusal : 
   pub planned : IsPlanned contents request (Err error)
   pub told : told_as error ≡ Some refusal
 
--- the plan comes to targets of which one can't be copied to
-pub record HasNoRoom (contents : Option CallLog) (request : Request) (refusal : Refusal) : Type 0 where
-  pub pairs : List PlannedPair
-  pub planned : IsPlanned contents request (Ok (planned.Copy pairs))
-  pub blocked : AreBlocked (sight contents) (targets_from pairs) refusal
-
--- No copy is made: what is typed begins at HOME, which isn't known here; or the plan is refused; or one of its targets can't be copied to.
+-- No copy is made: what is typed begins at HOME, which isn't known here; or the plan is refused.
 abbrev pub CopyRefused : Option CallLog → List Route → List ℕ → Route → List ℕ → Refusal → Type 0
 CopyRefused contents paths mask from typed refusal =
     ((is_below_home typed ≡ true) × (refusal ≡ Plan BadMask))
-    ⊎ ((is_below_home typed ≡ false)
-    × (HasNoPlan contents (copy_request paths mask from typed) refusal ⊎ HasNoRoom contents (copy_request paths mask from typed) refusal))
+    ⊎ ((is_below_home typed ≡ false) × HasNoPlan contents (copy_request paths mask from typed) refusal)
 
 -- what planning the copy of things comes to, of which one alone is of this kind: the plan, or why it is refused
 abbrev pub CopyLeads : Option CallLog → Option Kind → List Route → List ℕ → Route → List ℕ → JobPlan → Type 0
 CopyLeads contents kind paths mask from typed (Begins plan) =
-    (pairs : List PlannedPair) × AreNewCopies contents paths mask from typed pairs × (plan ≡ copy_plan kind pairs) × (are_workable plan ≡ true)
+    (pairs : List PlannedPair) × AreCopies contents paths mask from typed pairs × (plan ≡ copy_plan kind pairs) × (are_workable plan ≡ true)
 CopyLeads contents kind paths mask from typed (Refuses refusal) = CopyRefused contents paths mask from typed refusal
 
--- what copies to targets come to: the plan, where nothing stands there, or why it is refused
-abbrev pub PlanLeads : Option View → Option Kind → List PlannedPair → JobPlan → Type 0
-PlanLeads tree kind pairs (Begins plan) = AreVacant tree (targets_from pairs) × (plan ≡ copy_plan kind pairs) × (are_workable plan ≡ true)
-PlanLeads tree kind pairs (Refuses refusal) = AreBlocked tree (targets_from pairs) refusal
+-- the plan of copies to targets
+abbrev pub BeginsCopy : Option Kind → List PlannedPair → JobPlan → Type 0
+BeginsCopy kind pairs (Begins plan) = (plan ≡ copy_plan kind pairs) × (are_workable plan ≡ true)
+BeginsCopy kind pairs (Refuses refusal) = ⊥

@@ -6,5 +6,4 @@ pub mod Links
 pub mod Places
 pub mod Reading
 pub mod Refused
-pub mod Targets
 pub mod Told

@@ -1,15 +1,17 @@
 //! The look at the things that are selected.
-ghost use Rattle.std.specs.Prelude.{◌≡◌, ◌∷◌, [], true, None, IfOk};
+ghost use Rattle.std.specs.Prelude.{◌≡◌, ◌∷◌, [], true, None, IfOk, option_copied};
 ghost use Rattle.mc_panels.specs.Selections.{selection};
 ghost use Rattle.box_words.specs.Chosen.{can_be_chosen};
-ghost use Rattle.job_plans.specs.Choices.{ArePathsIn, IsChoice, IsLookAtFirst, IsThing, are_several, choice_refusals, looked_at, paths_in};
-ghost use Rattle.job_plans.specs.Copies.{may_open};
+ghost use Rattle.job_plans.specs.Choices.{ArePathsIn, IsChoice, IsChoiceOf, IsLookAtFirst, IsThing, are_several, choice_refusals, is_tagged_otherwise, listed_kind, looked_at, paths_in};
+ghost use Rattle.job_plans.specs.Copies.{is_file};
 ghost use Rattle.job_plans.specs.Reading.{ReadsTree, sight};
 
 use box_words::Chosen;
 use mc_panels::Panel;
 use mc_text::{Kind, Name, NoMemory, Path, PathError, Paths};
+use panel_listing::Item;
 use std::alloc::Global;
+use tagging::Tags;
 use tree_trait::{Meta, ReadTree, TreeError};
 
 /// Which box is opened on the things that are selected.
@@ -25,23 +27,23 @@ pub enum Opens {
 pub enum Choice {
     /// There is nothing: no name is tagged, and the cursor stands on `..`, or on no row.
     NoSelection,
-    /// It is nothing that the box may ask of, or a path is too long.
+    /// A path is too long.
     Nothing,
-    /// Things that the box may ask of, and the mode that the first has, where it was looked at.
+    /// Things, and the mode that the first has, where it was looked at.
     Things(Chosen, u16),
     /// The look at this one was refused.
     Refused(Path, TreeError),
 }
 
-/// Chooses the things that are selected, if a box may ask of them: those that are tagged, or else the one under the cursor. One thing is
-/// looked at; of several the first, where a mode is asked for. It goes over the shown names once.
+/// Chooses the things that are selected, of which a box then asks: those that are tagged, or else the one under the cursor. One thing is
+/// looked at; of several the first, where a mode is asked for. It goes over the shown names at most twice.
 pub fn choose<T: ReadTree>(
     alloc: Global,
     tree: &mut T,
     panel: &Panel,
     opens: Opens,
 ) -> Result<Choice, NoMemory>
-    ensures chosen { IfOk result (IsChoice opens (sight (T.contents tree.old)) panel.now.folder (selection panel.now)) }
+    ensures chosen { IfOk result (IsChoice opens (sight (T.contents tree.old)) panel.now) }
     ensures still { looked_at opens (paths_in panel.now.folder (selection panel.now)) ≡ None → tree.new ≡ tree.old }
     ensures reads { ReadsTree choice_refusals result (T.contents tree.old) (T.contents tree.new)
         (T.fault_count tree.old) (T.fault_count tree.new) }
@@ -49,36 +51,30 @@ pub fn choose<T: ReadTree>(
     let names = panel.selection(alloc)?;
     match names.as_slice() {
         [] => Ok(Choice::NoSelection),
-        [name] => choose_one(alloc, tree, panel.folder(), name, opens),
-        [_, _, ..] => choose_several(alloc, tree, panel.folder(), names.as_slice(), opens),
+        [name] => choose_one(alloc, tree, panel, name, opens),
+        [_, _, ..] => choose_several(alloc, tree, panel, names.as_slice(), opens),
     }
 }
 
-/// Looks at a thing in a folder.
+/// Looks at a thing in the panel's folder.
 fn choose_one<T: ReadTree>(
     alloc: Global,
     tree: &mut T,
-    folder: &Path,
+    panel: &Panel,
     name: &Name,
     opens: Opens,
 ) -> Result<Choice, NoMemory>
-    ensures chosen { IfOk result (IsChoice opens (sight (T.contents tree.old)) folder.now (name.now ∷ [])) }
+    ensures chosen { IfOk result (IsChoiceOf opens (sight (T.contents tree.old)) (listed_kind panel.now) (paths_in panel.now.folder (name.now ∷ []))) }
     ensures reads { ReadsTree choice_refusals result (T.contents tree.old) (T.contents tree.new)
         (T.fault_count tree.old) (T.fault_count tree.new) }
 {
-    let path = match folder.join(alloc, name) {
+    let path = match panel.folder().join(alloc, name) {
         Ok(path) => path,
         Err(PathError::TooLong(_)) => return Ok(Choice::Nothing),
         Err(_) => return Err(NoMemory),
     };
     match tree.stat(alloc, &path) {
-        Ok(meta) => {
-            if may_ask_of(opens, meta.kind) {
-                one_thing(alloc, path, meta)
-            } else {
-                Ok(Choice::Nothing)
-            }
-        }
+        Ok(meta) => one_thing(alloc, path, meta),
         Err(TreeError::Memory) => Err(NoMemory),
         Err(error) => Ok(Choice::Refused(path, error)),
     }
@@ -98,28 +94,66 @@ fn one_thing(alloc: Global, path: Path, meta: Meta) -> Result<Choice, NoMemory>
     Ok(Choice::Things(chosen, meta.mode))
 }
 
-/// Chooses several things in a folder. Only for a mode the first is looked at.
+/// Chooses several things in the panel's folder. Only for a mode the first is looked at.
 fn choose_several<T: ReadTree>(
     alloc: Global,
     tree: &mut T,
-    folder: &Path,
+    panel: &Panel,
     names: &[Name],
     opens: Opens,
 ) -> Result<Choice, NoMemory>
     requires several { are_several names.now ≡ true }
-    ensures chosen { IfOk result (IsChoice opens (sight (T.contents tree.old)) folder.now names.now) }
-    ensures still { looked_at opens (paths_in folder.now names.now) ≡ None → tree.new ≡ tree.old }
+    ensures chosen { IfOk result (IsChoiceOf opens (sight (T.contents tree.old)) (listed_kind panel.now) (paths_in panel.now.folder names.now)) }
+    ensures still { looked_at opens (paths_in panel.now.folder names.now) ≡ None → tree.new ≡ tree.old }
     ensures reads { ReadsTree choice_refusals result (T.contents tree.old) (T.contents tree.new)
         (T.fault_count tree.old) (T.fault_count tree.new) }
 {
-    let Some(paths) = paths_in(alloc, folder, names)? else {
+    let Some(paths) = paths_in(alloc, panel.folder(), names)? else {
         return Ok(Choice::Nothing);
     };
-    let chosen = Chosen { paths, kind: None };
     match opens {
-        Opens::Delete => Ok(Choice::Things(chosen, 0)),
-        Opens::SourceMask => Ok(Choice::Things(chosen, 0)),
-        Opens::Mode => with_first_mode(alloc, tree, chosen),
+        Opens::Delete => Ok(Choice::Things(Chosen { paths, kind: None }, 0)),
+        Opens::SourceMask => Ok(Choice::Things(
+            Chosen {
+                paths,
+                kind: listed_kind(panel),
+            },
+            0,
+        )),
+        Opens::Mode => with_first_mode(alloc, tree, Chosen { paths, kind: None }),
+    }
+}
+
+/// The kind of several things that are tagged, as the panel lists them: that of a file, where each is one.
+fn listed_kind(panel: &Panel) -> Option<Kind>
+    ensures { result ≡ listed_kind panel.now }
+{
+    let listing = panel.listing();
+    let tags = panel.tags();
+    for row in 0..listing.len() {
+        if is_tagged_otherwise(tags, listing.item(row)) {
+            return None;
+        }
+    }
+    Some(Kind::File)
+}
+
+/// Whether a row is tagged, and no file.
+fn is_tagged_otherwise(tags: &Tags, row: Option<&Item>) -> bool
+    ensures { result ≡ is_tagged_otherwise tags.now (option_copied row.entry) }
+{
+    match row {
+        Some(item) if tags.has(item.name.text()) => !is_file(item.kind),
+        _ => false,
+    }
+}
+
+fn is_file(kind: Kind) -> bool
+    ensures { result ≡ is_file kind }
+{
+    match kind {
+        Kind::File => true,
+        Kind::Folder | Kind::Link | Kind::Other => false,
     }
 }
 
@@ -156,15 +190,4 @@ fn paths_in(alloc: Global, folder: &Path, names: &[Name]) -> Result<Option<Paths
         }
     }
     Ok(Some(Paths(paths)))
-}
-
-/// Whether a box may ask of a thing of this kind: a file, a folder or a link may be copied, and anything deleted or given a mode.
-fn may_ask_of(opens: Opens, kind: Kind) -> bool
-    ensures { result ≡ may_open opens kind }
-{
-    match (opens, kind) {
-        (Opens::SourceMask, Kind::File | Kind::Folder | Kind::Link) => true,
-        (Opens::SourceMask, Kind::Other) => false,
-        (Opens::Delete | Opens::Mode, _) => true,
-    }
 }

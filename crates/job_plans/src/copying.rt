@@ -1,19 +1,18 @@
 //! The plans of the jobs that a box confirms.
 ghost use Rattle.std.specs.Prelude.{◌≡◌, ◌<◌, true, IfOk};
 ghost use Rattle.session_history.specs.Sources.{are_workable};
-ghost use Rattle.job_plans.specs.Copies.{can_be_copied, copies, delete_plan, mode_plan};
-ghost use Rattle.job_plans.specs.CopyPlans.{CopyLeads, IsCopy, PlanLeads, copy_request};
+ghost use Rattle.job_plans.specs.Copies.{can_be_copied, copies, delete_plan, mode_plan, reported as reported_pairs};
+ghost use Rattle.job_plans.specs.CopyPlans.{BeginsCopy, CopyLeads, IsCopy, copy_request};
 ghost use Rattle.job_plans.specs.Choices.{plan_refusals};
 ghost use Rattle.job_plans.specs.Places.{is_below_home};
-ghost use Rattle.job_plans.specs.Reading.{ReadsTree, sight};
+ghost use Rattle.job_plans.specs.Reading.{ReadsTree};
 
 use crate::home::is_below_home;
 use crate::refused::{refuse, refused};
-use crate::targets::{refusal_among, reported};
 use box_words::Chosen;
-use job_reports::{Job, Pairs};
+use job_reports::{Job, Pair, Pairs};
 use mc_text::{Kind, NoMemory, Path, Text};
-use op_plan::{Job as Planned, Pairs as PlannedPairs, Request, make_plan};
+use op_plan::{Job as Planned, Pair as PlannedPair, Pairs as PlannedPairs, Request, make_plan};
 use session_history::{PlanError, Refusal};
 use std::alloc::Global;
 use tree_trait::ReadTree;
@@ -25,9 +24,9 @@ pub enum JobPlan {
     Refuses(Refusal),
 }
 
-/// Plans the copy of those things that a mask matches to where a typed text leads from a folder, if nothing stands there. The text's last
-/// part makes the targets' names of the sources', or names the folder that is to hold them. What begins at HOME, which isn't known here, is
-/// refused without a look.
+/// Plans the copy of those things that a mask matches to where a typed text leads from a folder. The text's last part makes the targets'
+/// names of the sources', or names the folder that is to hold them. What stands at a target is the job's to ask about. What begins at HOME,
+/// which isn't known here, is refused without a look.
 pub fn plan_copy<T: ReadTree>(
     alloc: Global,
     tree: &mut T,
@@ -46,7 +45,7 @@ pub fn plan_copy<T: ReadTree>(
     }
     let request = request_of(alloc, chosen, mask, from, typed)?;
     match make_plan(alloc, tree, request) {
-        Ok(job) => plan_to(alloc, tree, chosen.kind, pairs_of(job)),
+        Ok(job) => plan_to(alloc, chosen.kind, pairs_of(job)),
         Err(error) => refused(error),
     }
 }
@@ -80,24 +79,25 @@ fn pairs_of(job: Planned) -> PlannedPairs
     }
 }
 
-/// Plans the copy of sources to their targets, if nothing stands there. What is one thing alone is of this kind.
+/// The plan of the copies of sources to their targets. What is one thing alone is of this kind.
 #[tactic(auto, using(crate::proofs::Within::copy_works))]
-fn plan_to<T: ReadTree>(
-    alloc: Global,
-    tree: &mut T,
-    kind: Option<Kind>,
-    pairs: PlannedPairs,
-) -> Result<JobPlan, NoMemory>
+fn plan_to(alloc: Global, kind: Option<Kind>, pairs: PlannedPairs) -> Result<JobPlan, NoMemory>
     requires within { can_be_copied pairs ≡ true }
-    ensures leads { IfOk result (PlanLeads (sight (T.contents tree.old)) kind pairs) }
-    ensures reads { ReadsTree plan_refusals result (T.contents tree.old) (T.contents tree.new)
-        (T.fault_count tree.old) (T.fault_count tree.new) }
+    ensures { IfOk result (BeginsCopy kind pairs) }
 {
-    match refusal_among(alloc, tree, pairs.as_slice()) {
-        Ok(Some(refusal)) => Ok(JobPlan::Refuses(refusal)),
-        Ok(None) => Ok(JobPlan::Begins(copying(kind, reported(alloc, pairs)?))),
-        Err(error) => Err(error),
+    Ok(JobPlan::Begins(copying(kind, reported(alloc, pairs)?)))
+}
+
+/// The pairs of a plan, as jobs have them.
+fn reported(alloc: Global, pairs: PlannedPairs) -> Result<Pairs, NoMemory>
+    ensures { IfOk result (λ told. told ≡ reported_pairs pairs) }
+{
+    let PlannedPairs(pairs) = pairs;
+    let mut told = Vec::with_capacity(alloc, pairs.len())?;
+    for PlannedPair { source, target } in pairs {
+        told.push(Pair { source, target })?;
     }
+    Ok(Pairs(told))
 }
 
 /// The copy of one file, or of things with all that lies in them.

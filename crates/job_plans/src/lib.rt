@@ -8,7 +8,6 @@ mod new_folder;
 mod new_link;
 mod new_place;
 mod refused;
-mod targets;
 
 pub use choosing::{Choice, Opens, choose};
 pub use copying::{JobPlan, deletion_of, mode_setting_of, plan_copy};

@@ -1,11 +1,11 @@
--- What is seen of a report, and of an answer to a trouble.
+-- What is seen of a report, and of an answer.
 use Rattle.std.specs.Prelude.{◌≡◌, Bool, true, false}
 use Rattle.tree_trait.specs.declared.calls.TreeError.TheVariants as refused
 use Rattle.job_reports.specs.declared.answer.Answer.{Answer}
-use Rattle.job_reports.specs.declared.answer.Answer.TheVariants.{Retry, Skip, SkipAll, Abort}
+use Rattle.job_reports.specs.declared.answer.Answer.TheVariants.{Yes, No, All, Update, Nothing, SizeDiffers, Retry, Skip, SkipAll, Abort}
 use Rattle.job_reports.specs.declared.report.Cause.TheVariants.{Tree}
 use Rattle.job_reports.specs.declared.report.Did.{Did}
-use Rattle.job_reports.specs.declared.report.Did.TheVariants.{Began, Chunk, Placed, Removed, Made, Set, Kept, Skipped, Cleaned, Barrier, Troubled, Ended}
+use Rattle.job_reports.specs.declared.report.Did.TheVariants.{Began, Chunk, Placed, Removed, Made, Set, Kept, Skipped, Cleaned, Barrier, Asked, Troubled, Ended}
 
 -- the report is that of an end
 abbrev pub ends : Did → Bool
@@ -20,6 +20,7 @@ ends (Kept kept) = false
 ends (Skipped path cause) = false
 ends (Cleaned part) = false
 ends Barrier = false
+ends (Asked question) = false
 ends (Troubled trouble) = false
 
 -- the report says that the device failed
@@ -31,5 +32,11 @@ IsFault did = ⊥
 abbrev pub passes_over : Answer → Bool
 passes_over Skip = true
 passes_over SkipAll = true
+passes_over Yes = false
+passes_over No = false
+passes_over All = false
+passes_over Update = false
+passes_over Nothing = false
+passes_over SizeDiffers = false
 passes_over Retry = false
 passes_over Abort = false

@@ -1,13 +1,25 @@
-//! What is done about a trouble.
+//! What is answered to a job that waits.
 
-/// What is done about a trouble.
+/// What is answered to a question, to a trouble and at a barrier.
 #[derive(Clone, Copy, Debug, Drop, PartialEq, Eq)]
 pub enum Answer {
-    /// The call is tried again; a file whose part stands is copied anew.
+    /// This item replaces what stands at its target.
+    Yes,
+    /// This item doesn't.
+    No,
+    /// This and each later item replaces what stands at its target.
+    All,
+    /// They do where the source was changed later than the target.
+    Update,
+    /// None does.
+    Nothing,
+    /// They do where source and target differ in size.
+    SizeDiffers,
+    /// What was refused is tried again; a file whose part stands is copied anew.
     Retry,
-    /// The file is left as it is.
+    /// The item is left as it is.
     Skip,
-    /// So is each later one that meets the same.
+    /// So is each later one that meets a trouble of the same kind.
     SkipAll,
     Abort,
 }
@@ -15,8 +27,8 @@ pub enum Answer {
 /// Why an answer was not taken.
 #[derive(Clone, Copy, Debug, Drop, PartialEq, Eq)]
 pub enum AnswerError {
-    /// The job is in no trouble.
+    /// The job waits for no answer.
     NotAsked,
-    /// At a barrier nothing can be skipped.
+    /// It is none to the question or trouble in which the job waits. At a barrier nothing can be skipped.
     WrongAnswer,
 }

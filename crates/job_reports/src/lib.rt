@@ -3,15 +3,19 @@
 
 mod answer;
 mod job;
+mod question;
 mod report;
 mod row;
 mod stop;
+mod waits;
 
 pub use answer::{Answer, AnswerError};
 pub use job::{Job, Pair, Pairs};
+pub use question::Question;
 pub use report::{Cause, Did, Ending, LastStepResult, StepResult, Trouble, is_end};
 pub use row::{JobKind, JobRow, JobRows, JobState};
 pub use stop::{
     Stop, after_calls, calls_made, made_or_stopped, missing_or_trouble, out_of_memory,
     reading_trouble, refusal_in, stopped_before, trouble_with_path,
 };
+pub use waits::Waits;

@@ -2,6 +2,7 @@
 ghost use Rattle.std.specs.Prelude.{◌≡◌, IfOk};
 ghost use Rattle.job_reports.specs.Reports.{ends};
 
+use crate::question::Question;
 use mc_text::{Kind, NoMemory, Path};
 use std::alloc::Global;
 use tree_trait::TreeError;
@@ -85,7 +86,7 @@ pub enum Did {
     Made(Path),
     /// The thing at this path was given its mode.
     Set(Path),
-    /// The folder at this path stays, since something in it was left.
+    /// What stands at this path stays: a folder in which something was left, or a target that isn't replaced.
     Kept(Path),
     /// The source at this path was left as it is.
     Skipped(Path, Cause),
@@ -93,6 +94,8 @@ pub enum Did {
     Cleaned(Path),
     /// What was changed is on the disk, or in a job's last steps its sync was tried.
     Barrier,
+    /// It waits for an answer: is what stands at the target to be replaced?
+    Asked(Question),
     Troubled(Trouble),
     /// The job ended; `part` is a part file that it could not remove.
     Ended { ending: Ending, part: Option<Path> },

@@ -1,9 +1,10 @@
 //! What is seen of a live job.
+use crate::question::Question;
 use crate::report::Trouble;
 use mc_text::Path;
 use std::marker::Model;
 
-/// What a live job is at. `Asking` and `Stopped` come with questions and with the table of jobs; no job is in them yet.
+/// What a live job is at. `Stopped` comes with the table of jobs; no job is in it yet.
 #[derive(Clone, Copy, Debug, Drop, PartialEq, Eq)]
 pub enum JobState {
     /// It has a next step.
@@ -26,8 +27,8 @@ pub enum JobKind {
     SetMode,
 }
 
-/// A live job, as it is seen: its number, what it is at, what it does, and the trouble in which it waits. A list of the jobs will show
-/// kind and path.
+/// A live job, as it is seen: its number, what it is at, what it does, and the question or the trouble in which it waits. A list of the jobs
+/// shows kind and path.
 #[derive(Debug, Drop)]
 pub struct JobRow {
     pub job: u32,
@@ -37,6 +38,7 @@ pub struct JobRow {
     pub path: Path,
     /// Whether it works in the background, which none does yet.
     pub background: bool,
+    pub asked: Option<Question>,
     pub trouble: Option<Trouble>,
 }
 

@@ -9,7 +9,7 @@ use Rattle.tree_trait.specs.Change.{CallLog}
 use Rattle.tree_trait.specs.Answers.{IfKnown, HasRisen}
 use Rattle.job_reports.specs.CallRuns.{HasMore}
 use Rattle.job_reports.specs.declared.report.Did.{Did}
-use Rattle.job_reports.specs.declared.report.Did.TheVariants.{Began as BeganPart, Chunk, Placed, Removed, Made, Set, Kept, Skipped, Cleaned, Barrier, Troubled, Ended}
+use Rattle.job_reports.specs.declared.report.Did.TheVariants.{Began as BeganPart, Chunk, Placed, Removed, Made, Set, Kept, Skipped, Cleaned, Barrier, Asked, Troubled, Ended}
 use Rattle.job_reports.specs.declared.report.Trouble.{Trouble}
 use Rattle.job_reports.specs.declared.report.Ending.TheVariants.{Finished, Aborted, Killed, NoMemory}
 use Rattle.session_history.specs.declared.history.Entry.{Entry}
@@ -38,14 +38,14 @@ use Rattle.mc_ui.specs.Screens.{Begins, Answers, Ends, LookLeads, Screen}
 use Rattle.job_plans.specs.Refused.{has_fault}
 use Rattle.mc_desk.specs.Tallies.{Tally, faults_in, can_step, end_unseen_event, next_id, news_left}
 use Rattle.mc_desk.specs.Desks.{Seen, noted, stand_of, stand_with, with_end}
-use Rattle.mc_desk.specs.LiveRows.{row_of, rows_told, trouble_told}
+use Rattle.mc_desk.specs.LiveRows.{row_of, rows_told, waits_told}
 use Rattle.mc_desk.specs.Granting.{KeyWorks}
 use Rattle.mc_ui.specs.Seekings.{is_seeking}
 use Rattle.mc_desk.specs.Searches.{HasSought}
 use Rattle.mc_desk.specs.Shown.{DrawsFrame, PutsNothing, frame_due, none_before}
 use Rattle.mc_desk.specs.Sessions.{MayEnd, StepFault}
 use Rattle.mc_desk.specs.Turning.{finishes}
-use Rattle.mc_desk.proofs.Answering.{part_told, waits_told}
+use Rattle.mc_desk.proofs.Answering.{part_told, waiting_told}
 use Rattle.mc_desk.proofs.Keeping.{Adds, Leads, before}
 
 abbrev pub entry : ℕ → ℕ → ℕ → ℕ → Event → Entry
@@ -128,6 +128,7 @@ in_turn id (Ended Killed part) left h = tt
 in_turn id (Ended NoMemory part) left h = tt
 in_turn id (BeganPart part) left h = tt
 in_turn id (Chunk bytes) left h = tt
+in_turn id (Asked question) left h = tt
 in_turn id (Set path) left h = tt
 in_turn id (Placed path) left h = tt
 in_turn id (Removed path) left h = tt
@@ -296,7 +297,7 @@ module _ (contents contents_after : Option CallLog) (faults : ℕ) (old new : Se
 
   -- a trouble that was answered
   pub adds_order : (answer : Answer) (live : Running) → new.newest ≡ entry seat old.tally.calls count 0 (Order live.id (Answered answer)) ∷ old.newest
-      → old.job ≡ Some live → rows_told old.newest ≡ row_of live (trouble_told old.newest) ∷ [] → takes_answer (row_of live (trouble_told old.newest)) answer ≡ true → old.tally.job ≡ option_map told old.job
+      → old.job ≡ Some live → rows_told old.newest ≡ row_of live (waits_told old.newest) ∷ [] → takes_answer (row_of live (waits_told old.newest)) answer ≡ true → old.tally.job ≡ option_map told old.job
       → new.job ≡ Some (answered answer live)
       → new.tally ≡ record old.tally { job = Some (told (answered answer live)); due = Some live.id }
       → old.tally.closed ≡ false → old.screen.planned ≡ Some (Answers answer) → contents_after ≡ contents → faults_in faults old.newest ≤ count
@@ -316,7 +317,7 @@ module _ (contents contents_after : Option CallLog) (faults : ℕ) (old new : Se
     counts = record { seat = main; later = later; fault = λ h. absurd h; calls = omega arith; most = omega arith };
     leads = record {
       asked = ap (λ (s : Screen). s.planned) (unasked_screen old unasked) ∙ planned;
-      row = row_of live (trouble_told old.newest);
+      row = row_of live (waits_told old.newest);
       live = rows;
       number = refl;
       fits = takes;
@@ -356,6 +357,7 @@ module _ (contents contents_after : Option CallLog) (faults : ℕ) (old new : Se
   unseen_step : (id : ℕ) (did : Did) (b : Bool) → (ends did || b) ≡ end_unseen_event (Step id did) b
   unseen_step id (BeganPart part) b = refl
   unseen_step id (Chunk bytes) b = refl
+  unseen_step id (Asked question) b = refl
   unseen_step id (Set path) b = refl
   unseen_step id (Placed path) b = refl
   unseen_step id (Removed path) b = refl
@@ -500,7 +502,7 @@ module _ (contents contents_after : Option CallLog) (faults : ℕ) (old new : Se
     told = ap (λ (t : Tally). t.job) tally ∙ sym (ap (option_map told) job);
     timely = may_end old settled;
     counts = record { seat = main; later = later; fault = λ h. absurd (subst (λ x. StepFault x (Ended NoMemory part)) told_is h); calls = omega arith; most = omega arith };
-    leads = (same_noted old new screen quit, (told live, told_is, refl, inr (inl (waits_told live ∙ ready, ap (Ended NoMemory) (part_is ∙ sym (part_told live))))));
+    leads = (same_noted old new screen quit, (told live, told_is, refl, inr (inl (waiting_told live ∙ ready, ap (Ended NoMemory) (part_is ∙ sym (part_told live))))));
     sought = tt;
     caused = λ log known. tt;
     traced = leads_on contents contents_after same old new (entry seat old.tally.calls count 0 (Step live.id (Ended NoMemory part))) None refl

@@ -17,7 +17,7 @@ use Rattle.job_plans.specs.Refused.{has_fault}
 use Rattle.mc_desk.specs.declared.starts.Start.{Start}
 use Rattle.mc_desk.specs.declared.standing.Due.{Due}
 use Rattle.mc_desk.specs.declared.standing.Standing.{Standing}
-use Rattle.mc_desk.specs.LiveRows.{rows_of, rows_told, trouble_told}
+use Rattle.mc_desk.specs.LiveRows.{rows_of, rows_told, waits_told}
 use Rattle.mc_desk.specs.Logs.{Logged}
 use Rattle.mc_desk.specs.Outputs.{FitsScreen, Output, ShowsFrame}
 use Rattle.mc_desk.specs.Shown.{frame_at, frame_due, rows_then}
@@ -48,14 +48,14 @@ open_due start opening contents faults desk due whole is = (go desk.tally.closed
 -- the frame that is drawn after a look, or the steps of a search, is the one that is due
 pub frame_is_due : (start : Option Start) (opening contents : Option CallLog) (faults : ℕ) (log : Logged) (screen : Screen) (was : Standing) (dirty : List Route) (out : Output) (taken : ℕ) (pending : List ℕ)
     → IsDesk start opening contents faults (seen_of log screen was dirty out taken pending) → was.quit ≡ false → (screen_after : Screen) → screen_after.planned ≡ None
-    → frame_of screen_after (rows_of was.job (trouble_told log.newest)) ≡ frame_due (with_end was.quit screen_after) (next_id was.last_id) (rows_told log.newest)
+    → frame_of screen_after (rows_of was.job (waits_told log.newest)) ≡ frame_due (with_end was.quit screen_after) (next_id was.last_id) (rows_told log.newest)
 frame_is_due start opening contents faults log screen was dirty out taken pending desk unasked screen_after settled =
     ap (frame_of screen_after) (sym told_is)
     ∙ (ap (λ s. frame_of s (rows_told log.newest)) (ap (λ o. let c : Screen = record screen_after { planned = o } in c) settled)
     ∙ (ap (λ p. frame_at screen_after (rows_then p (next_id was.last_id) (rows_told log.newest))) (sym settled)
     ∙ ap (λ b. frame_due (with_end b screen_after) (next_id was.last_id) (rows_told log.newest)) (sym unasked)))
   where
-    told_is : rows_told log.newest ≡ rows_of was.job (trouble_told log.newest)
+    told_is : rows_told log.newest ≡ rows_of was.job (waits_told log.newest)
     told_is = rows_are start opening contents faults (seen_of log screen was dirty out taken pending) desk.written
 
 abbrev taken_up : Standing → Standing
@@ -64,10 +64,10 @@ taken_up was = record was { has_unseen_end = false; due = after_look (can_step w
 module _ (start : Option Start) (opening contents contents_after : Option CallLog) (faults : ℕ) (log log_after : Logged) (screen screen_after : Screen) (was now_is : Standing) (dirty : List Route) (out out_after : Output) (taken : ℕ)
     (pending : List ℕ) (count : ℕ) (desk : IsDesk start opening contents faults (seen_of log screen was dirty out taken pending)) (unclosed : was.closed ≡ false) (unasked : was.quit ≡ false) (is_due : IsSome (awaited was.due))
     (same : contents_after ≡ contents) (later : faults_in faults log.newest ≤ count) where
-  pub looked_whole : (refusals : List Refusal) (rows : List JobRow) (news : Option Message) → rows ≡ rows_of was.job (trouble_told log.newest) → news ≡ news_left log.newest
+  pub looked_whole : (refusals : List Refusal) (rows : List JobRow) (news : Option Message) → rows ≡ rows_of was.job (waits_told log.newest) → news ≡ news_left log.newest
       → (has_fault refusals ≡ true → HasRisen (faults_in faults log.newest) count) → IfKnown contents (λ l. AreRefused l refusals) → LookLeads contents rows was.has_unseen_end news refusals screen screen_after
       → screen_after.planned ≡ None → log_after.newest ≡ entry 0 was.calls count out_after.shown (Look refusals) ∷ log.newest → 2 ≤ log_after.spare → now_is ≡ taken_up was
-      → (r : Result (Unit {0}) SinkError) → FitsScreen out_after.display.grid screen_after → ShowsFrame (frame_of screen_after (rows_of was.job (trouble_told log.newest))) r out out_after
+      → (r : Result (Unit {0}) SinkError) → FitsScreen out_after.display.grid screen_after → ShowsFrame (frame_of screen_after (rows_of was.job (waits_told log.newest))) r out out_after
       → IsDesk start opening contents_after faults (seen_of log_after screen_after now_is dirty out_after taken pending)
   looked_whole refusals rows news rows_is news_is fault refused leads settled more room is r fits s =
       subst (λ s. IsDesk start opening contents_after faults (seen_of log_after screen_after s dirty out_after taken pending)) (sym is)
@@ -77,10 +77,10 @@ module _ (start : Option Start) (opening contents contents_after : Option CallLo
       (due_by_number (can_step was.job) was.due ∙ ap (λ b. if b then awaited was.due else None) (sym (steps_told was.job))))
       refl refl settled refl room refl refl unasked
       (shown_drawn (seen_of log_after screen_after (taken_up was) dirty out_after taken pending) fits
-      (subst (λ es. out_after.put.is_cut ≡ false → out_after.display ≡ (let d : Display = record { grid = frame_of screen_after (rows_of was.job (trouble_told es)); has_drawn = true } in d)) (sym more)
-      (shown_whole (frame_of screen_after (rows_of was.job (trouble_told log.newest))) r out out_after s))
+      (subst (λ es. out_after.put.is_cut ≡ false → out_after.display ≡ (let d : Display = record { grid = frame_of screen_after (rows_of was.job (waits_told es)); has_drawn = true } in d)) (sym more)
+      (shown_whole (frame_of screen_after (rows_of was.job (waits_told log.newest))) r out out_after s))
       still)
-      (draws_written (seen_of log screen was dirty out taken pending) (frame_of screen_after (rows_of was.job (trouble_told log.newest)))
+      (draws_written (seen_of log screen was dirty out taken pending) (frame_of screen_after (rows_of was.job (waits_told log.newest)))
       (frame_due (with_end was.quit screen_after) (next_id was.last_id) (rows_told log.newest)) r out_after desk.shown unclosed s
       (frame_is_due start opening contents faults log screen was dirty out taken pending desk unasked screen_after settled)))
     where

@@ -5,16 +5,17 @@ use Rattle.mc_text.specs.Routes.{Route}
 use Rattle.tree_trait.specs.declared.calls.TreeError.{TreeError}
 use Rattle.tree_trait.specs.Change.{CallLog}
 use Rattle.job_reports.specs.declared.report.Did.{Did}
-use Rattle.job_reports.specs.declared.report.Did.TheVariants.{Began, Chunk, Placed, Removed, Made, Set, Kept, Skipped, Cleaned, Barrier, Troubled, Ended}
+use Rattle.job_reports.specs.declared.report.Did.TheVariants.{Began, Chunk, Placed, Removed, Made, Set, Kept, Skipped, Cleaned, Barrier, Asked, Troubled, Ended}
 use Rattle.job_reports.specs.declared.report.Ending.{Ending}
 use Rattle.job_reports.specs.declared.report.Ending.TheVariants.{Finished, Aborted, Killed, NoMemory}
+use Rattle.file_copy.specs.AskedCopies.{AskedTells}
 use Rattle.file_copy.specs.Copying as copying
 use Rattle.session_history.specs.declared.history.Event.TheVariants.{Step}
 use Rattle.session_history.specs.declared.history.Entry.{Entry}
 use Rattle.copy_move.specs.declared.work.Work.{Work}
 use Rattle.copy_move.specs.declared.work.Work.TheVariants.{Copy, CopyTree, Delete, Make, SetMode}
 use Rattle.copy_move.specs.declared.run.Course.{Course}
-use Rattle.copy_move.specs.declared.run.Course.TheVariants.{GoesOn, InTrouble, OwedSyncFailed, Skips, Ends}
+use Rattle.copy_move.specs.declared.run.Course.TheVariants.{GoesOn, Asking, InTrouble, OwedSyncFailed, Skips, Ends}
 use Rattle.copy_move.specs.Deletions.{Deleting, DeletionLeaves}
 use Rattle.copy_move.specs.Deletions as deletions
 use Rattle.copy_move.specs.DeletionSteps.{after_try}
@@ -58,10 +59,11 @@ setting_finishes s new Killed part t = absurd t
 setting_finishes s new NoMemory part t = absurd t
 
 -- a dirty folder is clean only after the report of its sync
-copy_synced : (c new : copying.Copying) (did : Did) → copying.Tells c did new → copying.is_dirty c.folder ≡ true → copying.is_dirty new.folder ≡ false → did ≡ Barrier
+copy_synced : (c new : copying.Copying) (did : Did) → AskedTells c did new → copying.is_dirty c.folder ≡ true → copying.is_dirty new.folder ≡ false → did ≡ Barrier
 copy_synced c new Barrier t was now = refl
 copy_synced c new (Began part) t was now = absurd (true≢false (sym (ap (λ (n : copying.Copying). copying.is_dirty n.folder) t.1.1) ∙ now))
 copy_synced c new (Chunk count) (part, said, done, at, some, few, within, is) was now = absurd (true≢false (sym was ∙ (sym (ap (λ (n : copying.Copying). copying.is_dirty n.folder) is) ∙ now)))
+copy_synced c new (Asked question) (at, is) was now = absurd (true≢false (sym was ∙ (sym (ap (λ (n : copying.Copying). copying.is_dirty n.folder) is) ∙ now)))
 copy_synced c new (Set path) t was now = absurd t
 copy_synced c new (Placed path) (part, said, at, target, is) was now = absurd (true≢false (sym was ∙ (sym (ap (λ (n : copying.Copying). copying.is_dirty n.folder) is) ∙ now)))
 copy_synced c new (Cleaned part) (follows, at, is) was now = absurd (true≢false (sym was ∙ (sym (ap (λ (n : copying.Copying). copying.is_dirty n.folder) is) ∙ now)))
@@ -69,7 +71,7 @@ copy_synced c new (Troubled trouble) t was now = absurd (true≢false (sym was �
 copy_synced c new (Ended ending part) t was now = absurd (true≢false (sym was ∙ (copy_finishes c new ending part t).1))
 copy_synced c new (Removed path) t was now = absurd t
 copy_synced c new (Made made) t was now = absurd t
-copy_synced c new (Kept path) t was now = absurd t
+copy_synced c new (Kept path) (at, target, is) was now = absurd (true≢false (sym was ∙ (sym (ap (λ (n : copying.Copying). copying.is_dirty n.folder) is) ∙ now)))
 copy_synced c new (Skipped path cause) t was now = absurd t
 
 making_synced : (m new : makings.Making) (did : Did) → makings.Tells m did new → makings.is_dirty m.stage ≡ true → makings.is_dirty new.stage ≡ false → did ≡ Barrier
@@ -79,6 +81,7 @@ making_synced m new (Troubled trouble) t was now = absurd (true≢false (sym was
 making_synced m new (Ended ending part) t was now = absurd (true≢false (sym was ∙ (making_finishes m new ending part t).1))
 making_synced m new (Began part) t was now = absurd t
 making_synced m new (Chunk count) t was now = absurd t
+making_synced m new (Asked question) t was now = absurd t
 making_synced m new (Set path) t was now = absurd t
 making_synced m new (Placed path) t was now = absurd t
 making_synced m new (Removed made) t was now = absurd t
@@ -94,6 +97,7 @@ setting_synced s new (Troubled trouble) t was now = absurd (true≢false (sym wa
 setting_synced s new (Ended ending part) t was now = absurd (true≢false (sym was ∙ (setting_finishes s new ending part t).1))
 setting_synced s new (Began part) t was now = absurd t
 setting_synced s new (Chunk count) t was now = absurd t
+setting_synced s new (Asked question) t was now = absurd t
 setting_synced s new (Placed path) t was now = absurd t
 setting_synced s new (Removed path) t was now = absurd t
 setting_synced s new (Made path) t was now = absurd t
@@ -131,6 +135,7 @@ module _ (job : Option Running) (newest older : List Entry) (dirty dirty_after :
   deletion_moves live d new before after is work (Ended ending part) did_is t h = inl h.1
   deletion_moves live d new before after is work (Began part) did_is t h = absurd t
   deletion_moves live d new before after is work (Chunk bytes) did_is t h = absurd t
+  deletion_moves live d new before after is work (Asked question) did_is t h = absurd t
   deletion_moves live d new before after is work (Set path) did_is t h = absurd t
   deletion_moves live d new before after is work (Placed path) did_is t h = absurd t
   deletion_moves live d new before after is work (Made made) did_is t h = absurd t
@@ -217,6 +222,7 @@ module _ (job : Option Running) (newest older : List Entry) (dirty dirty_after :
   tries folder (Some e) Barrier is left = inl left
   tries folder refusal (Began part) is left = inl left
   tries folder refusal (Chunk bytes) is left = inl left
+  tries folder refusal (Asked question) is left = inl left
   tries folder refusal (Set path) is left = inl left
   tries folder refusal (Placed path) is left = inl left
   tries folder refusal (Removed path) is left = inl left
@@ -236,5 +242,6 @@ module _ (job : Option Running) (newest older : List Entry) (dirty dirty_after :
       by GoesOn (work, tells, new_is) leaves = work_moves live live.work work stepped.work before after is refl (sym (ap (λ (s : Running). s.work) new_is)) tells leaves
       by (InTrouble halt) tells leaves = absurd tells
       by (OwedSyncFailed cause) tells leaves = absurd tells
+      by Asking tells leaves = absurd tells
       by (Skips cause) tells leaves = inl leaves
       by (Ends ending) tells leaves = tries leaves.folder leaves.refusal did refl leaves.dirty_is

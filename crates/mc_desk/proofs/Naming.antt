@@ -3,22 +3,22 @@ use Rattle.std.proofs.Common.{◌≡◌, ℕ, Bool, true, false, List, [], ◌�
 use Rattle.std.specs.Prelude.{option_and_then, if◌then◌else◌}
 use Rattle.std.specs.Option.{option_map}
 use Rattle.job_reports.specs.declared.report.Did.{Did}
-use Rattle.job_reports.specs.declared.report.Did.TheVariants.{Began as BeganPart, Chunk, Placed, Removed, Made, Set, Kept, Skipped, Cleaned, Barrier, Troubled, Ended}
+use Rattle.job_reports.specs.declared.report.Did.TheVariants.{Began as BeganPart, Chunk, Placed, Removed, Made, Set, Kept, Skipped, Cleaned, Barrier, Asked, Troubled, Ended}
 use Rattle.job_reports.specs.declared.answer.Answer.{Answer}
-use Rattle.job_reports.specs.declared.answer.Answer.TheVariants.{Retry, Skip, SkipAll, Abort}
+use Rattle.job_reports.specs.declared.answer.Answer.TheVariants.{Yes, No, All, Update, Nothing, SizeDiffers, Retry, Skip, SkipAll, Abort}
 use Rattle.session_history.specs.declared.history.Entry.{Entry}
 use Rattle.session_history.specs.declared.history.Event.{Event}
 use Rattle.session_history.specs.declared.history.Event.TheVariants.{Key, Look, Sought, Began, Order, Step, Next, Closed}
 use Rattle.session_history.specs.declared.history.JobOrder.TheVariants.{Answered}
 use Rattle.copy_move.specs.declared.work.Work.{Work}
 use Rattle.copy_move.specs.declared.run.Course.{Course}
-use Rattle.copy_move.specs.declared.run.Course.TheVariants.{GoesOn, InTrouble, OwedSyncFailed, Skips, Ends}
+use Rattle.copy_move.specs.declared.run.Course.TheVariants.{GoesOn, Asking, InTrouble, OwedSyncFailed, Skips, Ends}
 use Rattle.job_reports.specs.declared.job.Job.{Job}
 use Rattle.session_history.specs.Sources.{sources_of}
-use Rattle.copy_move.specs.Jobs.{Running, answered, answered_on, begun_work, first_work, passing_over, skips_of}
+use Rattle.copy_move.specs.Jobs.{Running, answered, answered_on, begun_work, first_work}
 use Rattle.history_laws.specs.ToldJob.{live_job, after_event}
 use Rattle.session_history.specs.Entries.{is_closed}
-use Rattle.copy_move.specs.Told.{if_closed, after_step, running, turned}
+use Rattle.copy_move.specs.Told.{if_closed, after_step, running, turned, with_next}
 use Rattle.mc_desk.specs.Tallies.{due_in, due_after, can_step}
 
 -- the number of a job, if there is one, is this
@@ -34,6 +34,7 @@ step_numbered : (n : ℕ) (did : Did) (job : Option Running) → Numbered n job 
 step_numbered n did None h live is = absurd cc
 step_numbered n (BeganPart part) (Some job) h live is = let same : job.id ≡ live.id = cc in sym same ∙ h job refl
 step_numbered n (Chunk bytes) (Some job) h live is = let same : job.id ≡ live.id = cc in sym same ∙ h job refl
+step_numbered n (Asked question) (Some job) h live is = let same : job.id ≡ live.id = cc in sym same ∙ h job refl
 step_numbered n (Set path) (Some job) h live is = let same : job.id ≡ live.id = cc in sym same ∙ h job refl
 step_numbered n (Placed path) (Some job) h live is = let same : job.id ≡ live.id = cc in sym same ∙ h job refl
 step_numbered n (Removed path) (Some job) h live is = let same : job.id ≡ live.id = cc in sym same ∙ h job refl
@@ -50,10 +51,32 @@ answered_id Retry (InTrouble halt) job = refl
 answered_id Skip (InTrouble halt) job = refl
 answered_id SkipAll (InTrouble halt) job = refl
 answered_id Abort (InTrouble halt) job = refl
+answered_id Yes (InTrouble halt) job = refl
+answered_id No (InTrouble halt) job = refl
+answered_id All (InTrouble halt) job = refl
+answered_id Update (InTrouble halt) job = refl
+answered_id Nothing (InTrouble halt) job = refl
+answered_id SizeDiffers (InTrouble halt) job = refl
 answered_id Retry (OwedSyncFailed cause) job = refl
 answered_id Skip (OwedSyncFailed cause) job = refl
 answered_id SkipAll (OwedSyncFailed cause) job = refl
 answered_id Abort (OwedSyncFailed cause) job = refl
+answered_id Yes (OwedSyncFailed cause) job = refl
+answered_id No (OwedSyncFailed cause) job = refl
+answered_id All (OwedSyncFailed cause) job = refl
+answered_id Update (OwedSyncFailed cause) job = refl
+answered_id Nothing (OwedSyncFailed cause) job = refl
+answered_id SizeDiffers (OwedSyncFailed cause) job = refl
+answered_id Yes Asking job = refl
+answered_id No Asking job = refl
+answered_id All Asking job = refl
+answered_id Update Asking job = refl
+answered_id Nothing Asking job = refl
+answered_id SizeDiffers Asking job = refl
+answered_id Retry Asking job = refl
+answered_id Skip Asking job = refl
+answered_id SkipAll Asking job = refl
+answered_id Abort Asking job = refl
 answered_id answer GoesOn job = refl
 answered_id answer (Skips cause) job = refl
 answered_id answer (Ends ending) job = refl
@@ -66,7 +89,7 @@ turned_numbered : (n : ℕ) (plan : Job) (job : Option Running) → Numbered n j
 turned_numbered n plan None h = λ live is. absurd cc
 turned_numbered n plan (Some job) h = go (first_work job.id plan)
   where
-    go : (work : Option Work) → Numbered n (option_map (λ w. running job.id (passing_over (skips_of job.work) w)) work)
+    go : (work : Option Work) → Numbered n (option_map (λ w. with_next job w) work)
     go None live at = absurd cc
     go (Some work) live at = let same : job.id ≡ live.id = cc in sym same ∙ h job refl
 

@@ -5,19 +5,18 @@ use Rattle.std.specs.Option.{option_map, option_map_or}
 use Rattle.std.proofs.lemmas.Bool.{false≢true}
 use Rattle.mc_text.specs.Routes.{Route}
 use Rattle.tree_trait.specs.Change.{CallLog}
-use Rattle.job_answers.specs.declared.skips.Skips.{Skips as SkippedKinds}
 use Rattle.job_reports.specs.declared.job.Job.{Job}
 use Rattle.job_reports.specs.declared.report.Did.{Did}
-use Rattle.job_reports.specs.declared.report.Did.TheVariants.{Began, Chunk, Placed, Removed, Made, Set, Kept, Skipped, Cleaned, Barrier, Troubled, Ended}
+use Rattle.job_reports.specs.declared.report.Did.TheVariants.{Began, Chunk, Placed, Removed, Made, Set, Kept, Skipped, Cleaned, Barrier, Asked, Troubled, Ended}
 use Rattle.job_reports.specs.declared.report.Ending.TheVariants.{Finished, Aborted, Killed, NoMemory}
 use Rattle.job_reports.specs.Reports.{ends}
 use Rattle.copy_move.specs.declared.run.Course.{Course}
-use Rattle.copy_move.specs.declared.run.Course.TheVariants.{GoesOn, InTrouble, OwedSyncFailed, Skips, Ends}
+use Rattle.copy_move.specs.declared.run.Course.TheVariants.{GoesOn, Asking, InTrouble, OwedSyncFailed, Skips, Ends}
 use Rattle.copy_move.specs.declared.work.Work.{Work}
-use Rattle.copy_move.specs.Jobs.{Running, TellsOn, first_work, passing_over, skips_of}
+use Rattle.copy_move.specs.Jobs.{Running, TellsOn, first_work, skips_of}
 use Rattle.copy_move.specs.Ranks.{rank_at, rank_with, work_rank}
 use Rattle.copy_move.specs.Steps.{RunStep, SyncsOwed, step_made}
-use Rattle.copy_move.specs.Told.{if_closed, running, turned}
+use Rattle.copy_move.specs.Told.{if_closed, turned, with_next}
 use Rattle.copy_move.proofs.Finishing.{Finishes, finish_stays, passing_rank}
 use Rattle.mc_desk.specs.declared.turning.Stepped.{Stepped}
 use Rattle.mc_desk.specs.Turning.{GoesOn as GoesWith, Reports, Turns, finishes, rank_left, source_rank, sources_rank}
@@ -31,6 +30,7 @@ finish_so (Ended Killed part) h = absurd (false≢true h)
 finish_so (Ended NoMemory part) h = absurd (false≢true h)
 finish_so (Began part) h = absurd (false≢true h)
 finish_so (Chunk count) h = absurd (false≢true h)
+finish_so (Asked question) h = absurd (false≢true h)
 finish_so (Set path) h = absurd (false≢true h)
 finish_so (Placed path) h = absurd (false≢true h)
 finish_so (Removed path) h = absurd (false≢true h)
@@ -46,6 +46,7 @@ tells_number : (course : Course) (job new : Running) (did : Did) → TellsOn cou
 tells_number GoesOn job new did (work, tells, is) = ap (λ (r : Running). r.id) is
 tells_number (InTrouble halt) job new did t = absurd t
 tells_number (OwedSyncFailed cause) job new did t = absurd t
+tells_number Asking job new did t = absurd t
 tells_number (Skips cause) job new did (inl (path, work, did_is, passes, is)) = ap (λ (r : Running). r.id) is
 tells_number (Skips cause) job new did (inr (apart, did_is, is)) = ap (λ (r : Running). r.id) is
 tells_number (Ends ending) job new did (work, tells, is) = ap (λ (r : Running). r.id) is
@@ -68,14 +69,14 @@ record IsNext (id : ℕ) (work : Option Work) (run : Running) : Type 0 where
   pub goes : run.course ≡ GoesOn
   pub rank : 3 * work_rank run.work + 1 ≡ option_map_or (λ w. 3 * work_rank w + 1) work 1
 
-next_is : (id : ℕ) (skips : SkippedKinds) (work : Option Work) (run : Running) → option_map (λ w. running id (passing_over skips w)) work ≡ Some run → IsNext id work run
-next_is id skips None run is = absurd cc
-next_is id skips (Some work) run is =
-    let same : run ≡ running id (passing_over skips work) = cc in
+next_is : (job : Running) (work : Option Work) (run : Running) → option_map (λ w. with_next job w) work ≡ Some run → IsNext job.id work run
+next_is job None run is = absurd cc
+next_is job (Some work) run is =
+    let same : run ≡ with_next job work = cc in
     record {
       number = ap (λ (r : Running). r.id) same;
       goes = ap (λ (r : Running). r.course) same;
-      rank = ap (λ (r : Running). 3 * work_rank r.work + 1) same ∙ ap (λ n. 3 * n + 1) (passing_rank skips work);
+      rank = ap (λ (r : Running). 3 * work_rank r.work + 1) same ∙ ap (λ n. 3 * n + 1) (passing_rank (skips_of job.work) work);
     }
 
 -- where it is closed it has no more steps
@@ -105,7 +106,7 @@ module _ (unclaimed : Route → Type 0) (closed : Bool) (job new : Running) (did
   turn_falls : (source : Job) → left ≡ source ∷ left_after → finishes did ≡ true → Turns new source stepped → rank_left dirty_after (if_closed closed stepped.job) left_after < rank_left dirty (Some job) left
   turn_falls source left_is h t =
       let f = (finished h).1 in
-      let n = next_is new.id (skips_of new.work) (first_work new.id source) t.run t.run_is in
+      let n = next_is new (first_work new.id source) t.run t.run_is in
       let most = next_rank closed t.run dirty_after left_after n.goes in
       let run_number = n.number in
       let ids : sources_rank (let r = t.run in r.id) left_after ≡ sources_rank job.id left_after = ap (λ i. sources_rank i left_after) (run_number ∙ number) in

@@ -3,10 +3,10 @@ use Rattle.std.proofs.Common.{◌≡◌, ℕ, Bool, true, false, List, [], ◌�
 use Rattle.std.specs.Prelude.{⊤, ◌&&◌, if◌then◌else◌, option_and_then}
 use Rattle.std.specs.Option.{option_map}
 use Rattle.job_reports.specs.declared.answer.Answer.{Answer}
-use Rattle.job_reports.specs.declared.answer.Answer.TheVariants.{Retry, Skip, SkipAll, Abort}
+use Rattle.job_reports.specs.declared.answer.Answer.TheVariants.{Yes, No, All, Update, Nothing, SizeDiffers, Retry, Skip, SkipAll, Abort}
 use Rattle.job_reports.specs.declared.job.Job.{Job}
 use Rattle.job_reports.specs.declared.report.Did.{Did}
-use Rattle.job_reports.specs.declared.report.Did.TheVariants.{Began as BeganPart, Chunk, Placed, Removed, Made, Set, Kept, Skipped, Cleaned, Barrier, Troubled, Ended}
+use Rattle.job_reports.specs.declared.report.Did.TheVariants.{Began as BeganPart, Chunk, Placed, Removed, Made, Set, Kept, Skipped, Cleaned, Barrier, Asked, Troubled, Ended}
 use Rattle.job_reports.specs.declared.report.Ending.{Ending}
 use Rattle.job_reports.specs.declared.report.Ending.TheVariants.{Finished, Aborted}
 use Rattle.job_reports.specs.declared.report.Trouble.{Trouble}
@@ -17,10 +17,10 @@ use Rattle.session_history.specs.declared.history.JobOrder.TheVariants.{Answered
 use Rattle.session_history.specs.Entries.{is_closed}
 use Rattle.session_history.specs.Sources.{sources_of}
 use Rattle.copy_move.specs.declared.run.Course.{Course}
-use Rattle.copy_move.specs.declared.run.Course.TheVariants.{GoesOn, InTrouble, OwedSyncFailed, Skips, Ends}
+use Rattle.copy_move.specs.declared.run.Course.TheVariants.{GoesOn, Asking, InTrouble, OwedSyncFailed, Skips, Ends}
 use Rattle.copy_move.specs.declared.work.Work.{Work}
-use Rattle.copy_move.specs.Jobs.{Running, answered, answered_on, begun_work, closed_course, first_work, halt_of, is_fresh, passing_over, skips_of}
-use Rattle.copy_move.specs.Told.{after_step, course_told, if_closed, running, turned}
+use Rattle.copy_move.specs.Jobs.{Running, answered, answered_on, begun_work, closed_course, first_work, halt_of, is_fresh}
+use Rattle.copy_move.specs.Told.{after_step, course_told, if_closed, running, turned, with_next}
 use Rattle.history_laws.specs.ToldJob.{after_event, live_job}
 
 abbrev pub NeverSo : Course → Type 0
@@ -44,6 +44,7 @@ step_never : (did : Did) (job : Option Running) → Never job → Never (option_
 step_never did None h = tt
 step_never (BeganPart part) (Some job) h = h
 step_never (Chunk count) (Some job) h = h
+step_never (Asked question) (Some job) h = λ is. absurd cc
 step_never (Set path) (Some job) h = h
 step_never (Placed path) (Some job) h = h
 step_never (Removed path) (Some job) h = h
@@ -60,10 +61,32 @@ answered_never (InTrouble halt) Retry job h = goes_never
 answered_never (InTrouble halt) Skip job h = λ is. absurd cc
 answered_never (InTrouble halt) SkipAll job h = λ is. absurd cc
 answered_never (InTrouble halt) Abort job h = λ is. absurd cc
+answered_never (InTrouble halt) Yes job h = h
+answered_never (InTrouble halt) No job h = h
+answered_never (InTrouble halt) All job h = h
+answered_never (InTrouble halt) Update job h = h
+answered_never (InTrouble halt) Nothing job h = h
+answered_never (InTrouble halt) SizeDiffers job h = h
 answered_never (OwedSyncFailed cause) Retry job h = goes_never
 answered_never (OwedSyncFailed cause) Skip job h = h
 answered_never (OwedSyncFailed cause) SkipAll job h = h
 answered_never (OwedSyncFailed cause) Abort job h = λ is. absurd cc
+answered_never (OwedSyncFailed cause) Yes job h = h
+answered_never (OwedSyncFailed cause) No job h = h
+answered_never (OwedSyncFailed cause) All job h = h
+answered_never (OwedSyncFailed cause) Update job h = h
+answered_never (OwedSyncFailed cause) Nothing job h = h
+answered_never (OwedSyncFailed cause) SizeDiffers job h = h
+answered_never Asking Yes job h = goes_never
+answered_never Asking No job h = goes_never
+answered_never Asking All job h = goes_never
+answered_never Asking Update job h = goes_never
+answered_never Asking Nothing job h = goes_never
+answered_never Asking SizeDiffers job h = goes_never
+answered_never Asking Abort job h = λ is. absurd cc
+answered_never Asking Retry job h = h
+answered_never Asking Skip job h = h
+answered_never Asking SkipAll job h = h
 answered_never GoesOn answer job h = h
 answered_never (Skips cause) answer job h = h
 answered_never (Ends ending) answer job h = h
@@ -80,7 +103,7 @@ turned_never : (plan : Job) (job : Option Running) → Never (option_and_then (t
 turned_never plan None = tt
 turned_never plan (Some job) = go (first_work job.id plan)
   where
-    go : (work : Option Work) → Never (option_map (λ w. running job.id (passing_over (skips_of job.work) w)) work)
+    go : (work : Option Work) → Never (option_map (λ w. with_next job w) work)
     go None = tt
     go (Some work) = goes_never
 
@@ -98,6 +121,7 @@ course_never : (course : Course) → NeverSo course → NeverSo (closed_course c
 course_never GoesOn h = h
 course_never (InTrouble halt) h = λ is. absurd cc
 course_never (OwedSyncFailed cause) h = λ is. absurd cc
+course_never Asking h = λ is. absurd cc
 course_never (Skips cause) h = h
 course_never (Ends ending) h = h
 

@@ -8,7 +8,7 @@ use Rattle.tree_trait.specs.Change.{CallLog}
 use Rattle.tree_trait.specs.CrashImages.{Among}
 use Rattle.tree_trait.proofs.Visible.{same_path-self}
 use Rattle.job_reports.specs.declared.report.Did.{Did}
-use Rattle.job_reports.specs.declared.report.Did.TheVariants.{Began, Chunk, Placed, Removed, Made, Set, Kept, Skipped, Cleaned, Barrier, Troubled, Ended}
+use Rattle.job_reports.specs.declared.report.Did.TheVariants.{Began, Chunk, Placed, Removed, Made, Set, Kept, Skipped, Cleaned, Barrier, Asked, Troubled, Ended}
 use Rattle.file_copy.specs.declared.stage.Stage.{Stage}
 use Rattle.file_copy.specs.declared.stage.Stage.TheVariants.{Begin, Fill, Clean, Left, Decided}
 use Rattle.file_copy.specs.declared.stage.Next.TheVariants as next
@@ -18,7 +18,7 @@ use Rattle.file_copy.specs.LastSteps.{last_steps}
 use Rattle.copy_move.specs.declared.work.Work.{Work}
 use Rattle.copy_move.specs.declared.work.Work.TheVariants.{Copy, CopyTree, Delete, Make, SetMode}
 use Rattle.copy_move.specs.declared.run.Course.{Course}
-use Rattle.copy_move.specs.declared.run.Course.TheVariants.{GoesOn, InTrouble, OwedSyncFailed, Skips, Ends}
+use Rattle.copy_move.specs.declared.run.Course.TheVariants.{GoesOn, Asking, InTrouble, OwedSyncFailed, Skips, Ends}
 use Rattle.copy_move.specs.Jobs.{Running, closed_course}
 use Rattle.job_reports.specs.Reports.{ends}
 use Rattle.copy_move.specs.declared.making.MakingStage.{MakingStage}
@@ -105,6 +105,7 @@ some_steps : (course : Course) (work : Work) → 0 < rank_on course work
 some_steps GoesOn work = some_work work
 some_steps (InTrouble halt) work = some_end work
 some_steps (OwedSyncFailed cause) work = some_end work
+some_steps Asking work = some_end work
 some_steps (Skips cause) (Copy c) = omega arith
 some_steps (Skips cause) (CopyTree c) = omega arith
 some_steps (Skips cause) (Delete d) = omega arith
@@ -125,6 +126,11 @@ closed_rank (OwedSyncFailed cause) (CopyTree c) dirty = omega arith
 closed_rank (OwedSyncFailed cause) (Delete d) dirty = omega arith
 closed_rank (OwedSyncFailed cause) (Make m) dirty = omega arith
 closed_rank (OwedSyncFailed cause) (SetMode s) dirty = omega arith
+closed_rank Asking (Copy c) dirty = omega arith
+closed_rank Asking (CopyTree c) dirty = omega arith
+closed_rank Asking (Delete d) dirty = omega arith
+closed_rank Asking (Make m) dirty = omega arith
+closed_rank Asking (SetMode s) dirty = omega arith
 closed_rank (Skips cause) work dirty = omega arith
 closed_rank (Ends ending) work dirty = omega arith
 
@@ -157,6 +163,7 @@ deletion_more d (Kept path) dirty dirty_after before after h = let same = ap len
 deletion_more d (Troubled trouble) dirty dirty_after before after h = let same = ap length h in omega (arith, same)
 deletion_more d (Began part) dirty dirty_after before after h = let same = ap length h in omega (arith, same)
 deletion_more d (Chunk bytes) dirty dirty_after before after h = let same = ap length h in omega (arith, same)
+deletion_more d (Asked question) dirty dirty_after before after h = let same = ap length h in omega (arith, same)
 deletion_more d (Set path) dirty dirty_after before after h = let same = ap length h in omega (arith, same)
 deletion_more d (Placed path) dirty dirty_after before after h = let same = ap length h in omega (arith, same)
 deletion_more d (Made made) dirty dirty_after before after h = let same = ap length h in omega (arith, same)
@@ -194,6 +201,7 @@ leaves_more : (course : Course) (old new : Work) (did : Did) (dirty dirty_after 
 leaves_more GoesOn old new did dirty dirty_after before after h = work_more old new did dirty dirty_after before after h
 leaves_more (InTrouble halt) old new did dirty dirty_after before after h = absurd h
 leaves_more (OwedSyncFailed cause) old new did dirty dirty_after before after h = absurd h
+leaves_more Asking old new did dirty dirty_after before after h = absurd h
 leaves_more (Skips cause) old new did dirty dirty_after before after h = let same = ap length h in omega (arith, same)
 leaves_more (Ends ending) old new did dirty dirty_after before after h = subst (λ d. length d ≤ length dirty + 1) (sym h.dirty_is) (tried_more did h.refusal h.folder dirty)
 

@@ -11,7 +11,7 @@ use Rattle.mc_ui.specs.Screens.{Screen}
 use Rattle.mc_desk.specs.declared.granting.Deed.{Deed}
 use Rattle.mc_desk.specs.declared.granting.Deed.TheVariants as deed
 use Rattle.mc_desk.specs.Standings.{event_of, followed}
-use Rattle.mc_desk.specs.LiveRows.{trouble_told}
+use Rattle.mc_desk.specs.LiveRows.{waits_told}
 use Rattle.mc_desk.specs.Desks.{IsShown, Seen, ShowsDesk, frame_now}
 use Rattle.mc_desk.specs.Outputs.{FitsScreen, Output, ShowsFrame, ShowsLast}
 use Rattle.mc_desk.specs.Shown.{Put, ShowsOverAny, none_before}
@@ -88,10 +88,10 @@ shows_drawn desk r before s uncut last bytes known =
     subst (λ (d : Display). ShowsOverAny bytes d.grid) is (last (ap (λ (d : Display). d.has_drawn) is) bytes known)
 
 -- what is written down of a request tells of no trouble
-pub trouble_followed : (calls faults : ℕ) (done : Deed) (job : Option Running) (newest : List Entry) → trouble_told (followed calls faults (event_of done job) newest) ≡ trouble_told newest
-trouble_followed calls faults deed.Nothing job newest = refl
-trouble_followed calls faults deed.Refuse job newest = refl
-trouble_followed calls faults deed.End job newest = refl
-trouble_followed calls faults (deed.Begin confirmed) job newest = refl
-trouble_followed calls faults (deed.Answer answer) None newest = refl
-trouble_followed calls faults (deed.Answer answer) (Some live) newest = refl
+pub waits_followed : (calls faults : ℕ) (done : Deed) (job : Option Running) (newest : List Entry) → waits_told (followed calls faults (event_of done job) newest) ≡ waits_told newest
+waits_followed calls faults deed.Nothing job newest = refl
+waits_followed calls faults deed.Refuse job newest = refl
+waits_followed calls faults deed.End job newest = refl
+waits_followed calls faults (deed.Begin confirmed) job newest = refl
+waits_followed calls faults (deed.Answer answer) None newest = refl
+waits_followed calls faults (deed.Answer answer) (Some live) newest = refl

@@ -1,18 +1,17 @@
--- The trouble in which a job waits is at a barrier exactly where nothing can be passed over, as its newest report tells it.
-use Rattle.std.proofs.Common.{◌≡◌, ℕ, Bool, true, false, ◌&&◌, List, [], ◌∷◌, refl, sym, ◌∙◌, ap, subst, inl, inr, Option, Some, None, Result, Err}
-use Rattle.std.specs.Prelude.{if◌then◌else◌, not, option_and_then, ⊤}
-use Rattle.std.specs.Option.{option_map, option_map_or}
-use Rattle.std.proofs.lemmas.Bool.{true≢false, false≢true}
+-- What a job waits with, a question, a trouble or a barrier, is what its newest report tells.
+use Rattle.std.proofs.Common.{◌≡◌, ℕ, Bool, true, false, ◌&&◌, List, [], ◌∷◌, refl, sym, ◌∙◌, ap, subst, inl, inr, Option, Some, None}
+use Rattle.std.specs.Prelude.{if◌then◌else◌, is_ok, option_and_then, ⊤}
+use Rattle.std.specs.Option.{option_map}
+use Rattle.std.proofs.lemmas.Bool.{false≢true}
 use Rattle.tree_trait.specs.Change.{CallLog}
 use Rattle.job_reports.specs.declared.answer.Answer.{Answer}
-use Rattle.job_reports.specs.declared.answer.Answer.TheVariants.{Retry, Skip, SkipAll, Abort}
-use Rattle.job_reports.specs.declared.answer.AnswerError.{AnswerError}
-use Rattle.job_reports.specs.declared.answer.AnswerError.TheVariants.{NotAsked, WrongAnswer}
-use Rattle.job_reports.specs.Reports.{passes_over}
+use Rattle.job_reports.specs.declared.answer.Answer.TheVariants.{Yes, No, All, Update, Nothing, SizeDiffers, Retry, Skip, SkipAll, Abort}
 use Rattle.job_reports.specs.declared.report.Did.{Did}
-use Rattle.job_reports.specs.declared.report.Did.TheVariants.{Began as BeganPart, Chunk, Placed, Removed, Made, Set, Kept, Skipped, Cleaned, Barrier, Troubled, Ended}
+use Rattle.job_reports.specs.declared.report.Did.TheVariants.{Began as BeganPart, Chunk, Placed, Removed, Made, Set, Kept, Skipped, Cleaned, Barrier, Asked, Troubled, Ended}
 use Rattle.job_reports.specs.declared.report.Trouble.{Trouble}
-use Rattle.job_reports.specs.declared.row.JobState.TheVariants as state
+use Rattle.job_reports.specs.Waits.{waits_at}
+use Rattle.job_reports.specs.declared.waits.Waits.{Waits}
+use Rattle.job_reports.specs.declared.waits.Waits.TheVariants as waits_with
 use Rattle.session_history.specs.declared.history.Entry.{Entry}
 use Rattle.session_history.specs.declared.history.Event.{Event}
 use Rattle.session_history.specs.declared.history.Event.TheVariants.{Key, Look, Sought, Began, Order, Step, Next, Closed}
@@ -22,24 +21,25 @@ use Rattle.session_history.specs.Entries.{is_closed}
 use Rattle.session_history.specs.Sources.{sources_of}
 use Rattle.copy_move.specs.declared.work.Work.{Work}
 use Rattle.copy_move.specs.declared.run.Course.{Course}
-use Rattle.copy_move.specs.declared.run.Course.TheVariants.{GoesOn, InTrouble, OwedSyncFailed, Skips, Ends}
-use Rattle.copy_move.specs.Jobs.{Running, MayAnswer, TellsOn, answered, answered_on, begun_work, closed_course, closed_job, first_work, halt_of, is_barred, is_fresh, passing_over, skips_of, waits_on}
-use Rattle.copy_move.specs.Told.{IsAllowedStep, after_step, course_told, if_closed, running, told, turned}
+use Rattle.copy_move.specs.declared.run.Course.TheVariants.{GoesOn, Asking, InTrouble, OwedSyncFailed, Skips, Ends}
+use Rattle.copy_move.specs.Jobs.{Running, MayAnswer, TellsOn, answered, answered_on, begun_work, closed_course, closed_job, first_work, halt_of, is_fresh, waiting_on, waits_on}
+use Rattle.copy_move.specs.Told.{IsAllowedStep, after_step, course_told, if_closed, running, told, turned, with_next}
 use Rattle.history_laws.specs.ToldJob.{after_event, live_job}
-use Rattle.job_boxes.specs.LiveJobs.{fits, is_troubled, takes_answer}
+use Rattle.job_answers.specs.Answers.{answered as then_after, waiting_of}
+use Rattle.job_answers.specs.declared.answer.Waiting.TheVariants as waiting
+use Rattle.job_boxes.specs.LiveJobs.{takes_answer, waiting_with}
 use Rattle.mc_ui.specs.Screens.{Screen}
 use Rattle.mc_desk.specs.declared.starts.Start.{Start}
-use Rattle.mc_desk.specs.LiveRows.{is_report, reported_trouble, row_of, trouble_told}
+use Rattle.mc_desk.specs.LiveRows.{is_report, question_in, reported_waits, row_of, state_with, trouble_in, waits_in, waits_told}
 use Rattle.mc_desk.specs.Shown.{Put}
 use Rattle.mc_desk.specs.Sessions.{Before, EventLeads, IsSession, SessionState, before_entry}
-use Rattle.mc_desk.proofs.Answering.{barred_alike}
 
--- a job that waits has this trouble, and can't be passed over exactly where that is at a barrier
-abbrev pub WaitsIn : Option Running → Option Trouble → Type 0
+-- a job that waits waits with this
+abbrev pub WaitsIn : Option Running → Option Waits → Type 0
 WaitsIn None t = ⊤
-WaitsIn (Some job) t = waits_on job.course ≡ true → (trouble : Trouble) × (t ≡ Some trouble) × (trouble.barrier ≡ is_barred job.course job.work)
+WaitsIn (Some job) t = waits_on job.course ≡ true → option_map waiting_with t ≡ waiting_on job.course
 
-never : (job : Running) (t : Option Trouble) → waits_on job.course ≡ false → WaitsIn (Some job) t
+never : (job : Running) (t : Option Waits) → waits_on job.course ≡ false → WaitsIn (Some job) t
 never job t goes waits = absurd (false≢true (sym goes ∙ waits))
 
 true_both : (a b : Bool) → (a && b) ≡ true → b ≡ true
@@ -47,11 +47,11 @@ true_both true b h = h
 true_both false b h = absurd (false≢true h)
 
 -- a trouble is at a barrier where what an ended job left dirty was to be synced, and else the course keeps whether it is
-trouble_barred : (live : Running) (trouble : Trouble) → trouble.barrier ≡ is_barred (course_told live.work trouble) live.work
-trouble_barred live trouble = go (is_fresh live.work && trouble.barrier) refl
+trouble_waits : (live : Running) (trouble : Trouble) → Some (waiting_of trouble) ≡ waiting_on (course_told live.work trouble)
+trouble_waits live trouble = go (is_fresh live.work && trouble.barrier) refl
   where
-    go : (b : Bool) → (is_fresh live.work && trouble.barrier) ≡ b → trouble.barrier ≡ is_barred (if b then OwedSyncFailed trouble.cause else InTrouble (halt_of trouble)) live.work
-    go true is = true_both (is_fresh live.work) trouble.barrier is
+    go : (b : Bool) → (is_fresh live.work && trouble.barrier) ≡ b → Some (waiting_of trouble) ≡ waiting_on (if b then OwedSyncFailed trouble.cause else InTrouble (halt_of trouble))
+    go true is = ap (λ b. Some (if b then waiting.Barrier else waiting.Trouble trouble.cause)) (true_both (is_fresh live.work) trouble.barrier is)
     go false is = refl
 
 -- only a job that waits for nothing reports a step
@@ -59,6 +59,7 @@ tells_ready : (course : Course) (old new : Running) (did : Did) → TellsOn cour
 tells_ready GoesOn old new did t = refl
 tells_ready (InTrouble halt) old new did t = absurd t
 tells_ready (OwedSyncFailed cause) old new did t = absurd t
+tells_ready Asking old new did t = absurd t
 tells_ready (Skips cause) old new did t = refl
 tells_ready (Ends ending) old new did t = refl
 
@@ -70,7 +71,7 @@ step_ready live did (inr (inr (goes, fresh, reports))) = ap waits_on goes
 not_ready : (live : Running) (did : Did) → IsAllowedStep live did → waits_on live.course ≡ true → ⊥
 not_ready live did allowed waits = false≢true (sym (step_ready live did allowed) ∙ waits)
 
-step_waits : (id : ℕ) (live : Running) (did : Did) → IsAllowedStep live did → WaitsIn (after_step did live) (reported_trouble (Step id did))
+step_waits : (id : ℕ) (live : Running) (did : Did) → IsAllowedStep live did → WaitsIn (after_step did live) (reported_waits (Step id did))
 step_waits id live (BeganPart part) allowed = λ waits. absurd (not_ready live (BeganPart part) allowed waits)
 step_waits id live (Chunk count) allowed = λ waits. absurd (not_ready live (Chunk count) allowed waits)
 step_waits id live (Set path) allowed = λ waits. absurd (not_ready live (Set path) allowed waits)
@@ -81,48 +82,71 @@ step_waits id live (Kept kept) allowed = λ waits. absurd (not_ready live (Kept 
 step_waits id live (Skipped path cause) allowed = λ waits. absurd (false≢true waits)
 step_waits id live (Cleaned part) allowed = λ waits. absurd (not_ready live (Cleaned part) allowed waits)
 step_waits id live Barrier allowed = λ waits. absurd (not_ready live Barrier allowed waits)
-step_waits id live (Troubled trouble) allowed = λ waits. (trouble, refl, trouble_barred live trouble)
+step_waits id live (Asked question) allowed = λ waits. refl
+step_waits id live (Troubled trouble) allowed = λ waits. trouble_waits live trouble
 step_waits id live (Ended ending part) allowed = tt
 
 -- an answer lets the job go on, or leaves it as it is
-answered_waits : (course : Course) (answer : Answer) (job : Running) (t : Option Trouble) → WaitsIn (Some job) t → WaitsIn (Some (answered_on course answer job)) t
+answered_waits : (course : Course) (answer : Answer) (job : Running) (t : Option Waits) → WaitsIn (Some job) t → WaitsIn (Some (answered_on course answer job)) t
 answered_waits (InTrouble halt) Retry job t h = λ waits. absurd (false≢true waits)
 answered_waits (InTrouble halt) Skip job t h = λ waits. absurd (false≢true waits)
 answered_waits (InTrouble halt) SkipAll job t h = λ waits. absurd (false≢true waits)
 answered_waits (InTrouble halt) Abort job t h = λ waits. absurd (false≢true waits)
+answered_waits (InTrouble halt) Yes job t h = h
+answered_waits (InTrouble halt) No job t h = h
+answered_waits (InTrouble halt) All job t h = h
+answered_waits (InTrouble halt) Update job t h = h
+answered_waits (InTrouble halt) Nothing job t h = h
+answered_waits (InTrouble halt) SizeDiffers job t h = h
 answered_waits (OwedSyncFailed cause) Retry job t h = λ waits. absurd (false≢true waits)
 answered_waits (OwedSyncFailed cause) Skip job t h = h
 answered_waits (OwedSyncFailed cause) SkipAll job t h = h
 answered_waits (OwedSyncFailed cause) Abort job t h = λ waits. absurd (false≢true waits)
+answered_waits (OwedSyncFailed cause) Yes job t h = h
+answered_waits (OwedSyncFailed cause) No job t h = h
+answered_waits (OwedSyncFailed cause) All job t h = h
+answered_waits (OwedSyncFailed cause) Update job t h = h
+answered_waits (OwedSyncFailed cause) Nothing job t h = h
+answered_waits (OwedSyncFailed cause) SizeDiffers job t h = h
+answered_waits Asking Yes job t h = λ waits. absurd (false≢true waits)
+answered_waits Asking No job t h = λ waits. absurd (false≢true waits)
+answered_waits Asking All job t h = λ waits. absurd (false≢true waits)
+answered_waits Asking Update job t h = λ waits. absurd (false≢true waits)
+answered_waits Asking Nothing job t h = λ waits. absurd (false≢true waits)
+answered_waits Asking SizeDiffers job t h = λ waits. absurd (false≢true waits)
+answered_waits Asking Abort job t h = λ waits. absurd (false≢true waits)
+answered_waits Asking Retry job t h = h
+answered_waits Asking Skip job t h = h
+answered_waits Asking SkipAll job t h = h
 answered_waits GoesOn answer job t h = h
 answered_waits (Skips cause) answer job t h = h
 answered_waits (Ends ending) answer job t h = h
 
-ordered_waits : (answer : Answer) (job : Option Running) (t : Option Trouble) → WaitsIn job t → WaitsIn (option_map (answered answer) job) t
+ordered_waits : (answer : Answer) (job : Option Running) (t : Option Waits) → WaitsIn job t → WaitsIn (option_map (answered answer) job) t
 ordered_waits answer None t h = tt
 ordered_waits answer (Some job) t h = answered_waits job.course answer job t h
 
-began_waits : (id : ℕ) (work : Option Work) (t : Option Trouble) → WaitsIn (option_map (running id) work) t
+began_waits : (id : ℕ) (work : Option Work) (t : Option Waits) → WaitsIn (option_map (running id) work) t
 began_waits id None t = tt
 began_waits id (Some work) t = λ waits. absurd (false≢true waits)
 
-turned_waits : (plan : Job) (job : Option Running) (t : Option Trouble) → WaitsIn (option_and_then (turned plan) job) t
+turned_waits : (plan : Job) (job : Option Running) (t : Option Waits) → WaitsIn (option_and_then (turned plan) job) t
 turned_waits plan None t = tt
 turned_waits plan (Some job) t = go (first_work job.id plan)
   where
-    go : (work : Option Work) → WaitsIn (option_map (λ w. running job.id (passing_over (skips_of job.work) w)) work) t
+    go : (work : Option Work) → WaitsIn (option_map (λ w. with_next job w) work) t
     go None = tt
     go (Some work) = λ waits. absurd (false≢true waits)
 
-event_waits : (was : Before) (what : Event) (after : Screen) (job : Option Running) (t : Option Trouble) → was.tally.job ≡ job → EventLeads was what after → WaitsIn job t
-    → WaitsIn (after_event what job) (if is_report what then reported_trouble what else t)
+event_waits : (was : Before) (what : Event) (after : Screen) (job : Option Running) (t : Option Waits) → was.tally.job ≡ job → EventLeads was what after → WaitsIn job t
+    → WaitsIn (after_event what job) (if is_report what then reported_waits what else t)
 event_waits was (Key key now refusals lost) after job t is leads h = h
 event_waits was (Look refusals) after job t is leads h = h
 event_waits was Sought after job t is leads h = h
 event_waits was (Began id plan background) after job t is leads h = began_waits id (begun_work id (sources_of plan)) t
 event_waits was (Order id (Answered answer)) after job t is leads h = ordered_waits answer job t h
 event_waits was (Step id did) after job t is (same, (live, at, number, allowed)) h =
-    subst (λ j. WaitsIn (option_and_then (after_step did) j) (reported_trouble (Step id did))) (sym at ∙ is) (step_waits id live did allowed)
+    subst (λ j. WaitsIn (option_and_then (after_step did) j) (reported_waits (Step id did))) (sym at ∙ is) (step_waits id live did allowed)
 event_waits was (Next id plan) after job t is leads h = turned_waits plan job t
 event_waits was Closed after job t is leads h = h
 
@@ -130,44 +154,34 @@ closed_goes : (course : Course) → waits_on (closed_course course) ≡ false
 closed_goes GoesOn = refl
 closed_goes (InTrouble halt) = refl
 closed_goes (OwedSyncFailed cause) = refl
+closed_goes Asking = refl
 closed_goes (Skips cause) = refl
 closed_goes (Ends ending) = refl
 
-closed_waits : (closed : Bool) (job : Option Running) (t : Option Trouble) → WaitsIn job t → WaitsIn (if_closed closed job) t
+closed_waits : (closed : Bool) (job : Option Running) (t : Option Waits) → WaitsIn job t → WaitsIn (if_closed closed job) t
 closed_waits false job t h = h
 closed_waits true None t h = tt
 closed_waits true (Some job) t h = never (closed_job job) t (closed_goes job.course)
 
 -- so it is in any session
-pub session_waits : (start : Option Start) (opening : Option CallLog) (faults : ℕ) (newest : List Entry) (now : SessionState) → IsSession start opening faults newest now → WaitsIn (live_job newest) (trouble_told newest)
+pub session_waits : (start : Option Start) (opening : Option CallLog) (faults : ℕ) (newest : List Entry) (now : SessionState) → IsSession start opening faults newest now → WaitsIn (live_job newest) (waits_told newest)
 session_waits start opening faults [] now begins = tt
 session_waits start opening faults (e ∷ older) now (was, session, enters) =
-    closed_waits (is_closed (e ∷ older)) (after_event e.what (live_job older)) (trouble_told (e ∷ older))
-    (event_waits (before_entry was.contents older was.screen) e.what now.screen (live_job older) (trouble_told older) refl enters.leads
+    closed_waits (is_closed (e ∷ older)) (after_event e.what (live_job older)) (waits_told (e ∷ older))
+    (event_waits (before_entry was.contents older was.screen) e.what now.screen (live_job older) (waits_told older) refl enters.leads
     (session_waits start opening faults older was session))
 
-not_true : (b : Bool) → not b ≡ true → b ≡ false
-not_true false h = refl
-not_true true h = absurd (false≢true h)
+-- a row says what its job waits with
+row_waits : (waits : Option Waits) → waits_at (state_with waits) (question_in waits) (trouble_in waits) ≡ waits
+row_waits None = refl
+row_waits (Some (waits_with.Question question)) = refl
+row_waits (Some (waits_with.Trouble trouble)) = refl
 
 -- a job whose row can be answered so may be answered so
-pub may_answer : (job : Running) (t : Option Trouble) (answer : Answer) → WaitsIn (Some (told job)) t → takes_answer (row_of job t) answer ≡ true → MayAnswer job answer
-may_answer job t answer waits takes = go (waits_on job.course) refl takes
+pub may_answer : (job : Running) (t : Option Waits) (answer : Answer) → WaitsIn (Some (told job)) t → takes_answer (row_of job t) answer ≡ true → MayAnswer job answer
+may_answer job t answer waits takes =
+    go (waits_on job.course) refl (sym (ap (λ w. is_ok (then_after (option_map waiting_with w) answer)) (row_waits (waits_in job t))) ∙ takes)
   where
-    go : (b : Bool) → waits_on job.course ≡ b → (is_troubled (if b then state.Troubled else state.Ready) && option_map_or (fits answer) (if b then t else None) false) ≡ true → MayAnswer job answer
+    go : (b : Bool) → waits_on job.course ≡ b → is_ok (then_after (option_map waiting_with (if b then t else None)) answer) ≡ true → MayAnswer job answer
     go false is h = absurd (false≢true h)
-    go true is h =
-        let w = waits is in
-        let fit : fits answer w.0 ≡ true = sym (ap (λ o. option_map_or (fits answer) o false) w.1) ∙ h in
-        record {
-          waits = is;
-          fits = λ passes.
-              barred_alike job.course job.work (let j : Running = told job in j.work) is
-              ∙ (sym w.2 ∙ not_true w.0.barrier (sym (ap (λ b. if b then not w.0.barrier else true) passes) ∙ fit));
-        }
-
--- and then it isn't refused
-pub never_refused : (job : Running) (answer : Answer) (r : Result (Unit {0}) AnswerError) → MayAnswer job answer → (r ≡ Err NotAsked → waits_on job.course ≡ false)
-    → (r ≡ Err WrongAnswer → (passes_over answer ≡ true) × (is_barred job.course job.work ≡ true)) → (e : AnswerError) → r ≡ Err e → ⊥
-never_refused job answer r may not_asked wrong NotAsked is = true≢false (sym may.waits ∙ not_asked is)
-never_refused job answer r may not_asked wrong WrongAnswer is = let w = wrong is in true≢false (sym w.1 ∙ may.fits w.0)
+    go true is h = record { waits = is; fits = sym (ap (λ w. is_ok (then_after w answer)) (waits is)) ∙ h }

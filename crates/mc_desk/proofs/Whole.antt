@@ -18,7 +18,7 @@ use Rattle.session_history.specs.declared.history.JobOrder.TheVariants.{Answered
 use Rattle.job_reports.specs.declared.answer.Answer.{Answer}
 use Rattle.session_history.specs.declared.refusal.Refusal.{Refusal}
 use Rattle.copy_move.specs.declared.run.Course.{Course}
-use Rattle.copy_move.specs.declared.run.Course.TheVariants.{GoesOn, InTrouble, OwedSyncFailed, Skips, Ends}
+use Rattle.copy_move.specs.declared.run.Course.TheVariants.{GoesOn, Asking, InTrouble, OwedSyncFailed, Skips, Ends}
 use Rattle.copy_move.specs.Jobs.{Running, MayAnswer, answered, begun_work, closed_course, closed_job, part_of, waits_on}
 use Rattle.job_reports.specs.Reports.{ends}
 use Rattle.history_laws.specs.ToldJob.{after_event, live_job}
@@ -33,7 +33,7 @@ use Rattle.box_words.specs.declared.message.Message.{Message}
 use Rattle.job_plans.specs.Refused.{has_fault}
 use Rattle.mc_desk.specs.Tallies.{Tally, faults_in, can_step, next_id, news_left}
 use Rattle.mc_desk.specs.declared.starts.Start.{Start}
-use Rattle.mc_desk.specs.LiveRows.{row_of, rows_of, rows_told, trouble_told}
+use Rattle.mc_desk.specs.LiveRows.{row_of, rows_of, rows_told, waits_told}
 use Rattle.mc_desk.specs.Granting.{KeyWorks}
 use Rattle.mc_desk.specs.Outputs.{FitsScreen, Output}
 use Rattle.mc_ui.specs.Seekings.{is_seeking}
@@ -64,6 +64,7 @@ closed_waits : (course : Course) → waits_on (closed_course course) ≡ false
 closed_waits GoesOn = refl
 closed_waits (InTrouble halt) = refl
 closed_waits (OwedSyncFailed cause) = refl
+closed_waits Asking = refl
 closed_waits (Skips cause) = refl
 closed_waits (Ends ending) = refl
 
@@ -97,16 +98,16 @@ last_room None = omega arith
 last_room (Some job) = omega arith
 
 -- the rows of a desk are those that its history tells
-pub rows_are : (start : Option Start) (opening contents : Option CallLog) (faults : ℕ) (desk : Seen) → IsWritten start opening contents faults desk → rows_told desk.newest ≡ rows_of desk.job (trouble_told desk.newest)
+pub rows_are : (start : Option Start) (opening contents : Option CallLog) (faults : ℕ) (desk : Seen) → IsWritten start opening contents faults desk → rows_told desk.newest ≡ rows_of desk.job (waits_told desk.newest)
 rows_are start opening contents faults desk written =
-    ap (λ j. rows_of j (trouble_told desk.newest)) (sym (ap (λ (t : Tally). t.job) written.tally) ∙ written.told) ∙ rows_untold desk.job (trouble_told desk.newest)
+    ap (λ j. rows_of j (waits_told desk.newest)) (sym (ap (λ (t : Tally). t.job) written.tally) ∙ written.told) ∙ rows_untold desk.job (waits_told desk.newest)
 
 -- the live job may be answered as its row says
 pub answers_live : (start : Option Start) (opening contents : Option CallLog) (faults : ℕ) (desk : Seen) (live : Running) (answer : Answer) → IsWritten start opening contents faults desk → desk.job ≡ Some live
-    → takes_answer (row_of live (trouble_told desk.newest)) answer ≡ true → MayAnswer live answer
+    → takes_answer (row_of live (waits_told desk.newest)) answer ≡ true → MayAnswer live answer
 answers_live start opening contents faults desk live answer written is takes =
-    may_answer live (trouble_told desk.newest) answer
-    (subst (λ j. WaitsIn j (trouble_told desk.newest)) (sym (ap (λ (t : Tally). t.job) written.tally) ∙ (written.told ∙ ap (option_map told) is))
+    may_answer live (waits_told desk.newest) answer
+    (subst (λ j. WaitsIn j (waits_told desk.newest)) (sym (ap (λ (t : Tally). t.job) written.tally) ∙ (written.told ∙ ap (option_map told) is))
     (session_waits start opening faults desk.newest (state_of contents desk) written.session)) takes
 
 same_fits : (old new : Seen) → new.screen ≡ old.screen → new.out ≡ old.out → FitsScreen old.out.display.grid old.screen → FitsScreen new.out.display.grid new.screen
@@ -178,7 +179,7 @@ module _ (start : Option Start) (opening contents contents_after : Option CallLo
         (written_more faults (keyed screen) new _ start opening contents_after contents_after written
         (adds_began contents_after contents_after faults (keyed screen) new 0 began_count 0 refl id plan background run more
         (subst (λ n. option_map (running n) (begun_work n (sources_of plan)) ≡ Some run) number started) job is unclosed
-        (rows_are start opening contents_after faults (keyed screen) written ∙ ap (λ j. rows_of j (trouble_told (keyed screen).newest)) idle) workable refl refl counted
+        (rows_are start opening contents_after faults (keyed screen) written ∙ ap (λ j. rows_of j (waits_told (keyed screen).newest)) idle) workable refl refl counted
         (numbered ∙ ap Some number) (cleared new.screen settled) quit unasked idle dirty left refl))
         settled (λ h. ap (λ (t : Tally). t.closed) is ∙ desk.lost (sym (ap (λ (t : Tally). t.lost) is) ∙ h)) (λ h. absurd (not_asked h quit))
         (λ h. absurd (let shut = ap (λ (t : Tally). t.closed) is in cc)) room shown_now
@@ -187,7 +188,7 @@ module _ (start : Option Start) (opening contents contents_after : Option CallLo
         screen = record new.screen { planned = Some (Begins plan background) }
 
     -- a key that answers the job's trouble, and the order
-    pub desk_ordered : (answer : Answer) (live : Running) (order_count : ℕ) → old.job ≡ Some live → takes_answer (row_of live (trouble_told old.newest)) answer ≡ true
+    pub desk_ordered : (answer : Answer) (live : Running) (order_count : ℕ) → old.job ≡ Some live → takes_answer (row_of live (waits_told old.newest)) answer ≡ true
         → new.newest ≡ entry 0 old.tally.calls order_count 0 (Order live.id (Answered answer)) ∷ (entry 0 old.tally.calls count shown (Key key now refusals false) ∷ old.newest)
         → count ≤ order_count → new.job ≡ Some (answered answer live)
         → new.tally ≡ record old.tally { job = Some (told (answered answer live)); due = Some live.id } → new.quit ≡ old.quit → new.dirty ≡ old.dirty → new.later ≡ old.later
@@ -198,7 +199,7 @@ module _ (start : Option Start) (opening contents contents_after : Option CallLo
         desk_of start opening contents_after faults new
         (written_more faults (keyed screen) new _ start opening contents_after contents_after written
         (adds_order contents_after contents_after faults (keyed screen) new 0 order_count 0 refl answer live more was
-        (rows_are start opening contents_after faults (keyed screen) written ∙ ap (λ j. rows_of j (trouble_told (keyed screen).newest)) was) takes
+        (rows_are start opening contents_after faults (keyed screen) written ∙ ap (λ j. rows_of j (waits_told (keyed screen).newest)) was) takes
         desk.written.told job is unclosed refl refl counted (cleared new.screen settled) quit unasked dirty left refl))
         settled (λ h. ap (λ (t : Tally). t.closed) is ∙ desk.lost (sym (ap (λ (t : Tally). t.lost) is) ∙ h)) (λ h. absurd (not_asked h quit))
         (λ h. absurd (let shut = ap (λ (t : Tally). t.closed) is in cc)) room shown_now
@@ -228,7 +229,7 @@ desk_closed start opening contents faults old new count desk unclosed later more
 }
 
 -- a look, written down
-pub desk_looked : (start : Option Start) (opening contents contents_after : Option CallLog) (faults : ℕ) (old new : Seen) (count shown : ℕ) (refusals : List Refusal) (rows : List JobRow) (news : Option Message) → rows ≡ rows_of old.job (trouble_told old.newest) → news ≡ news_left old.newest → IsDesk start opening contents faults old
+pub desk_looked : (start : Option Start) (opening contents contents_after : Option CallLog) (faults : ℕ) (old new : Seen) (count shown : ℕ) (refusals : List Refusal) (rows : List JobRow) (news : Option Message) → rows ≡ rows_of old.job (waits_told old.newest) → news ≡ news_left old.newest → IsDesk start opening contents faults old
     → old.tally.closed ≡ false → IsSome old.tally.due → contents_after ≡ contents → faults_in faults old.newest ≤ count → (has_fault refusals ≡ true → HasRisen (faults_in faults old.newest) count)
     → IfKnown contents (λ log. AreRefused log refusals) → LookLeads contents rows old.tally.has_unseen_end news refusals old.screen new.screen
     → new.newest ≡ entry 0 old.tally.calls count shown (Look refusals) ∷ old.newest

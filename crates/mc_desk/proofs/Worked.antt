@@ -1,6 +1,6 @@
 -- A key that was worked, and what it asked for carried out, leave a whole desk.
 use Rattle.std.proofs.Common.{◌≡◌, ℕ, ◌≤◌, ◌∷◌, ◌++◌, Bool, true, false, List, [], refl, sym, inl, inr, Result, ◌∙◌, ap, subst, Option, Some, None, arith}
-use Rattle.std.specs.Prelude.{if◌then◌else◌, not}
+use Rattle.std.specs.Prelude.{if◌then◌else◌, not, IsOk}
 use Rattle.std.specs.Option.{option_map}
 use Rattle.std.proofs.lemmas.Bool.{false≢true, true≢false}
 use Rattle.key_screen.specs.Grids.{CellGrid}
@@ -14,17 +14,17 @@ use Rattle.session_history.specs.declared.history.Event.TheVariants.{Key}
 use Rattle.session_history.specs.declared.refusal.Refusal.{Refusal}
 use Rattle.session_history.specs.Refusals.{AreRefused}
 use Rattle.job_reports.specs.declared.answer.Answer.{Answer}
-use Rattle.job_reports.specs.declared.answer.Answer.TheVariants.{Retry, Skip, SkipAll, Abort}
+use Rattle.job_reports.specs.declared.answer.Answer.TheVariants.{Yes, No, All, Update, Nothing, SizeDiffers, Retry, Skip, SkipAll, Abort}
 use Rattle.job_reports.specs.declared.job.Job.{Job as JobPlan}
-use Rattle.job_reports.specs.declared.report.Trouble.{Trouble}
-use Rattle.job_reports.specs.declared.row.JobState.TheVariants.{Ready, Troubled}
-use Rattle.job_reports.specs.Reports.{passes_over}
+use Rattle.job_reports.specs.declared.waits.Waits.{Waits}
+use Rattle.job_answers.specs.Answers.{answered as then_after, to_barrier, to_trouble}
+use Rattle.job_answers.specs.declared.answer.Waiting.TheVariants as waiting
 use Rattle.job_reports.specs.declared.report.Cause.{Cause}
 use Rattle.copy_move.specs.declared.work.Work.{Work}
 use Rattle.copy_move.specs.declared.work.Work.TheVariants.{Copy, CopyTree, Delete, Make, SetMode}
 use Rattle.copy_move.specs.declared.run.Course.{Course}
-use Rattle.copy_move.specs.declared.run.Course.TheVariants.{GoesOn, InTrouble, OwedSyncFailed, Skips, Ends}
-use Rattle.copy_move.specs.Jobs.{MayAnswer, Running, answered, answered_on, begun_work, is_barred, kind_of, path_of, taken_anew, waits_on, with_skips}
+use Rattle.copy_move.specs.declared.run.Course.TheVariants.{GoesOn, Asking, InTrouble, OwedSyncFailed, Skips, Ends}
+use Rattle.copy_move.specs.Jobs.{MayAnswer, Running, answered, answered_on, begun_work, kind_of, path_of, taken_anew, waiting_on, waits_on, with_skips}
 use Rattle.session_history.specs.Sources.{sources_of}
 use Rattle.copy_move.specs.Told.{running, told}
 use Rattle.job_boxes.specs.LiveJobs.{can_answer, takes_answer}
@@ -36,7 +36,7 @@ use Rattle.mc_desk.specs.declared.granting.Deed.{Deed}
 use Rattle.mc_desk.specs.declared.granting.Deed.TheVariants as deed
 use Rattle.mc_desk.specs.declared.standing.Standing.{Standing}
 use Rattle.mc_desk.specs.Granting.{CanBeDone, IsWorked, KeyWorks, with_deed}
-use Rattle.mc_desk.specs.LiveRows.{row_of, rows_of, rows_told, trouble_told}
+use Rattle.mc_desk.specs.LiveRows.{question_in, row_of, rows_of, rows_told, state_with, trouble_in, waits_told}
 use Rattle.mc_desk.specs.Logs.{Logged}
 use Rattle.mc_desk.specs.Outputs.{FitsScreen, Output, ShowsFrame}
 use Rattle.mc_desk.specs.Shown.{DrawsBehind, DrawsFrame, Put, begun_rows, frame_at, frame_due, ready_row, rows_then, none_before}
@@ -51,13 +51,13 @@ use Rattle.mc_desk.proofs.Showing.{shown_drawn, shown_whole}
 use Rattle.mc_desk.proofs.Whole.{answers_live, desk_began, desk_keyed, desk_ordered, rows_are}
 
 module _ (start : Option Start) (opening contents : Option CallLog) (faults : ℕ) (desk : Seen) (whole : IsDesk start opening contents faults desk) (rows : List JobRow)
-    (rows_is : rows ≡ rows_of desk.job (trouble_told desk.newest)) where
+    (rows_is : rows ≡ rows_of desk.job (waits_told desk.newest)) where
   -- the live job is there where it can be answered, and takes the answer
-  live_of : (answer : Answer) → can_answer rows answer ≡ true → (live : Running) × (desk.job ≡ Some live) × (takes_answer (row_of live (trouble_told desk.newest)) answer ≡ true)
+  live_of : (answer : Answer) → can_answer rows answer ≡ true → (live : Running) × (desk.job ≡ Some live) × (takes_answer (row_of live (waits_told desk.newest)) answer ≡ true)
   live_of answer can = go desk.job refl (ap (λ rs. can_answer rs answer) (sym rows_is) ∙ can)
     where
-      go : (job : Option Running) → desk.job ≡ job → can_answer (rows_of job (trouble_told desk.newest)) answer ≡ true
-          → (live : Running) × (desk.job ≡ Some live) × (takes_answer (row_of live (trouble_told desk.newest)) answer ≡ true)
+      go : (job : Option Running) → desk.job ≡ job → can_answer (rows_of job (waits_told desk.newest)) answer ≡ true
+          → (live : Running) × (desk.job ≡ Some live) × (takes_answer (row_of live (waits_told desk.newest)) answer ≡ true)
       go None is h = absurd (false≢true h)
       go (Some live) is h = (live, is, h)
 
@@ -97,12 +97,12 @@ draws_written desk frame due r out_after shown unclosed s same =
     (draws_as (not desk.out.display.has_drawn) (none_before desk.newest) frame out_after.shown desk.out.put out_after.put (λ some. ap not (shown.drawn unclosed s.drawn.uncut some)) s.drawn)
 
 -- a job that waits for nothing has the row of one that is ready, whatever was told of it
-ready_is : (job : Running) (t told : Option Trouble) → waits_on job.course ≡ false → row_of job t ≡ ready_row (row_of job told)
+ready_is : (job : Running) (t told : Option Waits) → waits_on job.course ≡ false → row_of job t ≡ ready_row (row_of job told)
 ready_is job t told ready =
-    ap (λ b. let r : JobRow = record { job = job.id; state = if b then Troubled else Ready; kind = kind_of job.work; path = path_of job.work; background = false; trouble = if b then t else None } in r) ready
+    ap (λ b. let w : Option Waits = if b then t else None in let r : JobRow = record { job = job.id; state = state_with w; kind = kind_of job.work; path = path_of job.work; background = false; asked = question_in w; trouble = trouble_in w } in r) ready
 
 -- an answer changes nothing of what a job does
-still_does : (course : Course) (answer : Answer) (job : Running) (t : Option Trouble) → ready_row (row_of (answered_on course answer job) t) ≡ ready_row (row_of job t)
+still_does : (course : Course) (answer : Answer) (job : Running) (t : Option Waits) → ready_row (row_of (answered_on course answer job) t) ≡ ready_row (row_of job t)
 still_does course answer job t = go course answer
   where
     row : Work → JobRow
@@ -127,10 +127,32 @@ still_does course answer job t = go course answer
     go (InTrouble halt) Skip = refl
     go (InTrouble halt) SkipAll = skipping halt.cause job.work
     go (InTrouble halt) Abort = refl
+    go (InTrouble halt) Yes = refl
+    go (InTrouble halt) No = refl
+    go (InTrouble halt) All = refl
+    go (InTrouble halt) Update = refl
+    go (InTrouble halt) Nothing = refl
+    go (InTrouble halt) SizeDiffers = refl
     go (OwedSyncFailed cause) Retry = anew job.work
     go (OwedSyncFailed cause) Skip = refl
     go (OwedSyncFailed cause) SkipAll = refl
     go (OwedSyncFailed cause) Abort = refl
+    go (OwedSyncFailed cause) Yes = refl
+    go (OwedSyncFailed cause) No = refl
+    go (OwedSyncFailed cause) All = refl
+    go (OwedSyncFailed cause) Update = refl
+    go (OwedSyncFailed cause) Nothing = refl
+    go (OwedSyncFailed cause) SizeDiffers = refl
+    go Asking Yes = refl
+    go Asking No = refl
+    go Asking All = refl
+    go Asking Update = refl
+    go Asking Nothing = refl
+    go Asking SizeDiffers = refl
+    go Asking Retry = refl
+    go Asking Skip = refl
+    go Asking SkipAll = refl
+    go Asking Abort = refl
     go GoesOn answer = refl
     go (Skips cause) answer = refl
     go (Ends ending) answer = refl
@@ -143,18 +165,45 @@ started_ready id plan run started = go (begun_work id (sources_of plan)) started
     go None is = absurd cc
     go (Some work) is = let same : running id work ≡ run = cc in ap (λ (j : Running). waits_on j.course) (sym same)
 
-answered_ready : (course : Course) (answer : Answer) (job : Running) → waits_on course ≡ true → (passes_over answer ≡ true → is_barred course job.work ≡ false) → waits_on (answered_on course answer job).course ≡ false
-answered_ready (InTrouble halt) Retry job waits fits = refl
-answered_ready (InTrouble halt) Skip job waits fits = refl
-answered_ready (InTrouble halt) SkipAll job waits fits = refl
-answered_ready (InTrouble halt) Abort job waits fits = refl
-answered_ready (OwedSyncFailed cause) Retry job waits fits = refl
-answered_ready (OwedSyncFailed cause) Skip job waits fits = absurd (true≢false (fits refl))
-answered_ready (OwedSyncFailed cause) SkipAll job waits fits = absurd (true≢false (fits refl))
-answered_ready (OwedSyncFailed cause) Abort job waits fits = refl
-answered_ready GoesOn answer job waits fits = absurd (false≢true waits)
-answered_ready (Skips cause) answer job waits fits = absurd (false≢true waits)
-answered_ready (Ends ending) answer job waits fits = absurd (false≢true waits)
+-- neither a trouble nor a barrier is answered as a question is
+neither : (barrier : Bool) (cause : Cause) (answer : Answer) → (IsOk (to_trouble answer) → ⊥) → (IsOk (to_barrier answer) → ⊥) → IsOk (then_after (Some (if barrier then waiting.Barrier else waiting.Trouble cause)) answer) → ⊥
+neither true cause answer trouble stops h = stops h
+neither false cause answer trouble stops h = trouble h
+
+answered_ready : (course : Course) (answer : Answer) (job : Running) → IsOk (then_after (waiting_on course) answer) → waits_on (answered_on course answer job).course ≡ false
+answered_ready (InTrouble halt) Retry job fits = refl
+answered_ready (InTrouble halt) Skip job fits = refl
+answered_ready (InTrouble halt) SkipAll job fits = refl
+answered_ready (InTrouble halt) Abort job fits = refl
+answered_ready (InTrouble halt) Yes job fits = absurd (neither halt.barrier halt.cause Yes false≢true false≢true fits)
+answered_ready (InTrouble halt) No job fits = absurd (neither halt.barrier halt.cause No false≢true false≢true fits)
+answered_ready (InTrouble halt) All job fits = absurd (neither halt.barrier halt.cause All false≢true false≢true fits)
+answered_ready (InTrouble halt) Update job fits = absurd (neither halt.barrier halt.cause Update false≢true false≢true fits)
+answered_ready (InTrouble halt) Nothing job fits = absurd (neither halt.barrier halt.cause Nothing false≢true false≢true fits)
+answered_ready (InTrouble halt) SizeDiffers job fits = absurd (neither halt.barrier halt.cause SizeDiffers false≢true false≢true fits)
+answered_ready (OwedSyncFailed cause) Retry job fits = refl
+answered_ready (OwedSyncFailed cause) Abort job fits = refl
+answered_ready (OwedSyncFailed cause) Skip job fits = absurd (false≢true fits)
+answered_ready (OwedSyncFailed cause) SkipAll job fits = absurd (false≢true fits)
+answered_ready (OwedSyncFailed cause) Yes job fits = absurd (false≢true fits)
+answered_ready (OwedSyncFailed cause) No job fits = absurd (false≢true fits)
+answered_ready (OwedSyncFailed cause) All job fits = absurd (false≢true fits)
+answered_ready (OwedSyncFailed cause) Update job fits = absurd (false≢true fits)
+answered_ready (OwedSyncFailed cause) Nothing job fits = absurd (false≢true fits)
+answered_ready (OwedSyncFailed cause) SizeDiffers job fits = absurd (false≢true fits)
+answered_ready Asking Yes job fits = refl
+answered_ready Asking No job fits = refl
+answered_ready Asking All job fits = refl
+answered_ready Asking Update job fits = refl
+answered_ready Asking Nothing job fits = refl
+answered_ready Asking SizeDiffers job fits = refl
+answered_ready Asking Abort job fits = refl
+answered_ready Asking Retry job fits = absurd (false≢true fits)
+answered_ready Asking Skip job fits = absurd (false≢true fits)
+answered_ready Asking SkipAll job fits = absurd (false≢true fits)
+answered_ready GoesOn answer job fits = absurd (false≢true fits)
+answered_ready (Skips cause) answer job fits = absurd (false≢true fits)
+answered_ready (Ends ending) answer job fits = absurd (false≢true fits)
 
 cleared : (s : Screen) → s.planned ≡ None → s ≡ (let c : Screen = record s { planned = None } in c)
 cleared s h = ap (λ o. let c : Screen = record s { planned = o } in c) h
@@ -163,7 +212,7 @@ module _ (start : Option Start) (opening contents contents_after : Option CallLo
     (pending : List ℕ) (count : ℕ) (key : KeyType) (now : ℕ) (desk : IsDesk start opening contents faults (seen_of log screen was dirty out taken pending)) (unclosed : was.closed ≡ false) (unasked : was.quit ≡ false)
     (looked : awaited was.due ≡ None) (sought : is_seeking screen ≡ false) (same : contents_after ≡ contents) (later : faults_in faults log.newest ≤ count) (refusals : List Refusal)
     (fault : has_fault refusals ≡ true → HasRisen (faults_in faults log.newest) count) (refused : IfKnown contents (λ l. AreRefused l refusals)) (room : 2 ≤ log_after.spare)
-    (rows : List JobRow) (rows_is : rows ≡ rows_of was.job (trouble_told log.newest)) (r : Result (Unit {0}) SinkError) where
+    (rows : List JobRow) (rows_is : rows ≡ rows_of was.job (waits_told log.newest)) (r : Result (Unit {0}) SinkError) where
   abbrev pub old : Seen
   old = seen_of log screen was dirty out taken pending
 
@@ -183,7 +232,7 @@ module _ (start : Option Start) (opening contents contents_after : Option CallLo
   abbrev pub shown : ℕ
   shown = out_after.shown
 
-  told_is : rows_told log.newest ≡ rows_of was.job (trouble_told log.newest)
+  told_is : rows_told log.newest ≡ rows_of was.job (waits_told log.newest)
   told_is = rows_are start opening contents faults old desk.written
 
   abbrev due_of : Deed → CellGrid
@@ -191,10 +240,10 @@ module _ (start : Option Start) (opening contents contents_after : Option CallLo
 
   -- the frame that is drawn is the one that is due
   frame_as : (done : Deed) → IsWorked contents rows (next_id was.last_id) now key screen screen_after done refusals
-      → frame_of screen_after (rows_of (after_deed done was).job (trouble_told log.newest)) ≡ due_of done
+      → frame_of screen_after (rows_of (after_deed done was).job (waits_told log.newest)) ≡ due_of done
   frame_as deed.Nothing w = plain w.settled
     where
-      plain : screen_after.planned ≡ None → frame_of screen_after (rows_of was.job (trouble_told log.newest)) ≡ due_of deed.Nothing
+      plain : screen_after.planned ≡ None → frame_of screen_after (rows_of was.job (waits_told log.newest)) ≡ due_of deed.Nothing
       plain none =
           ap (frame_of screen_after) (sym told_is)
           ∙ (ap (λ s. frame_of s (rows_told log.newest)) (cleared screen_after none) ∙ ap (λ p. frame_at screen_after (rows_then p (next_id was.last_id) (rows_told log.newest))) (sym none))
@@ -206,7 +255,7 @@ module _ (start : Option Start) (opening contents contents_after : Option CallLo
       let run = confirmed.run in
       let none : rows_told log.newest ≡ [] = told_is ∙ (sym rows_is ∙ w.can.0) in
       let waits = started_ready run.id confirmed.plan run confirmed.started in
-      ap (λ row. frame_of screen_after (row ∷ [])) (ready_is run (trouble_told log.newest) None waits ∙ sym (ready_is run None None waits))
+      ap (λ row. frame_of screen_after (row ∷ [])) (ready_is run (waits_told log.newest) None waits ∙ sym (ready_is run None None waits))
       ∙ (ap (λ s. frame_of s (row_of run None ∷ [])) (cleared screen_after w.settled)
       ∙ (ap (λ j. frame_at screen_after (rows_of j None ++ [])) (sym confirmed.started)
       ∙ (ap (λ rs. frame_at screen_after (begun_rows run.id confirmed.plan ++ rs)) (sym none)
@@ -216,28 +265,28 @@ module _ (start : Option Start) (opening contents contents_after : Option CallLo
       let live = here.0 in
       let is : was.job ≡ Some live = here.1 in
       let may : MayAnswer live answer = answers_live start opening contents faults old live answer desk.written is here.2 in
-      let ready = answered_ready live.course answer live may.waits may.fits in
-      let told : rows_told log.newest ≡ row_of live (trouble_told log.newest) ∷ [] = told_is ∙ ap (λ j. rows_of j (trouble_told log.newest)) is in
-      ap (λ j. frame_of screen_after (rows_of (after_answer answer j was).job (trouble_told log.newest))) is
-      ∙ (ap (λ row. frame_of screen_after (row ∷ [])) (ready_is (answered answer live) (trouble_told log.newest) (trouble_told log.newest) ready ∙ still_does live.course answer live (trouble_told log.newest))
-      ∙ (ap (λ s. frame_of s (ready_row (row_of live (trouble_told log.newest)) ∷ [])) (cleared screen_after w.settled)
+      let ready = answered_ready live.course answer live may.fits in
+      let told : rows_told log.newest ≡ row_of live (waits_told log.newest) ∷ [] = told_is ∙ ap (λ j. rows_of j (waits_told log.newest)) is in
+      ap (λ j. frame_of screen_after (rows_of (after_answer answer j was).job (waits_told log.newest))) is
+      ∙ (ap (λ row. frame_of screen_after (row ∷ [])) (ready_is (answered answer live) (waits_told log.newest) (waits_told log.newest) ready ∙ still_does live.course answer live (waits_told log.newest))
+      ∙ (ap (λ s. frame_of s (ready_row (row_of live (waits_told log.newest)) ∷ [])) (cleared screen_after w.settled)
       ∙ ap (λ rs. frame_at screen_after (rows_then (Some (Answers answer)) (next_id was.last_id) rs)) (sym told)))
 
   -- what the terminal shows of it
   abbrev pub Shown : Deed → Type 0
-  Shown done = ShowsFrame (frame_of screen_after (rows_of (after_deed done was).job (trouble_told log.newest))) r out out_after
+  Shown done = ShowsFrame (frame_of screen_after (rows_of (after_deed done was).job (waits_told log.newest))) r out out_after
 
-  shows_new : (standing : Standing) → FitsScreen out_after.display.grid screen_after → ShowsFrame (frame_of screen_after (rows_of standing.job (trouble_told log.newest))) r out out_after
-      → trouble_told log_after.newest ≡ trouble_told log.newest → (standing.closed ≡ false → awaited standing.due ≡ None → can_step (option_map told standing.job) ≡ false) → IsShown (new standing)
+  shows_new : (standing : Standing) → FitsScreen out_after.display.grid screen_after → ShowsFrame (frame_of screen_after (rows_of standing.job (waits_told log.newest))) r out out_after
+      → waits_told log_after.newest ≡ waits_told log.newest → (standing.closed ≡ false → awaited standing.due ≡ None → can_step (option_map told standing.job) ≡ false) → IsShown (new standing)
   shows_new standing fits s same still =
       shown_drawn (new standing) fits
       (subst (λ t. out_after.put.is_cut ≡ false → out_after.display ≡ (let d : Display = record { grid = frame_of screen_after (rows_of standing.job t); has_drawn = true } in d)) (sym same)
-      (shown_whole (frame_of screen_after (rows_of standing.job (trouble_told log.newest))) r out out_after s))
+      (shown_whole (frame_of screen_after (rows_of standing.job (waits_told log.newest))) r out out_after s))
       still
 
   drawn_for : (done : Deed) → IsWorked contents rows (next_id was.last_id) now key screen screen_after done refusals → Shown done
       → DrawsFrame (none_before log.newest) (due_of done) shown out.put out_after.put
-  drawn_for done w s = draws_written old (frame_of screen_after (rows_of (after_deed done was).job (trouble_told log.newest))) (due_of done) r out_after desk.shown unclosed s (frame_as done w)
+  drawn_for done w s = draws_written old (frame_of screen_after (rows_of (after_deed done was).job (waits_told log.newest))) (due_of done) r out_after desk.shown unclosed s (frame_as done w)
 
   -- where nothing is asked for, what is written down of the end is noted on the screen
   drawn_noted : DrawsFrame (none_before log.newest) (frame_due screen_after (next_id was.last_id) (rows_told log.newest)) shown out.put out_after.put
@@ -248,17 +297,17 @@ module _ (start : Option Start) (opening contents contents_after : Option CallLo
       → log_after.newest ≡ followed was.calls count (event_of done was.job) (entry 0 was.calls count shown (Key key now refusals false) ∷ log.newest) → IsDesk start opening contents_after faults (new (after_deed done was))
   desk_worked deed.Nothing w fits s more =
       desk_keyed start opening contents contents_after faults old (new was) count shown key now desk unclosed unasked looked sought same later refusals fault refused w.settled room
-      (shows_new was fits s (ap trouble_told more) desk.shown.still) more refl refl refl (still_noted w.works) refl refl (drawn_noted (drawn_for deed.Nothing w s))
+      (shows_new was fits s (ap waits_told more) desk.shown.still) more refl refl refl (still_noted w.works) refl refl (drawn_noted (drawn_for deed.Nothing w s))
   desk_worked deed.Refuse w fits s more =
       desk_keyed start opening contents contents_after faults old (new was) count shown key now desk unclosed unasked looked sought same later refusals fault refused w.settled room
-      (shows_new was fits s (ap trouble_told more) desk.shown.still) more refl refl refl (still_noted w.works) refl refl (drawn_noted (drawn_for deed.Refuse w s))
+      (shows_new was fits s (ap waits_told more) desk.shown.still) more refl refl refl (still_noted w.works) refl refl (drawn_noted (drawn_for deed.Refuse w s))
   desk_worked deed.End w fits s more =
       desk_keyed start opening contents contents_after faults old (new (after_deed deed.End was)) count shown key now desk unclosed unasked looked sought same later refusals fault refused w.settled room
-      (shows_new (after_deed deed.End was) fits s (ap trouble_told more) desk.shown.still) more refl refl refl (noted_works (with_deed deed.End screen_after) w.works) refl refl (drawn_for deed.End w s)
+      (shows_new (after_deed deed.End was) fits s (ap waits_told more) desk.shown.still) more refl refl refl (noted_works (with_deed deed.End screen_after) w.works) refl refl (drawn_for deed.End w s)
   desk_worked (deed.Begin confirmed) w fits s more =
       desk_began start opening contents contents_after faults old (new (after_deed (deed.Begin confirmed) was)) count shown key now desk unclosed unasked looked sought same later refusals fault refused w.settled room
-      (shows_new (after_deed (deed.Begin confirmed) was) fits s (ap trouble_told more) (λ unclosed none. absurd cc))
-      confirmed.plan confirmed.background confirmed.run confirmed.run.id count refl w.can.2 (none_of was.job (trouble_told log.newest) (sym rows_is ∙ w.can.0)) w.can.1 confirmed.started more (omega arith) refl refl refl refl confirmed.rest
+      (shows_new (after_deed (deed.Begin confirmed) was) fits s (ap waits_told more) (λ unclosed none. absurd cc))
+      confirmed.plan confirmed.background confirmed.run confirmed.run.id count refl w.can.2 (none_of was.job (waits_told log.newest) (sym rows_is ∙ w.can.0)) w.can.1 confirmed.started more (omega arith) refl refl refl refl confirmed.rest
       (noted_works (with_deed (deed.Begin confirmed) screen_after) w.works) (drawn_for (deed.Begin confirmed) w s)
   desk_worked (deed.Answer answer) w fits s more =
       let here = live_of start opening contents faults old desk rows rows_is answer w.can in
@@ -268,6 +317,6 @@ module _ (start : Option Start) (opening contents contents_after : Option CallLo
       subst (λ s. IsDesk start opening contents_after faults (new s)) (sym (ap (λ j. after_answer answer j was) is))
       (desk_ordered start opening contents contents_after faults old (new (after_answer answer (Some here.0) was)) count shown key now desk unclosed unasked looked sought same later refusals fault refused w.settled room
       (shows_new (after_answer answer (Some here.0) was) fits
-      (subst (λ j. ShowsFrame (frame_of screen_after (rows_of (after_answer answer j was).job (trouble_told log.newest))) r out out_after) is s) (ap trouble_told followed_is) (λ unclosed none. absurd cc))
+      (subst (λ j. ShowsFrame (frame_of screen_after (rows_of (after_answer answer j was).job (waits_told log.newest))) r out out_after) is s) (ap waits_told followed_is) (λ unclosed none. absurd cc))
       answer here.0 count is here.2 followed_is (omega arith) refl refl refl refl refl
       (noted_works (with_deed (deed.Answer answer) screen_after) w.works) (drawn_for (deed.Answer answer) w s))

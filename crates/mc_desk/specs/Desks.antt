@@ -31,7 +31,7 @@ use Rattle.mc_desk.specs.Tallies.{Tally, can_step, tally, faults_in, keys_in}
 use Rattle.mc_desk.specs.Sessions.{IsSession, SessionState}
 use Rattle.mc_desk.specs.Logs.{Logged}
 use Rattle.mc_desk.specs.Outputs.{FitsScreen, Output}
-use Rattle.mc_desk.specs.LiveRows.{rows_of, trouble_told}
+use Rattle.mc_desk.specs.LiveRows.{rows_of, waits_told}
 use Rattle.mc_ui.specs.Frames.{frame_of}
 use Rattle.key_screen.specs.Grids.{CellGrid}
 use Rattle.mc_desk.specs.Standings.{tally_of}
@@ -109,7 +109,7 @@ rank_of desk = rank_left desk.dirty desk.job desk.later
 
 -- the frame of what a desk shows now
 abbrev pub frame_now : Seen → CellGrid
-frame_now desk = frame_of desk.screen (rows_of desk.job (trouble_told desk.newest))
+frame_now desk = frame_of desk.screen (rows_of desk.job (waits_told desk.newest))
 
 -- What the terminal of a desk shows, where no drawing was cut short and the desk isn't closed: something was drawn, if anything
 -- was written down; and once nothing is to be looked at the frame of the desk, and then its job can't be stepped.

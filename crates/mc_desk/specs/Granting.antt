@@ -70,7 +70,7 @@ with_deed End screen = record screen { planned = Some Ends }
 with_deed (Begin confirmed) screen = record screen { planned = Some (Begins confirmed.plan confirmed.background) }
 with_deed (Answer answer) screen = record screen { planned = Some (Answers answer) }
 
--- it can be done: a job is begun while none is live, and a trouble answered as it may be
+-- it can be done: a job is begun while none is live, and answered as it may be
 abbrev pub CanBeDone : List JobRow → Option ℕ → Deed → Type 0
 CanBeDone rows next Nothing = ⊤
 CanBeDone rows next Refuse = ⊤

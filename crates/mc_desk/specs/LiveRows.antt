@@ -1,11 +1,14 @@
 -- The rows of the live jobs, as the screen sees them: each is what its run and its newest report say. Histories stand newest
 -- first here.
 use Rattle.std.specs.Prelude.{Bool, true, false, if◌then◌else◌, List, [], ◌∷◌, Option, Some, None}
-use Rattle.job_reports.specs.declared.report.Did.TheVariants.{Troubled as TroubledStep}
+use Rattle.job_reports.specs.declared.question.Question.{Question}
+use Rattle.job_reports.specs.declared.report.Did.TheVariants.{Asked as AskedStep, Troubled as TroubledStep}
 use Rattle.job_reports.specs.declared.report.Trouble.{Trouble}
 use Rattle.job_reports.specs.declared.row.JobRow.{JobRow}
 use Rattle.job_reports.specs.declared.row.JobState.{JobState}
-use Rattle.job_reports.specs.declared.row.JobState.TheVariants.{Ready, Troubled}
+use Rattle.job_reports.specs.declared.row.JobState.TheVariants.{Ready, Asking, Troubled}
+use Rattle.job_reports.specs.declared.waits.Waits.{Waits}
+use Rattle.job_reports.specs.declared.waits.Waits.TheVariants as waits
 use Rattle.session_history.specs.declared.history.Event.{Event}
 use Rattle.session_history.specs.declared.history.Event.TheVariants.{Step}
 use Rattle.session_history.specs.declared.history.Entry.{Entry}
@@ -17,35 +20,53 @@ abbrev pub is_report : Event → Bool
 is_report (Step id did) = true
 is_report event = false
 
--- the trouble that it tells of
-abbrev pub reported_trouble : Event → Option Trouble
-reported_trouble (Step id (TroubledStep trouble)) = Some trouble
-reported_trouble event = None
+-- the question or the trouble that it tells of
+abbrev pub reported_waits : Event → Option Waits
+reported_waits (Step id (AskedStep question)) = Some (waits.Question question)
+reported_waits (Step id (TroubledStep trouble)) = Some (waits.Trouble trouble)
+reported_waits event = None
 
--- the trouble of the newest report, if it tells of one
-abbrev pub trouble_told : List Entry → Option Trouble
-trouble_told [] = None
-trouble_told (e ∷ older) = if is_report e.what then reported_trouble e.what else trouble_told older
+-- the question or the trouble of the newest report, if it tells of one
+abbrev pub waits_told : List Entry → Option Waits
+waits_told [] = None
+waits_told (e ∷ older) = if is_report e.what then reported_waits e.what else waits_told older
 
--- a job that waits for an answer is in trouble, and each other has a next step
-abbrev pub state_of : Running → JobState
-state_of job = if waits_on job.course then Troubled else Ready
+-- a job that waits for an answer waits with what was told; each other has a next step
+abbrev pub waits_in : Running → Option Waits → Option Waits
+waits_in job told = if waits_on job.course then told else None
 
--- a live job's row; where it waits, its trouble is the one that was told
-abbrev pub row_of : Running → Option Trouble → JobRow
+-- what a job is at that waits with this, its question and its trouble
+abbrev pub state_with : Option Waits → JobState
+state_with None = Ready
+state_with (Some (waits.Question question)) = Asking
+state_with (Some (waits.Trouble trouble)) = Troubled
+
+abbrev pub question_in : Option Waits → Option Question
+question_in None = None
+question_in (Some (waits.Question question)) = Some question
+question_in (Some (waits.Trouble trouble)) = None
+
+abbrev pub trouble_in : Option Waits → Option Trouble
+trouble_in None = None
+trouble_in (Some (waits.Question question)) = None
+trouble_in (Some (waits.Trouble trouble)) = Some trouble
+
+-- a live job's row, where this was told
+abbrev pub row_of : Running → Option Waits → JobRow
 row_of job told = record {
   job = job.id;
-  state = state_of job;
+  state = state_with (waits_in job told);
   kind = kind_of job.work;
   path = path_of job.work;
   background = false;
-  trouble = if waits_on job.course then told else None;
+  asked = question_in (waits_in job told);
+  trouble = trouble_in (waits_in job told);
 }
 
-abbrev pub rows_of : Option Running → Option Trouble → List JobRow
+abbrev pub rows_of : Option Running → Option Waits → List JobRow
 rows_of None told = []
 rows_of (Some job) told = row_of job told ∷ []
 
 -- the rows that a history tells
 abbrev pub rows_told : List Entry → List JobRow
-rows_told newest = rows_of (live_job newest) (trouble_told newest)
+rows_told newest = rows_of (live_job newest) (waits_told newest)

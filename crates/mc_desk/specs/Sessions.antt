@@ -64,7 +64,7 @@ pub record IsBegun (was : Before) (id : ℕ) (plan : Job) (background : Bool) (a
   pub number : next_id was.tally.last ≡ Some id
   pub carried_out : after ≡ record was.screen { planned = None }
 
--- directly after the key that answers a trouble the live job is ordered so, as it may be
+-- directly after the key that answers it the live job is ordered so, as it may be
 pub record IsOrdered (was : Before) (id : ℕ) (answer : Answer) (after : Screen) : Type 0 where
   pub asked : was.screen.planned ≡ Some (Answers answer)
   pub row : JobRow
@@ -74,8 +74,8 @@ pub record IsOrdered (was : Before) (id : ℕ) (answer : Answer) (after : Screen
   pub carried_out : after ≡ record was.screen { planned = None }
 
 -- What an event makes of the screen. A key that was lost is told without a refusal, and makes nothing. A look comes only where one is due: the first, which draws the opening frame, and after it
--- one of the job that was begun or answered. It takes up a job's end, and tells what there is to tell of it, and shows the trouble of the
--- live job as its newest report told it. A search goes on only where nothing is due (what its steps make of the screen, `EventSeeks` says). A step is
+-- one of the job that was begun or answered. It takes up a job's end, and tells what there is to tell of it, and shows the question or the trouble
+-- of the live job as its newest report told it. A search goes on only where nothing is due (what its steps make of the screen, `EventSeeks` says). A step is
 -- one that the live job may make, and it goes on with a next source where it might report that it is finished.
 abbrev pub EventLeads : Before → Event → Screen → Type 0
 EventLeads was (Key key now refusals true) after = TakesKey was.tally was.screen × (refusals ≡ []) × (after ≡ was.screen)

@@ -86,7 +86,7 @@ EventDraws Closed is_first frame shown before after = DrawsNothing shown before 
 
 -- the row of a job that was answered, and has a next step again
 abbrev pub ready_row : JobRow → JobRow
-ready_row row = record row { state = Ready; trouble = None }
+ready_row row = record row { state = Ready; asked = None; trouble = None }
 
 -- the row of a job that just begins
 abbrev pub begun_rows : ℕ → Job → List JobRow

@@ -40,7 +40,7 @@ tally_of standing = record {
   calls = standing.calls;
 }
 
--- a trouble is answered only where the live job may be answered so
+-- the live job is answered only as it may be
 abbrev pub MayCarryOut : Option Running → Deed → Type 0
 MayCarryOut job (deed.Answer answer) = (live : Running) × (job ≡ Some live) × MayAnswer live answer
 MayCarryOut job (deed.Begin confirmed) = ⊤

@@ -1,6 +1,6 @@
 //! What a key asked is carried out, and then the frame is drawn.
 ghost use Rattle.std.specs.Prelude.{◌≡◌, false};
-ghost use Rattle.mc_desk.specs.LiveRows.{rows_of, trouble_told};
+ghost use Rattle.mc_desk.specs.LiveRows.{rows_of, waits_told};
 ghost use Rattle.mc_desk.specs.Outputs.{FitsScreen, ShowsFrame};
 ghost use Rattle.mc_desk.specs.Standings.{MayCarryOut, after_deed, event_of};
 ghost use Rattle.mc_ui.specs.Frames.{frame_of};
@@ -36,7 +36,7 @@ pub fn carry_out<N: Tag, S: Sink>(
     requires size { FitsScreen terminal.old.display.grid ui.now }
     ensures done { standing.new ≡ after_deed deed standing.old }
     ensures told { result.follows ≡ event_of deed standing.old.job }
-    ensures shows { ShowsFrame (frame_of ui.now (rows_of standing.new.job (trouble_told log.now.newest))) result.drawn terminal.old terminal.new }
+    ensures shows { ShowsFrame (frame_of ui.now (rows_of standing.new.job (waits_told log.now.newest))) result.drawn terminal.old terminal.new }
 {
     let follows = standing.carry_out(deed);
     let drawn = terminal.show(alloc, ui, &standing.job, log);

@@ -25,7 +25,7 @@ pub enum Deed {
     Begin(Confirmed),
     /// A job was asked for, and all numbers were given.
     Refuse,
-    /// The live job's trouble is answered.
+    /// The live job is answered.
     Answer(Answer),
     End,
 }

@@ -2,10 +2,10 @@
 ghost use Rattle.std.specs.Prelude.{◌≡◌, ◌+◌, ◌-◌, ◌^◌, ◌≤◌, ◌<◌, [], ◌∷◌, length, IfOk, OnOk, OnErr, reverse};
 ghost use Rattle.mc_desk.specs.Logs.{begun_by, jobs_begun};
 ghost use Rattle.mc_desk.specs.Standings.{followed, plain_entry};
-ghost use Rattle.mc_desk.specs.LiveRows.{is_report as does_report, reported_trouble as trouble_in, trouble_told as last_trouble};
+ghost use Rattle.mc_desk.specs.LiveRows.{is_report as does_report, reported_waits as waits_in, waits_told as last_waits};
 ghost use Rattle.mc_desk.specs.Tallies.{is_end_or_look as ends_or_looks, end_news as news_of, news_left as last_news, told_end};
 
-use job_reports::{Did, Ending, Trouble, is_end};
+use job_reports::{Did, Ending, Waits, is_end};
 use mc_text::{NoMemory, Path};
 use mc_ui::Message;
 use session_history::{Entries, Entry, Event, History};
@@ -85,11 +85,11 @@ impl Log {
         news_left(alloc, self.entries.as_slice())
     }
 
-    /// The trouble that the newest report of a step tells, if it tells of one.
-    pub fn trouble_told(&self, alloc: Global) -> Result<Option<Trouble>, NoMemory>
-        ensures { IfOk result (λ trouble. trouble ≡ last_trouble self.now.newest) }
+    /// The question or the trouble that the newest report of a step tells, if it tells of one.
+    pub fn waits_told(&self, alloc: Global) -> Result<Option<Waits>, NoMemory>
+        ensures { IfOk result (λ waits. waits ≡ last_waits self.now.newest) }
     {
-        trouble_told(alloc, self.entries.as_slice())
+        waits_told(alloc, self.entries.as_slice())
     }
 
     /// The history. The newest entry comes last there.
@@ -206,14 +206,14 @@ fn copied(alloc: Global, path: &Option<Path>) -> Result<Option<Path>, NoMemory>
     }
 }
 
-/// The trouble of the newest report among these entries, if it tells of one. The newest entry comes last.
-fn trouble_told(alloc: Global, entries: &[Entry]) -> Result<Option<Trouble>, NoMemory>
-    ensures { IfOk result (λ trouble. trouble ≡ last_trouble (reverse entries.now)) }
+/// The question or the trouble of the newest report among these entries, if it tells of one. The newest entry comes last.
+fn waits_told(alloc: Global, entries: &[Entry]) -> Result<Option<Waits>, NoMemory>
+    ensures { IfOk result (λ waits. waits ≡ last_waits (reverse entries.now)) }
 {
     let mut left = entries;
     while let Some((entry, older)) = left.split_last() {
         if is_report(&entry.what) {
-            return reported_trouble(alloc, &entry.what);
+            return reported_waits(alloc, &entry.what);
         }
         left = older;
     }
@@ -227,15 +227,19 @@ fn is_report(what: &Event) -> bool
     matches!(what, Event::Step { .. })
 }
 
-/// The trouble that an entry tells of.
-fn reported_trouble(alloc: Global, what: &Event) -> Result<Option<Trouble>, NoMemory>
-    ensures { IfOk result (λ trouble. trouble ≡ trouble_in what.now) }
+/// The question or the trouble that an entry tells of.
+fn reported_waits(alloc: Global, what: &Event) -> Result<Option<Waits>, NoMemory>
+    ensures { IfOk result (λ waits. waits ≡ waits_in what.now) }
 {
     match what {
         Event::Step {
+            did: Did::Asked(question),
+            ..
+        } => Ok(Some(Waits::Question(question.copy(alloc)?))),
+        Event::Step {
             did: Did::Troubled(trouble),
             ..
-        } => Ok(Some(trouble.copy(alloc)?)),
+        } => Ok(Some(Waits::Trouble(trouble.copy(alloc)?))),
         _ => Ok(None),
     }
 }

@@ -1,17 +1,16 @@
 //! The rows of the live jobs, as the screen sees them.
-ghost use Rattle.std.specs.Prelude.{◌≡◌, ◌∷◌, [], if◌then◌else◌, None, IfOk};
-ghost use Rattle.copy_move.specs.Jobs.{waits_on};
-ghost use Rattle.mc_desk.specs.LiveRows.{row_of as row_for, rows_of as rows_for, state_of as state_for, trouble_told};
+ghost use Rattle.std.specs.Prelude.{◌≡◌, ◌∷◌, [], IfOk};
+ghost use Rattle.mc_desk.specs.LiveRows.{question_in, row_of as row_for, rows_of as rows_for, state_with, trouble_in, waits_in as told_in, waits_told};
 
 use crate::log::Log;
 use copy_move::Run;
-use job_reports::{JobRow, JobRows, JobState, Trouble};
+use job_reports::{JobRow, JobRows, JobState, Question, Trouble, Waits};
 use mc_text::NoMemory;
 use std::alloc::Global;
 
 /// The rows of the live jobs. There is at most one today.
 pub fn rows_of(alloc: Global, job: &Option<Run>, log: &Log) -> Result<JobRows, NoMemory>
-    ensures { IfOk result (λ rows. rows ≡ rows_for job.now (trouble_told log.now.newest)) }
+    ensures { IfOk result (λ rows. rows ≡ rows_for job.now (waits_told log.now.newest)) }
 {
     match job {
         None => Ok(JobRows(Vec::new(alloc))),
@@ -32,37 +31,66 @@ fn one_row(alloc: Global, row: JobRow) -> Result<JobRows, NoMemory>
 
 /// The row of a live job.
 fn row_of(alloc: Global, run: &Run, log: &Log) -> Result<JobRow, NoMemory>
-    ensures { IfOk result (λ row. row ≡ row_for run.now (trouble_told log.now.newest)) }
+    ensures { IfOk result (λ row. row ≡ row_for run.now (waits_told log.now.newest)) }
 {
-    let trouble = trouble_of(alloc, run, log)?;
+    let waits = waits_in(alloc, run, log)?;
     let path = run.path().copy(alloc)?;
+    let state = state_with(&waits);
+    let RowFields { asked, trouble } = fields_of(waits);
     Ok(JobRow {
         job: run.id(),
-        state: state_of(run),
+        state,
         kind: run.kind(),
         path,
         background: false,
+        asked,
         trouble,
     })
 }
 
-/// What a job is at.
-fn state_of(run: &Run) -> JobState
-    ensures { result ≡ state_for run.now }
-{
-    if run.waits() {
-        JobState::Troubled
-    } else {
-        JobState::Ready
-    }
-}
-
-/// The trouble in which a job waits, as its newest report told it.
-fn trouble_of(alloc: Global, run: &Run, log: &Log) -> Result<Option<Trouble>, NoMemory>
-    ensures { IfOk result (λ trouble. trouble ≡ (if waits_on run.now.course then trouble_told log.now.newest else None)) }
+/// What a job waits with, as its newest report told it.
+fn waits_in(alloc: Global, run: &Run, log: &Log) -> Result<Option<Waits>, NoMemory>
+    ensures { IfOk result (λ waits. waits ≡ told_in run.now (waits_told log.now.newest)) }
 {
     if !run.waits() {
         return Ok(None);
     }
-    log.trouble_told(alloc)
+    log.waits_told(alloc)
+}
+
+/// What a job is at that waits with this.
+fn state_with(waits: &Option<Waits>) -> JobState
+    ensures { result ≡ state_with waits.now }
+{
+    match waits {
+        None => JobState::Ready,
+        Some(Waits::Question(_)) => JobState::Asking,
+        Some(Waits::Trouble(_)) => JobState::Troubled,
+    }
+}
+
+/// What a job waits with, as the fields of its row have it.
+struct RowFields {
+    asked: Option<Question>,
+    trouble: Option<Trouble>,
+}
+
+fn fields_of(waits: Option<Waits>) -> RowFields
+    ensures asked { result.asked ≡ question_in waits }
+    ensures trouble { result.trouble ≡ trouble_in waits }
+{
+    match waits {
+        None => RowFields {
+            asked: None,
+            trouble: None,
+        },
+        Some(Waits::Question(question)) => RowFields {
+            asked: Some(question),
+            trouble: None,
+        },
+        Some(Waits::Trouble(trouble)) => RowFields {
+            asked: None,
+            trouble: Some(trouble),
+        },
+    }
 }

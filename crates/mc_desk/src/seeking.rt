@@ -3,7 +3,7 @@ ghost use Rattle.std.specs.Prelude.{◌≡◌, ◌≤◌, ◌<◌, true, false, 
 ghost use Rattle.mc_ui.specs.Frames.{frame_of};
 ghost use Rattle.mc_ui.specs.Screens.{HasSameSize};
 ghost use Rattle.mc_ui.specs.Seekings.{is_seeking};
-ghost use Rattle.mc_desk.specs.LiveRows.{rows_of, trouble_told};
+ghost use Rattle.mc_desk.specs.LiveRows.{rows_of, waits_told};
 ghost use Rattle.mc_desk.specs.Outputs.{FitsScreen, ShowsFrame};
 ghost use Rattle.mc_desk.specs.Searches.{HasSought, steps_ahead};
 ghost use Rattle.mc_desk.specs.Standings.{sought_entry as entry_of_steps};
@@ -47,7 +47,7 @@ pub fn seek_and_show<N: Tag, T: ReadTree, S: Sink>(
     ensures settled { ui.new.planned ≡ None }
     ensures same { T.contents tree.new ≡ T.contents tree.old }
     ensures later { T.fault_count tree.old ≤ T.fault_count tree.new }
-    ensures shows { ShowsFrame (frame_of ui.new (rows_of job.now (trouble_told log.now.newest))) result.drawn terminal.old terminal.new }
+    ensures shows { ShowsFrame (frame_of ui.new (rows_of job.now (waits_told log.now.newest))) result.drawn terminal.old terminal.new }
 {
     let sought = seek_on(alloc, ui, tree);
     let drawn = terminal.show(alloc, ui, job, log);

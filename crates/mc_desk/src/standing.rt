@@ -111,7 +111,7 @@ impl Standing {
         }
     }
 
-    /// The live job's trouble is answered, and it is due.
+    /// The live job is answered, and it is due.
     fn answer(&mut self, answer: Answer) -> Option<Event>
         requires may { MayCarryOut self.old.job (Deed.Answer answer) }
         ensures done { self.new ≡ after_deed (Deed.Answer answer) self.old }
@@ -166,7 +166,7 @@ impl Standing {
     }
 }
 
-/// Answers a trouble that may be answered so.
+/// Answers a job that may be answered so.
 fn answer_run(run: &mut Run, answer: Answer)
     requires may { MayAnswer run.old answer }
     ensures { run.new ≡ answered answer run.old }

@@ -1,6 +1,6 @@
 //! The terminal of a session: its sink, the frame that was drawn last, and what was put.
 ghost use Rattle.std.specs.Prelude.{◌≡◌, ◌+◌, ◌≤◌, ◌<◌, ◌^◌, [], true, false, Err};
-ghost use Rattle.mc_desk.specs.LiveRows.{rows_of as rows_for, trouble_told};
+ghost use Rattle.mc_desk.specs.LiveRows.{rows_of as rows_for, waits_told};
 ghost use Rattle.mc_desk.specs.Outputs.{Blames, CountsAll, FitsScreen, IsFirstOutput, ShowsFrame, ShowsLast};
 ghost use Rattle.mc_desk.specs.Shown.{HasGiven, put_since};
 ghost use Rattle.mc_screen.specs.Drawings.{HasSizeOf};
@@ -70,7 +70,7 @@ impl<N: Tag, S: Sink> Terminal<N, S> {
     ) -> Result<(), SinkError>
         requires uncut { self.old.put.is_cut ≡ false }
         requires size { FitsScreen self.old.display.grid ui.now }
-        ensures shows { ShowsFrame (frame_of ui.now (rows_for job.now (trouble_told log.now.newest))) result self.old self.new }
+        ensures shows { ShowsFrame (frame_of ui.now (rows_for job.now (waits_told log.now.newest))) result self.old self.new }
     {
         let Ok(rows) = rows_of(alloc, job, log) else {
             self.cut_short();

@@ -11,6 +11,7 @@ use Rattle.history_laws.proofs.Done.{done_law}
 use Rattle.history_laws.proofs.Histories.{traced_reached}
 use Rattle.history_laws.proofs.Moments.{replay_law, session_law}
 use Rattle.outcome_laws.proofs.Elsewhere.{untouched_law}
+use Rattle.outcome_laws.proofs.KeptSessions.{kept_law}
 use Rattle.outcome_laws.proofs.Outcome.{outcome_law}
 use Rattle.outcome_laws.proofs.Together.{all_sources_law}
 use Rattle.mc_desk.specs.declared.starts.Start.{Start}
@@ -48,6 +49,7 @@ outcome_to o contents newest traced opening o_is now is tree settled =
     record {
       done = outcome_law opening now newest (at_rest t.0) tree settled t.1;
       alone = untouched_law opening now newest (at_rest t.0) tree settled t.1;
+      kept = kept_law opening now newest (at_rest t.0) tree settled t.1;
       all = all_sources_law opening now newest (at_rest t.0) tree settled t.1;
     }
 

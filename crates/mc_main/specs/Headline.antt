@@ -17,6 +17,7 @@ use Rattle.session_history.specs.Entries.{IsMoment}
 use Rattle.history_laws.specs.Safe.{IsSafe}
 use Rattle.history_laws.specs.Staying.{StaysDone}
 use Rattle.outcome_laws.specs.AllSources.{LeavesAll}
+use Rattle.outcome_laws.specs.Keeps.{LeavesKept}
 use Rattle.outcome_laws.specs.Outcomes.{IsOutcome, Leaves}
 use Rattle.outcome_laws.specs.Untouched.{LeavesAlone}
 use Rattle.mc_desk.specs.Tallies.{keys_in}
@@ -136,10 +137,12 @@ abbrev pub IsFinishedRun : CallLog → CallLog → List Entry → Type 0
 IsFinishedRun opening now newest = IsTree (current opening) → all_settled opening.changes ≡ true → StaysDone opening now newest
 
 -- Where a job is done with one of its sources, all that it was to do with it is done, but for what it passed over, and what it doesn't touch for it is as it
--- was where the job began with it. So what it did with one is still so at its end, where no later one touches what concerns that.
+-- was where the job began with it; where it kept what stands at the target of a file, all is. So what it did with one is still so at its end, where no later one touches what
+-- concerns that.
 pub record HasOutcomes (opening now : CallLog) (newest : List Entry) : Type 0 where
   pub done : Leaves IsOutcome opening now newest
   pub alone : LeavesAlone opening now newest
+  pub kept : LeavesKept opening now newest
   pub all : LeavesAll opening now newest
 
 abbrev pub IsOutcomeRun : CallLog → CallLog → List Entry → Type 0

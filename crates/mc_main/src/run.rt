@@ -88,8 +88,8 @@ pub fn mc_run<N: Tag, T: Tree, K: Source, S: Sink, P: Spawner, C: Clock, G: Gate
     ensures replayed { IfKnown (T.contents tree) (λ opening. IfKnown (T.contents result.tree) (λ now.
         IsReplayedRun opening now (reverse result.history.entries))) }
 
-    // The history is a session: a job is begun directly after the key that confirmed it, as it was planned; its trouble is
-    // answered directly after the key that answers it; no key is taken where a step or a look is due; F10 in the panels, without a
+    // The history is a session: a job is begun directly after the key that confirmed it, as it was planned; its question
+    // or trouble is answered directly after the key that answers it; no key is taken where a step or a look is due; F10 in the panels, without a
     // box, or leaving the viewer with which the session began, asks for the end, and then only steps and the closing follow. At
     // status 0 the end was asked for, or all bytes were taken.
     // Each entry of a step is a piece of the job's work with the calls that belong to it, or the sync of a folder that an ended

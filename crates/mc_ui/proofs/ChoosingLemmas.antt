@@ -5,7 +5,6 @@ use Rattle.mc_text.specs.declared.error.NoMemory.{NoMemory}
 use Rattle.tree_trait.specs.FileSystem.{View}
 use Rattle.session_history.specs.declared.refusal.Refusal.{Refusal}
 use Rattle.mc_panels.specs.Panels.{PanelState}
-use Rattle.mc_panels.specs.Selections.{selection}
 use Rattle.job_plans.specs.declared.choosing.Choice.{Choice}
 use Rattle.job_plans.specs.declared.choosing.Opens.{Opens}
 use Rattle.job_plans.specs.Choices.{IsChoice, choice_refusals}
@@ -14,15 +13,14 @@ use Rattle.mc_ui.specs.declared.asks.KeyAct.{KeyAct}
 use Rattle.mc_ui.specs.Screens.{Chooses, Screen, after_choice, told_refusal}
 
 module _ (box : Opens) (tree : Option View) (panel : PanelState) (before : Screen) (outcome choice : Choice) (same : panel ≡ before.panels.current)
-    (chosen : IsChoice box tree panel.folder (selection panel) outcome) (is : outcome ≡ choice) where
+    (chosen : IsChoice box tree panel outcome) (is : outcome ≡ choice) where
   abbrev pub Opened : List Refusal → Screen → Type 0
-  Opened refusals after = Chooses box tree before.panels.current.folder (selection before.panels.current) refusals before after
+  Opened refusals after = Chooses box tree before.panels.current refusals before after
 
   pub opened_on : (refusals : List Refusal) (after : Screen) → refusals ≡ choice_refusals choice → after ≡ after_choice box choice before → Opened refusals after
   opened_on refusals after told after_is = record {
     outcome = choice;
-    chosen = subst (λ (p : PanelState). IsChoice box tree p.folder (selection p) choice) same
-        (subst (λ (o : Choice). IsChoice box tree panel.folder (selection panel) o) is chosen);
+    chosen = subst (λ (p : PanelState). IsChoice box tree p choice) same (subst (λ (o : Choice). IsChoice box tree panel o) is chosen);
     told = told;
     after_is = after_is;
   }

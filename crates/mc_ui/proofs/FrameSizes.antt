@@ -5,8 +5,8 @@ use Rattle.job_reports.specs.declared.row.JobRow.{JobRow}
 use Rattle.mc_dialogs.specs.ListKeys.{list_lines}
 use Rattle.mc_dialogs.specs.ModeKeys.{mode_lines}
 use Rattle.mc_dialogs.specs.QuestionKeys.{plain_lines}
-use Rattle.box_words.specs.BoxLines.{delete_lines, trouble_lines}
-use Rattle.job_boxes.specs.JobBoxes.{JobBoxState, DeleteBox, MaskBox, TargetBox, FolderBox, LinkTextBox, LinkNameBox, NewModeBox, TroubleBox}
+use Rattle.box_words.specs.BoxLines.{delete_lines, waits_lines}
+use Rattle.job_boxes.specs.JobBoxes.{JobBoxState, DeleteBox, MaskBox, TargetBox, FolderBox, LinkTextBox, LinkNameBox, NewModeBox, AnswerBox}
 use Rattle.job_boxes.specs.Paintings.{with_job_box}
 use Rattle.job_list.specs.JobLists.{jobs_lines}
 use Rattle.viewer_mode.proofs.BoxSizes.{box_columns_same, box_lines_same, input_columns_same, input_lines_same}
@@ -39,7 +39,7 @@ job_lines_same (FolderBox typed) grid = input_lines_same grid typed
 job_lines_same (LinkTextBox typed) grid = input_lines_same grid typed
 job_lines_same (LinkNameBox text typed) grid = input_lines_same grid typed
 job_lines_same (NewModeBox paths asked) grid = box_lines_same grid (mode_lines asked)
-job_lines_same (TroubleBox trouble) grid = box_lines_same grid (plain_lines (trouble_lines trouble))
+job_lines_same (AnswerBox waits) grid = box_lines_same grid (plain_lines (waits_lines waits))
 
 job_columns_same : (asks : JobBoxState) (grid : CellGrid) → (with_job_box asks grid).columns ≡ grid.columns
 job_columns_same (DeleteBox paths) grid = box_columns_same grid (plain_lines (delete_lines (length paths)))
@@ -49,7 +49,7 @@ job_columns_same (FolderBox typed) grid = input_columns_same grid typed
 job_columns_same (LinkTextBox typed) grid = input_columns_same grid typed
 job_columns_same (LinkNameBox text typed) grid = input_columns_same grid typed
 job_columns_same (NewModeBox paths asked) grid = box_columns_same grid (mode_lines asked)
-job_columns_same (TroubleBox trouble) grid = box_columns_same grid (plain_lines (trouble_lines trouble))
+job_columns_same (AnswerBox waits) grid = box_columns_same grid (plain_lines (waits_lines waits))
 
 -- the line that asks what is sought, or the list of what was found
 painted_lines_same : (asking : Option Asking) (page : ℕ) (listing : ListingState) (grid : CellGrid) → (painted asking page listing grid).lines ≡ grid.lines

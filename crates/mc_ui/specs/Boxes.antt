@@ -1,17 +1,17 @@
 -- What stands over the panels: a box, and a message over it.
 use Rattle.std.specs.Prelude.{List, [], ◌∷◌, Option, Some, None}
-use Rattle.job_reports.specs.declared.report.Trouble.{Trouble}
+use Rattle.job_reports.specs.declared.waits.Waits.{Waits}
 use Rattle.session_history.specs.declared.refusal.Refusal.{Refusal}
 use Rattle.box_words.specs.declared.message.Message.{Message}
 use Rattle.box_words.specs.declared.message.Message.TheVariants.{Refused}
 use Rattle.find_mode.specs.FindScreens.{FindScreen}
-use Rattle.job_boxes.specs.JobBoxes.{JobBoxState, TroubleBox, seen}
+use Rattle.job_boxes.specs.JobBoxes.{JobBoxState, AnswerBox, seen}
 use Rattle.job_list.specs.declared.list.JobList.{JobList}
 use Rattle.panel_boxes.specs.declared.panel_box.PanelBox.{PanelBox}
 use Rattle.mc_ui.specs.declared.dialog.Dialog.{Dialog}
 use Rattle.mc_ui.specs.declared.dialog.Dialog.TheVariants as dialog
 
--- What stands over the panels: nothing, or a box that asks of one job or tells of its trouble, asks what the panels are to do, seeks things
+-- What stands over the panels: nothing, or a box that asks of one job or tells what it waits with, asks what the panels are to do, seeks things
 -- and lists what was found, or lists the live jobs.
 pub data Box : Type 0 where
   NoBox : Box
@@ -28,10 +28,10 @@ seen_box (dialog.Panel asks) = PanelsBox asks
 seen_box (dialog.Find find) = FindBox find
 seen_box (dialog.Jobs list) = JobsBox list
 
--- a trouble's box stands over the panels, in place of another
-abbrev pub with_trouble : Option Trouble → Box → Box
-with_trouble None before = before
-with_trouble (Some trouble) before = OneJobBox (TroubleBox trouble)
+-- the box that tells what a job waits with stands over the panels, in place of another
+abbrev pub with_waits : Option Waits → Box → Box
+with_waits None before = before
+with_waits (Some waits) before = OneJobBox (AnswerBox waits)
 
 -- the first of some refusals
 abbrev pub first_refusal : List Refusal → Option Refusal

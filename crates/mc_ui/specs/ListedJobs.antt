@@ -6,13 +6,13 @@ use Rattle.job_list.specs.declared.act.JobsAct.{JobsAct}
 use Rattle.job_list.specs.declared.act.JobsAct.TheVariants as jobs
 use Rattle.job_list.specs.declared.list.JobList.{JobList}
 use Rattle.job_list.specs.JobLists.{act_by, list_by}
-use Rattle.job_boxes.specs.JobBoxes.{TroubleBox}
+use Rattle.job_boxes.specs.JobBoxes.{AnswerBox}
 use Rattle.mc_ui.specs.Boxes.{Box, NoBox, OneJobBox, JobsBox}
 
--- what stands there once a key came to this: the list, the box of a trouble in its place, or nothing
+-- what stands there once a key came to this: the list, in its place the box of a question or a trouble, or nothing
 abbrev pub jobs_over : JobsAct → JobList → Box
 jobs_over jobs.Stays list = JobsBox list
-jobs_over (jobs.Opens trouble) list = OneJobBox (TroubleBox trouble)
+jobs_over (jobs.Opens waits) list = OneJobBox (AnswerBox waits)
 jobs_over jobs.Leaves list = NoBox
 
 -- what stands there after a key, while these jobs are live

@@ -1,9 +1,10 @@
--- What a look takes up: the trouble of the live job, and what reading the panels again comes to, after a job's end.
+-- What a look takes up: what the live job waits with, and what reading the panels again comes to, after a job's end.
 use Rattle.std.specs.Prelude.{◌≡◌, ℕ, Bool, true, false, List, [], ◌∷◌, ◌++◌, Option, None, map}
 use Rattle.tree_trait.specs.Change.{CallLog}
 use Rattle.tree_trait.specs.Answers.{IfKnown}
-use Rattle.job_reports.specs.declared.report.Trouble.{Trouble}
 use Rattle.job_reports.specs.declared.row.JobRow.{JobRow}
+use Rattle.job_reports.specs.declared.waits.Waits.{Waits}
+use Rattle.job_reports.specs.Waits.{waits_of}
 use Rattle.session_history.specs.declared.refusal.Refusal.{Refusal}
 use Rattle.session_history.specs.declared.refusal.Refusal.TheVariants.{Resolve}
 use Rattle.panel_pair.specs.declared.looking.Unread.{Unread}
@@ -12,10 +13,10 @@ use Rattle.panel_pair.specs.Looks as pair
 use Rattle.panel_pair.specs.Pairs.{PairState}
 use Rattle.panel_pair.specs.Readings.{listed}
 
--- the trouble of the live job, where it waits in one; today one job is live at a time
-abbrev pub shown_trouble : List JobRow → Option Trouble
-shown_trouble [] = None
-shown_trouble (row ∷ rows) = row.trouble
+-- what the live job waits with, where it waits; today one job is live at a time
+abbrev pub shown_waits : List JobRow → Option Waits
+shown_waits [] = None
+shown_waits (row ∷ rows) = waits_of row
 
 -- what was refused, the left panel's folder first
 abbrev pub told_unread : Unread → List Refusal

@@ -9,10 +9,10 @@ use Rattle.resolving.specs.declared.error.ResolveError.{ResolveError}
 use Rattle.resolving.specs.declared.error.ResolveError.TheVariants as resolve
 use Rattle.key_screen.specs.declared.keys.Key.{Key}
 use Rattle.key_screen.specs.declared.keys.Base.{Base}
-use Rattle.job_reports.specs.declared.report.Trouble.{Trouble}
 use Rattle.job_reports.specs.declared.answer.Answer.{Answer}
 use Rattle.job_reports.specs.declared.job.Job.{Job}
 use Rattle.job_reports.specs.declared.row.JobRow.{JobRow}
+use Rattle.job_reports.specs.declared.waits.Waits.{Waits}
 use Rattle.session_history.specs.Sources.{are_workable}
 use Rattle.session_history.specs.declared.refusal.PlanError.TheVariants.{NoSelection}
 use Rattle.session_history.specs.declared.refusal.Refusal.{Refusal}
@@ -40,8 +40,7 @@ use Rattle.job_boxes.specs.Openings.{box_of, link_asked}
 use Rattle.job_boxes.specs.Replies.{BoxLeads, box_after}
 use Rattle.job_list.specs.JobLists.{opened_list}
 use Rattle.mc_panels.specs.Goings.{way_of}
-use Rattle.mc_panels.specs.Panels.{current_name}
-use Rattle.mc_panels.specs.Selections.{selection}
+use Rattle.mc_panels.specs.Panels.{PanelState, current_name}
 use Rattle.panel_boxes.specs.declared.panel_box.PanelBox.{PanelBox}
 use Rattle.panel_boxes.specs.declared.panel_box.PanelReply.{PanelReply}
 use Rattle.panel_boxes.specs.declared.panel_box.PanelReply.TheVariants as panel
@@ -57,10 +56,10 @@ use Rattle.box_words.specs.BoxKeys.{closes_message}
 use Rattle.box_words.specs.BoxLines.{folder_line}
 use Rattle.job_plans.specs.Reading.{sight}
 use Rattle.job_plans.specs.Choices.{IsChoice, choice_refusals}
-use Rattle.mc_ui.specs.Boxes.{Box, NoBox, OneJobBox, PanelsBox, FindBox, JobsBox, first_refusal, with_news, with_refusal, with_trouble}
+use Rattle.mc_ui.specs.Boxes.{Box, NoBox, OneJobBox, PanelsBox, FindBox, JobsBox, first_refusal, with_news, with_refusal, with_waits}
 use Rattle.mc_ui.specs.Findings.{find_refusal}
 use Rattle.mc_ui.specs.ListedJobs.{left_by_jobs}
-use Rattle.mc_ui.specs.Looks.{LooksAgain, shown_trouble}
+use Rattle.mc_ui.specs.Looks.{LooksAgain, shown_waits}
 use Rattle.mc_ui.specs.PanelKeys.{panel_command_of, plain_base}
 use Rattle.viewer_mode.specs.declared.act.ViewerAct.{ViewerAct}
 use Rattle.viewer_mode.specs.declared.act.ViewerAct.TheVariants as viewer
@@ -73,7 +72,7 @@ use Rattle.mc_ui.specs.declared.viewing.Leaving.TheVariants as leaving
 use Rattle.mc_ui.specs.declared.viewing.ViewedFile.{ViewedFile}
 use Rattle.mc_ui.specs.Viewings.{goes_on, opening_refusals, told_by, viewed_path}
 
--- what a key asked for and is to be carried out: a job is to be begun, its trouble to be answered, or the session to end
+-- what a key asked for and is to be carried out: a job is to be begun, or to be answered, or the session to end
 pub data Planned : Type 0 where
   Begins : (plan : Job) → (background : Bool) → Planned
   Answers : (answer : Answer) → Planned
@@ -149,10 +148,10 @@ after_choice box choice.Nothing before = before
 after_choice box (choice.Things chosen mode) before = record before { over = OneJobBox (box_of box chosen.kind chosen.paths mode) }
 after_choice box (choice.Refused path e) before = told_refusal (Tree path e) before
 
--- the key that opens a box on what is selected in a folder does so by what choosing comes to
-pub record Chooses (box : Opens) (tree : Option TreeView) (folder : Route) (names : List (List ℕ)) (refusals : List Refusal) (before after : Screen) : Type 0 where
+-- the key that opens a box on what is selected in a panel does so by what choosing comes to
+pub record Chooses (box : Opens) (tree : Option TreeView) (panel : PanelState) (refusals : List Refusal) (before after : Screen) : Type 0 where
   pub outcome : Choice
-  pub chosen : IsChoice box tree folder names outcome
+  pub chosen : IsChoice box tree panel outcome
   pub told : refusals ≡ choice_refusals outcome
   pub after_is : after ≡ after_choice box outcome before
 
@@ -194,7 +193,7 @@ CommandLeads (Work command) contents rows refusals before after = Works command 
 CommandLeads ShowHelp contents rows refusals before after = (refusals ≡ []) × (after ≡ record before { message = Some Help })
 CommandLeads View contents rows refusals before after = Views contents refusals before after
 CommandLeads (Open opens) contents rows refusals before after =
-    Chooses opens (sight contents) before.panels.current.folder (selection before.panels.current) refusals before after
+    Chooses opens (sight contents) before.panels.current refusals before after
 CommandLeads AskFolder contents rows refusals before after = (refusals ≡ []) × (after ≡ record before { over = OneJobBox (FolderBox folder_line) })
 CommandLeads (OpenPanelBox opening) contents rows refusals before after =
     (refusals ≡ []) × (after ≡ record before { over = PanelsBox (opened before.lines opening) })
@@ -215,8 +214,8 @@ begun plan before = record before { panels = untagged_pair before.panels; over =
 abbrev pub around : List JobRow → Screen → Around
 around rows s = record { rows = rows; current = s.panels.current.folder; other = s.panels.other.folder; home = s.home }
 
--- What a box of a job came to, as a key left it: it stays, is shut, or another one stands in its place; its job is to be begun, or its
--- trouble to be answered; or that is refused, and it stays under a message.
+-- What a box of a job came to, as a key left it: it stays, is shut, or another one stands in its place; its job is to be begun, or to
+-- be answered; or that is refused, and it stays under a message.
 abbrev pub JobFollows : JobReply → JobBoxState → List Refusal → Screen → Screen → Type 0
 JobFollows job.Stays left refusals before after = (refusals ≡ []) × (after ≡ record before { over = OneJobBox left })
 JobFollows job.Shuts left refusals before after = (refusals ≡ []) × (after ≡ without_box before)
@@ -244,7 +243,7 @@ PanelLeads panel.ListsJobs asks contents refusals cleared after = (refusals ≡ 
 PanelLeads panel.AsksLink asks contents refusals cleared after =
     (refusals ≡ []) × (after ≡ record cleared { over = OneJobBox (LinkTextBox (link_asked cleared.panels.current)) })
 PanelLeads panel.AsksMode asks contents refusals cleared after =
-    Chooses opens.Mode (sight contents) cleared.panels.current.folder (selection cleared.panels.current) refusals cleared after
+    Chooses opens.Mode (sight contents) cleared.panels.current refusals cleared after
 PanelLeads (panel.Refuses error) asks contents refusals cleared after =
     (refusals ≡ Typed error ∷ []) × (after ≡ told_refusal (Typed error) (record cleared { over = PanelsBox asks }))
 
@@ -329,23 +328,23 @@ KeyLeads contents rows now key refusals before after = WorksKey contents rows ke
 abbrev pub with_told : List Refusal → Screen → Screen
 with_told refusals before = record before { message = with_refusal (first_refusal refusals) before.message }
 
--- the screen once a look has taken up a trouble, refusals and news, over these panels
-abbrev pub looked_at : Option Trouble → Option Message → List Refusal → PairState → Screen → Screen
-looked_at trouble news refusals panels before = record before {
+-- the screen once a look has taken up what a job waits with, refusals and news, over these panels
+abbrev pub looked_at : Option Waits → Option Message → List Refusal → PairState → Screen → Screen
+looked_at waits news refusals panels before = record before {
   panels = panels;
-  over = with_trouble trouble before.over;
+  over = with_waits waits before.over;
   message = with_news news (with_refusal (first_refusal refusals) before.message);
 }
 
 -- What a look makes of the screen: it takes up what the live job did. The panels are read again after a job's end that was not taken
--- up. The trouble of a job that waits gets its box; what was refused, and what is to be told of an end, a message.
+-- up. The question or the trouble of a job that waits gets its box; what was refused, and what is to be told of an end, a message.
 pub record LookLeads (contents : Option CallLog) (rows : List JobRow) (has_unseen_end : Bool) (news : Option Message) (refusals : List Refusal) (before after : Screen) : Type 0 where
   pub panels : LooksAgain contents has_unseen_end (page_of before) refusals before.panels after.panels
-  pub after_is : after ≡ looked_at (shown_trouble rows) news refusals after.panels before
+  pub after_is : after ≡ looked_at (shown_waits rows) news refusals after.panels before
 
 -- ASKS
 
--- A job is begun while none is live, and is one that can be worked; a trouble is answered as it may be.
+-- A job is begun while none is live, and is one that can be worked; one that waits is answered as it may be.
 abbrev pub WellAsked : List JobRow → Ask → Type 0
 WellAsked rows (ask.Begin plan background) = (rows ≡ []) × (are_workable plan ≡ true)
 WellAsked rows (ask.Answer answer) = can_answer rows answer ≡ true

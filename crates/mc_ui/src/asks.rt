@@ -8,7 +8,7 @@ pub enum Ask {
     Nothing,
     /// A job is to be begun.
     Begin { plan: Job, background: bool },
-    /// The live job's trouble is answered.
+    /// The live job is answered.
     Answer(Answer),
     End,
 }
@@ -20,14 +20,14 @@ pub struct KeyAct {
     pub refusals: Refusals,
 }
 
-/// What became of a job that a key asked for, or of its answer to a trouble.
+/// What became of a job that a key asked for, or of its answer.
 #[derive(Debug, Drop)]
 pub enum Told {
     /// It asked for neither.
     Nothing,
     /// The job was begun.
     Begun,
-    /// The trouble was answered.
+    /// The job was answered.
     Answered,
     Refused(Refusal),
     /// There was no memory.

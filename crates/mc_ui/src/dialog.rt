@@ -8,7 +8,7 @@ use panel_boxes::PanelBox;
 #[derive(Debug, Drop)]
 pub enum Dialog {
     Nothing,
-    /// Asks of one job, or tells of its trouble.
+    /// Asks of one job, or tells what it waits with.
     Job(JobBox),
     /// Asks what the panels are to do.
     Panel(PanelBox),

@@ -1,7 +1,7 @@
 //! Lists of live jobs, by keys.
 use box_rows::{keys_of, tell_screen};
 use job_list::{JobList, JobsAct};
-use job_reports::{Cause, JobKind, JobRow, JobRows, JobState, Trouble};
+use job_reports::{Cause, JobKind, JobRow, JobRows, JobState, Question, Trouble, Waits};
 use key_screen::{Grid, Key};
 use mc_text::Path;
 use row_page::{Page, two_fields};
@@ -64,12 +64,19 @@ fn tell_act(page: &mut Page, act: &JobsAct) {
     match act {
         JobsAct::Stays => page.put(" stays"),
         JobsAct::Leaves => page.put(" shut"),
-        JobsAct::Opens(trouble) => tell_trouble(page, trouble),
+        JobsAct::Opens(waits) => tell_waits(page, waits),
+    }
+}
+
+fn tell_waits(page: &mut Page, waits: &Waits) {
+    page.put(" opens ");
+    match waits {
+        Waits::Question(question) => tell_path(page, &question.target),
+        Waits::Trouble(trouble) => tell_trouble(page, trouble),
     }
 }
 
 fn tell_trouble(page: &mut Page, trouble: &Trouble) {
-    page.put(" opens ");
     match &trouble.path {
         Some(path) => tell_path(page, path),
         None => page.fail(),
@@ -95,7 +102,7 @@ fn rows_of(page: &mut Page, jobs: &str) -> JobRows {
     JobRows(rows)
 }
 
-/// A job: its number, what it is at, what it does, its path. A trouble is at that path, too.
+/// A job: its number, what it is at, what it does, its path. A trouble is at that path, too, and so is the target of a question.
 fn row_of(page: &mut Page, job: &str) -> Option<JobRow> {
     let (number, rest) = two_fields(job, ' ');
     let (state, rest) = two_fields(rest, ' ');
@@ -106,6 +113,7 @@ fn row_of(page: &mut Page, job: &str) -> Option<JobRow> {
         kind: kind_of(kind),
         path: Path::parse(page.alloc(), path).ok()?,
         background: false,
+        asked: question_of(page, state, path),
         trouble: trouble_of(page, state, path),
     })
 }
@@ -127,6 +135,20 @@ fn kind_of(word: &str) -> JobKind {
         "chmod" => JobKind::SetMode,
         _ => JobKind::MakeFolder,
     }
+}
+
+fn question_of(page: &Page, state: &str, path: &str) -> Option<Question> {
+    if state != "asking" {
+        return None;
+    }
+    Some(Question {
+        source: Path::parse(page.alloc(), "/from").ok()?,
+        target: Path::parse(page.alloc(), path).ok()?,
+        source_size: 1,
+        target_size: 2,
+        source_time: 0,
+        target_time: 0,
+    })
 }
 
 fn trouble_of(page: &Page, state: &str, path: &str) -> Option<Trouble> {

@@ -1,6 +1,6 @@
 //! Runs a machine step by step, with the answers of a row.
-use job_answers::{Answer, Question, Standing, Waiting};
-use job_reports::{Cause, Did, Ending, LastStepResult, Trouble};
+use job_answers::{Standing, Waiting};
+use job_reports::{Answer, Cause, Did, Ending, LastStepResult, Question, Trouble};
 use mem_tree::MemTree;
 use row_page::Page;
 use row_reports::{tell_report, tell_step};

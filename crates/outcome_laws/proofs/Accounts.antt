@@ -63,6 +63,12 @@ pub record IsBare (v : View) (source target : Route) : Type 0 where
   pub below : (name : List ℕ) (rest : Route) → (v (name ∷ (rest ++ source))).value ≡ None
   pub free : (rest : Route) → (v (rest ++ target)).value ≡ None
 
+-- A file or a link, and a target that is no folder: nothing stands below either.
+pub record IsPlain (v : View) (source target : Route) : Type 0 where
+  pub plain : option_map as_copied (v source).value ≡ option_map placed_copy (v source).value
+  pub below : (name : List ℕ) (rest : Route) → (v (name ∷ (rest ++ source))).value ≡ None
+  pub under : (name : List ℕ) (rest : Route) → (v (name ∷ (rest ++ target))).value ≡ None
+
 -- its copy stands, and nothing below that; but for what lies at the target of all
 abbrev pub AllCopied : View → Route → Route → Route → Type 0
 AllCopied v top source target = (rest : Route) → is_prefix top (rest ++ source) ≡ false → IsCopy v (rest ++ source) (rest ++ target)

@@ -16,7 +16,8 @@ use Rattle.job_reports.specs.declared.report.Did.{Did}
 use Rattle.job_reports.specs.declared.report.Did.TheVariants.{Skipped, Troubled, Ended}
 use Rattle.job_reports.specs.declared.report.Ending.TheVariants.{Finished}
 use Rattle.job_reports.specs.declared.report.StepResult.{StepResult}
-use Rattle.file_copy.specs.CopyCalls.{CopyCalls}
+use Rattle.file_copy.specs.AskedCopies.{AskedCalls, AskedTells}
+use Rattle.job_answers.specs.declared.replies.Replies.{Replies}
 use Rattle.file_copy.specs.Copying as file
 use Rattle.file_copy.specs.Copying.{Copying}
 use Rattle.file_copy.specs.declared.stage.Stage.{Stage as FileStage}
@@ -49,10 +50,11 @@ use Rattle.history_laws.proofs.TreeCalls.{left_item}
 use Rattle.history_laws.proofs.TreeKnown.{ItemHas}
 use Rattle.history_laws.proofs.TreeMachine.{SaysPassed, passed_trouble, skip_says}
 use Rattle.copy_move.specs.declared.run.Course.{Course}
-use Rattle.outcome_laws.specs.Outcomes.{IsCopied, IsReached, passed_by}
-use Rattle.outcome_laws.proofs.Accounts.{FileDone, IsAccounted, IsCovered, IsDue, IsNext, IsPending, ItemDone, TreeDone, covered_below}
-use Rattle.outcome_laws.proofs.FileWork.{bare_begins, file_anew, file_goes, skipped_done}
-use Rattle.outcome_laws.proofs.TreeItems.{file_paths, file_works, link_works}
+use Rattle.outcome_laws.specs.Outcomes.{IsCopied, IsReached, passed_by, passed_in}
+use Rattle.outcome_laws.proofs.Accounts.{IsAccounted, IsCovered, IsDue, IsNext, IsPending, ItemDone, TreeDone, covered_below}
+use Rattle.outcome_laws.proofs.FileWork.{bare_begins}
+use Rattle.outcome_laws.proofs.OverWork.{OverDone, over_anew, over_goes, over_skipped}
+use Rattle.outcome_laws.proofs.TreeItems.{file_works, link_works}
 use Rattle.outcome_laws.proofs.TreeLevels.{closed_done, leaves_done, no_name}
 use Rattle.outcome_laws.proofs.TreeFolders.{syncs_done, takes_folder}
 use Rattle.outcome_laws.proofs.TreeClosings.{ends_done}
@@ -60,7 +62,7 @@ use Rattle.outcome_laws.proofs.TreePasses.{retries_done, skips_done}
 
 -- what the copy of a file has done
 abbrev pub FileAccounts : List Route → View → Copying → Type 0
-FileAccounts passed v c = FileDone v passed c.target c.source c.target c.stage
+FileAccounts passed v c = OverDone v passed c.source c.target c.stage
 
 -- what the copy of a thing with all that lies in it has done, which is in its place
 pub record TreeAccounts (passed : List Route) (v : View) (c : SubtreeCopying) : Type 0 where
@@ -77,26 +79,24 @@ shows_all told dirty marks log kept none p = ap (λ (s : Spot). s.value) (kept.k
 
 -- the copy of a file
 module _ (told : Said) (dirty : List Route) (marks : Marks) (log now : CallLog) (kept : IsKept told dirty marks log) (c new : Copying) (passed : List Route) where
-  pub file_steps : (unclaimed : Route → Type 0) (course : Course) (did : Did) (after : Option CallLog) → FileKnows told dirty marks (current log) course c → file.Tells c did new → CopyCalls unclaimed c did new log after → FileAccounts passed told.tree c
-      → FileAccounts (passed_by did passed) (replayed_step now did (Some (Copies c.source c.target)) told.tree) new
-  file_steps unclaimed course did after knows tells called done =
-      subst (λ t. FileDone (replayed_step now did (Some (Copies c.source c.target)) told.tree) (passed_by did passed) t new.source new.target new.stage) (sym (file_paths c new did tells).1)
-      (file_goes now told.tree passed (record { source = c.source; target = c.target }) unclaimed c new did log after (record { rest = []; from = refl; to = refl }) tells called begins done)
+  pub file_steps : (unclaimed : Route → Type 0) (replies : Replies) (course : Course) (did : Did) (after : Option CallLog) → FileKnows told dirty marks (current log) course c → AskedTells c did new → AskedCalls unclaimed replies c did new log after
+      → FileAccounts passed told.tree c → FileAccounts (passed_in (Some (Copies c.source c.target)) did passed) (replayed_step now did (Some (Copies c.source c.target)) told.tree) new
+  file_steps unclaimed replies course did after knows tells called done = over_goes now told.tree passed c unclaimed replies new did log after tells called begins done
     where
       begins : c.stage ≡ file_stage.Begin → IsTree (current log) × ShowsTree told.tree log
       begins is = (kept.known.guarded.tree, (let k = subst (StageKnows told marks (current log) course c) is knows.2 in shows_all told dirty marks log kept k.0))
 
 pub file_passed : (c new : Copying) (path : Route) (passed : List Route) (v : View) → path ≡ c.source → new ≡ record c { stage = file.skipped c.stage } → FileAccounts passed v c → FileAccounts (path ∷ passed) v new
 file_passed c new path passed v path_is new_is done =
-    subst (λ p. FileAccounts (p ∷ passed) v new) (sym path_is) (subst (λ (x : Copying). FileAccounts (c.source ∷ passed) v x) (sym new_is) (skipped_done v passed c.target c.source c.target c.stage done))
+    subst (λ p. FileAccounts (p ∷ passed) v new) (sym path_is) (subst (λ (x : Copying). FileAccounts (c.source ∷ passed) v x) (sym new_is) (over_skipped v passed c.source c.target c.stage done))
 
 pub file_taken : (c : Copying) (passed : List Route) (v : View) → FileAccounts passed v c → FileAccounts passed v (record c { stage = file.taken_anew c.stage })
-file_taken c passed v done = file_anew v passed c.target c.source c.target c.stage done
+file_taken c passed v done = over_anew v passed c.source c.target c.stage done
 
 pub file_ends : (c new : Copying) (part : Option Route) (passed : List Route) (v : View) → file.Tells c (Ended Finished part) new → FileAccounts passed v c → IsCopied c.source c.target passed v
-file_ends c new part passed v (stage, synced, part_is, new_is) done = λ rest off reached. by (subst (λ s. FileDone v passed c.target c.source c.target s) stage done) rest off reached
+file_ends c new part passed v (stage, synced, part_is, new_is) done = λ rest off reached. by (subst (λ s. OverDone v passed c.source c.target s) stage done) rest off reached
   where
-    by : FileDone v passed c.target c.source c.target file_stage.Decided → IsCopied c.source c.target passed v
+    by : OverDone v passed c.source c.target file_stage.Decided → IsCopied c.source c.target passed v
     by (inl covered) rest off reached = covered_not passed (rest ++ c.source) reached (covered_below passed c.source (rest ++ c.source) (prefix_append c.source rest) covered)
     by (inr all) rest off reached = all rest off
 

@@ -4,10 +4,11 @@ use Rattle.mc_text.specs.Routes.{Route, is_prefix}
 use Rattle.tree_trait.specs.Change.{CallLog}
 use Rattle.job_reports.specs.declared.job.Pair.{Pair}
 use Rattle.job_reports.specs.declared.report.Did.{Did}
-use Rattle.job_reports.specs.declared.report.Did.TheVariants.{Began, Chunk, Placed, Removed, Made, Set, Kept, Skipped, Cleaned, Barrier, Troubled, Ended}
+use Rattle.job_reports.specs.declared.report.Did.TheVariants.{Began, Chunk, Placed, Removed, Made, Set, Kept, Skipped, Cleaned, Barrier, Asked, Troubled, Ended}
 use Rattle.job_reports.specs.declared.report.StepResult.{StepResult}
 use Rattle.session_history.specs.Named.{changed_by}
-use Rattle.file_copy.specs.Copying.{Copying, Tells}
+use Rattle.file_copy.specs.AskedCopies.{AskedTells}
+use Rattle.file_copy.specs.Copying.{Copying}
 use Rattle.tree_copy.specs.InPlace.{IsInPlace, IsMoved, IsTargetOf, NamesTarget}
 use Rattle.tree_copy.specs.Standing.{Seen}
 use Rattle.tree_copy.proofs.InPlaces.{leaves_all, place_law}
@@ -24,7 +25,7 @@ some_path p q is = cc
 none_changed : {A : Type 0} (path : Route) → (let o : Option Route = None in o) ≡ Some path → A
 none_changed path is = absurd (let f : ⊥ = cc in f)
 
-pub copy_touches : (c new : Copying) (did : Did) (path : Route) → Tells c did new → changed_by did ≡ Some path → is_prefix c.target path ≡ true
+pub copy_touches : (c new : Copying) (did : Did) (path : Route) → AskedTells c did new → changed_by did ≡ Some path → is_prefix c.target path ≡ true
 copy_touches c new (Placed placed) path (part, facts, stage, path_is, new_is) changed = subst (λ p. is_prefix c.target p ≡ true) (sym path_is ∙ some_path placed path changed) (prefix_append c.target [])
 copy_touches c new (Began part) path t changed = none_changed path changed
 copy_touches c new (Chunk count) path t changed = none_changed path changed
@@ -35,7 +36,8 @@ copy_touches c new (Ended ending part) path t changed = none_changed path change
 copy_touches c new (Removed gone) path t changed = absurd t
 copy_touches c new (Made made) path t changed = absurd t
 copy_touches c new (Set set) path t changed = absurd t
-copy_touches c new (Kept kept) path t changed = absurd t
+copy_touches c new (Kept kept) path t changed = none_changed path changed
+copy_touches c new (Asked question) path t changed = none_changed path changed
 copy_touches c new (Skipped left cause) path t changed = absurd t
 
 is_target : (top : Pair) (named path : Route) → IsTargetOf top named → named ≡ path → is_prefix top.target path ≡ true
@@ -49,6 +51,7 @@ by_names top (Removed gone) path may names changed = absurd may
 by_names top (Began part) path may names changed = none_changed path changed
 by_names top (Chunk count) path may names changed = none_changed path changed
 by_names top (Kept kept) path may names changed = none_changed path changed
+by_names top (Asked question) path may names changed = none_changed path changed
 by_names top (Skipped left cause) path may names changed = none_changed path changed
 by_names top (Cleaned part) path may names changed = none_changed path changed
 by_names top Barrier path may names changed = none_changed path changed

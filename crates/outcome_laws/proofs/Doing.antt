@@ -12,9 +12,9 @@ use Rattle.job_reports.specs.declared.job.Job.{Job}
 use Rattle.job_reports.specs.declared.job.Job.TheVariants as plan
 use Rattle.job_reports.specs.declared.report.Cause.{Cause}
 use Rattle.job_reports.specs.declared.report.Did.{Did}
-use Rattle.job_reports.specs.declared.report.Did.TheVariants.{Began, Chunk, Placed, Removed, Made, Set, Kept, Skipped, Cleaned, Barrier, Troubled, Ended}
+use Rattle.job_reports.specs.declared.report.Did.TheVariants.{Began, Chunk, Placed, Removed, Made, Set, Kept, Skipped, Cleaned, Barrier, Asked, Troubled, Ended}
 use Rattle.job_reports.specs.declared.answer.Answer.{Answer}
-use Rattle.job_reports.specs.declared.answer.Answer.TheVariants.{Retry, Skip, SkipAll, Abort}
+use Rattle.job_reports.specs.declared.answer.Answer.TheVariants.{Yes, No, All, Update, Nothing, SizeDiffers, Retry, Skip, SkipAll, Abort}
 use Rattle.job_answers.specs.declared.skips.Skips.{Skips as SkippedKinds}
 use Rattle.job_reports.specs.Jobs.{is_link_text}
 use Rattle.job_reports.specs.CallRuns.{AllDone}
@@ -23,9 +23,13 @@ use Rattle.session_history.specs.declared.history.JobOrder.{JobOrder}
 use Rattle.session_history.specs.declared.history.JobOrder.TheVariants.{Answered}
 use Rattle.mode_setting.specs.Settings.{Setting}
 use Rattle.mode_setting.specs.SettingSteps.{SettingCalls}
+use Rattle.job_answers.specs.declared.replies.Replies.{Replies}
+use Rattle.job_reports.specs.Jobs.{Item}
+use Rattle.subtree_copy.specs.Reporting.{MayTell}
+use Rattle.copy_move.specs.declared.new_thing.NewThing.{NewThing}
 use Rattle.copy_move.specs.declared.new_thing.NewThing.TheVariants as thing
 use Rattle.copy_move.specs.declared.run.Course.{Course}
-use Rattle.copy_move.specs.declared.run.Course.TheVariants.{GoesOn, InTrouble, OwedSyncFailed, Skips, Ends}
+use Rattle.copy_move.specs.declared.run.Course.TheVariants.{GoesOn, Asking, InTrouble, OwedSyncFailed, Skips, Ends}
 use Rattle.copy_move.specs.declared.work.Work.{Work}
 use Rattle.copy_move.specs.declared.work.Work.TheVariants.{Copy, CopyTree, Delete, Make, SetMode}
 use Rattle.copy_move.specs.Jobs.{Running, CallsOn, PassesOver, TellsOn, WorkCalls, WorkTells, answered, answered_on, begun_work, closed_course, closed_job, course_after, first_work, passing_over, skips_of, taken_anew, with_skips}
@@ -36,9 +40,9 @@ use Rattle.history_laws.specs.Traces.{IsUnclaimed, WorkLeads, before_others, ord
 use Rattle.history_laws.proofs.Calming.{mode_finds}
 use Rattle.history_laws.proofs.JobKnows.{WorkKnows}
 use Rattle.history_laws.proofs.Knowing.{IsKept, Said}
-use Rattle.history_laws.proofs.Sources.{item_in}
+use Rattle.history_laws.proofs.Sources.{item_in, making_item}
 use Rattle.history_laws.proofs.Turns.{Turned}
-use Rattle.outcome_laws.specs.Outcomes.{passed_by}
+use Rattle.outcome_laws.specs.Outcomes.{kept_of, passed_by, passed_in}
 use Rattle.outcome_laws.proofs.CopyOutcome.{FileAccounts, TreeAccounts, file_passed, file_steps, file_taken, tree_begins, tree_passed, tree_steps, tree_taken}
 use Rattle.outcome_laws.proofs.MadeThings.{MakingDone, SettingDone, Unless, making_skips, making_steps, setting_skips, setting_steps, unless_of}
 use Rattle.outcome_laws.proofs.Deciding.{DeletionDone}
@@ -56,6 +60,7 @@ abbrev pub CourseDone : Course → List Route → View → FileSystem → Work �
 CourseDone GoesOn passed v s work = WorkDone passed v s work
 CourseDone (InTrouble halt) passed v s work = WorkDone passed v s work
 CourseDone (OwedSyncFailed cause) passed v s work = WorkDone passed v s work
+CourseDone Asking passed v s work = WorkDone passed v s work
 CourseDone (Skips cause) passed v s work = WorkDone passed v s work
 CourseDone (Ends ending) passed v s work = ⊤
 
@@ -76,6 +81,7 @@ on_course (Removed path) passed v s work h = h
 on_course (Made made) passed v s work h = h
 on_course (Set path) passed v s work h = h
 on_course (Kept kept) passed v s work h = h
+on_course (Asked question) passed v s work h = h
 on_course (Skipped path cause) passed v s work h = h
 on_course (Cleaned part) passed v s work h = h
 on_course Barrier passed v s work h = h
@@ -91,6 +97,7 @@ jobs_after (Removed path) passed v s new h = h
 jobs_after (Made made) passed v s new h = h
 jobs_after (Set path) passed v s new h = h
 jobs_after (Kept kept) passed v s new h = h
+jobs_after (Asked question) passed v s new h = h
 jobs_after (Skipped path cause) passed v s new h = h
 jobs_after (Cleaned part) passed v s new h = h
 jobs_after Barrier passed v s new h = h
@@ -124,9 +131,45 @@ skips_work (SetMode t) (CopyTree new) cause path passed v s p w k = absurd p
 skips_work (SetMode t) (Delete new) cause path passed v s p w k = absurd p
 skips_work (SetMode t) (Make new) cause path passed v s p w k = absurd p
 
+-- of a job that keeps nothing of its own what is passed over is what was skipped
+in_plain : (item : Item) (did : Did) (passed : List Route) → kept_of (Some item) passed ≡ passed → passed_in (Some item) did passed ≡ passed_by did passed
+in_plain item (Kept path) passed plain = plain
+in_plain item (Skipped path cause) passed plain = refl
+in_plain item (Began part) passed plain = refl
+in_plain item (Chunk count) passed plain = refl
+in_plain item (Placed path) passed plain = refl
+in_plain item (Removed path) passed plain = refl
+in_plain item (Made made) passed plain = refl
+in_plain item (Set path) passed plain = refl
+in_plain item (Asked question) passed plain = refl
+in_plain item (Cleaned part) passed plain = refl
+in_plain item Barrier passed plain = refl
+in_plain item (Troubled trouble) passed plain = refl
+in_plain item (Ended ending part) passed plain = refl
+
+-- nor does what is copied whole keep anything
+in_told : (item : Item) (did : Did) (passed : List Route) → MayTell did → passed_in (Some item) did passed ≡ passed_by did passed
+in_told item (Kept path) passed may = absurd may
+in_told item (Skipped path cause) passed may = refl
+in_told item (Began part) passed may = refl
+in_told item (Chunk count) passed may = refl
+in_told item (Placed path) passed may = refl
+in_told item (Removed path) passed may = refl
+in_told item (Made made) passed may = refl
+in_told item (Set path) passed may = refl
+in_told item (Asked question) passed may = refl
+in_told item (Cleaned part) passed may = refl
+in_told item Barrier passed may = refl
+in_told item (Troubled trouble) passed may = refl
+in_told item (Ended ending part) passed may = refl
+
+makes_plain : (new : NewThing) (path : Route) (passed : List Route) → kept_of (Some (making_item new path)) passed ≡ passed
+makes_plain thing.Folder path passed = refl
+makes_plain (thing.Link text) path passed = refl
+
 module _ (told : Said) (dirty dirty_after : List Route) (marks : Marks) (log now : CallLog) (kept : IsKept told dirty marks log) where
   abbrev Then : List Route → Did → Work → Work → Type 0
-  Then passed did old new = Unless did (WorkDone (passed_by did passed) (replayed_step now did (Some (item_in old)) told.tree) (current now) new)
+  Then passed did old new = Unless did (WorkDone (passed_in (Some (item_in old)) did passed) (replayed_step now did (Some (item_in old)) told.tree) (current now) new)
 
   -- where a mode is set something stands
   stands : (s : Setting) (did : Did) → WorkKnows told dirty marks log GoesOn (SetMode s) → SettingCalls s did log (Some now) → (path : Route) → did ≡ Set path → (x : Value) × ((told.tree s.path).value ≡ Some x)
@@ -138,50 +181,54 @@ module _ (told : Said) (dirty dirty_after : List Route) (marks : Marks) (log now
             ∙ ap (option_map (λ k. value (node (current log) k))) (mode_finds (current log) s.path s.mode d.permits),
       )
 
-  work_steps : (old new : Work) (did : Did) (calls faults faults_after : ℕ) (passed : List Route) → WorkKnows told dirty marks log GoesOn old → WorkTells old did new → WorkCalls IsUnclaimed old did new log (Some now)
+  work_steps : (replies : Replies) (old new : Work) (did : Did) (calls faults faults_after : ℕ) (passed : List Route) → WorkKnows told dirty marks log GoesOn old → WorkTells old did new → WorkCalls IsUnclaimed replies old did new log (Some now)
       → Walks IsUnclaimed old new did calls dirty dirty_after (Some log) (Some now) faults faults_after → WorkDone passed told.tree (current log) old → Then passed did old new
-  work_steps (Copy c) (Copy new) did calls faults faults_after passed knows t called walks k =
-      unless_of did (WorkDone (passed_by did passed) (replayed_step now did (Some (item_in (Copy c))) told.tree) (current now) (Copy new))
-      (file_steps told dirty marks log now kept c new passed IsUnclaimed GoesOn did (Some now) knows t called k)
-  work_steps (CopyTree c) (CopyTree new) did calls faults faults_after passed knows t called walks k =
-      unless_of did (WorkDone (passed_by did passed) (replayed_step now did (Some (item_in (CopyTree c))) told.tree) (current now) (CopyTree new))
-      (tree_steps told dirty dirty_after marks log now kept c new did passed GoesOn walks.free calls walks.since faults_after knows.part walks.steps k)
-  work_steps (Delete d) (Delete new) did calls faults faults_after passed knows t called walks k = deletion_steps d new did calls dirty dirty_after log now faults faults_after passed kept.known.guarded.tree t walks k
-  work_steps (Make m) (Make new) did calls faults faults_after passed knows t called walks k = making_steps m new did now passed told.tree t k
-  work_steps (SetMode s) (SetMode new) did calls faults faults_after passed knows t called walks k = setting_steps s new did now passed told.tree t (stands s did knows called) k
-  work_steps (Copy c) (CopyTree new) did calls faults faults_after passed knows t called walks k = absurd t
-  work_steps (Copy c) (Delete new) did calls faults faults_after passed knows t called walks k = absurd t
-  work_steps (Copy c) (Make new) did calls faults faults_after passed knows t called walks k = absurd t
-  work_steps (Copy c) (SetMode new) did calls faults faults_after passed knows t called walks k = absurd t
-  work_steps (CopyTree c) (Copy new) did calls faults faults_after passed knows t called walks k = absurd t
-  work_steps (CopyTree c) (Delete new) did calls faults faults_after passed knows t called walks k = absurd t
-  work_steps (CopyTree c) (Make new) did calls faults faults_after passed knows t called walks k = absurd t
-  work_steps (CopyTree c) (SetMode new) did calls faults faults_after passed knows t called walks k = absurd t
-  work_steps (Delete d) (Copy new) did calls faults faults_after passed knows t called walks k = absurd t
-  work_steps (Delete d) (CopyTree new) did calls faults faults_after passed knows t called walks k = absurd t
-  work_steps (Delete d) (Make new) did calls faults faults_after passed knows t called walks k = absurd t
-  work_steps (Delete d) (SetMode new) did calls faults faults_after passed knows t called walks k = absurd t
-  work_steps (Make m) (Copy new) did calls faults faults_after passed knows t called walks k = absurd t
-  work_steps (Make m) (CopyTree new) did calls faults faults_after passed knows t called walks k = absurd t
-  work_steps (Make m) (Delete new) did calls faults faults_after passed knows t called walks k = absurd t
-  work_steps (Make m) (SetMode new) did calls faults faults_after passed knows t called walks k = absurd t
-  work_steps (SetMode s) (Copy new) did calls faults faults_after passed knows t called walks k = absurd t
-  work_steps (SetMode s) (CopyTree new) did calls faults faults_after passed knows t called walks k = absurd t
-  work_steps (SetMode s) (Delete new) did calls faults faults_after passed knows t called walks k = absurd t
-  work_steps (SetMode s) (Make new) did calls faults faults_after passed knows t called walks k = absurd t
+  work_steps replies (Copy c) (Copy new) did calls faults faults_after passed knows t called walks k =
+      unless_of did (WorkDone (passed_in (Some (item_in (Copy c))) did passed) (replayed_step now did (Some (item_in (Copy c))) told.tree) (current now) (Copy new))
+      (file_steps told dirty marks log now kept c new passed IsUnclaimed replies GoesOn did (Some now) knows t called k)
+  work_steps replies (CopyTree c) (CopyTree new) did calls faults faults_after passed knows t called walks k =
+      unless_of did (WorkDone (passed_in (Some (item_in (CopyTree c))) did passed) (replayed_step now did (Some (item_in (CopyTree c))) told.tree) (current now) (CopyTree new))
+      (subst (λ p. TreeAccounts p (replayed_step now did (Some (item_in (CopyTree c))) told.tree) new) (sym (in_told (item_in (CopyTree c)) did passed t.may)) (tree_steps told dirty dirty_after marks log now kept c new did passed GoesOn walks.free calls walks.since faults_after knows.part walks.steps k))
+  work_steps replies (Delete d) (Delete new) did calls faults faults_after passed knows t called walks k =
+      subst (λ p. Unless did (DeletionDone p (current now) new)) (sym (in_plain (item_in (Delete d)) did passed refl)) (deletion_steps d new did calls dirty dirty_after log now faults faults_after passed kept.known.guarded.tree t walks k)
+  work_steps replies (Make m) (Make new) did calls faults faults_after passed knows t called walks k =
+      subst (λ p. Unless did (MakingDone p (replayed_step now did (Some (item_in (Make m))) told.tree) new)) (sym (in_plain (item_in (Make m)) did passed (makes_plain m.thing m.path passed))) (making_steps m new did now passed told.tree t k)
+  work_steps replies (SetMode s) (SetMode new) did calls faults faults_after passed knows t called walks k =
+      subst (λ p. Unless did (SettingDone p (replayed_step now did (Some (item_in (SetMode s))) told.tree) new)) (sym (in_plain (item_in (SetMode s)) did passed refl)) (setting_steps s new did now passed told.tree t (stands s did knows called) k)
+  work_steps replies (Copy c) (CopyTree new) did calls faults faults_after passed knows t called walks k = absurd t
+  work_steps replies (Copy c) (Delete new) did calls faults faults_after passed knows t called walks k = absurd t
+  work_steps replies (Copy c) (Make new) did calls faults faults_after passed knows t called walks k = absurd t
+  work_steps replies (Copy c) (SetMode new) did calls faults faults_after passed knows t called walks k = absurd t
+  work_steps replies (CopyTree c) (Copy new) did calls faults faults_after passed knows t called walks k = absurd t
+  work_steps replies (CopyTree c) (Delete new) did calls faults faults_after passed knows t called walks k = absurd t
+  work_steps replies (CopyTree c) (Make new) did calls faults faults_after passed knows t called walks k = absurd t
+  work_steps replies (CopyTree c) (SetMode new) did calls faults faults_after passed knows t called walks k = absurd t
+  work_steps replies (Delete d) (Copy new) did calls faults faults_after passed knows t called walks k = absurd t
+  work_steps replies (Delete d) (CopyTree new) did calls faults faults_after passed knows t called walks k = absurd t
+  work_steps replies (Delete d) (Make new) did calls faults faults_after passed knows t called walks k = absurd t
+  work_steps replies (Delete d) (SetMode new) did calls faults faults_after passed knows t called walks k = absurd t
+  work_steps replies (Make m) (Copy new) did calls faults faults_after passed knows t called walks k = absurd t
+  work_steps replies (Make m) (CopyTree new) did calls faults faults_after passed knows t called walks k = absurd t
+  work_steps replies (Make m) (Delete new) did calls faults faults_after passed knows t called walks k = absurd t
+  work_steps replies (Make m) (SetMode new) did calls faults faults_after passed knows t called walks k = absurd t
+  work_steps replies (SetMode s) (Copy new) did calls faults faults_after passed knows t called walks k = absurd t
+  work_steps replies (SetMode s) (CopyTree new) did calls faults faults_after passed knows t called walks k = absurd t
+  work_steps replies (SetMode s) (Delete new) did calls faults faults_after passed knows t called walks k = absurd t
+  work_steps replies (SetMode s) (Make new) did calls faults faults_after passed knows t called walks k = absurd t
 
   abbrev Later : List Route → Did → Running → Running → Type 0
-  Later passed did job new = Unless did (JobDone (passed_by did passed) (replayed_step now did (Some (item_in job.work)) told.tree) (current now) new)
+  Later passed did job new = Unless did (JobDone (passed_in (Some (item_in job.work)) did passed) (replayed_step now did (Some (item_in job.work)) told.tree) (current now) new)
 
   course_steps : (job new : Running) (did : Did) (course : Course) (calls faults faults_after : ℕ) (passed : List Route) → job.course ≡ course → WorkKnows told dirty marks log course job.work → TellsOn course job did new
       → CallsOn IsUnclaimed course job did new log (Some now) → WalksOn IsUnclaimed course job.work new.work did calls dirty dirty_after (Some log) (Some now) faults faults_after → CourseDone course passed told.tree (current log) job.work
       → Later passed did job new
   course_steps job new did GoesOn calls faults faults_after passed is knows (work, t, new_is) called walks k =
-      subst (λ c. Unless did (CourseDone c (passed_by did passed) (replayed_step now did (Some (item_in job.work)) told.tree) (current now) new.work)) (sym (ap (λ (x : Running). x.course) new_is))
-      (on_course did (passed_by did passed) (replayed_step now did (Some (item_in job.work)) told.tree) (current now) new.work
-      (work_steps job.work new.work did calls faults faults_after passed knows (subst (WorkTells job.work did) (sym (ap (λ (x : Running). x.work) new_is)) t) called walks k))
+      subst (λ c. Unless did (CourseDone c (passed_in (Some (item_in job.work)) did passed) (replayed_step now did (Some (item_in job.work)) told.tree) (current now) new.work)) (sym (ap (λ (x : Running). x.course) new_is))
+      (on_course did (passed_in (Some (item_in job.work)) did passed) (replayed_step now did (Some (item_in job.work)) told.tree) (current now) new.work
+      (work_steps job.replies job.work new.work did calls faults faults_after passed knows (subst (WorkTells job.work did) (sym (ap (λ (x : Running). x.work) new_is)) t) called walks k))
   course_steps job new did (InTrouble halt) calls faults faults_after passed is knows t called walks k = absurd t
   course_steps job new did (OwedSyncFailed cause) calls faults faults_after passed is knows t called walks k = absurd t
+  course_steps job new did Asking calls faults faults_after passed is knows t called walks k = absurd t
   course_steps job new did (Skips cause) calls faults faults_after passed is knows (inl (path, work, did_is, passes, new_is)) called walks k =
       let w = ap (λ (x : Running). x.work) new_is in
       subst (λ (d : Did). Later passed d job new) (sym did_is)
@@ -193,7 +240,7 @@ module _ (told : Said) (dirty dirty_after : List Route) (marks : Marks) (log now
       (subst (λ (x : Running). JobDone passed told.tree (current now) x) (sym new_is)
       (subst (λ (l : CallLog). WorkDone passed told.tree (current l) job.work) (sym (some_log now log called)) k))
   course_steps job new did (Ends ending) calls faults faults_after passed is knows (work, winds, new_is) called walks k =
-      subst (λ c. Unless did (CourseDone c (passed_by did passed) (replayed_step now did (Some (item_in job.work)) told.tree) (current now) new.work)) (sym (ap (λ (x : Running). x.course) new_is ∙ is))
+      subst (λ c. Unless did (CourseDone c (passed_in (Some (item_in job.work)) did passed) (replayed_step now did (Some (item_in job.work)) told.tree) (current now) new.work)) (sym (ap (λ (x : Running). x.course) new_is ∙ is))
       (unless_of did ⊤ tt)
 
   pub leads_done : (job new : Running) (did : Did) (passed : List Route) → WorkKnows told dirty marks log job.course job.work → WorkLeads job did new dirty dirty_after log now → JobDone passed told.tree (current log) job → Later passed did job new
@@ -224,6 +271,28 @@ module _ (passed : List Route) (v : View) (s : FileSystem) where
   answer_done (OwedSyncFailed cause) Skip job is k = k
   answer_done (OwedSyncFailed cause) SkipAll job is k = k
   answer_done (OwedSyncFailed cause) Abort job is k = tt
+  answer_done (InTrouble halt) Yes job is k = k
+  answer_done (InTrouble halt) No job is k = k
+  answer_done (InTrouble halt) All job is k = k
+  answer_done (InTrouble halt) Update job is k = k
+  answer_done (InTrouble halt) Nothing job is k = k
+  answer_done (InTrouble halt) SizeDiffers job is k = k
+  answer_done (OwedSyncFailed cause) Yes job is k = k
+  answer_done (OwedSyncFailed cause) No job is k = k
+  answer_done (OwedSyncFailed cause) All job is k = k
+  answer_done (OwedSyncFailed cause) Update job is k = k
+  answer_done (OwedSyncFailed cause) Nothing job is k = k
+  answer_done (OwedSyncFailed cause) SizeDiffers job is k = k
+  answer_done Asking Yes job is k = subst (λ c. CourseDone c passed v s job.work) is k
+  answer_done Asking No job is k = subst (λ c. CourseDone c passed v s job.work) is k
+  answer_done Asking All job is k = subst (λ c. CourseDone c passed v s job.work) is k
+  answer_done Asking Update job is k = subst (λ c. CourseDone c passed v s job.work) is k
+  answer_done Asking Nothing job is k = subst (λ c. CourseDone c passed v s job.work) is k
+  answer_done Asking SizeDiffers job is k = subst (λ c. CourseDone c passed v s job.work) is k
+  answer_done Asking Retry job is k = k
+  answer_done Asking Skip job is k = k
+  answer_done Asking SkipAll job is k = k
+  answer_done Asking Abort job is k = tt
   answer_done GoesOn answer job is k = k
   answer_done (Skips cause) answer job is k = k
   answer_done (Ends ending) answer job is k = k
@@ -236,6 +305,7 @@ module _ (passed : List Route) (v : View) (s : FileSystem) where
   close_by GoesOn work k = k
   close_by (InTrouble halt) work k = tt
   close_by (OwedSyncFailed cause) work k = tt
+  close_by Asking work k = tt
   close_by (Skips cause) work k = k
   close_by (Ends ending) work k = k
 
@@ -248,11 +318,33 @@ answered_id (OwedSyncFailed cause) Retry job = refl
 answered_id (OwedSyncFailed cause) Skip job = refl
 answered_id (OwedSyncFailed cause) SkipAll job = refl
 answered_id (OwedSyncFailed cause) Abort job = refl
+answered_id (InTrouble halt) Yes job = refl
+answered_id (InTrouble halt) No job = refl
+answered_id (InTrouble halt) All job = refl
+answered_id (InTrouble halt) Update job = refl
+answered_id (InTrouble halt) Nothing job = refl
+answered_id (InTrouble halt) SizeDiffers job = refl
+answered_id (OwedSyncFailed cause) Yes job = refl
+answered_id (OwedSyncFailed cause) No job = refl
+answered_id (OwedSyncFailed cause) All job = refl
+answered_id (OwedSyncFailed cause) Update job = refl
+answered_id (OwedSyncFailed cause) Nothing job = refl
+answered_id (OwedSyncFailed cause) SizeDiffers job = refl
+answered_id Asking Yes job = refl
+answered_id Asking No job = refl
+answered_id Asking All job = refl
+answered_id Asking Update job = refl
+answered_id Asking Nothing job = refl
+answered_id Asking SizeDiffers job = refl
+answered_id Asking Retry job = refl
+answered_id Asking Skip job = refl
+answered_id Asking SkipAll job = refl
+answered_id Asking Abort job = refl
 answered_id GoesOn answer job = refl
 answered_id (Skips cause) answer job = refl
 answered_id (Ends ending) answer job = refl
 
-ordered_id : (id : ℕ) (order : JobOrder) (job : Running) → (let x : Running = ordered id order job in x.id) ≡ job.id
+pub ordered_id : (id : ℕ) (order : JobOrder) (job : Running) → (let x : Running = ordered id order job in x.id) ≡ job.id
 ordered_id id (Answered answer) job = by (job.id == id)
   where
     by : (b : Bool) → (let x : Running = if b then answered answer job else job in x.id) ≡ job.id
@@ -272,7 +364,7 @@ module _ (passed : ℕ → List Route) (v : View) (s : FileSystem) where
   closed_done (job ∷ jobs) k = close_by (passed job.id) v s job.course job.work k
 
 -- a job that begins
-some_if : (P : Work → Type 0) (b : Bool) (x w : Work) → P x → (if b then Some x else None) ≡ Some w → P w
+pub some_if : (P : Work → Type 0) (b : Bool) (x w : Work) → P x → (if b then Some x else None) ≡ Some w → P w
 some_if P true x w k is = subst P (let e : x ≡ w = cc in e) k
 some_if P false x w k is = absurd (let f : ⊥ = cc in f)
 

@@ -22,7 +22,7 @@ use Rattle.session_history.specs.Entries.{is_closed}
 use Rattle.session_history.specs.LiveJobs.{live_jobs}
 use Rattle.session_history.specs.Sources.{sources_of}
 use Rattle.copy_move.specs.declared.run.Course.{Course}
-use Rattle.copy_move.specs.declared.run.Course.TheVariants.{GoesOn, InTrouble, OwedSyncFailed, Skips, Ends}
+use Rattle.copy_move.specs.declared.run.Course.TheVariants.{GoesOn, Asking, InTrouble, OwedSyncFailed, Skips, Ends}
 use Rattle.copy_move.specs.declared.work.Work.{Work}
 use Rattle.copy_move.specs.Jobs.{Running, TellsOn, begun_work}
 use Rattle.copy_move.specs.Steps.{SyncsOwed}
@@ -48,7 +48,7 @@ use Rattle.outcome_laws.proofs.Outcome.{traced_done}
 use Rattle.outcome_laws.proofs.Touching.{IsAsBegun, JobKept, JobsKept, UnlessEnding, closed_kept, course_touches, kept_after, orders_kept, unless_ending}
 
 -- where a job was begun doesn't hang on later calls
-begun_more : (opening now : CallLog) (cs : List Change) (id : ℕ) (g : List Entry) → AreWithin opening g now → tree_begun opening (more now cs) id g ≡ tree_begun opening now id g
+pub begun_more : (opening now : CallLog) (cs : List Change) (id : ℕ) (g : List Entry) → AreWithin opening g now → tree_begun opening (more now cs) id g ≡ tree_begun opening now id g
 begun_more opening now cs id [] w = refl
 begun_more opening now cs id (e ∷ older) (few, w) =
     ap (λ v. begun_after id e.what v (tree_begun opening (more now cs) id older)) (replayed_more opening now cs older w)
@@ -156,17 +156,19 @@ module _ (opening : CallLog) (tree : IsTree (current opening)) (settled : all_se
       (close_kept (e ∷ older) (is_closed (e ∷ older)) f.after now
       (event_kept older e.calls was before (traced_reached opening tree settled older was before traced) traced (traced_kept older was before traced) e.what f.after now f.counts f.leads))
 
+-- a job that is finished wasn't aborted
+pub ended_on : (part : Option Route) (job new : Running) (course : Course) (Holds : Type 0) → TellsOn course job (Ended Finished part) new → ((ending : Ending) → course ≡ Ends ending → ending ≡ Aborted) → UnlessEnding course Holds → Holds
+ended_on part job new GoesOn Holds t aborted k = k
+ended_on part job new (InTrouble halt) Holds t aborted k = k
+ended_on part job new (OwedSyncFailed cause) Holds t aborted k = k
+ended_on part job new Asking Holds t aborted k = k
+ended_on part job new (Skips cause) Holds t aborted k = k
+ended_on part job new (Ends ending) Holds (work, winds, new_is) aborted k = absurd (let f : Finished ≡ Aborted = wound_up ending job.work work part winds ∙ aborted ending refl in let x : ⊥ = cc in x)
+
 module _ (opening now : CallLog) (newest : List Entry) (stand : Stand) (tree : IsTree (current opening)) (settled : all_settled opening.changes ≡ true) (e : Entry) (older : List Entry) (id : ℕ) (item : Item) (path : Route)
     (h : Finishes e older id item) (off : touches item path ≡ false) where
   abbrev AsBegun : Type 0
   AsBegun = replayed_tree opening now older path ≡ tree_begun opening now id older path
-
-  ended_on : (part : Option Route) (job new : Running) (course : Course) (Holds : Type 0) → TellsOn course job (Ended Finished part) new → ((ending : Ending) → course ≡ Ends ending → ending ≡ Aborted) → UnlessEnding course Holds → Holds
-  ended_on part job new GoesOn Holds t aborted k = k
-  ended_on part job new (InTrouble halt) Holds t aborted k = k
-  ended_on part job new (OwedSyncFailed cause) Holds t aborted k = k
-  ended_on part job new (Skips cause) Holds t aborted k = k
-  ended_on part job new (Ends ending) Holds (work, winds, new_is) aborted k = absurd (let f : Finished ≡ Aborted = wound_up ending job.work work part winds ∙ aborted ending refl in let x : ⊥ = cc in x)
 
   kept_by : IsFound opening tree settled now e older → AsBegun
   kept_by f = let by = ender opening tree settled now e older id item h.ended h.its f in of_job by.part by.job by.new by.jobs_is by.id_is by.works by.same

@@ -19,7 +19,7 @@ use Rattle.job_reports.specs.Jobs.{Copies}
 use Rattle.job_reports.specs.declared.job.Pair.{Pair}
 use Rattle.job_reports.specs.declared.report.Cause.{Cause}
 use Rattle.job_reports.specs.declared.report.Did.{Did}
-use Rattle.job_reports.specs.declared.report.Did.TheVariants.{Began, Chunk, Placed, Removed, Made, Set, Kept, Skipped, Cleaned, Barrier, Troubled, Ended}
+use Rattle.job_reports.specs.declared.report.Did.TheVariants.{Began, Chunk, Placed, Removed, Made, Set, Kept, Skipped, Cleaned, Barrier, Asked, Troubled, Ended}
 use Rattle.job_reports.specs.declared.report.Ending.TheVariants.{Finished, Aborted, Killed, NoMemory}
 use Rattle.job_reports.proofs.PermittedCalls.{stat_missing}
 use Rattle.file_copy.specs.CopyCalls.{CopyCalls}
@@ -35,8 +35,9 @@ use Rattle.history_laws.proofs.Changing.{none_below_file}
 use Rattle.history_laws.proofs.Intact.{prefix_append}
 use Rattle.history_laws.proofs.Moved.{moved_below}
 use Rattle.history_laws.proofs.OwedModes.{ShowsTree}
+use Rattle.history_laws.proofs.Untouched.{IsBare as NoFolder}
 use Rattle.outcome_laws.specs.Outcomes.{copied_as, as_copied, passed_by}
-use Rattle.outcome_laws.proofs.Accounts.{AllCopied, FileDone, IsBare, apart_from, covered_more, covered_now, put_same, put_value}
+use Rattle.outcome_laws.proofs.Accounts.{AllCopied, FileDone, IsBare, IsPlain, apart_from, covered_more, covered_now, put_same, put_value}
 
 -- what is no folder is copied as it is placed
 plain_by : (k : Kind) (x : Value) → folder_kind k ≡ false → copied_as k x ≡ placed_copy x
@@ -64,6 +65,24 @@ module _ (v : View) (log : CallLog) (tree : IsTree (current log)) (shows : Shows
   pub some_shown : (p : Route) → refusal_of (current log) (Stat p) ≡ None → (v p).value ≡ Some (value (node (current log) (found (current log) p)))
   some_shown p there = sym (shows p) ∙ ap (option_map (λ i. value (node (current log) i))) (stat-found (current log) p there)
 
+  pub plain_source : (source : Route) (k : Kind) → refusal_of (current log) (Stat source) ≡ None → (node (current log) (found (current log) source)).kind ≡ k → folder_kind k ≡ false
+      → option_map as_copied (v source).value ≡ option_map placed_copy (v source).value
+  plain_source source k there is bare =
+      let n = node (current log) (found (current log) source) in
+      subst (λ o. option_map as_copied o ≡ option_map placed_copy o) (sym (some_shown source there)) (ap Some (plain_by n.kind (value n) (ap folder_kind is ∙ bare)))
+
+  -- where no folder stands at the target
+  pub plain_begins : (source target : Route) → refusal_of (current log) (Stat source) ≡ None → (node (current log) (found (current log) source)).kind ≡ kind.File → NoFolder (current log) target → IsPlain v source target
+  plain_begins source target there is bare = record {
+    plain = plain_source source kind.File there is refl;
+    below = λ name rest. none_shown (name ∷ (rest ++ source)) (none_below_file (current log) tree source (found (current log) source) (stat-found (current log) source there) (ap folder_kind is) name rest);
+    under = λ name rest. none_shown (name ∷ (rest ++ target)) (none_under name rest (find (current log) target) refl);
+  }
+    where
+      none_under : (name : List ℕ) (rest : Route) (o : Option ℕ) → find (current log) target ≡ o → find (current log) (name ∷ rest ++ target) ≡ None
+      none_under name rest None free = none_below log (name ∷ rest) target free
+      none_under name rest (Some i) at = none_below_file (current log) tree target i at (bare i at) name rest
+
   pub bare_begins : (source target : Route) (k : Kind) → refusal_of (current log) (Stat source) ≡ None → (node (current log) (found (current log) source)).kind ≡ k → folder_kind k ≡ false
       → refusal_of (current log) (Stat target) ≡ Some refused.Missing → IsBare v source target
   bare_begins source target k there is bare missing =
@@ -74,12 +93,15 @@ module _ (v : View) (log : CallLog) (tree : IsTree (current log)) (shows : Shows
         free = λ rest. none_shown (rest ++ target) (none_below log rest target (stat_missing (current log) target missing));
       }
 
+pub plain_bare : (v : View) (source target : Route) → IsBare v source target → IsPlain v source target
+plain_bare v source target bare = record { plain = bare.plain; below = bare.below; under = λ name rest. bare.free (name ∷ rest) }
+
 module _ (now : CallLog) (v : View) (passed : List Route) (top : Pair) where
   abbrev Then : Did → View
   Then did = replayed_step now did (Some (Copies top.source top.target)) v
 
   -- what is placed is a copy of what stands there
-  module _ (source target : Route) (m : IsMoved top source target) (bare : IsBare v source target) where
+  module _ (source target : Route) (m : IsMoved top source target) (bare : IsPlain v source target) where
     abbrev new : Option Value
     new = option_map placed_copy (v (moved_from top.source top.target target)).value
 
@@ -97,7 +119,7 @@ module _ (now : CallLog) (v : View) (passed : List Route) (top : Pair) where
         ∙ ap (option_map as_copied) (sym (put_same v target new source (apart_from top.target source target off on)))))
     all (name ∷ rest) off =
         put_same v target new (name ∷ (rest ++ target)) (deeper name rest target)
-        ∙ (bare.free (name ∷ rest)
+        ∙ (bare.under name rest
         ∙ ap (option_map as_copied) (sym (put_same v target new (name ∷ (rest ++ source)) (apart_from top.target (name ∷ (rest ++ source)) target off on) ∙ bare.below name rest)))
 
     pub placed_all : AllCopied (Then (Placed target)) top.target source target
@@ -120,7 +142,7 @@ module _ (now : CallLog) (v : View) (passed : List Route) (top : Pair) where
       subst (λ (x : Copying). Done v x.source x.target x.stage) (sym new_is) (subst (λ s. Done v f.source f.target s) stage d)
   file_goes unclaimed f moved (Placed path) log after m (part, facts, stage, path_is, new_is) called begins d =
       subst (λ (x : Copying). Done (Then (Placed path)) x.source x.target x.stage) (sym new_is)
-      (subst (λ p. Done (Then (Placed p)) f.source f.target at.Decided) (sym path_is) (inr (placed_all f.source f.target m (subst (λ s. Done v f.source f.target s) stage d))))
+      (subst (λ p. Done (Then (Placed p)) f.source f.target at.Decided) (sym path_is) (inr (placed_all f.source f.target m (plain_bare v f.source f.target (subst (λ s. Done v f.source f.target s) stage d)))))
   file_goes unclaimed f moved (Cleaned part) log after m (follows, stage, new_is) called begins d =
       subst (λ (x : Copying). Done v x.source x.target x.stage) (sym new_is) (by_clean f.source f.target part follows (subst (λ s. Done v f.source f.target s) stage d))
   file_goes unclaimed f moved Barrier log after m (stage, dirty, new_is) called begins d = subst (λ (x : Copying). Done v x.source x.target x.stage) (sym new_is) d
@@ -134,6 +156,7 @@ module _ (now : CallLog) (v : View) (passed : List Route) (top : Pair) where
   file_goes unclaimed f moved (Made path) log after m t called begins d = absurd t
   file_goes unclaimed f moved (Set path) log after m t called begins d = absurd t
   file_goes unclaimed f moved (Kept path) log after m t called begins d = absurd t
+  file_goes unclaimed f moved (Asked question) log after m t called begins d = absurd t
   file_goes unclaimed f moved (Skipped path cause) log after m t called begins d = absurd t
 
 -- a file that is skipped is covered

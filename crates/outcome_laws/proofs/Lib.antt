@@ -6,10 +6,15 @@ pub mod Deletions
 pub mod Doing
 pub mod Elsewhere
 pub mod FileWork
+pub mod KeptExample
+pub mod KeptSessions
+pub mod KeptTargets
 pub mod LinkWork
 pub mod MadeThings
 pub mod Outcome
+pub mod OverWork
 pub mod Owed
+pub mod ReplacedExample
 pub mod SourcesExample
 pub mod Together
 pub mod Touching

@@ -7,7 +7,7 @@ use Rattle.job_reports.specs.Jobs.{Copies}
 use Rattle.job_reports.specs.declared.job.Pair.{Pair}
 use Rattle.job_reports.specs.declared.report.Cause.{Cause}
 use Rattle.job_reports.specs.declared.report.Did.{Did}
-use Rattle.job_reports.specs.declared.report.Did.TheVariants.{Began, Chunk, Placed, Removed, Made, Set, Kept, Skipped, Cleaned, Barrier, Troubled, Ended}
+use Rattle.job_reports.specs.declared.report.Did.TheVariants.{Began, Chunk, Placed, Removed, Made, Set, Kept, Skipped, Cleaned, Barrier, Asked, Troubled, Ended}
 use Rattle.link_copy.specs.LinkCopying.{LinkCopying, Tells, after_clean, skipped, taken_anew}
 use Rattle.link_copy.specs.LinkSteps as link
 use Rattle.link_copy.specs.declared.stage.Next.{Next}
@@ -18,7 +18,7 @@ use Rattle.tree_copy.specs.InPlace.{IsMoved}
 use Rattle.history_laws.specs.Replayed.{replayed_step}
 use Rattle.outcome_laws.specs.Outcomes.{passed_by}
 use Rattle.outcome_laws.proofs.Accounts.{LinkDone, covered_more, covered_now}
-use Rattle.outcome_laws.proofs.FileWork.{placed_all, self_prefix}
+use Rattle.outcome_laws.proofs.FileWork.{placed_all, plain_bare, self_prefix}
 
 module _ (now : CallLog) (v : View) (passed : List Route) (top : Pair) where
   abbrev Then : Did → View
@@ -36,7 +36,7 @@ module _ (now : CallLog) (v : View) (passed : List Route) (top : Pair) where
   link_goes l moved (Began part) m (stage, part_is, new_is) d = subst (λ (x : LinkCopying). Done v x.source x.target x.stage) (sym new_is) (subst (λ s. Done v l.source l.target s) stage d)
   link_goes l moved (Placed path) m (stage, path_is, new_is) d =
       subst (λ (x : LinkCopying). Done (Then (Placed path)) x.source x.target x.stage) (sym new_is)
-      (subst (λ p. Done (Then (Placed p)) l.source l.target at.Decided) (sym path_is) (inr (placed_all now v passed top l.source l.target m (subst (λ s. Done v l.source l.target s) stage d))))
+      (subst (λ p. Done (Then (Placed p)) l.source l.target at.Decided) (sym path_is) (inr (placed_all now v passed top l.source l.target m (plain_bare v l.source l.target (subst (λ s. Done v l.source l.target s) stage d)))))
   link_goes l moved (Cleaned part) m (follows, stage, part_is, new_is) d =
       subst (λ (x : LinkCopying). Done v x.source x.target x.stage) (sym new_is) (by_clean l.source l.target follows (subst (λ s. Done v l.source l.target s) stage d))
   link_goes l moved Barrier m (stage, dirty, new_is) d = subst (λ (x : LinkCopying). Done v x.source x.target x.stage) (sym new_is) d
@@ -47,6 +47,7 @@ module _ (now : CallLog) (v : View) (passed : List Route) (top : Pair) where
   link_goes l moved (Made path) m t d = absurd t
   link_goes l moved (Set path) m t d = absurd t
   link_goes l moved (Kept path) m t d = absurd t
+  link_goes l moved (Asked question) m t d = absurd t
   link_goes l moved (Skipped path cause) m t d = absurd t
 
 -- a link that is skipped is covered

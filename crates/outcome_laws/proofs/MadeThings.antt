@@ -8,7 +8,7 @@ use Rattle.tree_trait.specs.FileSystem.{Spot, Value, View, put}
 use Rattle.tree_trait.specs.Change.{CallLog}
 use Rattle.tree_trait.specs.CrashImages.{Among}
 use Rattle.job_reports.specs.declared.report.Did.{Did}
-use Rattle.job_reports.specs.declared.report.Did.TheVariants.{Began, Chunk, Placed, Removed, Made, Set, Kept, Skipped, Cleaned, Barrier, Troubled, Ended}
+use Rattle.job_reports.specs.declared.report.Did.TheVariants.{Began, Chunk, Placed, Removed, Made, Set, Kept, Skipped, Cleaned, Barrier, Asked, Troubled, Ended}
 use Rattle.job_reports.specs.Jobs.{Sets}
 use Rattle.mode_setting.specs.declared.setting.Stage.{Stage}
 use Rattle.mode_setting.specs.declared.setting.Stage.TheVariants as setting
@@ -36,6 +36,7 @@ Unless (Removed path) Holds = Holds
 Unless (Made made) Holds = Holds
 Unless (Set path) Holds = Holds
 Unless (Kept kept) Holds = Holds
+Unless (Asked question) Holds = Holds
 Unless (Skipped path cause) Holds = Holds
 Unless (Cleaned part) Holds = Holds
 Unless Barrier Holds = Holds
@@ -50,6 +51,7 @@ unless_of (Removed path) Holds h = h
 unless_of (Made made) Holds h = h
 unless_of (Set path) Holds h = h
 unless_of (Kept kept) Holds h = h
+unless_of (Asked question) Holds h = h
 unless_of (Skipped path cause) Holds h = h
 unless_of (Cleaned part) Holds h = h
 unless_of Barrier Holds h = h
@@ -94,6 +96,7 @@ making_steps m new (Set path) log passed v t k = absurd t
 making_steps m new (Placed path) log passed v t k = absurd t
 making_steps m new (Removed made) log passed v t k = absurd t
 making_steps m new (Kept kept) log passed v t k = absurd t
+making_steps m new (Asked question) log passed v t k = absurd t
 making_steps m new (Skipped path why) log passed v t k = absurd t
 making_steps m new (Cleaned part) log passed v t k = absurd t
 
@@ -152,6 +155,7 @@ setting_steps s new (Made path) log passed v t stands k = absurd t
 setting_steps s new (Placed path) log passed v t stands k = absurd t
 setting_steps s new (Removed made) log passed v t stands k = absurd t
 setting_steps s new (Kept kept) log passed v t stands k = absurd t
+setting_steps s new (Asked question) log passed v t stands k = absurd t
 setting_steps s new (Skipped path why) log passed v t stands k = absurd t
 setting_steps s new (Cleaned part) log passed v t stands k = absurd t
 

@@ -18,10 +18,10 @@ use Rattle.session_history.specs.declared.history.Event.TheVariants.{Key, Look, 
 use Rattle.session_history.specs.declared.history.Event.TheVariants as event
 use Rattle.session_history.specs.declared.history.Entry.{Entry}
 use Rattle.session_history.specs.Entries.{is_closed}
-use Rattle.session_history.specs.LiveJobs.{live_jobs}
+use Rattle.session_history.specs.LiveJobs.{live_item, live_jobs}
 use Rattle.session_history.specs.Sources.{sources_of}
 use Rattle.copy_move.specs.declared.run.Course.{Course}
-use Rattle.copy_move.specs.declared.run.Course.TheVariants.{GoesOn, InTrouble, OwedSyncFailed, Skips, Ends}
+use Rattle.copy_move.specs.declared.run.Course.TheVariants.{GoesOn, Asking, InTrouble, OwedSyncFailed, Skips, Ends}
 use Rattle.copy_move.specs.declared.work.Work.{Work}
 use Rattle.copy_move.specs.declared.work.Work.TheVariants.{Copy, CopyTree, Delete, Make, SetMode}
 use Rattle.copy_move.specs.Jobs.{Running, TellsOn, WorkTells, begun_work}
@@ -37,11 +37,11 @@ use Rattle.history_laws.proofs.Histories.{IsReached, enters, step_view, traced_r
 use Rattle.history_laws.proofs.JobKnows.{WorkKnows}
 use Rattle.history_laws.proofs.Moments.{log_of}
 use Rattle.history_laws.proofs.Prefixes.{replayed_more, told_of}
-use Rattle.history_laws.proofs.Reports.{JobsKnow, with_one}
+use Rattle.history_laws.proofs.Reports.{HasLive, JobsKnow, with_one}
 use Rattle.history_laws.proofs.Sources.{item_in, tells_same}
 use Rattle.history_laws.proofs.Stepped.{more}
 use Rattle.history_laws.proofs.Turns.{Turned, one_turned, turned_id, turned_to}
-use Rattle.outcome_laws.specs.Outcomes.{Finishes, IsOutcome, OutcomeLaw, passed_after, passed_by, passed_over}
+use Rattle.outcome_laws.specs.Outcomes.{Finishes, IsOutcome, OutcomeLaw, passed_after, passed_in, passed_over}
 use Rattle.outcome_laws.proofs.CopyOutcome.{file_ends, tree_ends}
 use Rattle.outcome_laws.proofs.Deletions.{deletion_ends}
 use Rattle.outcome_laws.proofs.Doing.{CourseDone, JobDone, JobsDone, WorkDone, begun_done, closed_done, jobs_after, leads_done, orders_done, turned_done}
@@ -60,7 +60,7 @@ module _ (opening : CallLog) (tree : IsTree (current opening)) (settled : all_se
   -- and of an event
   abbrev Then : List Entry → ℕ → Event → Stand → CallLog → Type 0
   Then older calls what after now =
-      JobsDone (λ n. passed_after n what (passed_over n older)) (replayed_event (log_prefix opening calls now) what (live_jobs older) (replayed_tree opening now older)) (current now) after.jobs
+      JobsDone (λ n. passed_after n what (live_item n (live_jobs older)) (passed_over n older)) (replayed_event (log_prefix opening calls now) what (live_jobs older) (replayed_tree opening now older)) (current now) after.jobs
 
   -- a job steps
   module _ (older : List Entry) (calls : ℕ) (was : Stand) (before : CallLog) (r : IsReached opening older was before) (d : Done older was before) (id : ℕ) (did : Did) (after : Stand) (now : CallLog)
@@ -74,16 +74,22 @@ module _ (opening : CallLog) (tree : IsTree (current opening)) (settled : all_se
     view_is : replayed_event (log_prefix opening calls now) (Step id did) (live_jobs older) (replayed_tree opening now older) ≡ replayed_step now did (Some (item_in job.work)) (replayed_tree opening before older)
     view_is = step_view opening older calls was before r now id did counts job jobs_is id_is made now_is
 
-    passed_is : (new : Running) → new.id ≡ job.id → passed_after new.id (Step id did) (passed_over new.id older) ≡ passed_by did (passed_over job.id older)
-    passed_is new same =
-        ap (λ n. passed_after n (Step id did) (passed_over n older)) same
-        ∙ if_same (id == job.id) (passed_by did (passed_over job.id older)) (passed_over job.id older) (eq-eqb id job.id (sym id_is))
+    item_is : live_item job.id (live_jobs older) ≡ Some (item_in job.work)
+    item_is =
+        ap (live_item job.id) (subst (λ js. HasLive (live_jobs older) js r.part) jobs_is r.live)
+        ∙ ap (λ b. if b then Some (item_in job.work) else None) (eq-eqb job.id job.id refl)
 
-    after_one : (new : Running) → new.id ≡ job.id → Unless did (JobDone (passed_by did (passed_over job.id older)) (replayed_step now did (Some (item_in job.work)) (replayed_tree opening before older)) (current now) new)
-        → JobsDone (λ n. passed_after n (Step id did) (passed_over n older)) (replayed_event (log_prefix opening calls now) (Step id did) (live_jobs older) (replayed_tree opening now older)) (current now) (before_others (unless_ended did new) [])
+    passed_is : (new : Running) → new.id ≡ job.id → passed_after new.id (Step id did) (live_item new.id (live_jobs older)) (passed_over new.id older) ≡ passed_in (Some (item_in job.work)) did (passed_over job.id older)
+    passed_is new same =
+        ap (λ n. passed_after n (Step id did) (live_item n (live_jobs older)) (passed_over n older)) same
+        ∙ (if_same (id == job.id) (passed_in (live_item job.id (live_jobs older)) did (passed_over job.id older)) (passed_over job.id older) (eq-eqb id job.id (sym id_is))
+        ∙ ap (λ o. passed_in o did (passed_over job.id older)) item_is)
+
+    after_one : (new : Running) → new.id ≡ job.id → Unless did (JobDone (passed_in (Some (item_in job.work)) did (passed_over job.id older)) (replayed_step now did (Some (item_in job.work)) (replayed_tree opening before older)) (current now) new)
+        → JobsDone (λ n. passed_after n (Step id did) (live_item n (live_jobs older)) (passed_over n older)) (replayed_event (log_prefix opening calls now) (Step id did) (live_jobs older) (replayed_tree opening now older)) (current now) (before_others (unless_ended did new) [])
     after_one new same k =
-        jobs_after did (λ n. passed_after n (Step id did) (passed_over n older)) (replayed_event (log_prefix opening calls now) (Step id did) (live_jobs older) (replayed_tree opening now older)) (current now) new
-        (subst (λ v. Unless did (JobDone (passed_after new.id (Step id did) (passed_over new.id older)) v (current now) new)) (sym view_is)
+        jobs_after did (λ n. passed_after n (Step id did) (live_item n (live_jobs older)) (passed_over n older)) (replayed_event (log_prefix opening calls now) (Step id did) (live_jobs older) (replayed_tree opening now older)) (current now) new
+        (subst (λ v. Unless did (JobDone (passed_after new.id (Step id did) (live_item new.id (live_jobs older)) (passed_over new.id older)) v (current now) new)) (sym view_is)
         (subst (λ p. Unless did (JobDone p (replayed_step now did (Some (item_in job.work)) (replayed_tree opening before older)) (current now) new)) (sym (passed_is new same)) k))
 
     jobs_then : (new : Option Running) → after.jobs ≡ with_job id new was.jobs → after.jobs ≡ before_others new []
@@ -91,37 +97,37 @@ module _ (opening : CallLog) (tree : IsTree (current opening)) (settled : all_se
 
     stepped : (new : Option Running) → StepLeads job did new was.dirty after.dirty before now → after.jobs ≡ with_job id new was.jobs → Then older calls (Step id did) after now
     stepped new (inl (next, inl works, after_is)) is =
-        subst (λ js. JobsDone (λ n. passed_after n (Step id did) (passed_over n older)) (replayed_event (log_prefix opening calls now) (Step id did) (live_jobs older) (replayed_tree opening now older)) (current now) js)
+        subst (λ js. JobsDone (λ n. passed_after n (Step id did) (live_item n (live_jobs older)) (passed_over n older)) (replayed_event (log_prefix opening calls now) (Step id did) (live_jobs older) (replayed_tree opening now older)) (current now) js)
         (sym (jobs_then new is ∙ ap (λ o. before_others o []) after_is))
         (let same = tells_same job next did works.tells in
         after_one next same.0 (leads_done (told_of opening before older r.part) was.dirty after.dirty r.marks before now r.kept job next did (passed_over job.id older) knows works job_done))
     stepped new (inl (next, inr syncs, after_is)) is =
-        subst (λ js. JobsDone (λ n. passed_after n (Step id did) (passed_over n older)) (replayed_event (log_prefix opening calls now) (Step id did) (live_jobs older) (replayed_tree opening now older)) (current now) js)
+        subst (λ js. JobsDone (λ n. passed_after n (Step id did) (live_item n (live_jobs older)) (passed_over n older)) (replayed_event (log_prefix opening calls now) (Step id did) (live_jobs older) (replayed_tree opening now older)) (current now) js)
         (sym (jobs_then new is ∙ ap (λ o. before_others o []) after_is)) (by syncs.synced)
       where
         still : current now ≡ current before
         still = owed_still job did next was.dirty after.dirty before now syncs
 
         by : SyncsOwed job syncs.path did next was.dirty after.dirty (Some before) (Some now)
-            → JobsDone (λ n. passed_after n (Step id did) (passed_over n older)) (replayed_event (log_prefix opening calls now) (Step id did) (live_jobs older) (replayed_tree opening now older)) (current now) (before_others (unless_ended did next) [])
+            → JobsDone (λ n. passed_after n (Step id did) (live_item n (live_jobs older)) (passed_over n older)) (replayed_event (log_prefix opening calls now) (Step id did) (live_jobs older) (replayed_tree opening now older)) (current now) (before_others (unless_ended did next) [])
         by (inl s) =
             after_one next (ap (λ (x : Running). x.id) s.new_is)
-            (subst (λ (x : Did). Unless x (JobDone (passed_by x (passed_over job.id older)) (replayed_step now x (Some (item_in job.work)) (replayed_tree opening before older)) (current now) next)) (sym s.did_is)
+            (subst (λ (x : Did). Unless x (JobDone (passed_in (Some (item_in job.work)) x (passed_over job.id older)) (replayed_step now x (Some (item_in job.work)) (replayed_tree opening before older)) (current now) next)) (sym s.did_is)
             (subst (λ (x : Running). JobDone (passed_over job.id older) (replayed_tree opening before older) (current now) x) (sym s.new_is)
             (subst (λ (x : FileSystem). JobDone (passed_over job.id older) (replayed_tree opening before older) x job) (sym still) job_done)))
         by (inr s) =
             after_one next (ap (λ (x : Running). x.id) s.new_is)
-            (subst (λ (x : Did). Unless x (JobDone (passed_by x (passed_over job.id older)) (replayed_step now x (Some (item_in job.work)) (replayed_tree opening before older)) (current now) next)) (sym s.did_is)
+            (subst (λ (x : Did). Unless x (JobDone (passed_in (Some (item_in job.work)) x (passed_over job.id older)) (replayed_step now x (Some (item_in job.work)) (replayed_tree opening before older)) (current now) next)) (sym s.did_is)
             (subst (λ (x : Running). JobDone (passed_over job.id older) (replayed_tree opening before older) (current now) x) (sym s.new_is)
             (subst (λ (x : FileSystem). WorkDone (passed_over job.id older) (replayed_tree opening before older) x job.work) (sym still)
             (subst (λ c. CourseDone c (passed_over job.id older) (replayed_tree opening before older) (current before) job.work) syncs.goes job_done))))
     stepped new (inr (gives, after_is)) is =
-        subst (λ js. JobsDone (λ n. passed_after n (Step id did) (passed_over n older)) (replayed_event (log_prefix opening calls now) (Step id did) (live_jobs older) (replayed_tree opening now older)) (current now) js)
+        subst (λ js. JobsDone (λ n. passed_after n (Step id did) (live_item n (live_jobs older)) (passed_over n older)) (replayed_event (log_prefix opening calls now) (Step id did) (live_jobs older) (replayed_tree opening now older)) (current now) js)
         (sym (jobs_then new is ∙ ap (λ o. before_others o []) after_is)) tt
 
   -- a job begins
   begins : (older : List Entry) (calls : ℕ) (id : ℕ) (plan : Job) (background : Bool) (now : CallLog) (o : Option Work) → begun_work id (sources_of plan) ≡ o
-      → JobsDone (λ n. passed_after n (event.Began id plan background) (passed_over n older)) (replayed_tree opening now older) (current now) (option_map_or (λ w. running id w ∷ []) o [])
+      → JobsDone (λ n. passed_after n (event.Began id plan background) (live_item n (live_jobs older)) (passed_over n older)) (replayed_tree opening now older) (current now) (option_map_or (λ w. running id w ∷ []) o [])
   begins older calls id plan background now None is = tt
   begins older calls id plan background now (Some w) is =
       subst (λ p. WorkDone p (replayed_tree opening now older) (current now) w) (sym (if_same (id == id) [] (passed_over id older) (eq-eqb id id refl)))
@@ -129,9 +135,9 @@ module _ (opening : CallLog) (tree : IsTree (current opening)) (settled : all_se
 
   -- a job goes on with its next source
   turns : (older : List Entry) (id : ℕ) (plan : Job) (now : CallLog) (job next : Running) → job.id ≡ id → Turned plan job next
-      → JobDone (passed_after next.id (Next id plan) (passed_over next.id older)) (replayed_tree opening now older) (current now) next
+      → JobDone (passed_after next.id (Next id plan) (live_item next.id (live_jobs older)) (passed_over next.id older)) (replayed_tree opening now older) (current now) next
   turns older id plan now job next id_is turn =
-      subst (λ c. CourseDone c (passed_after next.id (Next id plan) (passed_over next.id older)) (replayed_tree opening now older) (current now) next.work) (sym (ap (λ (x : Running). x.course) turn.next_is))
+      subst (λ c. CourseDone c (passed_after next.id (Next id plan) (live_item next.id (live_jobs older)) (passed_over next.id older)) (replayed_tree opening now older) (current now) next.work) (sym (ap (λ (x : Running). x.course) turn.next_is))
       (subst (λ p. WorkDone p (replayed_tree opening now older) (current now) next.work) (sym (if_same (id == next.id) [] (passed_over next.id older) (eq-eqb id next.id (sym (turned_id plan job next turn ∙ id_is)))))
       (turned_done (replayed_tree opening now older) (current now) plan job next turn))
 
@@ -149,11 +155,11 @@ module _ (opening : CallLog) (tree : IsTree (current opening)) (settled : all_se
       let n = enters opening older calls was before r (Step id did) after now s counts in
       stepped older calls was before r d id did after now counts s.job one.0 one.1 n.made n.now_is s.new s.leads s.jobs_is
   event_done older calls was before r d (event.Began id plan background) after now counts s =
-      subst (λ (st : Stand). JobsDone (λ n. passed_after n (event.Began id plan background) (passed_over n older)) (replayed_tree opening now older) (current now) st.jobs) (sym s.after_is)
+      subst (λ (st : Stand). JobsDone (λ n. passed_after n (event.Began id plan background) (live_item n (live_jobs older)) (passed_over n older)) (replayed_tree opening now older) (current now) st.jobs) (sym s.after_is)
       (begins older calls id plan background now (begun_work id (sources_of plan)) refl)
   event_done older calls was before r d (Next id plan) after now counts s =
       let one = only_job id was.jobs s.job (told_of opening before older r.part) was.dirty r.marks before s.its r.knows in
-      subst (λ js. JobsDone (λ n. passed_after n (Next id plan) (passed_over n older)) (replayed_tree opening now older) (current now) js) (sym (one_turned id was.jobs s.job s.next after.jobs one.0 one.1 s.jobs_is))
+      subst (λ js. JobsDone (λ n. passed_after n (Next id plan) (live_item n (live_jobs older)) (passed_over n older)) (replayed_tree opening now older) (current now) js) (sym (one_turned id was.jobs s.job s.next after.jobs one.0 one.1 s.jobs_is))
       (turns older id plan now s.job s.next one.1 (turned_to plan s.job s.next s.next_is))
   event_done older calls was before r d (Order id order) after now counts s =
       subst (λ (st : Stand). JobsDone (λ n. passed_over n older) (replayed_tree opening now older) (current now) st.jobs) (sym s.after_is)
@@ -210,6 +216,7 @@ module _ (told : Rattle.history_laws.proofs.Knowing.Said) (dirty dirty_after : L
   ends job new GoesOn (work, t, new_is) calls f0 f1 walks aborted knows k = work_ends job.work new.work GoesOn (subst (WorkTells job.work (Ended Finished part)) (sym (ap (λ (x : Running). x.work) new_is)) t) calls f0 f1 walks knows k
   ends job new (InTrouble halt) t calls f0 f1 walks aborted knows k = absurd t
   ends job new (OwedSyncFailed cause) t calls f0 f1 walks aborted knows k = absurd t
+  ends job new Asking t calls f0 f1 walks aborted knows k = absurd t
   ends job new (Skips cause) (inl (path, work, did_is, passes, new_is)) calls f0 f1 walks aborted knows k = absurd (let f : ⊥ = cc in f)
   ends job new (Skips cause) (inr (apart, did_is, new_is)) calls f0 f1 walks aborted knows k = absurd (let f : ⊥ = cc in f)
   ends job new (Ends ending) (work, winds, new_is) calls f0 f1 walks aborted knows k = absurd (let e : Finished ≡ Aborted = wound_up ending job.work work part winds ∙ aborted ending refl in let f : ⊥ = cc in f)

@@ -9,7 +9,7 @@ use Rattle.tree_trait.specs.Change.{CallLog, current}
 use Rattle.tree_trait.proofs.Visible.{same_path-self, same_path-true}
 use Rattle.job_reports.specs.declared.answer.Answer.{Answer}
 use Rattle.job_reports.specs.declared.report.Did.{Did}
-use Rattle.job_reports.specs.declared.report.Did.TheVariants.{Began, Chunk, Placed, Removed, Made, Set, Kept, Skipped, Cleaned, Barrier, Troubled, Ended}
+use Rattle.job_reports.specs.declared.report.Did.TheVariants.{Began, Chunk, Placed, Removed, Made, Set, Kept, Skipped, Cleaned, Barrier, Asked, Troubled, Ended}
 use Rattle.job_reports.specs.Jobs.{Item, Copies, Removes, Makes, MakesLink, Sets}
 use Rattle.session_history.specs.declared.history.JobOrder.{JobOrder}
 use Rattle.session_history.specs.declared.history.JobOrder.TheVariants.{Answered}
@@ -19,7 +19,7 @@ use Rattle.mode_setting.specs.Settings.{Setting}
 use Rattle.copy_move.specs.declared.new_thing.NewThing.{NewThing}
 use Rattle.copy_move.specs.declared.new_thing.NewThing.TheVariants as thing
 use Rattle.copy_move.specs.declared.run.Course.{Course}
-use Rattle.copy_move.specs.declared.run.Course.TheVariants.{GoesOn, InTrouble, OwedSyncFailed, Skips, Ends}
+use Rattle.copy_move.specs.declared.run.Course.TheVariants.{GoesOn, Asking, InTrouble, OwedSyncFailed, Skips, Ends}
 use Rattle.copy_move.specs.declared.work.Work.{Work}
 use Rattle.copy_move.specs.declared.work.Work.TheVariants.{Copy, CopyTree, Delete, Make, SetMode}
 use Rattle.copy_move.specs.Deletions as deletions
@@ -42,6 +42,7 @@ abbrev pub UnlessEnding : Course → Type 0 → Type 0
 UnlessEnding GoesOn Holds = Holds
 UnlessEnding (InTrouble halt) Holds = Holds
 UnlessEnding (OwedSyncFailed cause) Holds = Holds
+UnlessEnding Asking Holds = Holds
 UnlessEnding (Skips cause) Holds = Holds
 UnlessEnding (Ends ending) Holds = ⊤
 
@@ -49,6 +50,7 @@ pub unless_ending : (course : Course) (Holds : Type 0) → Holds → UnlessEndin
 unless_ending GoesOn Holds h = h
 unless_ending (InTrouble halt) Holds h = h
 unless_ending (OwedSyncFailed cause) Holds h = h
+unless_ending Asking Holds h = h
 unless_ending (Skips cause) Holds h = h
 unless_ending (Ends ending) Holds h = tt
 
@@ -61,6 +63,7 @@ unless_map (Removed path) A B to a = to a
 unless_map (Made made) A B to a = to a
 unless_map (Set path) A B to a = to a
 unless_map (Kept kept) A B to a = to a
+unless_map (Asked question) A B to a = to a
 unless_map (Skipped path cause) A B to a = to a
 unless_map (Cleaned part) A B to a = to a
 unless_map Barrier A B to a = to a
@@ -86,6 +89,7 @@ kept_after (Removed path) v was new h = h
 kept_after (Made made) v was new h = h
 kept_after (Set path) v was new h = h
 kept_after (Kept kept) v was new h = h
+kept_after (Asked question) v was new h = h
 kept_after (Skipped path cause) v was new h = h
 kept_after (Cleaned part) v was new h = h
 kept_after Barrier v was new h = h
@@ -119,6 +123,7 @@ step_else (Set path) log item v on = λ p off. set_off (Some item) path v p (apa
 step_else (Began part) log item v on = λ p off. refl
 step_else (Chunk count) log item v on = λ p off. refl
 step_else (Kept kept) log item v on = λ p off. refl
+step_else (Asked question) log item v on = λ p off. refl
 step_else (Skipped path cause) log item v on = λ p off. refl
 step_else (Cleaned part) log item v on = λ p off. refl
 step_else Barrier log item v on = λ p off. refl
@@ -134,6 +139,7 @@ same_some a b is = cc
 deletion_touches : (d new : Deleting) (did : Did) (path : Route) → deletions.Tells d did new → changed_by did ≡ Some path → is_prefix d.path path ≡ true
 deletion_touches d new (Removed p) path (off, within, at) is = subst (λ (q : Route). is_prefix d.path q ≡ true) (same_some p path is) within
 deletion_touches d new (Kept p) path t is = some_path path is
+deletion_touches d new (Asked question) path t is = absurd t
 deletion_touches d new (Skipped p why) path t is = some_path path is
 deletion_touches d new (Troubled trouble) path t is = some_path path is
 deletion_touches d new Barrier path t is = some_path path is
@@ -160,6 +166,7 @@ making_touches m new (Set p) path t is = absurd t
 making_touches m new (Placed p) path t is = absurd t
 making_touches m new (Removed p) path t is = absurd t
 making_touches m new (Kept kept) path t is = absurd t
+making_touches m new (Asked question) path t is = absurd t
 making_touches m new (Skipped p why) path t is = absurd t
 making_touches m new (Cleaned part) path t is = absurd t
 
@@ -174,6 +181,7 @@ setting_touches s new (Made p) path t is = absurd t
 setting_touches s new (Placed p) path t is = absurd t
 setting_touches s new (Removed p) path t is = absurd t
 setting_touches s new (Kept kept) path t is = absurd t
+setting_touches s new (Asked question) path t is = absurd t
 setting_touches s new (Skipped p why) path t is = absurd t
 setting_touches s new (Cleaned part) path t is = absurd t
 
@@ -224,6 +232,7 @@ module _ (dirty dirty_after : List Route) (log now : CallLog) (passed : List Rou
       still job new did was same kept (λ path changed. work_touches job.work new.work did path calls faults faults_after (subst (WorkTells job.work did) (sym (ap (λ (x : Running). x.work) new_is)) t) walks k changed)
   course_touches job new did (InTrouble halt) calls faults faults_after was is t walks k kept same = absurd t
   course_touches job new did (OwedSyncFailed cause) calls faults faults_after was is t walks k kept same = absurd t
+  course_touches job new did Asking calls faults faults_after was is t walks k kept same = absurd t
   course_touches job new did (Skips cause) calls faults faults_after was is (inl (path, work, did_is, passes, new_is)) walks k kept same =
       still job new did was same kept (λ p changed. some_path p (sym (ap changed_by did_is) ∙ changed))
   course_touches job new did (Skips cause) calls faults faults_after was is (inr (off, did_is, new_is)) walks k kept same =
@@ -241,6 +250,7 @@ module _ (v : View) (was : ℕ → View) where
   answer_kept : (course : Course) (answer : Answer) (job : Running) → job.course ≡ course → JobKept v was job → IsSame job (answered_on course answer job) → JobKept v was (answered_on course answer job)
   answer_kept (InTrouble halt) answer job is k same = moved job (answered_on (InTrouble halt) answer job) same (subst (λ c. UnlessEnding c (IsAsBegun v (was job.id) (item_in job.work))) is k)
   answer_kept (OwedSyncFailed cause) answer job is k same = moved job (answered_on (OwedSyncFailed cause) answer job) same (subst (λ c. UnlessEnding c (IsAsBegun v (was job.id) (item_in job.work))) is k)
+  answer_kept Asking answer job is k same = moved job (answered_on Asking answer job) same (subst (λ c. UnlessEnding c (IsAsBegun v (was job.id) (item_in job.work))) is k)
   answer_kept GoesOn answer job is k same = k
   answer_kept (Skips cause) answer job is k same = k
   answer_kept (Ends ending) answer job is k same = k
@@ -256,10 +266,11 @@ module _ (v : View) (was : ℕ → View) where
   orders_kept id order [] k = tt
   orders_kept id order (job ∷ jobs) k = order_kept id order job k
 
-  close_by : (course : Course) (Holds : Type 0) → UnlessEnding course Holds → UnlessEnding (closed_course course) Holds
+  pub close_by : (course : Course) (Holds : Type 0) → UnlessEnding course Holds → UnlessEnding (closed_course course) Holds
   close_by GoesOn Holds k = k
   close_by (InTrouble halt) Holds k = tt
   close_by (OwedSyncFailed cause) Holds k = tt
+  close_by Asking Holds k = tt
   close_by (Skips cause) Holds k = k
   close_by (Ends ending) Holds k = k
 

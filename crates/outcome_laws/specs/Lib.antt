@@ -1,3 +1,4 @@
 pub mod AllSources
+pub mod Keeps
 pub mod Outcomes
 pub mod Untouched

@@ -1,6 +1,6 @@
 -- What a finished job leaves: all that it was to do, but for what it passed over; in the words of the history alone. Histories stand newest
 -- first here.
-use Rattle.std.specs.Prelude.{◌≡◌, ℕ, ◌==◌, true, false, if◌then◌else◌, List, [], ◌∷◌, ◌++◌, Some, None}
+use Rattle.std.specs.Prelude.{◌≡◌, ℕ, ◌==◌, true, false, if◌then◌else◌, List, [], ◌∷◌, ◌++◌, Option, Some, None}
 use Rattle.std.specs.Option.{option_map}
 use Rattle.mc_text.specs.Routes.{Route, is_prefix}
 use Rattle.mc_text.specs.declared.kind.Kind.{Kind}
@@ -10,7 +10,7 @@ use Rattle.tree_trait.specs.Shape.{IsTree}
 use Rattle.tree_trait.specs.Change.{CallLog, current}
 use Rattle.tree_trait.specs.CrashImages.{Among, all_settled}
 use Rattle.job_reports.specs.declared.report.Did.{Did}
-use Rattle.job_reports.specs.declared.report.Did.TheVariants.{Began, Chunk, Placed, Removed, Made, Set, Kept, Skipped, Cleaned, Barrier, Troubled, Ended}
+use Rattle.job_reports.specs.declared.report.Did.TheVariants.{Began, Chunk, Placed, Removed, Made, Set, Kept, Skipped, Cleaned, Barrier, Asked, Troubled, Ended}
 use Rattle.job_reports.specs.Jobs.{Item, Copies, Removes, Makes, MakesLink, Sets}
 use Rattle.session_history.specs.declared.history.Event.{Event}
 use Rattle.session_history.specs.declared.history.Event.TheVariants.{Key, Look, Sought, Order, Step, Next, Closed}
@@ -22,7 +22,7 @@ use Rattle.session_history.specs.Sources.{IsDoneWith}
 use Rattle.history_laws.specs.Replayed.{new_folder, new_link, placed_copy, replayed_tree}
 use Rattle.history_laws.specs.Traces.{IsTraced, Stand}
 
--- what was passed over once a job has reported this
+-- what was skipped once a job has reported this
 abbrev pub passed_by : Did → List Route → List Route
 passed_by (Skipped path cause) before = path ∷ before
 passed_by (Began part) before = before
@@ -32,25 +32,51 @@ passed_by (Removed path) before = before
 passed_by (Made made) before = before
 passed_by (Set path) before = before
 passed_by (Kept kept) before = before
+passed_by (Asked question) before = before
 passed_by (Cleaned part) before = before
 passed_by Barrier before = before
 passed_by (Troubled trouble) before = before
 passed_by (Ended ending part) before = before
 
-abbrev pub passed_after : ℕ → Event → List Route → List Route
-passed_after id (event.Began number plan background) before = if number == id then [] else before
-passed_after id (Step number did) before = if number == id then passed_by did before else before
-passed_after id (Next number plan) before = if number == id then [] else before
-passed_after id (Key key now refusals lost) before = before
-passed_after id (Look refusals) before = before
-passed_after id Sought before = before
-passed_after id (Order number order) before = before
-passed_after id Closed before = before
+-- a job that copies passes over its source where it keeps what stands at its target; one that deletes, or makes, passes over nothing where it keeps a folder
+abbrev pub kept_of : Option Item → List Route → List Route
+kept_of (Some (Copies source target)) before = source ∷ before
+kept_of (Some (Removes path)) before = before
+kept_of (Some (Makes path)) before = before
+kept_of (Some (MakesLink path text)) before = before
+kept_of (Some (Sets path mode)) before = before
+kept_of None before = before
+
+-- what a job that works on this has passed over once it has reported this: what it skipped, and the source of a copy whose target stays as it was
+abbrev pub passed_in : Option Item → Did → List Route → List Route
+passed_in item (Kept path) before = kept_of item before
+passed_in item (Skipped path cause) before = passed_by (Skipped path cause) before
+passed_in item (Began part) before = before
+passed_in item (Chunk count) before = before
+passed_in item (Placed path) before = before
+passed_in item (Removed path) before = before
+passed_in item (Made made) before = before
+passed_in item (Set path) before = before
+passed_in item (Asked question) before = before
+passed_in item (Cleaned part) before = before
+passed_in item Barrier before = before
+passed_in item (Troubled trouble) before = before
+passed_in item (Ended ending part) before = before
+
+abbrev pub passed_after : ℕ → Event → Option Item → List Route → List Route
+passed_after id (event.Began number plan background) item before = if number == id then [] else before
+passed_after id (Step number did) item before = if number == id then passed_in item did before else before
+passed_after id (Next number plan) item before = if number == id then [] else before
+passed_after id (Key key now refusals lost) item before = before
+passed_after id (Look refusals) item before = before
+passed_after id Sought item before = before
+passed_after id (Order number order) item before = before
+passed_after id Closed item before = before
 
 -- the paths that the job that was begun last with this number has passed over, of the source at which it is
 abbrev pub passed_over : ℕ → List Entry → List Route
 passed_over id [] = []
-passed_over id (e ∷ older) = passed_after id e.what (passed_over id older)
+passed_over id (e ∷ older) = passed_after id e.what (live_item id (live_jobs older)) (passed_over id older)
 
 -- neither the path nor a folder above it was passed over
 abbrev pub IsReached : List Route → Route → Type 0

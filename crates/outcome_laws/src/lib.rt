@@ -2,6 +2,7 @@
 #![tactic(auto)]
 
 ghost use Rattle.outcome_laws.specs.AllSources.{AllSourcesLaw};
+ghost use Rattle.outcome_laws.specs.Keeps.{KeptLaw};
 ghost use Rattle.outcome_laws.specs.Outcomes.{OutcomeLaw};
 ghost use Rattle.outcome_laws.specs.Untouched.{UntouchedLaw};
 
@@ -13,6 +14,11 @@ pub fn what_a_finished_job_has_done()
 /// And each path that it doesn't touch for that source shows what it showed where the job began with it.
 pub fn what_a_finished_job_left_alone()
     ensures { UntouchedLaw }
+{}
+
+/// Where it kept what stands at the target of a file, each path shows what it showed there.
+pub fn what_a_job_that_kept_a_target_left()
+    ensures { KeptLaw }
 {}
 
 /// So what it did with one source is still so at its end, where no later one touches what concerns that.

@@ -1,7 +1,7 @@
 //! What the steps of a job report, in words.
 #![tactic(auto)]
 
-use job_reports::{Did, Ending, Trouble};
+use job_reports::{Did, Ending, Question, Trouble};
 use mc_text::Path;
 use row_page::Page;
 use row_trees::tell_path;
@@ -29,9 +29,18 @@ pub fn tell_report(page: &mut Page, did: &Did) {
         }
         Did::Cleaned(part) => tell_of(page, "Cleaned", part),
         Did::Barrier => page.put("Barrier"),
+        Did::Asked(question) => tell_question(page, question),
         Did::Troubled(trouble) => tell_trouble(page, trouble),
         Did::Ended { ending, part } => tell_end(page, *ending, part),
     }
+}
+
+/// The sizes and times of a question.
+fn tell_question(page: &mut Page, question: &Question) {
+    page.tell(format_args!(
+        "Asked: {} bytes of second {} over {} of second {}",
+        question.source_size, question.source_time, question.target_size, question.target_time
+    ));
 }
 
 fn tell_trouble(page: &mut Page, trouble: &Trouble) {

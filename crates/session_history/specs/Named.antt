@@ -3,7 +3,7 @@ use Rattle.std.specs.Prelude.{◌≡◌, ◌⊎◌, ℕ, ◌==◌, Bool, true, f
 use Rattle.std.specs.Option.{option_map_or}
 use Rattle.mc_text.specs.Routes.{Route, same_path}
 use Rattle.job_reports.specs.declared.report.Did.{Did}
-use Rattle.job_reports.specs.declared.report.Did.TheVariants.{Began, Chunk, Placed, Removed, Made, Set, Kept, Skipped, Cleaned, Barrier, Troubled, Ended}
+use Rattle.job_reports.specs.declared.report.Did.TheVariants.{Began, Chunk, Placed, Removed, Made, Set, Kept, Skipped, Cleaned, Barrier, Asked, Troubled, Ended}
 use Rattle.job_reports.specs.Paths.{without}
 use Rattle.session_history.specs.declared.history.Event.{Event}
 use Rattle.session_history.specs.declared.history.Event.TheVariants.{Key, Look, Sought, Order, Step, Next, Closed}
@@ -23,6 +23,7 @@ names (Made folder) path = same_path path folder
 names (Kept kept) path = false
 names (Skipped file cause) path = false
 names Barrier path = false
+names (Asked question) path = false
 names (Troubled trouble) path = false
 
 abbrev pub names_path : Event → Route → Bool
@@ -52,38 +53,78 @@ changed_by (Kept kept) = None
 changed_by (Skipped path cause) = None
 changed_by (Cleaned part) = None
 changed_by Barrier = None
+changed_by (Asked question) = None
 changed_by (Troubled trouble) = None
 changed_by (Ended ending part) = None
 
--- a path that is placed or made is a part no more
-abbrev pub named_by : Did → List Route → List Route
-named_by (Began part) before = part ∷ before
-named_by (Placed path) before = without path before
-named_by (Chunk count) before = before
-named_by (Set path) before = before
-named_by (Removed path) before = before
-named_by (Made path) before = without path before
-named_by (Kept kept) before = before
-named_by (Skipped path cause) before = before
-named_by (Cleaned part) before = before
-named_by Barrier before = before
-named_by (Troubled trouble) before = before
-named_by (Ended ending part) before = before
+-- the parts that ended jobs left, until one is removed
+abbrev pub left_by : Did → List Route → List Route
+left_by (Ended ending (Some part)) before = part ∷ before
+left_by (Ended ending None) before = before
+left_by (Removed path) before = without path before
+left_by (Began part) before = before
+left_by (Placed path) before = before
+left_by (Chunk count) before = before
+left_by (Set path) before = before
+left_by (Made path) before = before
+left_by (Kept kept) before = before
+left_by (Skipped path cause) before = before
+left_by (Cleaned part) before = before
+left_by Barrier before = before
+left_by (Asked question) before = before
+left_by (Troubled trouble) before = before
 
-abbrev pub named_after : Event → List Route → List Route
-named_after (Step id did) before = named_by did before
-named_after (Key key now refusals lost) before = before
-named_after (Look refusals) before = before
-named_after Sought before = before
-named_after (event.Began id plan background) before = before
-named_after (Order id order) before = before
-named_after (Next id plan) before = before
-named_after Closed before = before
+abbrev pub left_after : Event → List Route → List Route
+left_after (Step id did) before = left_by did before
+left_after (Key key now refusals lost) before = before
+left_after (Look refusals) before = before
+left_after Sought before = before
+left_after (event.Began id plan background) before = before
+left_after (Order id order) before = before
+left_after (Next id plan) before = before
+left_after Closed before = before
+
+-- the parts that jobs left in these entries
+abbrev pub left_parts : List Entry → List Route
+left_parts [] = []
+left_parts (e ∷ older) = left_after e.what (left_parts older)
+
+-- the path before others, where it is one of these
+abbrev pub if_among : Route → List Route → List Route → List Route
+if_among path [] others = others
+if_among path (first ∷ rest) others = if same_path path first then path ∷ others else if_among path rest others
+
+-- A path that is placed or made is a part no more. But where a file is placed over a part that an ended job left, a crash may still leave that part, so the
+-- path stays one.
+abbrev pub named_by : Did → List Route → List Route → List Route
+named_by (Began part) left before = part ∷ before
+named_by (Placed path) left before = if_among path left (without path before)
+named_by (Chunk count) left before = before
+named_by (Set path) left before = before
+named_by (Removed path) left before = before
+named_by (Made path) left before = without path before
+named_by (Kept kept) left before = before
+named_by (Skipped path cause) left before = before
+named_by (Cleaned part) left before = before
+named_by Barrier left before = before
+named_by (Asked question) left before = before
+named_by (Troubled trouble) left before = before
+named_by (Ended ending part) left before = before
+
+abbrev pub named_after : Event → List Route → List Route → List Route
+named_after (Step id did) left before = named_by did left before
+named_after (Key key now refusals lost) left before = before
+named_after (Look refusals) left before = before
+named_after Sought left before = before
+named_after (event.Began id plan background) left before = before
+named_after (Order id order) left before = before
+named_after (Next id plan) left before = before
+named_after Closed left before = before
 
 -- the paths that these entries named as parts
 abbrev pub named_parts : List Entry → List Route
 named_parts [] = []
-named_parts (e ∷ older) = named_after e.what (named_parts older)
+named_parts (e ∷ older) = named_after e.what (left_parts older) (named_parts older)
 
 -- a report of the first change that work makes: a part or a folder is made, a file is removed, or a mode is given
 abbrev pub begins_change : Did → Bool
@@ -97,6 +138,7 @@ begins_change (Kept kept) = false
 begins_change (Skipped path cause) = false
 begins_change (Cleaned part) = false
 begins_change Barrier = false
+begins_change (Asked question) = false
 begins_change (Troubled trouble) = false
 begins_change (Ended ending part) = false
 

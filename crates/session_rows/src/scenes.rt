@@ -64,6 +64,12 @@ fn things_in(scene: &str) -> &'static str {
         "one file" => "folder /a 755\nfile /a/x 644 hi",
         "fixed folder" => "folder /a 555\nfile /a/x 644 hi",
         "two files" => "folder /a 755\nfile /a/x 644 hi\nfile /a/y 644 ho",
+        "standing files" => {
+            "folder /s 755\nfile /s/x 640 new\nfile /s/y 644 more\nfolder /t 755\nfile /t/x 600 old\nfile /t/y 604 less!"
+        }
+        "standing things" => {
+            "folder /s 755\nfile /s/x 640 new\nlink /s/y x\nfolder /t 755\nfile /t/x 600 old\nfile /t/y 604 less!"
+        }
         "no files" => "folder /a 755\nlink /a/l x\nother /a/p",
         "things to view" => {
             "folder /a 755\nfolder /a/d 755\nfile /a/x 644 one\\ntwo\\nthree\\nfour\\nfive\\nsix\\nseven\\neight\\nnine\\nten\\neleven\\ntwelve\\n\nfile /a/u 0 no\nother /a/p\nlink /a/l x\nlink /a/m d\nlink /a/n none"

@@ -124,6 +124,7 @@ fn word_of(did: &Did) -> &'static str {
         Did::Skipped(_, _) => " skipped",
         Did::Cleaned(_) => " cleaned",
         Did::Barrier => " barrier",
+        Did::Asked(_) => " asked",
         Did::Troubled(trouble) => match trouble.cause {
             Cause::Tree(TreeError::Denied) => " denied",
             Cause::Tree(TreeError::NoSpace) => " full",

@@ -10,7 +10,7 @@ use Rattle.job_answers.specs.declared.skips.Skips.{Skips}
 use Rattle.job_reports.specs.declared.report.Cause.{Cause}
 use Rattle.job_reports.specs.declared.report.Cause.TheVariants.{Tree}
 use Rattle.job_reports.specs.declared.report.Did.{Did}
-use Rattle.job_reports.specs.declared.report.Did.TheVariants.{Began, Chunk, Placed, Removed, Made, Set, Kept, Skipped, Cleaned, Barrier, Troubled, Ended}
+use Rattle.job_reports.specs.declared.report.Did.TheVariants.{Began, Chunk, Placed, Removed, Made, Set, Kept, Skipped, Cleaned, Barrier, Asked, Troubled, Ended}
 use Rattle.job_reports.specs.declared.report.StepResult.{StepResult}
 use Rattle.job_reports.specs.declared.report.Trouble.{Trouble}
 use Rattle.job_reports.specs.Reports.{IsFault}
@@ -56,6 +56,7 @@ meets (Removed path) h = absurd h
 meets (Made path) h = absurd h
 meets (Set path) h = absurd h
 meets (Kept path) h = absurd h
+meets (Asked question) h = absurd h
 meets (Cleaned part) h = absurd h
 meets Barrier h = absurd h
 meets (Ended ending part) h = absurd h

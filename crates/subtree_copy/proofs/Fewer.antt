@@ -6,7 +6,7 @@ use Rattle.mc_text.specs.Routes.{Route}
 use Rattle.tree_trait.specs.Change.{CallLog}
 use Rattle.job_reports.specs.declared.job.Pair.{Pair}
 use Rattle.job_reports.specs.declared.report.Did.{Did}
-use Rattle.job_reports.specs.declared.report.Did.TheVariants.{Began, Chunk, Placed, Removed, Made, Set, Kept, Skipped, Cleaned, Barrier, Troubled, Ended}
+use Rattle.job_reports.specs.declared.report.Did.TheVariants.{Began, Chunk, Placed, Removed, Made, Set, Kept, Skipped, Cleaned, Barrier, Asked, Troubled, Ended}
 use Rattle.file_copy.specs.Copying as file
 use Rattle.file_copy.specs.Copying.{Copying, IsSound}
 use Rattle.file_copy.specs.declared.stage.Next.{Next as FileNext}
@@ -143,6 +143,7 @@ file_fits most enough f m (Removed path) t sound h = absurd t
 file_fits most enough f m (Made path) t sound h = absurd t
 file_fits most enough f m (Set path) t sound h = absurd t
 file_fits most enough f m (Kept path) t sound h = absurd t
+file_fits most enough f m (Asked question) t sound h = absurd t
 file_fits most enough f m (Skipped path cause) t sound h = absurd t
 
 link_from : (most : ℕ) (from to : LinkStage) (l m : LinkCopying) → l.stage ≡ from → m.stage ≡ to → FitsLink most (link_rank most from) to → FitsLink most (link_rank most l.stage) m.stage
@@ -164,6 +165,7 @@ link_fits most l m (Removed path) t h = absurd t
 link_fits most l m (Made path) t h = absurd t
 link_fits most l m (Set path) t h = absurd t
 link_fits most l m (Kept path) t h = absurd t
+link_fits most l m (Asked question) t h = absurd t
 link_fits most l m (Skipped path cause) t h = absurd t
 
 -- what was left before

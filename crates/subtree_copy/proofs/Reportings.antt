@@ -10,7 +10,7 @@ use Rattle.job_answers.specs.declared.skips.Skips.{Skips as Kinds}
 use Rattle.job_reports.specs.declared.job.Pair.{Pair}
 use Rattle.job_reports.specs.declared.report.Cause.{Cause}
 use Rattle.job_reports.specs.declared.report.Did.{Did}
-use Rattle.job_reports.specs.declared.report.Did.TheVariants.{Began, Chunk, Placed, Removed, Made, Set, Kept, Skipped, Cleaned, Barrier, Troubled, Ended}
+use Rattle.job_reports.specs.declared.report.Did.TheVariants.{Began, Chunk, Placed, Removed, Made, Set, Kept, Skipped, Cleaned, Barrier, Asked, Troubled, Ended}
 use Rattle.job_reports.specs.declared.report.Ending.{Ending}
 use Rattle.job_reports.specs.declared.report.Ending.TheVariants.{Finished, Aborted, Killed, NoMemory}
 use Rattle.job_reports.specs.declared.report.LastStepResult.{LastStepResult}
@@ -61,6 +61,7 @@ file_may f m (Ended Killed part) t = t
 file_may f m (Ended NoMemory part) t = t
 file_may f m (Removed path) t = t
 file_may f m (Kept path) t = t
+file_may f m (Asked question) t = t
 file_may f m (Began part) t = tt
 file_may f m (Chunk count) t = tt
 file_may f m (Placed path) t = tt
@@ -75,6 +76,7 @@ link_may : (l m : LinkCopying) (did : Did) → link.Tells l did m → MayTell di
 link_may l m (Ended ending part) t = absurd t
 link_may l m (Removed path) t = t
 link_may l m (Kept path) t = t
+link_may l m (Asked question) t = t
 link_may l m (Began part) t = tt
 link_may l m (Chunk count) t = tt
 link_may l m (Placed path) t = tt
@@ -148,6 +150,7 @@ file_not f m (Skipped path cause) t = t
 file_not f m (Ended ending part) t = tt
 file_not f m (Removed path) t = tt
 file_not f m (Kept path) t = tt
+file_not f m (Asked question) t = tt
 file_not f m (Began part) t = tt
 file_not f m (Chunk count) t = tt
 file_not f m (Placed path) t = tt
@@ -162,6 +165,7 @@ link_not l m (Skipped path cause) t = t
 link_not l m (Ended ending part) t = tt
 link_not l m (Removed path) t = tt
 link_not l m (Kept path) t = tt
+link_not l m (Asked question) t = tt
 link_not l m (Began part) t = tt
 link_not l m (Chunk count) t = tt
 link_not l m (Placed path) t = tt
@@ -293,6 +297,7 @@ file_wound ending f m old new (Removed path) w can stage now = absurd w
 file_wound ending f m old new (Made path) w can stage now = absurd w
 file_wound ending f m old new (Set path) w can stage now = absurd w
 file_wound ending f m old new (Kept path) w can stage now = absurd w
+file_wound ending f m old new (Asked question) w can stage now = absurd w
 file_wound ending f m old new (Skipped path cause) w can stage now = absurd w
 file_wound ending f m old new (Troubled trouble) w can stage now = absurd w
 

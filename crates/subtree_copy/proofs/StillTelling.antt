@@ -9,7 +9,7 @@ use Rattle.tree_trait.specs.Answers.{Performs}
 use Rattle.job_reports.specs.declared.report.Cause.{Cause}
 use Rattle.job_reports.specs.declared.report.Cause.TheVariants.{Tree, TargetKind, SpecialSource, TooDeep, PartTaken, TooLong, Unnamed, Changed, Memory}
 use Rattle.job_reports.specs.declared.report.Did.{Did}
-use Rattle.job_reports.specs.declared.report.Did.TheVariants.{Began, Chunk, Placed, Removed, Made, Set, Kept, Skipped, Cleaned, Barrier, Troubled, Ended}
+use Rattle.job_reports.specs.declared.report.Did.TheVariants.{Began, Chunk, Placed, Removed, Made, Set, Kept, Skipped, Cleaned, Barrier, Asked, Troubled, Ended}
 use Rattle.job_reports.specs.CallRuns.{RunStops, StopsAt}
 use Rattle.job_reports.specs.Paths.{folder_of}
 use Rattle.job_reports.proofs.Runs.{all_some}
@@ -87,6 +87,7 @@ copy_tells unclaimed c (Troubled trouble) new log after h = trouble_tells unclai
 copy_tells unclaimed c (Removed path) new log after h = absurd h
 copy_tells unclaimed c (Made made) new log after h = absurd h
 copy_tells unclaimed c (Kept path) new log after h = absurd h
+copy_tells unclaimed c (Asked question) new log after h = absurd h
 copy_tells unclaimed c (Skipped path cause) new log after h = (log, h)
 copy_tells unclaimed c (Ended ending part) new log after h = (log, h)
 
@@ -111,6 +112,7 @@ link_tells l (Set path) log after h = absurd h
 link_tells l (Removed path) log after h = absurd h
 link_tells l (Made made) log after h = absurd h
 link_tells l (Kept path) log after h = absurd h
+link_tells l (Asked question) log after h = absurd h
 link_tells l (Skipped path cause) log after h = absurd h
 link_tells l (Ended ending part) log after h = absurd h
 

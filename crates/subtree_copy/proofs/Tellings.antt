@@ -5,7 +5,7 @@ use Rattle.mc_text.specs.Routes.{Route}
 use Rattle.tree_trait.specs.Change.{CallLog}
 use Rattle.job_reports.specs.declared.report.Cause.{Cause}
 use Rattle.job_reports.specs.declared.report.Did.{Did}
-use Rattle.job_reports.specs.declared.report.Did.TheVariants.{Began, Chunk, Placed, Removed, Made, Set, Kept, Skipped, Cleaned, Barrier, Troubled, Ended}
+use Rattle.job_reports.specs.declared.report.Did.TheVariants.{Began, Chunk, Placed, Removed, Made, Set, Kept, Skipped, Cleaned, Barrier, Asked, Troubled, Ended}
 use Rattle.job_reports.specs.declared.report.Ending.TheVariants.{Finished, Aborted, Killed, NoMemory}
 use Rattle.job_reports.specs.declared.report.StepResult.{StepResult}
 use Rattle.job_reports.specs.declared.report.Trouble.{Trouble}
@@ -90,6 +90,7 @@ file_after f moved (Removed path) t = absurd t
 file_after f moved (Made path) t = absurd t
 file_after f moved (Set path) t = absurd t
 file_after f moved (Kept path) t = absurd t
+file_after f moved (Asked question) t = absurd t
 file_after f moved (Skipped path cause) t = absurd t
 
 cleaned_link : (next : LinkNext) (part : Route) → link_part (link.after_clean next) part ≡ None
@@ -111,6 +112,7 @@ link_after l moved (Removed path) t = absurd t
 link_after l moved (Made path) t = absurd t
 link_after l moved (Set path) t = absurd t
 link_after l moved (Kept path) t = absurd t
+link_after l moved (Asked question) t = absurd t
 link_after l moved (Skipped path cause) t = absurd t
 
 -- no part is begun or gone at a folder

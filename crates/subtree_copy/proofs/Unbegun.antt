@@ -7,7 +7,7 @@ use Rattle.tree_trait.specs.Change.{CallLog}
 use Rattle.job_reports.specs.declared.job.Pair.{Pair}
 use Rattle.job_reports.specs.declared.report.Cause.{Cause}
 use Rattle.job_reports.specs.declared.report.Did.{Did}
-use Rattle.job_reports.specs.declared.report.Did.TheVariants.{Began, Chunk, Placed, Removed, Made, Set, Kept, Skipped, Cleaned, Barrier, Troubled, Ended}
+use Rattle.job_reports.specs.declared.report.Did.TheVariants.{Began, Chunk, Placed, Removed, Made, Set, Kept, Skipped, Cleaned, Barrier, Asked, Troubled, Ended}
 use Rattle.job_reports.specs.declared.report.Ending.TheVariants.{Finished, Aborted, Killed, NoMemory}
 use Rattle.job_reports.specs.declared.report.StepResult.{StepResult}
 use Rattle.job_reports.specs.declared.report.Trouble.{Trouble}
@@ -93,6 +93,7 @@ quiet_file f m (Ended Aborted part) begin t quiet = absurd t
 quiet_file f m (Ended Killed part) begin t quiet = absurd t
 quiet_file f m (Ended NoMemory part) begin t quiet = absurd t
 quiet_file f m (Kept path) begin t quiet = absurd t
+quiet_file f m (Asked question) begin t quiet = absurd t
 quiet_file f m (Skipped path cause) begin t quiet = absurd t
 quiet_file f m (Began part) begin t quiet = absurd (true≢false quiet)
 quiet_file f m (Chunk count) begin t quiet = absurd (true≢false quiet)
@@ -107,6 +108,7 @@ quiet_link : (l m : LinkCopying) (did : Did) → link.Tells l did m → changes 
 quiet_link l m (Troubled trouble) t quiet = t.1
 quiet_link l m (Ended ending part) t quiet = absurd t
 quiet_link l m (Kept path) t quiet = absurd t
+quiet_link l m (Asked question) t quiet = absurd t
 quiet_link l m (Skipped path cause) t quiet = absurd t
 quiet_link l m (Began part) t quiet = absurd (true≢false quiet)
 quiet_link l m (Chunk count) t quiet = absurd (true≢false quiet)
@@ -131,6 +133,7 @@ begins_file f m Barrier begin (stage, dirty, is) = (let e = sym begin ∙ stage 
 begins_file f m (Removed path) begin t = t
 begins_file f m (Set path) begin t = t
 begins_file f m (Kept path) begin t = t
+begins_file f m (Asked question) begin t = t
 
 begins_link : (l m : LinkCopying) (did : Did) → l.stage ≡ link_stage.Make → link.Tells l did m → MayBegin did
 begins_link l m (Began part) make t = tt
@@ -145,6 +148,7 @@ begins_link l m (Chunk count) make t = t
 begins_link l m (Removed path) make t = t
 begins_link l m (Set path) make t = t
 begins_link l m (Kept path) make t = t
+begins_link l m (Asked question) make t = t
 
 begins_folder : (pair : Pair) (mode : ℕ) (m : FolderCopying) (report : FolderDid) (did : Did) → IsToldAs report did → folder.Tells (folder.copying pair.source pair.target (Make mode) marks.Synced) report m → MayBegin did
 begins_folder pair mode m (folder_did.Made path) did told t = subst MayBegin (sym told) tt

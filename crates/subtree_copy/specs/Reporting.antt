@@ -5,7 +5,7 @@ use Rattle.tree_trait.specs.Change.{CallLog}
 use Rattle.job_answers.specs.Skipping.{holds, kind_in}
 use Rattle.job_reports.specs.declared.report.Cause.{Cause}
 use Rattle.job_reports.specs.declared.report.Did.{Did}
-use Rattle.job_reports.specs.declared.report.Did.TheVariants.{Began, Chunk, Placed, Removed, Made, Set, Kept, Skipped, Cleaned, Barrier, Troubled, Ended}
+use Rattle.job_reports.specs.declared.report.Did.TheVariants.{Began, Chunk, Placed, Removed, Made, Set, Kept, Skipped, Cleaned, Barrier, Asked, Troubled, Ended}
 use Rattle.job_reports.specs.declared.report.Ending.{Ending}
 use Rattle.job_reports.specs.declared.report.Ending.TheVariants.{Finished, Aborted, Killed, NoMemory}
 use Rattle.job_reports.specs.declared.report.LastStepResult.{LastStepResult}
@@ -19,6 +19,7 @@ use Rattle.subtree_copy.specs.SubtreeSteps.{LastSubtreeStep, SubtreeSteps}
 abbrev pub MayTell : Did → Type 0
 MayTell (Removed path) = ⊥
 MayTell (Kept path) = ⊥
+MayTell (Asked question) = ⊥
 MayTell (Ended Finished part) = part ≡ None
 MayTell (Ended Aborted part) = ⊥
 MayTell (Ended Killed part) = ⊥
@@ -45,6 +46,7 @@ MayWind ending stands (Removed path) = ⊥
 MayWind ending stands (Made path) = ⊥
 MayWind ending stands (Set path) = ⊥
 MayWind ending stands (Kept path) = ⊥
+MayWind ending stands (Asked question) = ⊥
 MayWind ending stands (Skipped path cause) = ⊥
 MayWind ending stands (Troubled trouble) = ⊥
 

@@ -5,7 +5,7 @@ use Rattle.tree_trait.specs.Change.{CallLog}
 use Rattle.job_reports.specs.declared.job.Pair.{Pair}
 use Rattle.job_reports.specs.declared.report.Cause.{Cause}
 use Rattle.job_reports.specs.declared.report.Did.{Did}
-use Rattle.job_reports.specs.declared.report.Did.TheVariants.{Began, Chunk, Placed, Removed, Made, Set, Kept, Skipped, Cleaned, Barrier, Troubled, Ended}
+use Rattle.job_reports.specs.declared.report.Did.TheVariants.{Began, Chunk, Placed, Removed, Made, Set, Kept, Skipped, Cleaned, Barrier, Asked, Troubled, Ended}
 use Rattle.job_reports.specs.declared.report.Trouble.{Trouble}
 use Rattle.folder_copy.specs.FolderCopying.{is_dirty}
 use Rattle.tree_copy.specs.declared.item.Item.TheVariants.{Next}
@@ -37,6 +37,7 @@ MayBegin (Placed path) = ⊥
 MayBegin (Removed path) = ⊥
 MayBegin (Set path) = ⊥
 MayBegin (Kept path) = ⊥
+MayBegin (Asked question) = ⊥
 MayBegin (Cleaned part) = ⊥
 MayBegin Barrier = ⊥
 

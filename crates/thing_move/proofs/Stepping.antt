@@ -15,7 +15,7 @@ use Rattle.job_reports.specs.CallRuns.{HasMore}
 use Rattle.job_reports.specs.Stops.{calls_made_for, out_of_memory_at, refusal_in, stopped_before_of}
 use Rattle.job_reports.proofs.Runs.{no_more, risen_before}
 use Rattle.job_reports.proofs.Tried.{answered, counts_try, fault_tried, tries_few}
-use Rattle.job_answers.specs.declared.question.Question.{Question}
+use Rattle.job_reports.specs.declared.question.Question.{Question}
 use Rattle.job_answers.specs.declared.standing.Standing.{Standing}
 use Rattle.file_copy.specs.Copying.{Places}
 use Rattle.thing_move.specs.declared.moving.Stage.{Stage}

@@ -14,11 +14,12 @@ use Rattle.job_reports.specs.Stops.{IsTroubleWithPath, out_of_memory_at}
 use Rattle.job_answers.specs.declared.placing.Origin.TheVariants.{Moved}
 use Rattle.job_answers.specs.declared.placing.Placing.{Placing}
 use Rattle.job_answers.specs.declared.placing.Placing.TheVariants as placing
-use Rattle.job_answers.specs.declared.question.Question.{Question}
-use Rattle.job_answers.specs.declared.standing.Decision.{Decision}
-use Rattle.job_answers.specs.declared.standing.Decision.TheVariants.{Replace, Keep, Ask}
+use Rattle.job_reports.specs.declared.question.Question.{Question}
+use Rattle.job_answers.specs.declared.replies.Decision.{Decision}
+use Rattle.job_answers.specs.declared.replies.Decision.TheVariants.{Replace, Keep, Ask}
 use Rattle.job_answers.specs.declared.standing.Standing.{Standing}
-use Rattle.job_answers.specs.Questions.{placing_at, question_on}
+use Rattle.job_answers.specs.Questions.{placing_at}
+use Rattle.job_reports.specs.Questions.{question_on}
 use Rattle.job_answers.specs.Standings.{decision_of}
 use Rattle.file_copy.specs.Copying.{Places}
 use Rattle.file_copy.specs.Looking.{AllPass, IsFirstRefused, IsThere, looks_at}

@@ -1,6 +1,5 @@
 //! What the steps of a move report.
-use job_answers::Question;
-use job_reports::Trouble;
+use job_reports::{Question, Trouble};
 use mc_text::Path;
 
 /// What a step did.

@@ -6,8 +6,8 @@ ghost use Rattle.job_reports.specs.Reading.{Peeks};
 ghost use Rattle.thing_move.specs.Takings.{AreLooked, AreSeen, Asked, Judges, LooksStop, TakeStops, Takes, folders_at, places_at};
 
 use file_copy::{Item, look, look_at_target};
-use job_answers::{Decision, Origin, Placing, Question, Standing, placing_of};
-use job_reports::{Cause, Trouble, out_of_memory, trouble_with_path};
+use job_answers::{Decision, Origin, Placing, Standing, placing_of};
+use job_reports::{Cause, Question, Trouble, out_of_memory, trouble_with_path};
 use mc_text::Kind;
 use std::alloc::Global;
 use tree_trait::{Meta, Tree};

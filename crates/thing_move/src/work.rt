@@ -11,9 +11,9 @@ use crate::moving::Stage;
 use crate::report::MoveDid;
 use crate::taking::{Taking, take_up};
 use file_copy::Item;
-use job_answers::{Question, Standing};
+use job_answers::Standing;
 use job_reports::{
-    Did, LastStepResult, Stop, calls_made, out_of_memory, refusal_in, stopped_before,
+    Did, LastStepResult, Question, Stop, calls_made, out_of_memory, refusal_in, stopped_before,
 };
 use mc_text::Path;
 use std::alloc::Global;

@@ -6,7 +6,7 @@ use Rattle.tree_trait.specs.Change.{CallLog}
 use Rattle.tree_trait.specs.CrashImages.{Among}
 use Rattle.job_reports.specs.declared.job.Pair.{Pair}
 use Rattle.job_reports.specs.declared.report.Did.{Did}
-use Rattle.job_reports.specs.declared.report.Did.TheVariants.{Began, Chunk, Placed, Removed, Made, Set, Kept, Skipped, Cleaned, Barrier, Troubled, Ended}
+use Rattle.job_reports.specs.declared.report.Did.TheVariants.{Began, Chunk, Placed, Removed, Made, Set, Kept, Skipped, Cleaned, Barrier, Asked, Troubled, Ended}
 use Rattle.job_reports.specs.declared.report.Ending.TheVariants.{Finished, Aborted, Killed, NoMemory}
 use Rattle.file_copy.specs.Copying as file
 use Rattle.file_copy.specs.Copying.{Copying}
@@ -52,6 +52,7 @@ file_paths f new (Ended NoMemory part) t = absurd t
 file_paths f new (Removed path) t = absurd t
 file_paths f new (Made made) t = absurd t
 file_paths f new (Kept path) t = absurd t
+file_paths f new (Asked question) t = absurd t
 file_paths f new (Skipped path cause) t = absurd t
 
 pub link_paths : (l new : LinkCopying) (did : Did) → link.Tells l did new → (new.source ≡ l.source) × (new.target ≡ l.target)
@@ -65,6 +66,7 @@ link_paths l new (Set path) t = absurd t
 link_paths l new (Removed path) t = absurd t
 link_paths l new (Made made) t = absurd t
 link_paths l new (Kept path) t = absurd t
+link_paths l new (Asked question) t = absurd t
 link_paths l new (Skipped path cause) t = absurd t
 link_paths l new (Ended ending part) t = absurd t
 
@@ -132,6 +134,7 @@ module _ (top : Pair) where
   names_file f new (Set path) t m = absurd t
   names_file f new (Removed path) t m = tt
   names_file f new (Kept path) t m = tt
+  names_file f new (Asked question) t m = tt
   names_file f new (Skipped path cause) t m = tt
   names_file f new (Cleaned part) t m = tt
   names_file f new Barrier t m = tt
@@ -146,6 +149,7 @@ module _ (top : Pair) where
   names_link l new (Set path) t m = absurd t
   names_link l new (Removed path) t m = tt
   names_link l new (Kept path) t m = tt
+  names_link l new (Asked question) t m = tt
   names_link l new (Skipped path cause) t m = tt
   names_link l new (Cleaned part) t m = tt
   names_link l new Barrier t m = tt

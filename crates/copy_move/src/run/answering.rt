@@ -1,26 +1,25 @@
-//! What an answer to a trouble, an order and the close of the session make of a job.
-ghost use Rattle.std.specs.Prelude.{◌≡◌, Err, IfErr, OnErr, OnOk, false, true};
-ghost use Rattle.job_reports.specs.Reports.{passes_over};
-ghost use Rattle.copy_move.specs.Jobs.{MayAnswer, answered, closed_job, ended_course, is_barred, waits_on};
+//! What an answer to a question or a trouble, an order and the close of the session make of a job.
+ghost use Rattle.std.specs.Prelude.{◌≡◌, Err, Ok, OnErr, OnOk, Some, false};
+ghost use Rattle.job_answers.specs.Answers.{answered as by_table};
+ghost use Rattle.copy_move.specs.Jobs.{MayAnswer, answered, closed_job, ended_course, waiting_on, waits_on};
 
 use super::{Course, Halt, Run};
-use job_reports::{Answer, AnswerError, Cause, Ending};
+use job_answers::{Then, Waiting, then_after};
+use job_reports::{Answer, AnswerError, Ending};
 
 impl Run {
-    /// Answers the trouble. `NotAsked` where the job is in none, `WrongAnswer` where it would pass over a barrier; the job
-    /// is as it was then.
+    /// Answers the question or the trouble, by the table of what may be answered. `NotAsked` where the job waits for none, `WrongAnswer`
+    /// where it is none to what the job waits with, as a skip at a barrier; the job is as it was then.
     pub fn answer(&mut self, answer: Answer) -> Result<(), AnswerError>
         ensures taken { OnOk result (self.new ≡ answered answer self.old) }
         ensures fits { OnOk result (MayAnswer self.old answer) }
         ensures not_asked { result ≡ Err AnswerError.NotAsked → waits_on self.old.course ≡ false }
-        ensures wrong { result ≡ Err AnswerError.WrongAnswer → (passes_over answer ≡ true) × (is_barred self.old.course self.old.work ≡ true) }
+        ensures wrong { result ≡ Err AnswerError.WrongAnswer → by_table (waiting_on self.old.course) answer ≡ Err AnswerError.WrongAnswer }
         ensures same { OnErr result (self.new ≡ self.old) }
     {
-        match self.course {
-            Course::InTrouble(halt) => self.answer_trouble(halt, answer),
-            Course::OwedSyncFailed(_) => self.answer_owed_sync(answer),
-            Course::GoesOn | Course::Skips(_) | Course::Ends(_) => Err(AnswerError::NotAsked),
-        }
+        let next = then_after(self.waiting(), answer)?;
+        self.follow(next, answer);
+        Ok(())
     }
 
     /// The job is to make its last steps, and to end as aborted.
@@ -46,54 +45,67 @@ impl Run {
         }
     }
 
-    /// An answer where a call of the work was refused.
-    fn answer_trouble(&mut self, halt: Halt, answer: Answer) -> Result<(), AnswerError>
-        requires course { self.old.course ≡ Course.InTrouble halt }
-        ensures taken { OnOk result (self.new ≡ answered answer self.old) }
-        ensures fits { OnOk result (MayAnswer self.old answer) }
-        ensures wrong { IfErr result (λ e. (e ≡ AnswerError.WrongAnswer) × (passes_over answer ≡ true) × (is_barred self.old.course self.old.work ≡ true)) }
-        ensures same { OnErr result (self.new ≡ self.old) }
+    /// What the job waits with.
+    fn waiting(&self) -> Option<Waiting>
+        ensures { result ≡ waiting_on self.now.course }
     {
-        match answer {
-            Answer::Retry => {
-                self.work.retry();
-                self.course = Course::GoesOn;
-            }
-            Answer::Skip => {
-                if halt.barrier {
-                    return Err(AnswerError::WrongAnswer);
-                }
-                self.course = Course::Skips(halt.cause);
-            }
-            Answer::SkipAll => {
-                if halt.barrier {
-                    return Err(AnswerError::WrongAnswer);
-                }
-                self.work.skip_all(halt.cause);
-                self.course = Course::Skips(halt.cause);
-            }
-            Answer::Abort => self.course = Course::Ends(Ending::Aborted),
+        match self.course {
+            Course::Asking => Some(Waiting::Question),
+            Course::InTrouble(halt) => Some(halt.waiting()),
+            Course::OwedSyncFailed(_) => Some(Waiting::Barrier),
+            Course::GoesOn | Course::Skips(_) | Course::Ends(_) => None,
         }
-        Ok(())
     }
 
-    /// An answer where a folder that an ended job left couldn't be synced.
-    fn answer_owed_sync(&mut self, answer: Answer) -> Result<(), AnswerError>
-        requires course { (cause : Cause) × (self.old.course ≡ Course.OwedSyncFailed cause) }
-        ensures taken { OnOk result (self.new ≡ answered answer self.old) }
-        ensures fits { OnOk result (MayAnswer self.old answer) }
-        ensures wrong { IfErr result (λ e. (e ≡ AnswerError.WrongAnswer) × (passes_over answer ≡ true) × (is_barred self.old.course self.old.work ≡ true)) }
-        ensures same { OnErr result (self.new ≡ self.old) }
+    /// Does what an answer that may be given comes to.
+    fn follow(&mut self, next: Then, answer: Answer)
+        requires table { by_table (waiting_on self.old.course) answer ≡ Ok next }
+        ensures { self.new ≡ answered answer self.old }
     {
-        match answer {
-            Answer::Retry => {
-                self.work.retry();
-                self.course = Course::GoesOn;
-            }
-            Answer::Skip | Answer::SkipAll => return Err(AnswerError::WrongAnswer),
-            Answer::Abort => self.end_as(Ending::Aborted),
+        match next {
+            Then::Decides => self.note_reply(answer),
+            Then::Retries => self.take_anew(answer),
+            Then::Skips => self.pass_over(answer),
+            Then::Ends => self.end_by(answer),
         }
-        Ok(())
+    }
+
+    /// The question is decided, for this item or for all.
+    fn note_reply(&mut self, answer: Answer)
+        requires table { by_table (waiting_on self.old.course) answer ≡ Ok Then.Decides }
+        ensures { self.new ≡ answered answer self.old }
+    {
+        self.replies.note(answer);
+        self.course = Course::GoesOn;
+    }
+
+    /// What was refused is taken up once more.
+    fn take_anew(&mut self, answer: Answer)
+        requires table { by_table (waiting_on self.old.course) answer ≡ Ok Then.Retries }
+        ensures { self.new ≡ answered answer self.old }
+    {
+        self.work.retry();
+        self.course = Course::GoesOn;
+    }
+
+    /// What stands next is to be left as it is, and with `SkipAll` all that meets a trouble of the same kind later.
+    fn pass_over(&mut self, answer: Answer)
+        requires table { by_table (waiting_on self.old.course) answer ≡ Ok Then.Skips }
+        ensures { self.new ≡ answered answer self.old }
+    {
+        let Course::InTrouble(halt) = self.course else {
+            unreachable!()
+        };
+        self.work.note_skip(halt.cause, answer);
+        self.course = Course::Skips(halt.cause);
+    }
+
+    /// It makes its last steps.
+    fn end_by(&mut self, answer: Answer)
+        requires table { by_table (waiting_on self.old.course) answer ≡ Ok Then.Ends }
+        ensures { self.new ≡ answered answer self.old }
+    {
+        self.course = Course::Ends(Ending::Aborted);
     }
 
     fn end_as(&mut self, ending: Ending)
@@ -101,8 +113,20 @@ impl Run {
     {
         self.course = match self.course {
             Course::Ends(first) => Course::Ends(first),
-            Course::GoesOn | Course::InTrouble(_) | Course::OwedSyncFailed(_) | Course::Skips(_) =>
-                Course::Ends(ending),
+            Course::GoesOn | Course::Asking | Course::InTrouble(_) => Course::Ends(ending),
+            Course::OwedSyncFailed(_) | Course::Skips(_) => Course::Ends(ending),
         };
+    }
+}
+
+impl Halt {
+    /// What a job waits with that stands so.
+    fn waiting(self) -> Waiting
+        ensures { Some result ≡ waiting_on (Course.InTrouble self) }
+    {
+        if self.barrier {
+            return Waiting::Barrier;
+        }
+        Waiting::Trouble(self.cause)
     }
 }

@@ -149,7 +149,7 @@ impl Run {
           faults_after = T.fault_count tree.new;
         }) }
     {
-        let stepped = self.work.step(alloc, tree, parts, dirty);
+        let stepped = self.work.step(alloc, tree, parts, dirty, self.replies);
         self.course = after_report(&stepped.did);
         stepped
     }
@@ -194,11 +194,12 @@ impl Run {
     }
 }
 
-/// A job whose call was refused waits, else it goes on.
+/// A job that asked, or whose call was refused, waits, else it goes on.
 fn after_report(did: &Did) -> Course
     ensures { result ≡ course_after did.now }
 {
     match did {
+        Did::Asked(_) => Course::Asking,
         Did::Troubled(trouble) => Course::InTrouble(Halt {
             cause: trouble.cause,
             barrier: trouble.barrier,

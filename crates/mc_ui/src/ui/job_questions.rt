@@ -40,7 +40,7 @@ impl Ui {
         Ok(())
     }
 
-    /// A key while a box of a job is open. It stays until the job is begun, or the trouble answered.
+    /// A key while a box of a job is open. It stays until the job is begun, or answered.
     pub(super) fn key_in_job_box<T: ReadTree>(
         &mut self,
         alloc: Global,

@@ -17,7 +17,7 @@ use mc_text::NoMemory;
 use std::alloc::Global;
 
 impl Ui {
-    /// A key while these jobs are listed: the list stays or is shut, or the box of a trouble stands in its place.
+    /// A key while these jobs are listed: the list stays or is shut, or the box of what a job waits with stands in its place.
     pub(super) fn key_in_jobs(
         &mut self,
         alloc: Global,
@@ -40,8 +40,8 @@ impl Ui {
                 self.show_box(Dialog::Jobs(list));
                 Ok(asking_nothing(alloc))
             }
-            Ok(JobsAct::Opens(trouble)) => {
-                self.show_box(Dialog::Job(JobBox::Trouble(trouble)));
+            Ok(JobsAct::Opens(waits)) => {
+                self.show_box(Dialog::Job(JobBox::Answer(waits)));
                 Ok(asking_nothing(alloc))
             }
             Ok(JobsAct::Leaves) => Ok(asking_nothing(alloc)),

@@ -4,16 +4,16 @@ ghost use Rattle.std.specs.Option.{option_map};
 ghost use Rattle.mc_panels.specs.Rereadings.{refusal_in};
 ghost use Rattle.panel_pair.specs.Looks.{IsRereadOf, LooksAgain as PanelsLookAgain, TakesReread, unread_of};
 ghost use Rattle.session_history.specs.declared.refusal.Refusal.{Refusal as RefusalType};
-ghost use Rattle.mc_ui.specs.Looks.{LooksAgain, ReadsAgain, shown_trouble as trouble_in, told_unread};
+ghost use Rattle.mc_ui.specs.Looks.{LooksAgain, ReadsAgain, shown_waits as waits_in, told_unread};
 ghost use Rattle.job_plans.specs.Reading.{ReadsTree};
-ghost use Rattle.mc_ui.specs.Boxes.{first_refusal, with_news, with_refusal, with_trouble};
+ghost use Rattle.mc_ui.specs.Boxes.{first_refusal, with_news, with_refusal, with_waits};
 ghost use Rattle.mc_ui.specs.Screens.{HasSameSize, LookLeads, page_of, with_panels, with_told};
 
 use super::Ui;
 use crate::dialog::Dialog;
 use box_words::Message;
 use job_boxes::JobBox;
-use job_reports::{JobRows, Trouble};
+use job_reports::{JobRows, Waits};
 use mc_panels::Attempt;
 use mc_text::NoMemory;
 use panel_pair::Reread;
@@ -22,8 +22,8 @@ use std::alloc::Global;
 use tree_trait::ReadTree;
 
 impl Ui {
-    /// Takes up what the live jobs did. After a job's end, which `has_unseen_end` says, each panel is read again. A trouble gets
-    /// its box; what was refused, or the news of that end, a message. It takes a look for each child of the folders that are read.
+    /// Takes up what the live jobs did. After a job's end, which `has_unseen_end` says, each panel is read again. A question or a
+    /// trouble gets its box; what was refused, or the news of that end, a message. It takes a look for each child of the folders that are read.
     pub fn look<T: ReadTree>(
         &mut self,
         alloc: Global,
@@ -40,9 +40,9 @@ impl Ui {
             (T.fault_count tree.old) (T.fault_count tree.new) }
     {
         let _lines = &self.lines;
-        let trouble = shown_trouble(alloc, rows)?;
+        let waits = shown_waits(alloc, rows)?;
         let refusals = self.read_if_due(alloc, tree, has_unseen_end)?;
-        self.show(trouble);
+        self.show(waits);
         self.tell_news(news);
         Ok(refusals)
     }
@@ -96,12 +96,12 @@ impl Ui {
         self.panels.take(page, reread);
     }
 
-    /// Puts a trouble's box over the panels.
-    fn show(&mut self, trouble: Option<Trouble>)
-        ensures { self.new ≡ record self.old { over = with_trouble trouble self.old.over } }
+    /// Puts the box over the panels that tells what a job waits with.
+    fn show(&mut self, waits: Option<Waits>)
+        ensures { self.new ≡ record self.old { over = with_waits waits self.old.over } }
     {
-        if let Some(trouble) = trouble {
-            self.show_box(Dialog::Job(JobBox::Trouble(trouble)));
+        if let Some(waits) = waits {
+            self.show_box(Dialog::Job(JobBox::Answer(waits)));
         }
     }
 
@@ -124,16 +124,13 @@ impl Ui {
     }
 }
 
-/// The trouble in which the live job waits.
-fn shown_trouble(alloc: Global, rows: &JobRows) -> Result<Option<Trouble>, NoMemory>
-    ensures { IfOk result (λ trouble. trouble ≡ trouble_in rows.now) }
+/// What the live job waits with.
+fn shown_waits(alloc: Global, rows: &JobRows) -> Result<Option<Waits>, NoMemory>
+    ensures { IfOk result (λ waits. waits ≡ waits_in rows.now) }
 {
     match rows.0.as_slice() {
         [] => Ok(None),
-        [row, ..] => match &row.trouble {
-            None => Ok(None),
-            Some(trouble) => Ok(Some(trouble.copy(alloc)?)),
-        },
+        [row, ..] => row.waits(alloc),
     }
 }
 

@@ -1,6 +1,5 @@
 //! Keys while no box is open.
 ghost use Rattle.std.specs.Prelude.{◌≡◌, ◌∷◌, [], false, None, OnErr, IfOk};
-ghost use Rattle.mc_panels.specs.Selections.{selection};
 ghost use Rattle.mc_ui.specs.declared.asks.KeyAct.{KeyAct as KeyActType};
 ghost use Rattle.mc_ui.specs.PanelKeys.{panel_command_of};
 ghost use Rattle.job_plans.specs.Reading.{ReadsTree, sight};
@@ -108,8 +107,7 @@ impl Ui {
         opens: Opens,
     ) -> Result<KeyAct, NoMemory>
         requires clear { self.old.over ≡ NoBox }
-        ensures leads { IfOk result (λ act. Chooses opens (sight (T.contents tree.old))
-            self.old.panels.current.folder (selection self.old.panels.current) act.refusals self.old self.new) }
+        ensures leads { IfOk result (λ act. Chooses opens (sight (T.contents tree.old)) self.old.panels.current act.refusals self.old self.new) }
         ensures asks { IfOk result (λ act. act.ask ≡ Ask.Nothing) }
         ensures size { HasSameSize self.old self.new }
         ensures settled { self.new.planned ≡ None }

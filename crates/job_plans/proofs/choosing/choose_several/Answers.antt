@@ -4,17 +4,17 @@ use Rattle.job_plans.specs.Choices.{ArePathsIn}
 use Rattle.job_plans.proofs.Within.{several_within}
 use Rattle.job_plans.proofs.choosing.choose_several.Goals as goal
 
-pub invariant_of-chosen : goal.invariant_of-chosen
-invariant_of-chosen g c =
-    let at = subst (ArePathsIn c.args.folder.now c.args.names.now) c.in-Some.is c.in_ok-paths.ensures in
-    record { within = several_within c.args.folder.now c.args.names.now c.in-Some.paths at.1 c.requires.several }
+pub invariant_of-result : goal.invariant_of-result
+invariant_of-result g c =
+    let at = subst (ArePathsIn c.folder.result.now c.args.names.now) c.in-Some.is c.in_ok-paths.ensures in
+    record { within = several_within c.folder.result.now c.args.names.now c.in-Some.paths at.1 c.requires.several }
 
-pub invariant_of-chosen-in-SourceMask : goal.invariant_of-chosen-in-SourceMask
-invariant_of-chosen-in-SourceMask g c =
-    let at = subst (ArePathsIn c.args.folder.now c.args.names.now) c.in-Some.is c.in_ok-paths.ensures in
-    record { within = several_within c.args.folder.now c.args.names.now c.in-Some.paths at.1 c.requires.several }
+pub invariant_of-result-in-SourceMask : goal.invariant_of-result-in-SourceMask
+invariant_of-result-in-SourceMask g c =
+    let at = subst (ArePathsIn c.folder.result.now c.args.names.now) c.in-Some.is c.in_ok-paths.ensures in
+    record { within = several_within c.folder.result.now c.args.names.now c.in-Some.paths at.1 c.requires.several }
 
-pub invariant_of-chosen-in-Mode : goal.invariant_of-chosen-in-Mode
-invariant_of-chosen-in-Mode g c =
-    let at = subst (ArePathsIn c.args.folder.now c.args.names.now) c.in-Some.is c.in_ok-paths.ensures in
-    record { within = several_within c.args.folder.now c.args.names.now c.in-Some.paths at.1 c.requires.several }
+pub invariant_of-with_first_mode : goal.invariant_of-with_first_mode
+invariant_of-with_first_mode g c =
+    let at = subst (ArePathsIn c.folder.result.now c.args.names.now) c.in-Some.is c.in_ok-paths.ensures in
+    record { within = several_within c.folder.result.now c.args.names.now c.in-Some.paths at.1 c.requires.several }

@@ -4,4 +4,4 @@ use Rattle.copy_move.proofs.run.Run.wind_up.Goals as goal
 
 pub returns : goal.returns
 returns g c =
-    record { steps = winding_step c.args.ending _ _ _ _ _ _ _ _ _ _ _ _ _ _ c.self.view_is c.wind_up-last.ensures }
+    record { steps = winding_step c.args.ending _ _ _ _ _ _ _ _ _ _ _ _ _ _ _ c.self.view_is c.wind_up-last.ensures }

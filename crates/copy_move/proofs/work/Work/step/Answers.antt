@@ -8,7 +8,7 @@ use Rattle.copy_move.proofs.TreeSteps.{tree_goes_on, tree_steps}
 use Rattle.copy_move.proofs.work.Work.step.Goals as goal
 
 pub returns-in-Delete-clause-steps : goal.returns-in-Delete-clause-steps
-returns-in-Delete-clause-steps g c = rw c.in-Delete.is (deletion_steps (λ path. g.P.PartTest.is_free c.args.parts.now path ≡ true) _ _ _ _ _ _ _ _ _ _ c.step-in-Delete.ensures)
+returns-in-Delete-clause-steps g c = rw c.in-Delete.is (deletion_steps (λ path. g.P.PartTest.is_free c.args.parts.now path ≡ true) c.args.replies _ _ _ _ _ _ _ _ _ _ c.step-in-Delete.ensures)
 
 pub returns-in-Copy-clause-steps : goal.returns-in-Copy-clause-steps
 returns-in-Copy-clause-steps g c = rw c.in-Copy.is c.step_copy.ensures.steps
@@ -16,7 +16,7 @@ returns-in-Copy-clause-steps g c = rw c.in-Copy.is c.step_copy.ensures.steps
 pub returns-in-CopyTree-clause-steps : goal.returns-in-CopyTree-clause-steps
 returns-in-CopyTree-clause-steps g c =
     rw c.in-CopyTree.is (tree_steps (g.P.PartTest.is_free c.args.parts.now) _ _ _ _ _ _ _ _ _ _ c.step.ensures.steps (subst IsGoing c.in-CopyTree.is c.requires.going)
-    (λ path. g.P.PartTest.is_free c.args.parts.now path ≡ true) (λ path free. free) c.step.ensures.own)
+    (λ path. g.P.PartTest.is_free c.args.parts.now path ≡ true) c.args.replies (λ path free. free) c.step.ensures.own)
 
 pub returns-in-CopyTree-clause-going : goal.returns-in-CopyTree-clause-going
 returns-in-CopyTree-clause-going g c =
@@ -24,8 +24,8 @@ returns-in-CopyTree-clause-going g c =
 
 pub returns-in-Make-clause-steps : goal.returns-in-Make-clause-steps
 returns-in-Make-clause-steps g c =
-    rw c.in-Make.is (making_steps (λ path. g.P.PartTest.is_free c.args.parts.now path ≡ true) _ _ _ _ _ _ _ _ _ _ c.step_making.ensures.steps c.step_making.ensures.leaves)
+    rw c.in-Make.is (making_steps (λ path. g.P.PartTest.is_free c.args.parts.now path ≡ true) c.args.replies _ _ _ _ _ _ _ _ _ _ c.step_making.ensures.steps c.step_making.ensures.leaves)
 
 pub returns-in-SetMode-clause-steps : goal.returns-in-SetMode-clause-steps
 returns-in-SetMode-clause-steps g c =
-    rw c.in-SetMode.is (setting_steps (λ path. g.P.PartTest.is_free c.args.parts.now path ≡ true) _ _ _ _ _ _ _ _ _ _ c.step_setting.ensures.steps c.step_setting.ensures.leaves)
+    rw c.in-SetMode.is (setting_steps (λ path. g.P.PartTest.is_free c.args.parts.now path ≡ true) c.args.replies _ _ _ _ _ _ _ _ _ _ c.step_setting.ensures.steps c.step_setting.ensures.leaves)

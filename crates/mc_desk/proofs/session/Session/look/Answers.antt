@@ -1,7 +1,7 @@
 -- A look is written down as it was made.
 use Rattle.std.proofs.Common.{rules, ◌≡◌, ◌≤◌, ◌∷◌, false, ℕ, Option, Some, IsSome, refl, ap, sym, ◌∙◌, subst, arith}
 use Rattle.session_history.specs.declared.history.Event.TheVariants.{Look}
-use Rattle.mc_desk.specs.LiveRows.{rows_of, trouble_told}
+use Rattle.mc_desk.specs.LiveRows.{rows_of, waits_told}
 use Rattle.mc_desk.specs.Tallies.{news_left}
 use Rattle.mc_desk.proofs.Adding.{entry}
 use Rattle.mc_desk.specs.Outputs.{ShowsFrame}
@@ -27,12 +27,12 @@ invariant_of-self-2 g c =
     record {
       desk = looked_whole g.N.Tag.start g.N.Tag.opening (g.T.ReadTree.contents inside.tree) (g.T.ReadTree.contents c.look.new.tree) g.N.Tag.tree_faults _ c.note.new.self _ c.look.new.self inside.standing c.look_taken.new.self _ inside.terminal c.show-drawn.new.self _ _ count
           c.self.invariant.desk opened.0 opened.1 some c.look.ensures.reads.same (omega (arith, counted, had, later)) c.in-Ok-look.refusals c.in-Ok-rows_of.rows c.in-Ok.news
-          (c.in-Ok-rows_of.ensures ∙ ap (λ es. rows_of inside.standing.job (trouble_told es)) c.reserve.ensures.same) (c.in-Ok.ensures ∙ ap news_left c.reserve.ensures.same)
+          (c.in-Ok-rows_of.ensures ∙ ap (λ es. rows_of inside.standing.job (waits_told es)) c.reserve.ensures.same) (c.in-Ok.ensures ∙ ap news_left c.reserve.ensures.same)
           (λ h. let risen = c.in-Ok-look.ensures.reads.fault h in omega (arith, counted, had, risen)) c.in-Ok-look.ensures.reads.called c.in-Ok-look.ensures.leads c.look.ensures.settled
           (c.note.ensures.added ∙ (ap (λ es. entry 0 inside.standing.calls count c.shown.result (Look c.in-Ok-look.refusals) ∷ es) c.reserve.ensures.same
           ∙ ap (λ n. entry 0 inside.standing.calls count n (Look c.in-Ok-look.refusals) ∷ inside.log.newest) c.shown.ensures.counted)) room c.look_taken.ensures c.show-drawn.result
           (fits_after inside.terminal.display.grid c.show-drawn.new.self.display.grid inside.ui c.look.new.self c.self.invariant.desk.shown.size c.show-drawn.ensures.shows.sized c.look.ensures.size)
-          (subst (λ es. ShowsFrame (frame_of c.look.new.self (rows_of inside.standing.job (trouble_told es))) c.show-drawn.result inside.terminal c.show-drawn.new.self) c.reserve.ensures.same c.show-drawn.ensures.shows);
+          (subst (λ es. ShowsFrame (frame_of c.look.new.self (rows_of inside.standing.job (waits_told es))) c.show-drawn.result inside.terminal c.show-drawn.new.self) c.reserve.ensures.same c.show-drawn.ensures.shows);
       counted = search rules;
       spawner = c.self.invariant.spawner;
     }
@@ -55,8 +55,8 @@ returns-clause-shows g c unclosed =
     let same : c.after_draw.new.self ≡ desk = c.in_ok-after_draw.ensures.same in
     let whole : desk.out.put.is_cut ≡ false = sym (ap (λ (d : Seen). d.out.put.is_cut) same) ∙ c.in_ok-after_draw.ensures.whole in
     let job : standing.job ≡ inside.standing.job = ap (λ (s : Standing). s.job) c.look_taken.ensures in
-    let trouble : trouble_told c.note.new.self.newest ≡ trouble_told c.reserve.new.self.newest = ap trouble_told c.note.ensures.added in
+    let trouble : waits_told c.note.new.self.newest ≡ waits_told c.reserve.new.self.newest = ap waits_told c.note.ensures.added in
     subst ShowsDesk (sym same)
     (shows_drawn desk c.show-drawn.result inside.terminal
-    (subst (λ j. ShowsFrame (frame_of c.look.new.self (rows_of j (trouble_told c.note.new.self.newest))) c.show-drawn.result inside.terminal c.show-drawn.new.self) (sym job)
+    (subst (λ j. ShowsFrame (frame_of c.look.new.self (rows_of j (waits_told c.note.new.self.newest))) c.show-drawn.result inside.terminal c.show-drawn.new.self) (sym job)
     (subst (λ t. ShowsFrame (frame_of c.look.new.self (rows_of inside.standing.job t)) c.show-drawn.result inside.terminal c.show-drawn.new.self) (sym trouble) c.show-drawn.ensures.shows)) whole (c.shown.ensures.shows whole))

@@ -2,7 +2,7 @@
 use Rattle.std.proofs.Common.{rules, ◌≡◌, ◌≤◌, ◌<◌, ◌∷◌, true, None, ap, sym, ◌∙◌, subst, arith}
 use Rattle.session_history.specs.declared.history.Entry.{Entry}
 use Rattle.session_history.specs.declared.history.Event.TheVariants.{Sought}
-use Rattle.mc_desk.specs.LiveRows.{rows_of, trouble_told}
+use Rattle.mc_desk.specs.LiveRows.{rows_of, waits_told}
 use Rattle.mc_desk.specs.Outputs.{ShowsFrame}
 use Rattle.mc_desk.specs.Searches.{HasSought, steps_ahead}
 use Rattle.mc_desk.specs.Standings.{awaited}
@@ -31,7 +31,7 @@ invariant_of-self-2 g c =
           (c.note.ensures.added ∙ (ap (λ (e : Entry). e ∷ c.reserve.new.self.newest) c.sought_entry-entry.ensures ∙ ap (λ es. entry 0 inside.standing.calls count c.shown.result Sought ∷ es) c.reserve.ensures.same
           ∙ ap (λ n. entry 0 inside.standing.calls count n Sought ∷ inside.log.newest) c.shown.ensures.counted)) room c.seek_and_show-sought.result.drawn
           (fits_after inside.terminal.display.grid c.seek_and_show-sought.new.terminal.display.grid inside.ui c.seek_and_show-sought.new.ui c.self.invariant.desk.shown.size c.seek_and_show-sought.ensures.shows.sized c.seek_and_show-sought.ensures.size)
-          (subst (λ es. ShowsFrame (frame_of c.seek_and_show-sought.new.ui (rows_of inside.standing.job (trouble_told es))) c.seek_and_show-sought.result.drawn inside.terminal c.seek_and_show-sought.new.terminal) c.reserve.ensures.same c.seek_and_show-sought.ensures.shows);
+          (subst (λ es. ShowsFrame (frame_of c.seek_and_show-sought.new.ui (rows_of inside.standing.job (waits_told es))) c.seek_and_show-sought.result.drawn inside.terminal c.seek_and_show-sought.new.terminal) c.reserve.ensures.same c.seek_and_show-sought.ensures.shows);
       counted = search rules;
       spawner = c.self.invariant.spawner;
     }

@@ -4,7 +4,7 @@ use Rattle.session_history.specs.declared.history.Event.TheVariants.{Key}
 use Rattle.mc_ui.specs.Seekings.{is_seeking}
 use Rattle.mc_desk.specs.Desks.{IsDesk, Seen, ShowsDesk, seen_of}
 use Rattle.mc_desk.specs.Granting.{IsWorked}
-use Rattle.mc_desk.specs.LiveRows.{rows_of, trouble_told}
+use Rattle.mc_desk.specs.LiveRows.{rows_of, waits_told}
 use Rattle.mc_desk.specs.Outputs.{ShowsFrame}
 use Rattle.mc_ui.specs.Frames.{frame_of}
 use Rattle.mc_desk.specs.declared.standing.Standing.{Standing}
@@ -12,7 +12,7 @@ use Rattle.mc_desk.specs.Standings.{after_deed, awaited, event_of, followed}
 use Rattle.mc_desk.specs.Tallies.{next_id}
 use Rattle.mc_desk.proofs.Adding.{entry}
 use Rattle.mc_desk.proofs.Carried.{unknown_due, unknown_sought}
-use Rattle.mc_desk.proofs.Showing.{ended_uncut, fits_after, shows_drawn, trouble_followed}
+use Rattle.mc_desk.proofs.Showing.{ended_uncut, fits_after, shows_drawn, waits_followed}
 use Rattle.mc_desk.proofs.Worked.{desk_worked, may_carry_out}
 use Rattle.mc_desk.proofs.session.Session.work_key.Goals as goal
 
@@ -31,8 +31,8 @@ invariant_of-self-2 g c =
     let worked : IsWorked (g.T.ReadTree.contents inside.tree) c.in-Ok.rows (next_id inside.standing.last_id) c.args.now c.args.key inside.ui c.work.new.ui done.deed done.refusals =
     subst (λ n. IsWorked (g.T.ReadTree.contents inside.tree) c.in-Ok.rows n c.args.now c.args.key inside.ui c.work.new.ui done.deed done.refusals) c.next_id-next.ensures c.in-Ok-work.ensures.worked in
     let room : 2 ≤ c.note_after.new.self.spare = search rules in
-    let shows : ShowsFrame (frame_of c.work.new.ui (rows_of (after_deed done.deed inside.standing).job (trouble_told inside.log.newest))) c.carry_out-follows.result.drawn inside.terminal c.carry_out-follows.new.terminal =
-    subst (λ (s : Standing). ShowsFrame (frame_of c.work.new.ui (rows_of s.job (trouble_told inside.log.newest))) c.carry_out-follows.result.drawn inside.terminal c.carry_out-follows.new.terminal) c.carry_out-follows.ensures.done c.carry_out-follows.ensures.shows in
+    let shows : ShowsFrame (frame_of c.work.new.ui (rows_of (after_deed done.deed inside.standing).job (waits_told inside.log.newest))) c.carry_out-follows.result.drawn inside.terminal c.carry_out-follows.new.terminal =
+    subst (λ (s : Standing). ShowsFrame (frame_of c.work.new.ui (rows_of s.job (waits_told inside.log.newest))) c.carry_out-follows.result.drawn inside.terminal c.carry_out-follows.new.terminal) c.carry_out-follows.ensures.done c.carry_out-follows.ensures.shows in
     record {
       desk = subst (λ s. IsDesk g.N.Tag.start g.N.Tag.opening (g.T.ReadTree.contents c.work.new.tree) g.N.Tag.tree_faults (seen_of c.note_after.new.self c.work.new.ui s inside.dirty c.carry_out-follows.new.terminal inside.taken inside.keys))
           (sym c.carry_out-follows.ensures.done)
@@ -61,9 +61,9 @@ returns-clause-shows g c unclosed =
     let desk : Seen = seen_of c.note_after.new.self c.work.new.ui standing inside.dirty c.carry_out-follows.new.terminal inside.taken inside.keys in
     let same : c.after_draw.new.self ≡ desk = c.in_ok-after_draw.ensures.same in
     let whole : desk.out.put.is_cut ≡ false = sym (ap (λ (d : Seen). d.out.put.is_cut) same) ∙ c.in_ok-after_draw.ensures.whole in
-    let trouble : trouble_told c.note_after.new.self.newest ≡ trouble_told inside.log.newest =
-    ap trouble_told (c.note_after.ensures.added ∙ ap (λ f. followed inside.standing.calls c.faults-faults.result f c.note.new.self.newest) c.carry_out-follows.ensures.told)
-    ∙ (trouble_followed inside.standing.calls c.faults-faults.result c.in-Ok-work.granted.deed inside.standing.job c.note.new.self.newest ∙ ap trouble_told c.note.ensures.added) in
+    let trouble : waits_told c.note_after.new.self.newest ≡ waits_told inside.log.newest =
+    ap waits_told (c.note_after.ensures.added ∙ ap (λ f. followed inside.standing.calls c.faults-faults.result f c.note.new.self.newest) c.carry_out-follows.ensures.told)
+    ∙ (waits_followed inside.standing.calls c.faults-faults.result c.in-Ok-work.granted.deed inside.standing.job c.note.new.self.newest ∙ ap waits_told c.note.ensures.added) in
     subst ShowsDesk (sym same)
     (shows_drawn desk c.carry_out-follows.result.drawn inside.terminal
     (subst (λ t. ShowsFrame (frame_of c.work.new.ui (rows_of standing.job t)) c.carry_out-follows.result.drawn inside.terminal c.carry_out-follows.new.terminal) (sym trouble) c.carry_out-follows.ensures.shows) whole (c.shown.ensures.shows whole))

@@ -1,0 +1,339 @@
+-- A copy of a file that isn't decided has changed nothing, and one that kept what stands at its target has changed nothing at all.
+use Rattle.std.proofs.Common.{◌≡◌, ℕ, Bool, true, false, List, [], ◌∷◌, refl, sym, ◌∙◌, ap, subst, inl, inr, Some}
+use Rattle.std.specs.Prelude.{⊤, ◌&&◌, is_some, nat_le, if◌then◌else◌, map, ◌==◌}
+use Rattle.std.proofs.lemmas.Bool.{both_ways, false≢true}
+use Rattle.mc_text.specs.Routes.{Route, parent_of}
+use Rattle.tree_trait.specs.Change.{CallLog}
+use Rattle.tree_trait.specs.FileSystem.{View}
+use Rattle.job_reports.specs.Jobs.{is_link_text}
+use Rattle.job_reports.specs.declared.answer.Answer.{Answer}
+use Rattle.job_reports.specs.declared.answer.Answer.TheVariants.{Yes, No, All, Update, Nothing, SizeDiffers, Retry, Skip, SkipAll, Abort}
+use Rattle.job_reports.specs.declared.job.Job.{Job}
+use Rattle.job_reports.specs.declared.job.Job.TheVariants as plan
+use Rattle.job_reports.specs.declared.report.Cause.{Cause}
+use Rattle.job_reports.specs.declared.report.Did.{Did}
+use Rattle.job_reports.specs.declared.report.Did.TheVariants.{Began, Chunk, Placed, Removed, Made, Set, Kept, Skipped, Cleaned, Barrier, Asked, Troubled, Ended}
+use Rattle.session_history.specs.declared.history.JobOrder.{JobOrder}
+use Rattle.session_history.specs.declared.history.JobOrder.TheVariants.{Answered}
+use Rattle.job_answers.specs.declared.skips.Skips.{Skips as SkippedKinds}
+use Rattle.file_copy.specs.AskedCopies.{AskedTells}
+use Rattle.file_copy.specs.Copying.{Copying, after_clean, skipped, taken_anew}
+use Rattle.file_copy.specs.declared.stage.Next.{Next}
+use Rattle.file_copy.specs.declared.stage.Next.TheVariants as next
+use Rattle.file_copy.specs.declared.stage.Stage.{Stage}
+use Rattle.file_copy.specs.declared.stage.Stage.TheVariants as at
+use Rattle.subtree_copy.specs.Reporting.{MayTell}
+use Rattle.copy_move.specs.declared.new_thing.NewThing.TheVariants as thing
+use Rattle.copy_move.specs.declared.run.Course.{Course}
+use Rattle.copy_move.specs.declared.run.Course.TheVariants.{GoesOn, Asking, InTrouble, OwedSyncFailed, Skips, Ends}
+use Rattle.copy_move.specs.declared.work.Work.{Work}
+use Rattle.copy_move.specs.declared.work.Work.TheVariants.{Copy, CopyTree, Delete, Make, SetMode}
+use Rattle.copy_move.specs.Jobs.{PassesOver, Running, TellsOn, WorkTells, answered_on, answered, begun_work, closed_job, first_work, passing_over, skips_of, with_skips}
+use Rattle.copy_move.specs.Jobs as works
+use Rattle.history_laws.specs.Replayed.{replayed_step}
+use Rattle.history_laws.specs.Traces.{before_others, ordered, unless_ended}
+use Rattle.history_laws.proofs.Sources.{item_in}
+use Rattle.history_laws.proofs.Turns.{Turned}
+use Rattle.outcome_laws.specs.Keeps.{keeps_by}
+use Rattle.outcome_laws.proofs.Doing.{ordered_id, some_if}
+use Rattle.outcome_laws.proofs.MadeThings.{Unless, unless_of}
+use Rattle.outcome_laws.proofs.Touching.{UnlessEnding, close_by}
+
+-- its target may be replaced still
+abbrev pub IsUndecided : Stage → Type 0
+IsUndecided at.Begin = ⊤
+IsUndecided (at.Fill part facts done) = ⊤
+IsUndecided (at.Clean part follows) = ⊤
+IsUndecided (at.Left part) = ⊤
+IsUndecided at.Decided = ⊥
+
+-- all is as it was
+abbrev pub AllSame : View → View → Type 0
+AllSame v was = (path : Route) → v path ≡ was path
+
+abbrev pub Spares : View → View → Bool → Work → Type 0
+Spares v was kept (Copy c) = (IsUndecided c.stage → (kept ≡ false) × AllSame v was) × (kept ≡ true → AllSame v was)
+Spares v was kept (CopyTree c) = kept ≡ false
+Spares v was kept (Delete d) = ⊤
+Spares v was kept (Make m) = ⊤
+Spares v was kept (SetMode s) = ⊤
+
+-- each step of a file's copy
+module _ (now : CallLog) (v was : View) (kept : Bool) (c : Copying) where
+  abbrev Then : Did → Copying → Type 0
+  Then did new = Spares (replayed_step now did (Some (item_in (Copy c))) v) was (keeps_by did kept) (Copy new)
+
+  at_stage : (stage : Stage) → c.stage ≡ stage → IsUndecided stage → IsUndecided c.stage
+  at_stage stage is u = subst IsUndecided (sym is) u
+
+  cleaned : (part : Route) (follows : Next) → c.stage ≡ at.Clean part follows → IsUndecided (after_clean follows) → IsUndecided c.stage
+  cleaned part follows is u = at_stage (at.Clean part follows) is tt
+
+  copy_spares : (new : Copying) (did : Did) → AskedTells c did new → Spares v was kept (Copy c) → Unless did (Then did new)
+  copy_spares new (Asked question) (stage, new_is) s = subst (λ (x : Copying). Spares v was kept (Copy x)) (sym new_is) s
+  copy_spares new (Kept path) (stage, path_is, new_is) s =
+      let same = (s.0 (at_stage at.Begin stage tt)).1 in
+      subst (λ (x : Copying). Spares v was true (Copy x)) (sym new_is) (λ u. absurd u, λ k. same)
+  copy_spares new (Began part) (stage, (facts, new_is)) s = subst (λ (x : Copying). Spares v was kept (Copy x)) (sym new_is) (λ u. s.0 (at_stage at.Begin stage tt), s.1)
+  copy_spares new (Chunk count) (part, facts, done, stage, least, most, fits, new_is) s =
+      subst (λ (x : Copying). Spares v was kept (Copy x)) (sym new_is) (λ u. s.0 (at_stage (at.Fill part facts done) stage tt), s.1)
+  copy_spares new (Placed path) (part, facts, stage, path_is, new_is) s =
+      let none = (s.0 (at_stage (at.Fill part facts facts.size) stage tt)).0 in
+      subst (λ (x : Copying). Spares (replayed_step now (Placed path) (Some (item_in (Copy c))) v) was kept (Copy x)) (sym new_is) (λ u. absurd u, λ k. absurd (both_ways _ none k))
+  copy_spares new (Cleaned part) (follows, stage, new_is) s = subst (λ (x : Copying). Spares v was kept (Copy x)) (sym new_is) (λ u. s.0 (cleaned part follows stage u), s.1)
+  copy_spares new Barrier (stage, dirty, new_is) s = subst (λ (x : Copying). Spares v was kept (Copy x)) (sym new_is) s
+  copy_spares new (Troubled trouble) (barrier, new_is) s = subst (λ (x : Copying). Spares v was kept (Copy x)) (sym new_is) s
+  copy_spares new (Ended ending part) t s = tt
+  copy_spares new (Removed path) t s = absurd t
+  copy_spares new (Made path) t s = absurd t
+  copy_spares new (Set path) t s = absurd t
+  copy_spares new (Skipped path cause) t s = absurd t
+
+-- what is copied whole keeps nothing
+tree_keeps : (did : Did) (kept : Bool) → MayTell did → kept ≡ false → keeps_by did kept ≡ false
+tree_keeps (Kept path) kept may none = absurd may
+tree_keeps (Began part) kept may none = none
+tree_keeps (Chunk count) kept may none = none
+tree_keeps (Placed path) kept may none = none
+tree_keeps (Removed path) kept may none = none
+tree_keeps (Made made) kept may none = none
+tree_keeps (Set path) kept may none = none
+tree_keeps (Skipped path cause) kept may none = none
+tree_keeps (Cleaned part) kept may none = none
+tree_keeps Barrier kept may none = none
+tree_keeps (Asked question) kept may none = none
+tree_keeps (Troubled trouble) kept may none = none
+tree_keeps (Ended ending part) kept may none = none
+
+skipped_before : (stage : Stage) → IsUndecided (skipped stage) → IsUndecided stage
+skipped_before at.Begin u = tt
+skipped_before (at.Fill part facts done) u = tt
+skipped_before (at.Clean part follows) u = tt
+skipped_before (at.Left part) u = tt
+skipped_before at.Decided u = u
+
+anew_before : (stage : Stage) → IsUndecided (taken_anew stage) → IsUndecided stage
+anew_before at.Begin u = tt
+anew_before (at.Fill part facts done) u = tt
+anew_before (at.Clean part follows) u = tt
+anew_before (at.Left part) u = tt
+anew_before at.Decided u = u
+
+module _ (now : CallLog) (v was : View) (kept : Bool) where
+  work_spares : (old new : Work) (did : Did) → WorkTells old did new → Spares v was kept old → Unless did (Spares (replayed_step now did (Some (item_in old)) v) was (keeps_by did kept) new)
+  work_spares (Copy c) (Copy new) did t s = copy_spares now v was kept c new did t s
+  work_spares (CopyTree c) (CopyTree new) did t s = unless_of did (keeps_by did kept ≡ false) (tree_keeps did kept t.may s)
+  work_spares (Delete d) (Delete new) did t s = unless_of did ⊤ tt
+  work_spares (Make m) (Make new) did t s = unless_of did ⊤ tt
+  work_spares (SetMode w) (SetMode new) did t s = unless_of did ⊤ tt
+  work_spares (Copy c) (CopyTree new) did t s = absurd t
+  work_spares (Copy c) (Delete new) did t s = absurd t
+  work_spares (Copy c) (Make new) did t s = absurd t
+  work_spares (Copy c) (SetMode new) did t s = absurd t
+  work_spares (CopyTree c) (Copy new) did t s = absurd t
+  work_spares (CopyTree c) (Delete new) did t s = absurd t
+  work_spares (CopyTree c) (Make new) did t s = absurd t
+  work_spares (CopyTree c) (SetMode new) did t s = absurd t
+  work_spares (Delete d) (Copy new) did t s = absurd t
+  work_spares (Delete d) (CopyTree new) did t s = absurd t
+  work_spares (Delete d) (Make new) did t s = absurd t
+  work_spares (Delete d) (SetMode new) did t s = absurd t
+  work_spares (Make m) (Copy new) did t s = absurd t
+  work_spares (Make m) (CopyTree new) did t s = absurd t
+  work_spares (Make m) (Delete new) did t s = absurd t
+  work_spares (Make m) (SetMode new) did t s = absurd t
+  work_spares (SetMode w) (Copy new) did t s = absurd t
+  work_spares (SetMode w) (CopyTree new) did t s = absurd t
+  work_spares (SetMode w) (Delete new) did t s = absurd t
+  work_spares (SetMode w) (Make new) did t s = absurd t
+
+  passes_spares : (old new : Work) (path : Route) → PassesOver old path new → Spares v was kept old → Spares v was kept new
+  passes_spares (Copy c) (Copy new) path (path_is, new_is) s = subst (λ (x : Copying). Spares v was kept (Copy x)) (sym new_is) (λ u. s.0 (skipped_before c.stage u), s.1)
+  passes_spares (CopyTree c) (CopyTree new) path p s = s
+  passes_spares (Delete d) (Delete new) path p s = tt
+  passes_spares (Make m) (Make new) path p s = tt
+  passes_spares (SetMode w) (SetMode new) path p s = tt
+  passes_spares (Copy c) (CopyTree new) path p s = absurd p
+  passes_spares (Copy c) (Delete new) path p s = absurd p
+  passes_spares (Copy c) (Make new) path p s = absurd p
+  passes_spares (Copy c) (SetMode new) path p s = absurd p
+  passes_spares (CopyTree c) (Copy new) path p s = absurd p
+  passes_spares (CopyTree c) (Delete new) path p s = absurd p
+  passes_spares (CopyTree c) (Make new) path p s = absurd p
+  passes_spares (CopyTree c) (SetMode new) path p s = absurd p
+  passes_spares (Delete d) (Copy new) path p s = absurd p
+  passes_spares (Delete d) (CopyTree new) path p s = absurd p
+  passes_spares (Delete d) (Make new) path p s = absurd p
+  passes_spares (Delete d) (SetMode new) path p s = absurd p
+  passes_spares (Make m) (Copy new) path p s = absurd p
+  passes_spares (Make m) (CopyTree new) path p s = absurd p
+  passes_spares (Make m) (Delete new) path p s = absurd p
+  passes_spares (Make m) (SetMode new) path p s = absurd p
+  passes_spares (SetMode w) (Copy new) path p s = absurd p
+  passes_spares (SetMode w) (CopyTree new) path p s = absurd p
+  passes_spares (SetMode w) (Delete new) path p s = absurd p
+  passes_spares (SetMode w) (Make new) path p s = absurd p
+
+  -- a step, by the course
+  pub course_spares : (job new : Running) (did : Did) (course : Course) → job.course ≡ course → TellsOn course job did new → UnlessEnding course (Spares v was kept job.work)
+      → Unless did (UnlessEnding new.course (Spares (replayed_step now did (Some (item_in job.work)) v) was (keeps_by did kept) new.work))
+  course_spares job new did GoesOn is (work, t, new_is) s =
+      subst (λ (x : Running). Unless did (UnlessEnding x.course (Spares (replayed_step now did (Some (item_in job.work)) v) was (keeps_by did kept) x.work))) (sym new_is)
+      (ending_by did (work_spares job.work work did t s))
+    where
+      ending_by : (d : Did) → Unless d (Spares (replayed_step now d (Some (item_in job.work)) v) was (keeps_by d kept) work)
+          → Unless d (UnlessEnding (works.course_after d) (Spares (replayed_step now d (Some (item_in job.work)) v) was (keeps_by d kept) work))
+      ending_by (Began part) h = h
+      ending_by (Chunk count) h = h
+      ending_by (Placed path) h = h
+      ending_by (Removed path) h = h
+      ending_by (Made made) h = h
+      ending_by (Set path) h = h
+      ending_by (Kept path) h = h
+      ending_by (Skipped path cause) h = h
+      ending_by (Cleaned part) h = h
+      ending_by Barrier h = h
+      ending_by (Asked question) h = h
+      ending_by (Troubled trouble) h = h
+      ending_by (Ended ending part) h = h
+  course_spares job new did (InTrouble halt) is t s = absurd t
+  course_spares job new did (OwedSyncFailed cause) is t s = absurd t
+  course_spares job new did Asking is t s = absurd t
+  course_spares job new did (Skips cause) is (inl (path, work, did_is, passes, new_is)) s =
+      subst (λ (d : Did). Unless d (UnlessEnding new.course (Spares (replayed_step now d (Some (item_in job.work)) v) was (keeps_by d kept) new.work))) (sym did_is)
+      (subst (λ (x : Running). UnlessEnding x.course (Spares v was kept x.work)) (sym new_is) (passes_spares job.work work path passes s))
+  course_spares job new did (Skips cause) is (inr (off, did_is, new_is)) s =
+      subst (λ (d : Did). Unless d (UnlessEnding new.course (Spares (replayed_step now d (Some (item_in job.work)) v) was (keeps_by d kept) new.work))) (sym did_is)
+      (subst (λ (x : Running). UnlessEnding x.course (Spares v was kept x.work)) (sym new_is) s)
+  course_spares job new did (Ends ending) is (work, winds, new_is) s =
+      subst (λ c. Unless did (UnlessEnding c (Spares (replayed_step now did (Some (item_in job.work)) v) was (keeps_by did kept) new.work))) (sym (ap (λ (x : Running). x.course) new_is ∙ is)) (unless_of did ⊤ tt)
+
+-- the live jobs
+abbrev pub JobSpares : View → (ℕ → View) → (ℕ → Bool) → Running → Type 0
+JobSpares v was kept job = UnlessEnding job.course (Spares v (was job.id) (kept job.id) job.work)
+
+abbrev pub JobsSpare : View → (ℕ → View) → (ℕ → Bool) → List Running → Type 0
+JobsSpare v was kept [] = ⊤
+JobsSpare v was kept (job ∷ jobs) = JobSpares v was kept job
+
+pub spares_after : (did : Did) (v : View) (was : ℕ → View) (kept : ℕ → Bool) (new : Running) → Unless did (JobSpares v was kept new) → JobsSpare v was kept (before_others (unless_ended did new) [])
+spares_after (Ended ending part) v was kept new h = tt
+spares_after (Began part) v was kept new h = h
+spares_after (Chunk count) v was kept new h = h
+spares_after (Placed path) v was kept new h = h
+spares_after (Removed path) v was kept new h = h
+spares_after (Made made) v was kept new h = h
+spares_after (Set path) v was kept new h = h
+spares_after (Kept path) v was kept new h = h
+spares_after (Skipped path cause) v was kept new h = h
+spares_after (Cleaned part) v was kept new h = h
+spares_after Barrier v was kept new h = h
+spares_after (Asked question) v was kept new h = h
+spares_after (Troubled trouble) v was kept new h = h
+
+-- an answer, and the close of a session
+module _ (v was : View) (kept : Bool) where
+  anew_spares : (work : Work) → Spares v was kept work → Spares v was kept (works.taken_anew work)
+  anew_spares (Copy c) s = (λ u. s.0 (anew_before c.stage u), s.1)
+  anew_spares (CopyTree c) s = s
+  anew_spares (Delete d) s = s
+  anew_spares (Make m) s = s
+  anew_spares (SetMode w) s = s
+
+  skips_spares : (cause : Cause) (work : Work) → Spares v was kept work → Spares v was kept (with_skips cause work)
+  skips_spares cause (Copy c) s = s
+  skips_spares cause (CopyTree c) s = s
+  skips_spares cause (Delete d) s = s
+  skips_spares cause (Make m) s = s
+  skips_spares cause (SetMode w) s = s
+
+  abbrev Held : Running → Type 0
+  Held job = UnlessEnding job.course (Spares v was kept job.work)
+
+  answer_spares : (course : Course) (answer : Answer) (job : Running) → job.course ≡ course → Held job → Held (answered_on course answer job)
+  answer_spares (InTrouble halt) Retry job is k = anew_spares job.work (subst (λ c. UnlessEnding c (Spares v was kept job.work)) is k)
+  answer_spares (InTrouble halt) Skip job is k = subst (λ c. UnlessEnding c (Spares v was kept job.work)) is k
+  answer_spares (InTrouble halt) SkipAll job is k = skips_spares halt.cause job.work (subst (λ c. UnlessEnding c (Spares v was kept job.work)) is k)
+  answer_spares (InTrouble halt) Abort job is k = tt
+  answer_spares (InTrouble halt) Yes job is k = k
+  answer_spares (InTrouble halt) No job is k = k
+  answer_spares (InTrouble halt) All job is k = k
+  answer_spares (InTrouble halt) Update job is k = k
+  answer_spares (InTrouble halt) Nothing job is k = k
+  answer_spares (InTrouble halt) SizeDiffers job is k = k
+  answer_spares (OwedSyncFailed cause) Retry job is k = anew_spares job.work (subst (λ c. UnlessEnding c (Spares v was kept job.work)) is k)
+  answer_spares (OwedSyncFailed cause) Skip job is k = k
+  answer_spares (OwedSyncFailed cause) SkipAll job is k = k
+  answer_spares (OwedSyncFailed cause) Abort job is k = tt
+  answer_spares (OwedSyncFailed cause) Yes job is k = k
+  answer_spares (OwedSyncFailed cause) No job is k = k
+  answer_spares (OwedSyncFailed cause) All job is k = k
+  answer_spares (OwedSyncFailed cause) Update job is k = k
+  answer_spares (OwedSyncFailed cause) Nothing job is k = k
+  answer_spares (OwedSyncFailed cause) SizeDiffers job is k = k
+  answer_spares Asking Yes job is k = subst (λ c. UnlessEnding c (Spares v was kept job.work)) is k
+  answer_spares Asking No job is k = subst (λ c. UnlessEnding c (Spares v was kept job.work)) is k
+  answer_spares Asking All job is k = subst (λ c. UnlessEnding c (Spares v was kept job.work)) is k
+  answer_spares Asking Update job is k = subst (λ c. UnlessEnding c (Spares v was kept job.work)) is k
+  answer_spares Asking Nothing job is k = subst (λ c. UnlessEnding c (Spares v was kept job.work)) is k
+  answer_spares Asking SizeDiffers job is k = subst (λ c. UnlessEnding c (Spares v was kept job.work)) is k
+  answer_spares Asking Retry job is k = k
+  answer_spares Asking Skip job is k = k
+  answer_spares Asking SkipAll job is k = k
+  answer_spares Asking Abort job is k = tt
+  answer_spares GoesOn answer job is k = k
+  answer_spares (Skips cause) answer job is k = k
+  answer_spares (Ends ending) answer job is k = k
+
+  order_by : (b : Bool) (answer : Answer) (job : Running) → Held job → Held (if b then answered answer job else job)
+  order_by true answer job k = answer_spares job.course answer job refl k
+  order_by false answer job k = k
+
+module _ (v : View) (was : ℕ → View) (kept : ℕ → Bool) where
+  order_spares : (id : ℕ) (order : JobOrder) (job : Running) → JobSpares v was kept job → UnlessEnding (let x : Running = ordered id order job in x.course) (let x : Running = ordered id order job in Spares v (was job.id) (kept job.id) x.work)
+  order_spares id (Answered answer) job k = order_by v (was job.id) (kept job.id) (job.id == id) answer job k
+
+  pub orders_spare : (id : ℕ) (order : JobOrder) (jobs : List Running) → JobsSpare v was kept jobs → JobsSpare v was kept (map (ordered id order) jobs)
+  orders_spare id order [] k = tt
+  orders_spare id order (job ∷ jobs) k =
+      subst (λ n. UnlessEnding (let x : Running = ordered id order job in x.course) (let x : Running = ordered id order job in Spares v (was n) (kept n) x.work)) (sym (ordered_id id order job)) (order_spares id order job k)
+
+  pub closed_spare : (jobs : List Running) → JobsSpare v was kept jobs → JobsSpare v was kept (map closed_job jobs)
+  closed_spare [] k = tt
+  closed_spare (job ∷ jobs) k = close_by v was job.course (Spares v (was job.id) (kept job.id) job.work) k
+
+-- A job that begins with a source has kept nothing of it, and all is as it is.
+module _ (v : View) where
+  nothing_kept : (IsUndecided at.Begin → (false ≡ false) × AllSame v v) × (false ≡ true → AllSame v v)
+  nothing_kept = (λ u. (refl, λ path. refl), λ k. absurd (false≢true k))
+
+  first_spares : (id : ℕ) (job : Job) (w : Work) → first_work id job ≡ Some w → Spares v v false w
+  first_spares id (plan.Delete []) w is = absurd (let f : ⊥ = cc in f)
+  first_spares id (plan.Delete (path ∷ [])) w is = some_if (Spares v v false) (is_some (parent_of path)) (works.deletes path) w tt is
+  first_spares id (plan.Delete (path ∷ more ∷ paths)) w is = absurd (let f : ⊥ = cc in f)
+  first_spares id (plan.Copy []) w is = absurd (let f : ⊥ = cc in f)
+  first_spares id (plan.Copy (pair ∷ [])) w is = some_if (Spares v v false) (is_some (parent_of pair.source) && is_some (parent_of pair.target)) (works.copies id pair.source pair.target) w nothing_kept is
+  first_spares id (plan.Copy (pair ∷ more ∷ pairs)) w is = absurd (let f : ⊥ = cc in f)
+  first_spares id (plan.CopyTree []) w is = absurd (let f : ⊥ = cc in f)
+  first_spares id (plan.CopyTree (pair ∷ [])) w is = some_if (Spares v v false) (is_some (parent_of pair.source) && is_some (parent_of pair.target)) (works.copies_tree id pair) w refl is
+  first_spares id (plan.CopyTree (pair ∷ more ∷ pairs)) w is = absurd (let f : ⊥ = cc in f)
+  first_spares id (plan.MakeFolder path) w is = some_if (Spares v v false) (is_some (parent_of path)) (works.makes thing.Folder path) w tt is
+  first_spares id (plan.MakeLink path text) w is = some_if (Spares v v false) (is_some (parent_of path) && is_link_text text) (works.makes (thing.Link text) path) w tt is
+  first_spares id (plan.SetMode [] mode) w is = absurd (let f : ⊥ = cc in f)
+  first_spares id (plan.SetMode (path ∷ []) mode) w is = some_if (Spares v v false) (is_some (parent_of path) && nat_le mode 0o7777) (works.sets path mode) w tt is
+  first_spares id (plan.SetMode (path ∷ more ∷ paths) mode) w is = absurd (let f : ⊥ = cc in f)
+
+  pub begun_spares : (id : ℕ) (sources : List Job) (w : Work) → begun_work id sources ≡ Some w → Spares v v false w
+  begun_spares id [] w is = absurd (let f : ⊥ = cc in f)
+  begun_spares id (source ∷ more) w is = first_spares id source w is
+
+  passing_spares : (skips : SkippedKinds) (work : Work) → Spares v v false work → Spares v v false (passing_over skips work)
+  passing_spares skips (Copy c) s = s
+  passing_spares skips (CopyTree c) s = s
+  passing_spares skips (Delete d) s = s
+  passing_spares skips (Make m) s = s
+  passing_spares skips (SetMode w) s = s
+
+  pub turned_spares : (plan : Job) (job next : Running) → Turned plan job next → Spares v v false next.work
+  turned_spares plan job next turn =
+      subst (λ (x : Running). Spares v v false x.work) (sym turn.next_is) (passing_spares (skips_of job.work) turn.work (first_spares job.id plan turn.work turn.first))
