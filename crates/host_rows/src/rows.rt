@@ -180,6 +180,29 @@ list p
 list f/g
 remove_file h
 
+# A link that came into a way since
+sh mkdir -p f/g/h i/g/h; printf mine >f/g/h/x; printf theirs >i/g/h/x
+read f/g/h/x
+file f/g/h/made 600
+read i/g/h/x
+sh mv f away; ln -s i f
+read f/g/h/x
+stat f/g/h/x
+stat f/g/h
+list f/g/h
+file f/g/h/y 600
+write f/g/h/x 0:x
+rename f/g/h/x i/x
+remove_file f/g/h/x
+folder f/g/h/z 700
+sync_file f/g/h/x
+write f/g/h/made 0:made
+sync_file f/g/h/made
+sh rm f; mv away f; test $(cat f/g/h/made) = made
+read f/g/h/x
+list f/g/h
+list i/g/h
+
 # Who may do what
 sh mkdir shut fixed; : >fixed/x; chmod 600 shut; chmod 555 fixed; : >mute; chmod 200 mute
 stat shut/x

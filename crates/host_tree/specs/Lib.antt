@@ -1,6 +1,6 @@
-pub mod Causes
 pub mod Kept
 pub mod Kinds
 pub mod Listing
 pub mod Modes
 pub mod Ranks
+pub mod Seen

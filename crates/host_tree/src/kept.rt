@@ -11,6 +11,9 @@ use tree_trait::TreeError;
 #[derive(Clone, Copy, Debug, PartialEq, Eq)]
 pub enum Access {
     Read,
+    /// Writes of a file that has no set-id bits, so that no write changes its mode.
+    WritePlain,
+    /// Writes of a file that may have them.
     Write,
     /// A sync, or a change of the mode.
     Sync,
@@ -54,6 +57,25 @@ impl<F: Drop> Kept<F> {
             }
         }
         None
+    }
+
+    /// Whether a file is open at a path to be written.
+    pub fn is_written(&self, path: &Path) -> bool {
+        match self.at(path) {
+            Some(kept) => matches!(kept.access, Access::WritePlain | Access::Write),
+            None => false,
+        }
+    }
+
+    /// The file that is open at a path may have set-id bits from now on.
+    pub fn note_set_id(&mut self, path: &Path)
+        ensures { length self.new.files.items ≡ length self.old.files.items }
+    {
+        if let Some(at) = self.files.iter().position(|kept| kept.path.same(path)) {
+            if self.files[at].access == Access::WritePlain {
+                self.files[at].access = Access::Write;
+            }
+        }
     }
 
     /// Takes room for one more, with a path of its own for it.

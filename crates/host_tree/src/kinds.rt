@@ -1,9 +1,9 @@
 //! What has to stand at a path for a call, and what the system says that stands there.
-ghost use Rattle.std.specs.Prelude.{◌≡◌, None, IfOk};
+ghost use Rattle.std.specs.Prelude.{◌≡◌, None, Err, IsOk, IfOk, IfSome};
 ghost use Rattle.std.specs.Fs.{metadata_mode};
 ghost use Rattle.host_tree.specs.Kinds.{kind_of_mode, refusal_of_kind};
 
-use crate::cause::answer_of;
+use host_devices::answer_of;
 use mc_text::Kind;
 use std::fs;
 use std::fs::Metadata;
@@ -56,10 +56,12 @@ pub fn facts_at<R: Files>(rt: &R, text: &str) -> Result<Metadata, TreeError> {
     answer_of(fs::symlink_metadata(rt, text))
 }
 
-/// Looks at what stands at a path, which has to be of the kind that a call wants.
-pub fn require<R: Files>(rt: &R, text: &str, wanted: Wanted) -> Result<(), TreeError> {
-    let facts = facts_at(rt, text)?;
-    match kind_refusal(wanted, kind_of(&facts)) {
+/// Refuses what isn't of the kind that a call wants.
+pub fn require_kind(facts: &Metadata, wanted: Wanted) -> Result<(), TreeError>
+    ensures refused { IfSome (refusal_of_kind wanted (kind_of_mode (metadata_mode facts.now))) (λ refusal. result ≡ Err refusal) }
+    ensures passed { refusal_of_kind wanted (kind_of_mode (metadata_mode facts.now)) ≡ None → IsOk result }
+{
+    match kind_refusal(wanted, kind_of(facts)) {
         None => Ok(()),
         Some(refusal) => Err(refusal),
     }

@@ -4,9 +4,8 @@ ghost use Rattle.mc_text.specs.Names.{name_fault};
 ghost use Rattle.tree_trait.specs.Answers.{IsAscending};
 ghost use Rattle.host_tree.specs.Listing.{IsNamed, IsCounted};
 
-use crate::cause::{answer_of, cause_of};
 use crate::ranked::RankedName;
-use crate::read::{TURNS, read_once};
+use host_devices::{TURNS, answer_of, cause_of, read_once};
 use mc_text::{Name, NameError, Names};
 use std::alloc::{AllocError, Global};
 use std::io::Read;

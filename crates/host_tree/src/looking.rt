@@ -5,7 +5,7 @@ ghost use Rattle.host_tree.specs.Kept.{forgetting};
 ghost use Rattle.host_tree.specs.Kinds.{kind_of_mode};
 ghost use Rattle.tree_trait.specs.Answers.{IsInRange, IsAscending};
 
-use crate::kinds::{facts_at, kind_of};
+use crate::kinds::kind_of;
 use crate::listing::children_of;
 use crate::machine::Machine;
 use mc_text::Path;
@@ -24,8 +24,7 @@ impl<R: Files> Machine<R> {
         ensures read { self.new.read.files.items ≡ forgetting self.old.read.files.items path.now }
     {
         self.read.forget(path);
-        let text = self.text_of(alloc, path)?;
-        let facts = facts_at(&self.rt, text.as_str())?;
+        let facts = self.facts_of(alloc, path)?;
         Ok(meta_of(&facts))
     }
 

@@ -4,9 +4,12 @@ ghost use Rattle.std.specs.Prelude.{◌≡◌, [], None, IfOk};
 ghost use Rattle.mc_text.specs.Routes.{path_text};
 
 use crate::kept::Kept;
-use crate::real_path::{Walked, real_text};
+use crate::kinds::{Wanted, require_kind};
+use crate::real_path::{Walked, look_at, real_text, text_at_once};
 use mc_text::{Path, Text};
 use std::alloc::{AllocGlobal, Global};
+use std::convert::AsStr;
+use std::fs::Metadata;
 use std::rt::Files;
 use tree_trait::TreeError;
 
@@ -14,7 +17,7 @@ use tree_trait::TreeError;
 #[derive(Drop)]
 pub struct Machine<R: Files> {
     pub rt: R,
-    /// The folder whose way was looked at last.
+    /// What was looked at on the ways of paths.
     pub walked: Walked,
     /// Files that were made, written or given a mode, until they are synced: a mode without the bit to read or write
     /// then hinders neither the writes nor the sync.
@@ -30,9 +33,10 @@ impl<R: Files + AllocGlobal> Machine<R> {
     {
         let kept = Kept::new(rt.alloc());
         let read = Kept::new(rt.alloc());
+        let walked = Walked::new(rt.alloc());
         Machine {
             rt,
-            walked: Walked::new(),
+            walked,
             kept,
             read,
         }
@@ -47,6 +51,33 @@ impl<R: Files> Machine<R> {
         ensures read { self.new.read ≡ self.old.read }
     {
         real_text(&self.rt, alloc, &mut self.walked, path)
+    }
+
+    /// What stands at a path, on whose way is no link.
+    pub fn facts_of(&mut self, alloc: Global, path: &Path) -> Result<Metadata, TreeError>
+        ensures kept { self.new.kept ≡ self.old.kept }
+        ensures read { self.new.read ≡ self.old.read }
+    {
+        let Ok(text) = text_at_once(alloc, path) else {
+            return Err(TreeError::Memory);
+        };
+        let facts = look_at(&self.rt, alloc, &mut self.walked, text.as_str())?;
+        self.walked.note_file(text, &facts);
+        Ok(facts)
+    }
+
+    /// The text of a path, on whose way is no link and at which a thing of this kind stands.
+    pub fn text_to(&mut self, alloc: Global, path: &Path, wanted: Wanted) -> Result<Text, TreeError>
+        ensures text { IfOk result (λ text. text ≡ path_text path.now) }
+        ensures kept { self.new.kept ≡ self.old.kept }
+        ensures read { self.new.read ≡ self.old.read }
+    {
+        let Ok(text) = text_at_once(alloc, path) else {
+            return Err(TreeError::Memory);
+        };
+        let facts = look_at(&self.rt, alloc, &mut self.walked, text.as_str())?;
+        require_kind(&facts, wanted)?;
+        Ok(text)
     }
 
     /// The next call looks at its whole way, and at what it reads, anew.

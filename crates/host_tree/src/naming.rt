@@ -2,9 +2,9 @@
 ghost use Rattle.std.specs.Prelude.{◌≡◌, ◌≤◌, [], OnOk, OnErr};
 ghost use Rattle.host_tree.specs.Kept.{forgetting, forgetting_below};
 
-use crate::cause::{answer_of, naming_cause_of};
 use crate::machine::Machine;
 use crate::writing::permissions_of;
+use host_devices::{answer_of, naming_cause_of};
 use mc_text::Path;
 use std::alloc::Global;
 use std::convert::AsStr;

@@ -4,11 +4,10 @@ ghost use Rattle.std.specs.Bool.{OnTrue};
 ghost use Rattle.tree_trait.specs.Answers.{IsLinkText};
 ghost use Rattle.host_tree.specs.Kept.{HasRoom};
 
-use crate::cause::answer_of;
 use crate::kept::{Access, KeptFile};
-use crate::kinds::{Wanted, require};
+use crate::kinds::Wanted;
 use crate::machine::Machine;
-use crate::read::TURNS;
+use host_devices::{TURNS, answer_of};
 use mc_text::{Path, Text};
 use std::alloc::Global;
 use std::convert::AsStr;
@@ -49,12 +48,11 @@ where
         ensures kept { self.new.kept ≡ self.old.kept }
     {
         self.read.forget_all();
-        let text = self.text_of(alloc, path)?;
-        let path = self.read.room_for(alloc, path)?;
-        require(&self.rt, text.as_str(), Wanted::File)?;
+        let kept_path = self.read.room_for(alloc, path)?;
+        let text = self.text_to(alloc, path, Wanted::File)?;
         let file = answer_of(File::open(&self.rt, text.as_str()))?;
         Ok(KeptFile {
-            path,
+            path: kept_path,
             access: Access::Read,
             file,
         })
@@ -64,8 +62,7 @@ where
     pub fn read_link(&mut self, alloc: Global, path: &Path) -> Result<Text, TreeError>
         ensures { IfOk result IsLinkText }
     {
-        let text = self.text_of(alloc, path)?;
-        require(&self.rt, text.as_str(), Wanted::Link)?;
+        let text = self.text_to(alloc, path, Wanted::Link)?;
         let target = answer_of(self.rt.read_link(alloc, text.as_str()))?;
         let target = target.as_path().as_os_str();
         if !may_be_link_text(target) {

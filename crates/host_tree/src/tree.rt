@@ -2,9 +2,9 @@
 ghost use Rattle.std.specs.Prelude.{◌≡◌, None};
 ghost use Rattle.tree_trait.specs.Answers.{HasCause, count_after};
 
-use crate::faults::Faults;
 use crate::kinds::Wanted;
 use crate::machine::Machine;
+use host_devices::Faults;
 use mc_text::{Path, Text};
 use std::alloc::{AllocGlobal, Global};
 use std::marker::Model;

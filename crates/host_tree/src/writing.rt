@@ -4,10 +4,10 @@ ghost use Rattle.std.specs.Fs.{permissions_mode};
 ghost use Rattle.host_tree.specs.Kept.{HasRoom, forgetting, with_newest};
 ghost use Rattle.host_tree.specs.Modes.{bars_owner};
 
-use crate::cause::answer_of;
 use crate::kept::{Access, KeptFile};
-use crate::kinds::{Wanted, require};
+use crate::kinds::Wanted;
 use crate::machine::Machine;
+use host_devices::answer_of;
 use mc_text::Path;
 use std::alloc::Global;
 use std::convert::AsStr;
@@ -40,7 +40,7 @@ where
         }
         self.kept.keep(KeptFile {
             path: place,
-            access: Access::Write,
+            access: access_by(mode),
             file,
         });
         Ok(())
@@ -55,8 +55,10 @@ where
         bytes: &[u8],
     ) -> Result<(), TreeError> {
         if let Some(open) = self.kept.at(path) {
-            if open.access == Access::Write {
-                return put_with_mode(&open.file, offset, bytes);
+            match open.access {
+                Access::WritePlain => return put_into(&open.file, offset, bytes),
+                Access::Write => return put_with_mode(&open.file, offset, bytes),
+                Access::Read | Access::Sync => {}
             }
         }
         let open = self.open_to_write(alloc, path)?;
@@ -69,12 +71,11 @@ where
     fn open_to_write(&mut self, alloc: Global, path: &Path) -> Result<KeptFile<R::File>, TreeError>
         ensures room { OnOk result (HasRoom self.new.kept.files) }
     {
-        let text = self.text_of(alloc, path)?;
-        let path = self.kept.room_for(alloc, path)?;
-        require(&self.rt, text.as_str(), Wanted::File)?;
+        let kept_path = self.kept.room_for(alloc, path)?;
+        let text = self.text_to(alloc, path, Wanted::File)?;
         let file = answer_of(OpenOptions::new().write(true).open(&self.rt, text.as_str()))?;
         Ok(KeptFile {
-            path,
+            path: kept_path,
             access: Access::Write,
             file,
         })
@@ -87,11 +88,14 @@ where
     {
         self.read.forget_all();
         if let Some(open) = self.kept.at(path) {
-            return answer_of(open.file.set_permissions(permissions_of(mode)));
+            let answer = answer_of(open.file.set_permissions(permissions_of(mode)));
+            if access_by(mode) == Access::Write {
+                self.kept.note_set_id(path);
+            }
+            return answer;
         }
-        let text = self.text_of(alloc, path)?;
         let place = self.kept.room_for(alloc, path)?;
-        require(&self.rt, text.as_str(), Wanted::Moded)?;
+        let text = self.text_to(alloc, path, Wanted::Moded)?;
         let file = match answer_of(File::open(&self.rt, text.as_str())) {
             Ok(file) => file,
             Err(refusal) => return set_unopened(&self.rt, text.as_str(), mode, refusal),
@@ -105,22 +109,39 @@ where
         answer
     }
 
-    /// Brings a file, or the names of a folder, onto the disk, and closes it. The look comes first, since an open would
-    /// follow a link, and wait for ever at a pipe.
+    /// Brings a file, or the names of a folder, onto the disk, and closes it. Where it isn't open to be written the look comes first, since an
+    /// open would follow a link, and wait for ever at a pipe.
     pub fn sync(&mut self, alloc: Global, path: &Path, wanted: Wanted) -> Result<(), TreeError>
         ensures closed { OnOk result (self.new.kept.files.items ≡ forgetting self.old.kept.files.items path.now) }
         ensures refused { OnErr result (self.new.kept ≡ self.old.kept) }
     {
-        let text = self.text_of(alloc, path)?;
-        require(&self.rt, text.as_str(), wanted)?;
-        if let Some(open) = self.kept.at(path) {
-            answer_of(open.file.sync_all())?;
+        if wanted == Wanted::File && self.kept.is_written(path) {
+            self.sync_open(path)?;
         } else {
-            let file = answer_of(File::open(&self.rt, text.as_str()))?;
-            answer_of(file.sync_all())?;
+            self.sync_found(alloc, path, wanted)?;
         }
         self.kept.forget(path);
         Ok(())
+    }
+
+    /// Brings onto the disk what is open at a path.
+    fn sync_open(&self, path: &Path) -> Result<(), TreeError> {
+        match self.kept.at(path) {
+            Some(open) => answer_of(open.file.sync_all()),
+            None => Err(TreeError::Missing),
+        }
+    }
+
+    /// Brings onto the disk what stands at a path.
+    fn sync_found(&mut self, alloc: Global, path: &Path, wanted: Wanted) -> Result<(), TreeError>
+        ensures { self.new.kept ≡ self.old.kept }
+    {
+        let text = self.text_to(alloc, path, wanted)?;
+        if let Some(open) = self.kept.at(path) {
+            return answer_of(open.file.sync_all());
+        }
+        let file = answer_of(File::open(&self.rt, text.as_str()))?;
+        answer_of(file.sync_all())
     }
 }
 
@@ -156,6 +177,15 @@ fn create<R: Files>(rt: &R, text: &str, mode: u16) -> Result<R::File, TreeError>
 
 /// The bits of a mode that lend a program the rights of its owner and of its group.
 const SET_ID_BITS: u32 = 0o6000;
+
+/// For what a file of this mode is open, where it is open to be written.
+fn access_by(mode: u16) -> Access {
+    if u32::from(mode) & SET_ID_BITS == 0 {
+        Access::WritePlain
+    } else {
+        Access::Write
+    }
+}
 
 /// Writes bytes at an offset of a file, and leaves its mode: where the writer isn't root, the system takes the set-id bits away at
 /// a write, and they are set again.

@@ -6,7 +6,8 @@ mod terminal;
 
 use crate::surroundings::{NoWords, fill_size, surroundings, words_of};
 use crate::terminal::{Terminal, begin_line, clear_screen, make_raw, put_back, put_usage};
-use host_tree::{HostClock, HostTree, ShSpawner, StdinSource, StdoutSink};
+use host_devices::{HostClock, ShSpawner, StdinSource, StdoutSink};
+use host_tree::HostTree;
 use mc_main::{Beginning, Env, Gate, beginning_of, mc_run};
 use mc_text::Text;
 use std::alloc::Global;

@@ -1,5 +1,5 @@
 use Rattle.std.proofs.Common.{◌≤◌, vec_len}
-use Rattle.host_tree.proofs.sh_spawner.first_bytes.Given as goal
+use Rattle.host_devices.proofs.sh_spawner.first_bytes.Given as goal
 
 -- what is kept so far is within `OUTPUT_BYTES`
 abbrev pub invariant-loop : goal.invariant-loop

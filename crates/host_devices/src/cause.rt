@@ -1,7 +1,7 @@
 //! The system's errors by the names that a tree has for them.
 ghost use Rattle.std.specs.Prelude.{◌≡◌, Ok, Err, MatchResult};
 ghost use Rattle.std.specs.IoError.{error_kind};
-ghost use Rattle.host_tree.specs.Causes.{cause_of_kind, naming_cause_of_kind};
+ghost use Rattle.host_devices.specs.Causes.{cause_of_kind, naming_cause_of_kind};
 
 use std::io;
 use std::io::ErrorKind;
