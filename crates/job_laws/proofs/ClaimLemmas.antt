@@ -5,9 +5,9 @@ use Rattle.std.specs.List.{list_any}
 use Rattle.std.proofs.lemmas.Bool.{false≢true, both_ways, or_cases, or_parts, or_from, or_left, or_right, and_parts, and_from, false_from_ne_true}
 use Rattle.mc_text.specs.Routes.{Route, is_prefix}
 use Rattle.op_plan.specs.Meeting.{meet}
-use Rattle.op_plan.specs.Claiming.{clash, clashes}
+use Rattle.job_claims.specs.Claiming.{clash, clashes}
 use Rattle.job_laws.specs.Near.{is_written, is_near}
-use Rattle.op_plan.specs.declared.claim.Claim.{Claim}
+use Rattle.job_claims.specs.declared.claim.Claim.{Claim}
 use Rattle.job_laws.proofs.PathLemmas.{meet_up, under-trans}
 
 meet_turned : (a b : Route) → meet a b ≡ true → meet b a ≡ true

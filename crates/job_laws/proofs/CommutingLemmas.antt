@@ -2,7 +2,7 @@
 use Rattle.std.proofs.Common.{◌≡◌, Bool, false, List, [], ◌∷◌, refl, sym, ap, ◌∙◌}
 use Rattle.tree_trait.specs.FileSystem.{View}
 use Rattle.op_plan.specs.declared.job.Job.{Job}
-use Rattle.op_plan.specs.Claiming.{claims, clashes}
+use Rattle.job_claims.specs.Claiming.{claims, clashes}
 use Rattle.job_laws.specs.Works.{Work, does, after_works}
 use Rattle.job_laws.specs.Outcome.{done, outcome}
 use Rattle.job_laws.specs.Commuting.{WorksCommute, OutcomesCommute}

@@ -7,12 +7,12 @@ use Rattle.mc_text.specs.Routes.{Route, same_path, is_prefix}
 use Rattle.tree_trait.specs.FileSystem.{Spot, View}
 use Rattle.tree_trait.specs.Refusals.{holder}
 use Rattle.op_plan.specs.Meeting.{meet}
-use Rattle.op_plan.specs.Claiming.{claim, all_written, of_pairs, claims, clashes}
+use Rattle.job_claims.specs.Claiming.{claim, all_written, of_pairs, claims, clashes}
 use Rattle.job_laws.specs.Ways.{below}
 use Rattle.job_laws.specs.Views.{nothing, holding, Change, Nothing, Puts, Carries, carry, apply, mount_of, one_mount}
 use Rattle.job_laws.specs.Near.{is_written, is_near}
 use mathlib.Core.Path.{fun_ext}
-use Rattle.op_plan.specs.declared.claim.Claim.{Claim}
+use Rattle.job_claims.specs.declared.claim.Claim.{Claim}
 use Rattle.op_plan.specs.declared.job.Pair.{Pair}
 use Rattle.op_plan.specs.declared.job.Job.{Job}
 use Rattle.op_plan.specs.declared.job.Job.TheVariants.{Copy, Move, Delete, MakeFolder, SetMode, MakeLink, Save}

@@ -2,9 +2,9 @@
 use Rattle.std.specs.Prelude.{◌≡◌, true, false, List}
 use Rattle.mc_text.specs.Routes.{Route}
 use Rattle.tree_trait.specs.FileSystem.{View}
-use Rattle.op_plan.specs.Claiming.{claims, clashes}
+use Rattle.job_claims.specs.Claiming.{claims, clashes}
 use Rattle.job_laws.specs.Near.{is_written, is_near}
-use Rattle.op_plan.specs.declared.claim.Claim.{Claim}
+use Rattle.job_claims.specs.declared.claim.Claim.{Claim}
 use Rattle.op_plan.specs.declared.job.Job.{Job}
 use Rattle.job_laws.specs.Works.{Work, does}
 

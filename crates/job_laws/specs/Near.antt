@@ -2,7 +2,7 @@
 use Rattle.std.specs.Prelude.{Bool, ◌&&◌, List}
 use Rattle.std.specs.List.{list_any}
 use Rattle.mc_text.specs.Routes.{Route, is_prefix}
-use Rattle.op_plan.specs.declared.claim.Claim.{Claim}
+use Rattle.job_claims.specs.declared.claim.Claim.{Claim}
 use Rattle.op_plan.specs.Meeting.{meet}
 
 -- a path lies under a claim for writing

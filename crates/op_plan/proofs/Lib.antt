@@ -9,7 +9,6 @@ pub mod MaskLemmas
 pub mod CheckLemmas
 pub mod SplitLemmas
 pub mod StarLemmas
-pub mod ClashLemmas
 pub mod NamingLemmas
 pub mod ChildLemmas
 pub mod PlanLemmas

@@ -1,7 +1,6 @@
 pub mod Meeting
 pub mod Sorting
 pub mod Digests
-pub mod Claiming
 pub mod Masks
 pub mod Filling
 pub mod Destinations

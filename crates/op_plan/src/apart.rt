@@ -13,11 +13,10 @@ ghost use Rattle.op_plan.specs.Checks.{none_same, none_across, none_into, none_t
 ghost use Rattle.op_plan.specs.Planning.{pairs_into};
 ghost use Rattle.op_plan.specs.Soundness.{ArePairsApart};
 
-use crate::claim::meet;
 use crate::digest::are_told_apart;
 use crate::error::PlanError;
 use crate::job::{Pair, Pairs};
-use crate::meeting::{first_meeting, last_name};
+use crate::meeting::{first_meeting, last_name, meet};
 use mc_text::{Name, NoMemory, Path, PathError, Paths};
 use resolving::ResolveError;
 use std::alloc::Global;

@@ -1,9 +1,7 @@
-//! Plans: what a job will do, told before it does anything; why it must not be begun; and what it claims.
+//! Plans: what a job will do, told before it does anything, and why it must not be begun.
 #![tactic(auto)]
 
 mod apart;
-mod claim;
-mod claiming;
 mod destination;
 mod digest;
 mod error;
@@ -15,10 +13,9 @@ mod plan;
 mod request;
 mod sources;
 
-pub use claim::{Claim, Claims};
-pub use claiming::{claims, clash};
 pub use error::PlanError;
 pub use job::{Job, Pair, Pairs};
 pub use mask::MaskPiece;
+pub use meeting::meet;
 pub use plan::{is_link_text, make_plan, plan_place};
 pub use request::Request;

@@ -10,11 +10,17 @@ ghost use Rattle.mc_text.specs.Routes.{last_of};
 ghost use Rattle.std.specs.Bool.{OnTrue};
 ghost use Rattle.op_plan.specs.Sorting.{comes_apart, route_cmp, neighbours_meet, IsFirstMeeting};
 
-use crate::claim::meet;
 use crate::digest::folder_of_all;
 use mc_text::{Name, NoMemory, Path};
 use std::alloc::Global;
 use std::cmp::Ordering;
+
+/// Whether one path is the other, or that of a folder above what stands there.
+pub fn meet(mine: &Path, theirs: &Path) -> bool
+    ensures { result ≡ meet mine.now theirs.now }
+{
+    mine.is_prefix_of(theirs) || theirs.is_prefix_of(mine)
+}
 
 /// The shortest front of the paths in which two meet: the first that its last one meets, and that last one, by their
 /// positions. The time grows as the number of paths times the square of its logarithm.

@@ -18,12 +18,12 @@ ghost use Rattle.op_plan.specs.Checks.{sources_in};
 ghost use Rattle.mc_text.specs.Routes.{last_of};
 
 use crate::apart::{pairs_beside, pairs_into, target_in};
-use crate::claim::meet;
 use crate::destination::{folder_at, folder_there, split_last};
 use crate::digest::folder_of_all;
 use crate::error::PlanError;
 use crate::job::{Job, Pairs};
 use crate::mask::{Mask, MaskPiece};
+use crate::meeting::meet;
 use crate::naming::{choose, name_in, names_for, read_pattern};
 use crate::request::Request;
 use crate::sources::{Sources, look_at_all, refuse_nested_unless};

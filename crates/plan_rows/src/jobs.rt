@@ -1,8 +1,9 @@
 //! What jobs claim, and which of their claims clash.
 use crate::fields::paths_of;
 use crate::telling::tell_path;
+use job_claims::{Claim, Claims, claims, clash};
 use mc_text::{Bytes, Path, Text};
-use op_plan::{Claim, Claims, Job, Pair, Pairs, claims, clash};
+use op_plan::{Job, Pair, Pairs};
 use row_page::{Page, two_fields};
 use std::alloc::Global;
 

@@ -4,8 +4,8 @@ use Rattle.std.specs.Prelude.{nat_lt, slice_get, is_some, option_map, option_and
 use Rattle.std.specs.List.{list_any, position, position_or_len}
 use Rattle.std.proofs.lemmas.List.Quantifiers.{position-Some}
 use Rattle.std.proofs.lemmas.Option.{slice_get-get_or}
-use Rattle.op_plan.specs.declared.claim.Claim.{Claim}
-use Rattle.op_plan.specs.Claiming.{claim, clash, clashes, first_clash}
+use Rattle.job_claims.specs.declared.claim.Claim.{Claim}
+use Rattle.job_claims.specs.Claiming.{claim, clash, clashes, first_clash}
 use Rattle.op_plan.proofs.Twos.{any-position}
 
 there-is : {X : Type 0} (p : X → Bool) (xs : List X) → is_some (position p xs) ≡ list_any p xs

@@ -1,5 +1,5 @@
 use Rattle.std.proofs.Common.{◌≡◌, take}
-use Rattle.op_plan.proofs.claim.Claims.copy.Given as goal
+use Rattle.job_claims.proofs.claim.Claims.copy.Given as goal
 
 abbrev pub invariant-loop-claim : goal.invariant-loop-claim
 invariant-loop-claim l = l.copies.items ≡ take l.claim-index l.claim-items

@@ -1,8 +1,8 @@
 -- the first pair is found where some claims clash
 use Rattle.std.proofs.Common.{◌∙◌, ap}
-use Rattle.op_plan.specs.Claiming.{first_clash}
-use Rattle.op_plan.proofs.ClashLemmas.{found_there}
-use Rattle.op_plan.proofs.claiming.clash.Goals as goal
+use Rattle.job_claims.specs.Claiming.{first_clash}
+use Rattle.job_claims.proofs.ClashLemmas.{found_there}
+use Rattle.job_claims.proofs.claiming.clash.Goals as goal
 
 pub returns-clause-found : goal.returns-clause-found
 returns-clause-found c =

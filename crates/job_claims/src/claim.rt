@@ -1,9 +1,9 @@
 //! A claim of a path.
 ghost use Rattle.std.specs.Prelude.{◌≡◌, IfOk};
-ghost use Rattle.op_plan.specs.Meeting.{meet};
-ghost use Rattle.op_plan.specs.Claiming.{clash};
+ghost use Rattle.job_claims.specs.Claiming.{clash};
 
 use mc_text::{NoMemory, Path};
+use op_plan::meet;
 use std::alloc::Global;
 use std::marker::Model;
 
@@ -40,7 +40,7 @@ pub struct Claims(pub Vec<Claim>);
 
 impl Model for Claims {
     ghost use Rattle.std.specs.Prelude.{List};
-    ghost use Rattle.op_plan.specs.declared.claim.Claim.{Claim};
+    ghost use Rattle.job_claims.specs.declared.claim.Claim.{Claim};
 
     ghost Value = { List Claim };
 
@@ -65,11 +65,4 @@ impl Claims {
         }
         Ok(Claims(copies))
     }
-}
-
-/// Whether one path is the other, or that of a folder above what stands there.
-pub fn meet(mine: &Path, theirs: &Path) -> bool
-    ensures { result ≡ meet mine.now theirs.now }
-{
-    mine.is_prefix_of(theirs) || theirs.is_prefix_of(mine)
 }

@@ -1,11 +1,11 @@
 //! What a job claims of the tree, and which claims clash.
 ghost use Rattle.std.specs.Prelude.{◌≡◌, ◌<◌, [], ◌∷◌, length, is_some, IfOk, IfSome};
 ghost use Rattle.std.specs.List.{list_any, position};
-ghost use Rattle.op_plan.specs.Claiming.{claims, clash, clashes, first_clash, of_pairs, all_written};
+ghost use Rattle.job_claims.specs.Claiming.{claims, clash, clashes, first_clash, of_pairs, all_written};
 
 use crate::claim::{Claim, Claims};
-use crate::job::{Job, Pair};
 use mc_text::{NoMemory, Path};
+use op_plan::{Job, Pair};
 use std::alloc::Global;
 
 /// What a job claims: a copy reads its sources; all else is written.
