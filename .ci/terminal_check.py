@@ -12,6 +12,7 @@ from job_checks import (
     check_copied_folders, check_copies, check_folders, check_kept_folder, check_links, check_modes, check_questions,
     check_new_folders, check_set_id_bits,
 )
+from merge_checks import check_merged_folders
 from panel_box_checks import check_big_home, check_panel_boxes
 from screen_checks import check_find, check_frames, check_panels, check_viewer
 from several_checks import check_several_things
@@ -55,6 +56,7 @@ def main():
         check_questions(program, base, check)
         check_copied_folders(program, base, check)
         check_several_things(program, base, check)
+        check_merged_folders(program, base, check)
         check_frames(program, base, check)
         check_viewer(program, base, check)
         check_find(program, base, check)

@@ -99,7 +99,7 @@ class Told:
         return text in self.written or any(text.decode() in row for screen in self.screens for row in screen.rows())
 
 
-def run(program, words, keys, size=(24, 80), **settings):
+def run(program, words, keys, size=(24, 80), patience=PATIENCE, **settings):
     """Runs the program on a terminal of its own; each key is sent once the screen has been quiet for a moment.
 
     Answers the exit status, what it told, and whether the terminal is as it was. In place of a key may stand what is to be
@@ -110,7 +110,7 @@ def run(program, words, keys, size=(24, 80), **settings):
     ours, theirs, before = own_terminal(size)
     child = start(program, words, ours, theirs, **settings)
     told, status, waiting = Told(size), None, list(keys)
-    end = time.monotonic() + PATIENCE
+    end = time.monotonic() + patience
     while status is None and time.monotonic() < end:
         got = read_some(ours, 0.2)
         told.written += got

@@ -48,11 +48,13 @@ abbrev pub waits_letters : Waits → List ℕ
 waits_letters (waits.Question question) = question_letters
 waits_letters (waits.Trouble trouble) = trouble_letters trouble.barrier
 
+-- what is answered by such a letter for all items from here on
+abbrev pub answer_for_all : ℕ → Answer
+answer_for_all letter = if letter == 97 then All else if letter == 117 then Update else if letter == 111 then Nothing else if letter == 115 then SizeDiffers else Abort
+
 -- what is answered to a question by such a letter
 abbrev pub question_answer : ℕ → Answer
-question_answer letter =
-    if letter == 121 then Yes else if letter == 110 then No else if letter == 97 then All else
-    if letter == 117 then Update else if letter == 111 then Nothing else if letter == 115 then SizeDiffers else Abort
+question_answer letter = if letter == 121 then Yes else if letter == 110 then No else answer_for_all letter
 
 -- what is done about a trouble by such a letter
 abbrev pub trouble_answer : ℕ → Answer

@@ -1,6 +1,6 @@
 //! What the boxes' answers to a key come to.
 ghost use Rattle.std.specs.Prelude.{◌≡◌};
-ghost use Rattle.box_words.specs.BoxKeys.{answer_reply as answer_reply_of, answer_reply_to as answers_by, closes_message as does_close, delete_letters, delete_reply as delete_reply_of, delete_reply_to as deletes_by, letter_answer, line_reply as line_reply_of, mode_reply as mode_reply_of, question_answer, trouble_answer, trouble_letters as letters_of_trouble, waits_letters as letters_of};
+ghost use Rattle.box_words.specs.BoxKeys.{answer_for_all, answer_reply as answer_reply_of, answer_reply_to as answers_by, closes_message as does_close, delete_letters, delete_reply as delete_reply_of, delete_reply_to as deletes_by, letter_answer, line_reply as line_reply_of, mode_reply as mode_reply_of, question_answer, trouble_answer, trouble_letters as letters_of_trouble, waits_letters as letters_of};
 
 use job_reports::{Answer, Waits};
 use key_screen::{Base, Key};
@@ -108,6 +108,15 @@ fn question_answer(letter: u8) -> Answer
     match letter {
         b'y' => Answer::Yes,
         b'n' => Answer::No,
+        _ => answer_for_all(letter),
+    }
+}
+
+/// What is answered for all items from here on.
+fn answer_for_all(letter: u8) -> Answer
+    ensures { result ≡ answer_for_all letter }
+{
+    match letter {
         b'a' => Answer::All,
         b'u' => Answer::Update,
         b'o' => Answer::Nothing,

@@ -8,13 +8,13 @@ use Rattle.job_reports.specs.declared.report.Trouble.{Trouble}
 use Rattle.mode_setting.specs.Settings.{Setting}
 use Rattle.mode_setting.specs.Settings as settings
 use Rattle.tree_deletion.specs.Standing as standing
-use Rattle.copy_move.specs.declared.making.MakingStage.{MakingStage}
-use Rattle.copy_move.specs.declared.making.MakingStage.TheVariants as making
+use Rattle.thing_making.specs.declared.making.MakingStage.{MakingStage}
+use Rattle.thing_making.specs.declared.making.MakingStage.TheVariants as making
 use Rattle.copy_move.specs.declared.work.Work.{Work}
 use Rattle.copy_move.specs.declared.work.Work.TheVariants.{Copy, CopyTree, Delete, Make, SetMode}
 use Rattle.copy_move.specs.Jobs.{WorkTells, at_barrier}
-use Rattle.copy_move.specs.Makings.{Making}
-use Rattle.copy_move.specs.Makings as makings
+use Rattle.thing_making.specs.Makings.{Making}
+use Rattle.thing_making.specs.Makings as makings
 
 -- the trouble of a making is at a barrier where its next call is
 making_barrier : (stage : MakingStage) (path : Route) (trouble : Trouble) → makings.IsTroubleAt stage path trouble → trouble.barrier ≡ makings.at_barrier stage

@@ -5,7 +5,7 @@ use Rattle.mc_text.specs.Routes.{Route}
 use Rattle.job_reports.specs.declared.report.Ending.{Ending}
 use Rattle.job_reports.specs.declared.report.Ending.TheVariants.{Finished, Aborted, Killed, NoMemory}
 use Rattle.job_reports.specs.declared.report.Did.{Did}
-use Rattle.job_reports.specs.declared.report.Did.TheVariants.{Began, Chunk, Placed, Removed, Made, Set, Kept, Skipped, Cleaned, Barrier, Asked, Troubled, Ended}
+use Rattle.job_reports.specs.declared.report.Did.TheVariants.{Began, Chunk, Placed, Removed, Made, Set, Kept, Skipped, Cleaned, Barrier, Asked, Merges, Troubled, Ended}
 use Rattle.file_copy.specs.declared.stage.Stage.{Stage}
 use Rattle.file_copy.specs.declared.stage.Stage.TheVariants.{Begin, Fill, Clean, Left, Decided}
 use Rattle.file_copy.specs.declared.stage.Next.TheVariants as next
@@ -15,12 +15,12 @@ use Rattle.file_copy.specs.AskedCopies.{AskedTells}
 use Rattle.file_copy.specs.Copying.{Copying, IsSound, after_clean}
 use Rattle.file_copy.specs.Copying as copying
 use Rattle.file_copy.specs.LastSteps.{GoesDown, Winds, last_steps}
-use Rattle.copy_move.specs.declared.making.MakingStage.{MakingStage}
-use Rattle.copy_move.specs.declared.making.MakingStage.TheVariants as making
+use Rattle.thing_making.specs.declared.making.MakingStage.{MakingStage}
+use Rattle.thing_making.specs.declared.making.MakingStage.TheVariants as making
 use Rattle.copy_move.specs.declared.work.Work.{Work}
 use Rattle.copy_move.specs.declared.work.Work.TheVariants.{Copy, CopyTree, Delete, Make, SetMode}
-use Rattle.copy_move.specs.Makings.{Making}
-use Rattle.copy_move.specs.Makings as makings
+use Rattle.thing_making.specs.Makings.{Making}
+use Rattle.thing_making.specs.Makings as makings
 use Rattle.copy_move.specs.Jobs.{IsGoing, course_after}
 use Rattle.subtree_copy.specs.Ranks as tree
 use Rattle.subtree_copy.proofs.Answered.{waiting_law}
@@ -90,6 +90,7 @@ copy_falls old new (Chunk count) (part, facts, done, at, some, few, within, is) 
 copy_falls old new (Asked question) (at, is) sound h =
     subst (λ (n : Copying). last_steps n.stage n.folder < copy_rank old.stage old.folder) (sym is)
     (let few = few_last old.stage old.folder in let more = more_left old.stage old.folder in omega (arith, few, more))
+copy_falls old new (Merges pair names) t sound h = absurd t
 copy_falls old new (Set path) t sound h = absurd t
 copy_falls old new (Placed path) (part, facts, at, target, is) sound h =
     below old new (Fill part facts facts.size) (record old { stage = Decided }) at is (let low = decided_low old.folder in omega (arith, low))
@@ -151,6 +152,7 @@ making_falls old new (Ended NoMemory part) t h = absurd t
 making_falls old new (Began part) t h = absurd t
 making_falls old new (Chunk count) t h = absurd t
 making_falls old new (Asked question) t h = absurd t
+making_falls old new (Merges pair names) t h = absurd t
 making_falls old new (Set path) t h = absurd t
 making_falls old new (Placed path) t h = absurd t
 making_falls old new (Removed made) t h = absurd t
@@ -166,6 +168,7 @@ last_copy_falls ending old new Barrier w falls h = falls
 last_copy_falls ending old new (Began part) w falls h = absurd w
 last_copy_falls ending old new (Chunk count) w falls h = absurd w
 last_copy_falls ending old new (Asked question) w falls h = absurd w
+last_copy_falls ending old new (Merges pair names) w falls h = absurd w
 last_copy_falls ending old new (Set path) w falls h = absurd w
 last_copy_falls ending old new (Placed path) w falls h = absurd w
 last_copy_falls ending old new (Removed path) w falls h = absurd w
@@ -181,6 +184,7 @@ last_making_falls ending old new (Ended how part) w h = absurd cc
 last_making_falls ending old new (Began part) w h = absurd w
 last_making_falls ending old new (Chunk count) w h = absurd w
 last_making_falls ending old new (Asked question) w h = absurd w
+last_making_falls ending old new (Merges pair names) w h = absurd w
 last_making_falls ending old new (Set path) w h = absurd w
 last_making_falls ending old new (Placed path) w h = absurd w
 last_making_falls ending old new (Made path) w h = absurd w

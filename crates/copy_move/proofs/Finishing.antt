@@ -17,7 +17,7 @@ use Rattle.file_copy.specs.Copying as copying
 use Rattle.mode_setting.specs.Settings as settings
 use Rattle.subtree_copy.proofs.Finishes.{finish_is_still}
 use Rattle.tree_deletion.specs.Folders as folders
-use Rattle.copy_move.specs.Makings as makings
+use Rattle.thing_making.specs.Makings as makings
 use Rattle.copy_move.specs.declared.run.Course.{Course}
 use Rattle.copy_move.specs.declared.run.Course.TheVariants.{GoesOn, Asking, InTrouble, OwedSyncFailed, Skips, Ends}
 use Rattle.copy_move.specs.declared.work.Work.{Work}

@@ -1,20 +1,18 @@
 -- What the steps of a job make of the dirty folders.
-use Rattle.std.proofs.Common.{◌≡◌, ◌⊎◌, ℕ, ◌+◌, ◌-◌, ◌*◌, ◌<◌, ◌≤◌, ◌&&◌, not, Bool, true, false, List, [], ◌∷◌, ◌++◌, length, take, refl, sym, ◌∙◌, ap, subst, inl, inr, Option, Some, None, Result, Err, arith}
+use Rattle.std.proofs.Common.{◌≡◌, ◌⊎◌, ℕ, ◌+◌, ◌-◌, ◌*◌, ◌<◌, ◌≤◌, not, Bool, true, false, List, [], ◌∷◌, ◌++◌, length, refl, sym, ◌∙◌, ap, subst, inl, inr, Option, Some, None, arith}
 use Rattle.std.proofs.lemmas.Bool.{true≢false, false≢true}
 use Rattle.std.proofs.lemmas.List.{length-append}
 use Rattle.std.specs.Prelude.{if◌then◌else◌}
 use Rattle.mc_text.specs.Routes.{Route}
 use Rattle.tree_trait.specs.declared.calls.TreeError.{TreeError}
-use Rattle.tree_trait.specs.declared.calls.TreeError.TheVariants as refused
 use Rattle.tree_trait.specs.Change.{CallLog, current}
 use Rattle.tree_trait.specs.Answers.{IfKnown}
 use Rattle.tree_trait.proofs.Visible.{same_path-self}
 use Rattle.job_reports.specs.declared.report.Cause.{Cause}
-use Rattle.job_reports.specs.declared.report.Cause.TheVariants.{Tree}
 use Rattle.job_reports.specs.declared.report.Ending.{Ending}
 use Rattle.job_reports.specs.declared.report.Ending.TheVariants.{Finished, Aborted, Killed, NoMemory}
 use Rattle.job_reports.specs.declared.report.Did.{Did}
-use Rattle.job_reports.specs.declared.report.Did.TheVariants.{Began, Chunk, Placed, Removed, Made, Set, Kept, Skipped, Cleaned, Barrier, Asked, Troubled, Ended}
+use Rattle.job_reports.specs.declared.report.Did.TheVariants.{Began, Chunk, Placed, Removed, Made, Set, Kept, Skipped, Cleaned, Barrier, Asked, Merges, Troubled, Ended}
 use Rattle.job_answers.specs.declared.replies.Replies.{Replies}
 use Rattle.file_copy.specs.declared.stage.Stage.{Stage}
 use Rattle.file_copy.specs.declared.stage.Stage.TheVariants as at
@@ -28,7 +26,7 @@ use Rattle.job_reports.specs.Paths.{folder_of, without}
 use Rattle.file_copy.specs.Copying as copying
 use Rattle.file_copy.specs.LastSteps.{Winds, WindsOn}
 use Rattle.file_copy.specs.LastSteps as last
-use Rattle.job_reports.specs.Stops.{out_of_memory_at, cause_of}
+use Rattle.job_reports.specs.Stops.{out_of_memory_at}
 use Rattle.tree_deletion.specs.Folders.{is_one_of, joined}
 use Rattle.tree_deletion.specs.Standing.{at_barrier as deletion_barrier}
 use Rattle.copy_move.specs.declared.work.Work.{Work}
@@ -47,20 +45,14 @@ use Rattle.copy_move.specs.Faults.{MeetsFault}
 use Rattle.copy_move.proofs.DeletionRuns.{fewer, met_by, one_fewer}
 use Rattle.copy_move.proofs.Falling.{copy_falls, last_copy_falls, passing_falls, trouble_falls, waiting_falls}
 use Rattle.copy_move.proofs.RunSteps.{run_ends, run_goes}
-
--- only a fault is called one
-pub fault-cause : (e : TreeError) → cause_of e ≡ Tree refused.Fault → e ≡ refused.Fault
-fault-cause refused.Memory h = cc
-fault-cause e h = cc
-
-pub err_is : {T : Type 0} (e : TreeError) → e ≡ refused.Fault → (let r : Result T TreeError = Err e in r) ≡ Err refused.Fault
-err_is e h = ap Err h
+use Rattle.thing_making.proofs.MakingRuns.{same_log}
 
 -- a copy stays at its target
 pub copy_stays : (c new : Copying) (did : Did) → AskedTells c did new → new.target ≡ c.target
 copy_stays c new (Began part) t = ap (λ (n : Copying). n.target) t.1.1
 copy_stays c new (Chunk count) (part, facts, done, at, some, few, within, is) = ap (λ (n : Copying). n.target) is
 copy_stays c new (Asked question) (at, is) = ap (λ (n : Copying). n.target) is
+copy_stays c new (Merges pair names) t = absurd t
 copy_stays c new (Set path) t = absurd t
 copy_stays c new (Placed path) (part, facts, at, target, is) = ap (λ (n : Copying). n.target) is
 copy_stays c new (Cleaned part) (follows, at, is) = ap (λ (n : Copying). n.target) is
@@ -82,6 +74,7 @@ copy_winds_there ending c new (Ended how part) w = ap (λ (n : Copying). n.targe
 copy_winds_there ending c new (Began part) w = absurd w
 copy_winds_there ending c new (Chunk count) w = absurd w
 copy_winds_there ending c new (Asked question) w = absurd w
+copy_winds_there ending c new (Merges pair names) w = absurd w
 copy_winds_there ending c new (Set path) w = absurd w
 copy_winds_there ending c new (Placed path) w = absurd w
 copy_winds_there ending c new (Removed path) w = absurd w
@@ -95,6 +88,7 @@ pub clean_copy : (c new : Copying) (did : Did) → AskedTells c did new → copy
 clean_copy c new (Began part) t changed clean = absurd (true≢false (sym (ap not clean) ∙ (sym (ap (λ s. copying.is_fresh s c.folder) t.0) ∙ changed)))
 clean_copy c new (Chunk count) (part, facts, done, at, some, few, within, is) changed clean = ap (λ (n : Copying). copying.is_dirty n.folder) is ∙ clean
 clean_copy c new (Asked question) (at, is) changed clean = ap (λ (n : Copying). copying.is_dirty n.folder) is ∙ clean
+clean_copy c new (Merges pair names) t changed clean = absurd t
 clean_copy c new (Set path) t changed clean = absurd t
 clean_copy c new (Placed path) (part, facts, at, target, is) changed clean = ap (λ (n : Copying). copying.is_dirty n.folder) is ∙ clean
 clean_copy c new (Cleaned part) (follows, at, is) changed clean = ap (λ (n : Copying). copying.is_dirty n.folder) is ∙ clean
@@ -118,23 +112,6 @@ fresh_copy (at.Clean part follows) folder h = absurd (false≢true h)
 fresh_copy (at.Left part) folder h = absurd (false≢true h)
 fresh_copy at.Decided folder h = absurd (false≢true h)
 
--- once synced, it is no longer one of them
-pub synced_only : (was now synced : Bool) (folder : Route) (dirty dirty_after : List Route) → (was ≡ false → now ≡ false) → synced ≡ (was && not now) → dirty_after ≡ (if synced then without folder dirty else dirty)
-    → dirty_after ≡ with_change was now folder dirty
-synced_only true true synced folder dirty dirty_after stays is h = h ∙ ap (λ b. if b then without folder dirty else dirty) is
-synced_only true false synced folder dirty dirty_after stays is h = h ∙ ap (λ b. if b then without folder dirty else dirty) is
-synced_only false true synced folder dirty dirty_after stays is h = absurd (true≢false (stays refl))
-synced_only false false synced folder dirty dirty_after stays is h = h ∙ ap (λ b. if b then without folder dirty else dirty) is
-
--- it joins them where it was changed
-pub joins : (was now new dropped : Bool) (folder : Route) (dirty more dirty_after : List Route) → was ≡ false → more ≡ joined folder dirty → (if new then take (length more - 1) more else more) ≡ dirty
-    → dropped ≡ (new && not now) → dirty_after ≡ (if dropped then take (length more - 1) more else more) → dirty_after ≡ with_change was now folder dirty
-joins true now new dropped folder dirty more dirty_after clean is back off h = absurd (true≢false clean)
-joins false true true dropped folder dirty more dirty_after clean is back off h = h ∙ (ap (λ b. if b then take (length more - 1) more else more) off ∙ is)
-joins false true false dropped folder dirty more dirty_after clean is back off h = h ∙ (ap (λ b. if b then take (length more - 1) more else more) off ∙ is)
-joins false false true dropped folder dirty more dirty_after clean is back off h = h ∙ (ap (λ b. if b then take (length more - 1) more else more) off ∙ back)
-joins false false false dropped folder dirty more dirty_after clean is back off h = h ∙ (ap (λ b. if b then take (length more - 1) more else more) off ∙ back)
-
 -- a change adds a folder at most
 pub joined_more : (folder : Route) (dirty : List Route) → length (joined folder dirty) ≤ length dirty + 1
 joined_more folder dirty = go (is_one_of folder dirty)
@@ -154,6 +131,7 @@ tries_after (Troubled trouble) work dirty = refl
 tries_after (Began part) work dirty = refl
 tries_after (Chunk count) work dirty = refl
 tries_after (Asked question) work dirty = refl
+tries_after (Merges pair names) work dirty = refl
 tries_after (Set path) work dirty = refl
 tries_after (Placed path) work dirty = refl
 tries_after (Removed path) work dirty = refl
@@ -187,12 +165,6 @@ module _ (unclaimed : Route → Type 0) (replies : Replies) (c new : Copying) (d
         let more = subst (λ xs. length xs ≤ length dirty + 1) (sym leaves) (one_more (copying.is_dirty c.folder) (copying.is_dirty new.folder) (folder_of c.target) dirty) in
         weighs_less (rank_on (course_after did) (Copy new)) (copy_rank c.stage c.folder) (length dirty_after) (length dirty) (tries_left (course_after did) (Copy new) dirty_after) low more (tries_after did (Copy new) dirty_after);
   }
-
-pub same_log : (log now : CallLog) (contents : Option CallLog) → contents ≡ Some log → contents ≡ Some now → HasMore log 0 now
-same_log log now contents known is =
-    let same : log ≡ now = cc in
-    let lengths = ap (λ (l : CallLog). length l.changes) (sym same) in
-    omega (arith, lengths)
 
 -- there was no memory for the first change of a copy: no call was made
 pub no_first : (unclaimed : Route → Type 0) (replies : Replies) (c : Copying) (did : Did) (calls : ℕ) (dirty dirty_after : List Route) (contents : Option CallLog) (f : ℕ) → last.left_at c.stage ≡ None → copying.is_fresh c.stage c.folder ≡ true → did ≡ Troubled (out_of_memory_at false) → calls ≡ 0
@@ -237,6 +209,7 @@ tried_more Barrier (Some e) folder dirty = omega arith
 tried_more (Began part) left folder dirty = omega arith
 tried_more (Chunk bytes) left folder dirty = omega arith
 tried_more (Asked question) left folder dirty = omega arith
+tried_more (Merges pair names) left folder dirty = omega arith
 tried_more (Set path) left folder dirty = omega arith
 tried_more (Placed path) left folder dirty = omega arith
 tried_more (Removed path) left folder dirty = omega arith
@@ -288,6 +261,7 @@ module _ (unclaimed : Route → Type 0) (replies : Replies) (d new : Deleting) (
   falls_by (Began part) t h less going = absurd t
   falls_by (Chunk count) t h less going = absurd t
   falls_by (Asked question) t h less going = absurd t
+  falls_by (Merges pair names) t h less going = absurd t
   falls_by (Set path) t h less going = absurd t
   falls_by (Placed path) t h less going = absurd t
   falls_by (Made made) t h less going = absurd t

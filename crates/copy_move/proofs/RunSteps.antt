@@ -5,7 +5,7 @@ use Rattle.tree_trait.specs.declared.calls.TreeError.{TreeError}
 use Rattle.tree_trait.specs.Change.{CallLog}
 use Rattle.job_reports.specs.declared.report.Ending.{Ending}
 use Rattle.job_reports.specs.declared.report.Did.{Did}
-use Rattle.job_reports.specs.declared.report.Did.TheVariants.{Began, Chunk, Placed, Removed, Made, Set, Kept, Skipped, Cleaned, Barrier, Asked, Troubled, Ended}
+use Rattle.job_reports.specs.declared.report.Did.TheVariants.{Began, Chunk, Placed, Removed, Made, Set, Kept, Skipped, Cleaned, Barrier, Asked, Merges, Troubled, Ended}
 use Rattle.job_reports.specs.Reports.{IsFault}
 use Rattle.copy_move.specs.declared.work.Work.{Work}
 use Rattle.copy_move.specs.declared.work.Work.TheVariants.{Copy, CopyTree, Delete, Make, SetMode}
@@ -45,6 +45,7 @@ quiet_end ending (CopyTree c) (CopyTree new) (Troubled trouble) w h = w.may
 quiet_end ending old new (Began part) w h = h
 quiet_end ending old new (Chunk count) w h = h
 quiet_end ending old new (Asked question) w h = h
+quiet_end ending old new (Merges pair names) w h = h
 quiet_end ending old new (Set path) w h = h
 quiet_end ending old new (Placed path) w h = h
 quiet_end ending old new (Removed path) w h = h

@@ -7,7 +7,7 @@ use Rattle.tree_trait.specs.Calls as calls
 use Rattle.tree_trait.specs.Change.{CallLog, current}
 use Rattle.job_reports.specs.declared.report.Cause.{Cause}
 use Rattle.job_reports.specs.declared.report.Did.{Did}
-use Rattle.job_reports.specs.declared.report.Did.TheVariants.{Began, Chunk, Placed, Removed, Made, Set, Kept, Skipped, Cleaned, Barrier, Asked, Troubled, Ended}
+use Rattle.job_reports.specs.declared.report.Did.TheVariants.{Began, Chunk, Placed, Removed, Made, Set, Kept, Skipped, Cleaned, Barrier, Asked, Merges, Troubled, Ended}
 use Rattle.job_answers.specs.declared.replies.Replies.{Replies}
 use Rattle.file_copy.specs.declared.stage.Stage.{Stage}
 use Rattle.file_copy.specs.declared.stage.Stage.TheVariants as at
@@ -29,9 +29,9 @@ use Rattle.copy_move.specs.declared.run.Course.{Course}
 use Rattle.copy_move.specs.declared.run.Course.TheVariants.{GoesOn, Asking, InTrouble, OwedSyncFailed, Skips, Ends}
 use Rattle.copy_move.specs.Deletions.{DeletionCalls, IsRefused, LastCalls}
 use Rattle.copy_move.specs.Deletions as deletions
-use Rattle.copy_move.specs.Makings.{Answers, LastMakingCalls, Making, MakingCalls}
-use Rattle.copy_move.specs.Makings as makings
-use Rattle.copy_move.specs.NewThings.{making_call}
+use Rattle.thing_making.specs.Makings.{Answers, LastMakingCalls, Making, MakingCalls}
+use Rattle.thing_making.specs.Makings as makings
+use Rattle.thing_making.specs.NewThings.{making_call}
 use Rattle.copy_move.specs.ModeSettings.{LastSettingCalls}
 use Rattle.mode_setting.specs.declared.setting.Stage.{Stage as SettingStage}
 use Rattle.mode_setting.specs.declared.setting.Stage.TheVariants as setting
@@ -62,6 +62,7 @@ deletion_tells (Ended ending part) log after h = (log, h)
 deletion_tells (Began part) log after h = absurd h
 deletion_tells (Chunk count) log after h = absurd h
 deletion_tells (Asked question) log after h = absurd h
+deletion_tells (Merges pair names) log after h = absurd h
 deletion_tells (Set path) log after h = absurd h
 deletion_tells (Placed path) log after h = absurd h
 deletion_tells (Made made) log after h = absurd h
@@ -79,6 +80,7 @@ making_tells m (Ended ending part) log after h = (log, h)
 making_tells m (Began part) log after h = absurd h
 making_tells m (Chunk count) log after h = absurd h
 making_tells m (Asked question) log after h = absurd h
+making_tells m (Merges pair names) log after h = absurd h
 making_tells m (Set path) log after h = absurd h
 making_tells m (Placed path) log after h = absurd h
 making_tells m (Removed made) log after h = absurd h
@@ -92,6 +94,7 @@ last_tells (Ended ending part) log after h = (log, h)
 last_tells (Began part) log after h = absurd h
 last_tells (Chunk count) log after h = absurd h
 last_tells (Asked question) log after h = absurd h
+last_tells (Merges pair names) log after h = absurd h
 last_tells (Set path) log after h = absurd h
 last_tells (Placed path) log after h = absurd h
 last_tells (Removed path) log after h = absurd h
@@ -107,6 +110,7 @@ last_making_tells m (Ended ending part) log after h = (log, h)
 last_making_tells m (Began part) log after h = absurd h
 last_making_tells m (Chunk count) log after h = absurd h
 last_making_tells m (Asked question) log after h = absurd h
+last_making_tells m (Merges pair names) log after h = absurd h
 last_making_tells m (Set path) log after h = absurd h
 last_making_tells m (Placed path) log after h = absurd h
 last_making_tells m (Made path) log after h = absurd h
@@ -134,6 +138,7 @@ setting_tells s (Ended ending part) log after h = (log, h)
 setting_tells s (Began part) log after h = absurd h
 setting_tells s (Chunk count) log after h = absurd h
 setting_tells s (Asked question) log after h = absurd h
+setting_tells s (Merges pair names) log after h = absurd h
 setting_tells s (Placed path) log after h = absurd h
 setting_tells s (Removed path) log after h = absurd h
 setting_tells s (Made path) log after h = absurd h
@@ -152,6 +157,7 @@ last_setting_tells s (Ended ending part) log after h = (log, h)
 last_setting_tells s (Began part) log after h = absurd h
 last_setting_tells s (Chunk count) log after h = absurd h
 last_setting_tells s (Asked question) log after h = absurd h
+last_setting_tells s (Merges pair names) log after h = absurd h
 last_setting_tells s (Set path) log after h = absurd h
 last_setting_tells s (Placed path) log after h = absurd h
 last_setting_tells s (Removed path) log after h = absurd h
@@ -174,6 +180,7 @@ asked_stop_tells unclaimed replies c at.Decided trouble log after h = copy_tells
 
 asked_tells : (unclaimed : Route → Type 0) (replies : Replies) (c : Copying) (did : Did) (new : Copying) (log : CallLog) (after : Option CallLog) → AskedCalls unclaimed replies c did new log after → StillTells after
 asked_tells unclaimed replies c (Asked question) new log after h = (log, h.1)
+asked_tells unclaimed replies c (Merges pair names) new log after h = absurd h
 asked_tells unclaimed replies c (Kept path) new log after h = (log, h.1)
 asked_tells unclaimed replies c (Began part) new log after h = all_some (making (current log) (places_of c) h.2.0 ∷ []) log after h.2.3
 asked_tells unclaimed replies c (Chunk count) new log after h = copy_tells unclaimed c (Chunk count) new log after h
@@ -198,6 +205,7 @@ wind_tells c (Ended how part) log after h = (log, h)
 wind_tells c (Began part) log after h = absurd h
 wind_tells c (Chunk count) log after h = absurd h
 wind_tells c (Asked question) log after h = absurd h
+wind_tells c (Merges pair names) log after h = absurd h
 wind_tells c (Set path) log after h = absurd h
 wind_tells c (Placed path) log after h = absurd h
 wind_tells c (Removed path) log after h = absurd h
@@ -214,6 +222,7 @@ last_tree_tells part (Ended ending stays) log after (mid, leaves, is) = (mid, is
 last_tree_tells part (Began path) log after h = absurd h
 last_tree_tells part (Chunk count) log after h = absurd h
 last_tree_tells part (Asked question) log after h = absurd h
+last_tree_tells part (Merges pair names) log after h = absurd h
 last_tree_tells part (Set path) log after h = absurd h
 last_tree_tells part (Placed path) log after h = absurd h
 last_tree_tells part (Removed path) log after h = absurd h

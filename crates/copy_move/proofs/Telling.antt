@@ -9,7 +9,7 @@ use Rattle.job_reports.specs.declared.report.Trouble.{Trouble}
 use Rattle.job_reports.specs.declared.report.Ending.{Ending}
 use Rattle.job_reports.specs.declared.report.Ending.TheVariants.{Finished, Aborted, Killed, NoMemory}
 use Rattle.job_reports.specs.declared.report.Did.{Did}
-use Rattle.job_reports.specs.declared.report.Did.TheVariants.{Began, Chunk, Placed, Removed, Made, Set, Kept, Skipped, Cleaned, Barrier, Asked, Troubled, Ended}
+use Rattle.job_reports.specs.declared.report.Did.TheVariants.{Began, Chunk, Placed, Removed, Made, Set, Kept, Skipped, Cleaned, Barrier, Asked, Merges, Troubled, Ended}
 use Rattle.file_copy.specs.declared.stage.Next.{Next}
 use Rattle.file_copy.specs.declared.stage.Next.TheVariants as next
 use Rattle.file_copy.specs.declared.stage.Stage.{Stage}
@@ -36,13 +36,13 @@ use Rattle.tree_deletion.specs.declared.deletion.Stage.TheVariants as deletion
 use Rattle.tree_deletion.specs.Standing.{after_item}
 use Rattle.tree_deletion.specs.Standing as standing
 use Rattle.job_reports.specs.Jobs.{is_link_text}
-use Rattle.copy_move.specs.declared.making.MakingStage.{MakingStage}
-use Rattle.copy_move.specs.declared.making.MakingStage.TheVariants as making
-use Rattle.copy_move.specs.declared.new_thing.NewThing.TheVariants as thing
+use Rattle.thing_making.specs.declared.making.MakingStage.{MakingStage}
+use Rattle.thing_making.specs.declared.making.MakingStage.TheVariants as making
+use Rattle.thing_making.specs.declared.new_thing.NewThing.TheVariants as thing
 use Rattle.copy_move.specs.Deletions.{Deleting, IsAtStage}
 use Rattle.copy_move.specs.Deletions as deletions
-use Rattle.copy_move.specs.Makings.{Making}
-use Rattle.copy_move.specs.Makings as makings
+use Rattle.thing_making.specs.Makings.{Making}
+use Rattle.thing_making.specs.Makings as makings
 use Rattle.copy_move.specs.ModeSettings as modes
 use Rattle.mode_setting.specs.declared.setting.Stage.{Stage as SettingStage}
 use Rattle.mode_setting.specs.declared.setting.Stage.TheVariants as setting
@@ -229,6 +229,7 @@ copy_told : (id : ℕ) (replies : Replies) (old new : Copying) (did : Did) → A
 copy_told id replies old new (Began part) (from, (facts, is)) h = rw is refl
 copy_told id replies old new (Chunk count) (part, facts, done, from, some, few, within, is) h = rw is (rw from refl)
 copy_told id replies old new (Asked question) (from, is) h = rw is refl
+copy_told id replies old new (Merges pair names) t h = absurd t
 copy_told id replies old new (Set path) t h = absurd t
 copy_told id replies old new (Placed path) (part, facts, from, target, is) h = rw is refl
 copy_told id replies old new (Cleaned part) (follows, from, is) h = rw is (rw from (cleaned_told id replies old part follows))
@@ -260,6 +261,7 @@ deletion_told id replies old new (Ended NoMemory part) t h = absurd t
 deletion_told id replies old new (Began part) t h = absurd t
 deletion_told id replies old new (Chunk count) t h = absurd t
 deletion_told id replies old new (Asked question) t h = absurd t
+deletion_told id replies old new (Merges pair names) t h = absurd t
 deletion_told id replies old new (Set path) t h = absurd t
 deletion_told id replies old new (Placed path) t h = absurd t
 deletion_told id replies old new (Made made) t h = absurd t
@@ -279,6 +281,7 @@ making_told id replies old new (Ended NoMemory part) t h = absurd t
 making_told id replies old new (Began part) t h = absurd t
 making_told id replies old new (Chunk count) t h = absurd t
 making_told id replies old new (Asked question) t h = absurd t
+making_told id replies old new (Merges pair names) t h = absurd t
 making_told id replies old new (Set path) t h = absurd t
 making_told id replies old new (Placed path) t h = absurd t
 making_told id replies old new (Removed made) t h = absurd t
@@ -297,6 +300,7 @@ setting_told id replies old new (Ended ending part) t h = absurd cc
 setting_told id replies old new (Began part) t h = absurd t
 setting_told id replies old new (Chunk count) t h = absurd t
 setting_told id replies old new (Asked question) t h = absurd t
+setting_told id replies old new (Merges pair names) t h = absurd t
 setting_told id replies old new (Placed path) t h = absurd t
 setting_told id replies old new (Removed path) t h = absurd t
 setting_told id replies old new (Made path) t h = absurd t
@@ -327,6 +331,7 @@ tree_told id replies old new (Troubled trouble) t h =
     ap (λ course. Some (job_of id replies (work_told id (CopyTree old)) course)) (in_trouble id (CopyTree old) trouble (bars_apart (is_tree_fresh old.at.stage) trouble.barrier (t.apart trouble refl)))
     ∙ ap (λ w. Some (job_of id replies w (InTrouble (halt_of trouble)))) (told_so id old new (Troubled trouble) t.after refl refl)
 tree_told id replies old new (Asked question) t h = absurd t.may
+tree_told id replies old new (Merges pair names) t h = ap (λ w. Some (job_of id replies w GoesOn)) (told_so id old new (Merges pair names) t.after refl refl)
 tree_told id replies old new (Removed path) t h = absurd t.may
 tree_told id replies old new (Kept path) t h = absurd t.may
 tree_told id replies old new (Ended ending part) t h = absurd cc
@@ -339,6 +344,7 @@ tree_winds id replies ending old new (Ended how part) w h = absurd cc
 tree_winds id replies ending old new (Began part) w h = absurd w.may
 tree_winds id replies ending old new (Chunk count) w h = absurd w.may
 tree_winds id replies ending old new (Asked question) w h = absurd w.may
+tree_winds id replies ending old new (Merges pair names) w h = absurd w.may
 tree_winds id replies ending old new (Set path) w h = absurd w.may
 tree_winds id replies ending old new (Placed path) w h = absurd w.may
 tree_winds id replies ending old new (Removed path) w h = absurd w.may
@@ -356,6 +362,7 @@ copy_winds id replies ending old new (Ended how part) t h = absurd cc
 copy_winds id replies ending old new (Began part) t h = absurd t
 copy_winds id replies ending old new (Chunk count) t h = absurd t
 copy_winds id replies ending old new (Asked question) t h = absurd t
+copy_winds id replies ending old new (Merges pair names) t h = absurd t
 copy_winds id replies ending old new (Set path) t h = absurd t
 copy_winds id replies ending old new (Placed path) t h = absurd t
 copy_winds id replies ending old new (Removed path) t h = absurd t
@@ -371,6 +378,7 @@ deletion_winds id replies ending old new (Ended how part) t h = absurd cc
 deletion_winds id replies ending old new (Began part) t h = absurd t
 deletion_winds id replies ending old new (Chunk count) t h = absurd t
 deletion_winds id replies ending old new (Asked question) t h = absurd t
+deletion_winds id replies ending old new (Merges pair names) t h = absurd t
 deletion_winds id replies ending old new (Set path) t h = absurd t
 deletion_winds id replies ending old new (Placed path) t h = absurd t
 deletion_winds id replies ending old new (Removed path) t h = absurd t
@@ -387,6 +395,7 @@ making_winds id replies ending old new (Ended how part) t h = absurd cc
 making_winds id replies ending old new (Began part) t h = absurd t
 making_winds id replies ending old new (Chunk count) t h = absurd t
 making_winds id replies ending old new (Asked question) t h = absurd t
+making_winds id replies ending old new (Merges pair names) t h = absurd t
 making_winds id replies ending old new (Set path) t h = absurd t
 making_winds id replies ending old new (Placed path) t h = absurd t
 making_winds id replies ending old new (Made path) t h = absurd t
@@ -403,6 +412,7 @@ setting_winds id replies ending old new (Ended how part) t h = absurd cc
 setting_winds id replies ending old new (Began part) t h = absurd t
 setting_winds id replies ending old new (Chunk count) t h = absurd t
 setting_winds id replies ending old new (Asked question) t h = absurd t
+setting_winds id replies ending old new (Merges pair names) t h = absurd t
 setting_winds id replies ending old new (Set path) t h = absurd t
 setting_winds id replies ending old new (Placed path) t h = absurd t
 setting_winds id replies ending old new (Removed path) t h = absurd t
@@ -487,6 +497,7 @@ pub step_told : (job new : Running) (did : Did) → JobTells job did new → opt
 step_told job new (Began part) t = sym (told_follows job new (Began part) t refl)
 step_told job new (Chunk count) t = sym (told_follows job new (Chunk count) t refl)
 step_told job new (Asked question) t = sym (told_follows job new (Asked question) t refl)
+step_told job new (Merges pair names) t = sym (told_follows job new (Merges pair names) t refl)
 step_told job new (Set path) t = sym (told_follows job new (Set path) t refl)
 step_told job new (Placed path) t = sym (told_follows job new (Placed path) t refl)
 step_told job new (Removed path) t = sym (told_follows job new (Removed path) t refl)

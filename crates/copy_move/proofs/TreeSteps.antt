@@ -9,11 +9,12 @@ use Rattle.job_reports.specs.declared.report.Cause.{Cause}
 use Rattle.job_reports.specs.declared.report.Trouble.{Trouble}
 use Rattle.job_reports.specs.declared.report.Ending.{Ending}
 use Rattle.job_reports.specs.declared.report.Did.{Did}
-use Rattle.job_reports.specs.declared.report.Did.TheVariants.{Began, Chunk, Placed, Removed, Made, Set, Kept, Skipped, Cleaned, Barrier, Asked, Troubled, Ended}
+use Rattle.job_reports.specs.declared.report.Did.TheVariants.{Began, Chunk, Placed, Removed, Made, Set, Kept, Skipped, Cleaned, Barrier, Asked, Merges, Troubled, Ended}
 use Rattle.job_reports.specs.declared.report.LastStepResult.{LastStepResult}
 use Rattle.job_reports.specs.Reports.{ends}
 use Rattle.job_reports.specs.Stops.{out_of_memory_at}
 use Rattle.job_answers.specs.declared.replies.Replies.{Replies}
+use Rattle.tree_copy.specs.InPlace.{IsInPlace}
 use Rattle.tree_copy.specs.Standing.{is_fresh}
 use Rattle.subtree_copy.specs.Counted as tree
 use Rattle.subtree_copy.specs.LastCalls.{LastCalls, TellsTried}
@@ -28,6 +29,7 @@ use Rattle.subtree_copy.proofs.Barred.{barrier_law}
 use Rattle.subtree_copy.proofs.Counts.{count_law}
 use Rattle.subtree_copy.proofs.LastCounts.{last_count_law}
 use Rattle.subtree_copy.proofs.LastOnes.{last_rank_law}
+use Rattle.subtree_copy.proofs.MergedOnes.{merged_law}
 use Rattle.subtree_copy.proofs.Ranked.{rank_law}
 use Rattle.subtree_copy.proofs.Reportings.{reporting_law}
 use Rattle.subtree_copy.proofs.Tellings.{told_law}
@@ -49,6 +51,7 @@ met_so (Skipped path cause) h = h
 met_so (Began part) h = h
 met_so (Chunk count) h = h
 met_so (Asked question) h = h
+met_so (Merges pair names) h = h
 met_so (Set path) h = h
 met_so (Placed path) h = h
 met_so (Removed path) h = h
@@ -101,8 +104,8 @@ module _ (free : Route → Bool) (c new : SubtreeCopying) (did : Did) (calls : �
   after_it : IsAfter did c new
   after_it = (let law = told_law in law.step free c new did calls dirty dirty_after before after f0 f1 s g.can)
 
-  tells : Tells c did new
-  tells = record {
+  tells : IsInPlace c.top c.at → Tells c did new
+  tells place = record {
     may = (let law = reporting_law in law.step free c new did calls dirty dirty_after before after f0 f1 s);
     after = after_it;
     first = λ fresh. (let law = unbegun_law in law.first free c new did calls dirty dirty_after before after f0 f1 s g.unbegun fresh);
@@ -110,6 +113,8 @@ module _ (free : Route → Bool) (c new : SubtreeCopying) (did : Did) (calls : �
     apart = λ trouble is fresh.
         (let law = unbegun_law in law.trouble free c new trouble calls dirty dirty_after before after f0 f1 (subst Makes is s) g.steady g.can g.unbegun (trouble_stays c new did trouble is after_it fresh));
     kinds = λ path cause is. (let law = reporting_law in law.kinds free c new path cause calls dirty dirty_after before after f0 f1 (subst Makes is s));
+    merged = λ pair names is. (let law = merged_law in law.merges free c new pair names calls dirty dirty_after before after f0 f1 (subst Makes is s) place g.unbegun);
+    over = λ is. (let law = merged_law in law.step free c new did calls dirty dirty_after before after f0 f1 s is);
   }
 
   falls_on : (d : Did) → Makes d → ends d ≡ false → rank_on (course_after d) (CopyTree new) < work_rank (CopyTree c)
@@ -118,6 +123,7 @@ module _ (free : Route → Bool) (c new : SubtreeCopying) (did : Did) (calls : �
   falls_on (Began part) m h = above (rank new.at) (rank c.at) (rank_law free c new (Began part) calls dirty dirty_after before after f0 f1 m g.steady g.can refl)
   falls_on (Chunk count) m h = above (rank new.at) (rank c.at) (rank_law free c new (Chunk count) calls dirty dirty_after before after f0 f1 m g.steady g.can refl)
   falls_on (Asked question) m h = absurd (let law = reporting_law in law.step free c new (Asked question) calls dirty dirty_after before after f0 f1 m)
+  falls_on (Merges pair names) m h = above (rank new.at) (rank c.at) (rank_law free c new (Merges pair names) calls dirty dirty_after before after f0 f1 m g.steady g.can refl)
   falls_on (Set path) m h = above (rank new.at) (rank c.at) (rank_law free c new (Set path) calls dirty dirty_after before after f0 f1 m g.steady g.can refl)
   falls_on (Placed path) m h = above (rank new.at) (rank c.at) (rank_law free c new (Placed path) calls dirty dirty_after before after f0 f1 m g.steady g.can refl)
   falls_on (Removed path) m h = above (rank new.at) (rank c.at) (rank_law free c new (Removed path) calls dirty dirty_after before after f0 f1 m g.steady g.can refl)
@@ -131,10 +137,10 @@ module _ (free : Route → Bool) (c new : SubtreeCopying) (did : Did) (calls : �
     goes_from : (b : Option CallLog) → before ≡ b → Goes unclaimed c new did calls dirty dirty_after b after f0 f1
     goes_from b is = record { free = free; allows = allows; since = f0; later = omega arith; steps = subst (λ x. SubtreeSteps free c new did calls dirty dirty_after x after f0 f1) is s }
 
-    pub tree_steps : ChangesOwn c did dirty dirty_after → WorkSteps unclaimed replies (CopyTree c) (CopyTree new) did calls dirty dirty_after before after f0 f1
-    tree_steps own =
+    pub tree_steps : IsInPlace c.top c.at → ChangesOwn c did dirty dirty_after → WorkSteps unclaimed replies (CopyTree c) (CopyTree new) did calls dirty dirty_after before after f0 f1
+    tree_steps place own =
         let k = count_law free c new did calls dirty dirty_after before after f0 f1 s in record {
-          tells = tells;
+          tells = tells place;
           walks = goes_from before refl;
           called = λ log known. record { calls = calls; dirty = dirty; dirty_after = dirty_after; faults = f0; faults_after = f1; goes = goes_from (Some log) known };
           leaves = own;

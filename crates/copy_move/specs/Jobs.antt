@@ -15,7 +15,7 @@ use Rattle.job_reports.specs.declared.report.Trouble.{Trouble}
 use Rattle.job_reports.specs.declared.report.Ending.{Ending}
 use Rattle.job_reports.specs.declared.report.Ending.TheVariants.{Aborted}
 use Rattle.job_reports.specs.declared.report.Did.{Did}
-use Rattle.job_reports.specs.declared.report.Did.TheVariants.{Began, Chunk, Placed, Removed, Made, Set, Kept, Skipped, Cleaned, Barrier, Asked, Troubled, Ended}
+use Rattle.job_reports.specs.declared.report.Did.TheVariants.{Began, Chunk, Placed, Removed, Made, Set, Kept, Skipped, Cleaned, Barrier, Asked, Merges, Troubled, Ended}
 use Rattle.job_reports.specs.Jobs.{is_link_text}
 use Rattle.file_copy.specs.Copying.{begun}
 use Rattle.file_copy.specs.Copying as copying
@@ -28,9 +28,9 @@ use Rattle.job_reports.specs.declared.row.JobKind.{JobKind}
 use Rattle.job_reports.specs.declared.row.JobKind.TheVariants as kind
 use Rattle.job_reports.specs.declared.answer.Answer.{Answer}
 use Rattle.job_reports.specs.declared.answer.Answer.TheVariants.{Yes, No, All, Update, Nothing, SizeDiffers, Retry, Skip, SkipAll, Abort}
-use Rattle.copy_move.specs.declared.making.MakingStage.TheVariants as making
-use Rattle.copy_move.specs.declared.new_thing.NewThing.{NewThing}
-use Rattle.copy_move.specs.declared.new_thing.NewThing.TheVariants as thing
+use Rattle.thing_making.specs.declared.making.MakingStage.TheVariants as making
+use Rattle.thing_making.specs.declared.new_thing.NewThing.{NewThing}
+use Rattle.thing_making.specs.declared.new_thing.NewThing.TheVariants as thing
 use Rattle.copy_move.specs.declared.work.Work.{Work}
 use Rattle.copy_move.specs.declared.work.Work.TheVariants.{Copy, CopyTree, Delete, Make, SetMode}
 use Rattle.copy_move.specs.declared.run.Halt.{Halt}
@@ -40,9 +40,9 @@ use Rattle.tree_deletion.specs.Standing.{after_item}
 use Rattle.tree_deletion.specs.Standing as standing
 use Rattle.copy_move.specs.Deletions.{DeletionCalls, IsAtStage, LastCalls, started}
 use Rattle.copy_move.specs.Deletions as deletions
-use Rattle.copy_move.specs.Makings.{LastMakingCalls, MakingCalls}
-use Rattle.copy_move.specs.Makings as makings
-use Rattle.copy_move.specs.NewThings.{making_kind}
+use Rattle.thing_making.specs.Makings.{LastMakingCalls, MakingCalls}
+use Rattle.thing_making.specs.Makings as makings
+use Rattle.thing_making.specs.NewThings.{making_kind}
 use Rattle.copy_move.specs.ModeSettings.{LastSettingCalls}
 use Rattle.copy_move.specs.ModeSettings as modes
 use Rattle.copy_move.specs.TreeCopies as trees
@@ -250,6 +250,7 @@ unreported_skip = halt_of (out_of_memory_at false)
 abbrev pub course_after : Did → Course
 course_after (Troubled trouble) = InTrouble (halt_of trouble)
 course_after (Asked question) = Asking
+course_after (Merges pair names) = GoesOn
 course_after (Began part) = GoesOn
 course_after (Chunk count) = GoesOn
 course_after (Set path) = GoesOn

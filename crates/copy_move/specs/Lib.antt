@@ -1,9 +1,6 @@
 pub mod DeletionSteps
 pub mod Faults
 pub mod Deletions
-pub mod Makings
-pub mod MakingSteps
-pub mod NewThings
 pub mod ModeSettings
 pub mod Jobs
 pub mod Ranks

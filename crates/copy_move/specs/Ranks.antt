@@ -7,8 +7,8 @@ use Rattle.file_copy.specs.declared.stage.Next.TheVariants as next
 use Rattle.file_copy.specs.declared.stage.FolderState.{FolderState}
 use Rattle.file_copy.specs.declared.stage.FolderState.TheVariants.{Synced, Dirty}
 use Rattle.file_copy.specs.LastSteps.{last_steps}
-use Rattle.copy_move.specs.declared.making.MakingStage.{MakingStage}
-use Rattle.copy_move.specs.declared.making.MakingStage.TheVariants as making
+use Rattle.thing_making.specs.declared.making.MakingStage.{MakingStage}
+use Rattle.thing_making.specs.declared.making.MakingStage.TheVariants as making
 use Rattle.copy_move.specs.Deletions.{Deleting, left_in}
 use Rattle.copy_move.specs.declared.work.Work.{Work}
 use Rattle.copy_move.specs.declared.work.Work.TheVariants.{Copy, CopyTree, Delete, Make, SetMode}

@@ -22,8 +22,8 @@ use Rattle.subtree_copy.specs.Standing as tree
 use Rattle.tree_deletion.specs.Folders.{is_of}
 use Rattle.tree_deletion.specs.Folders as folders
 use Rattle.copy_move.specs.Deletions.{DeletionLeaves, TellsTried}
-use Rattle.copy_move.specs.Makings.{MakingLeaves}
-use Rattle.copy_move.specs.Makings as makings
+use Rattle.thing_making.specs.Makings.{MakingLeaves}
+use Rattle.thing_making.specs.Makings as makings
 use Rattle.copy_move.specs.ModeSettings.{SettingLeaves}
 use Rattle.mode_setting.specs.Settings as settings
 

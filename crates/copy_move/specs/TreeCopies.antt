@@ -8,7 +8,7 @@ use Rattle.job_answers.specs.declared.skips.Skips.{Skips}
 use Rattle.job_reports.specs.declared.job.Pair.{Pair}
 use Rattle.job_reports.specs.declared.report.Cause.{Cause}
 use Rattle.job_reports.specs.declared.report.Did.{Did}
-use Rattle.job_reports.specs.declared.report.Did.TheVariants.{Skipped, Troubled}
+use Rattle.job_reports.specs.declared.report.Did.TheVariants.{Merges, Skipped, Troubled}
 use Rattle.job_reports.specs.declared.report.Trouble.{Trouble}
 use Rattle.tree_copy.specs.declared.copy.Stage.{Stage}
 use Rattle.tree_copy.specs.declared.copy.Stage.TheVariants.{Going}
@@ -16,7 +16,9 @@ use Rattle.tree_copy.specs.declared.item.Item.{Item}
 use Rattle.tree_copy.specs.declared.item.Item.TheVariants.{Next}
 use Rattle.tree_copy.specs.Ending.{stays_if}
 use Rattle.tree_copy.specs.Falling.{IsSteady}
+use Rattle.tree_copy.specs.Reports.{changes}
 use Rattle.tree_copy.specs.Standing.{Seen, begun, is_fresh}
+use Rattle.subtree_copy.specs.Merged.{IsOver, MergesTop}
 use Rattle.subtree_copy.specs.Reporting.{MayTell}
 use Rattle.subtree_copy.specs.Standing.{SubtreeCopying, at_barrier, named_of, part_of}
 use Rattle.subtree_copy.specs.Standing as standing
@@ -31,7 +33,8 @@ pub record IsGoing (c : SubtreeCopying) : Type 0 where
   pub unbegun : IsUnbegun c.at
 
 -- What a step may report that goes on, and where the copy stands then. A trouble is at a barrier where the copy stands so after it, and never before the
--- first change, which begins a part or makes a folder; what is passed over is in a trouble of a kind to which `Skip all` was answered.
+-- first change, which begins a part or makes a folder; what is passed over is in a trouble of a kind to which `Skip all` was answered. A folder is merged with one at
+-- the target only before that change, and then the copy is over, which changes nothing.
 pub record Tells (c : SubtreeCopying) (did : Did) (new : SubtreeCopying) : Type 0 where
   pub may : MayTell did
   pub after : IsAfter did c new
@@ -39,6 +42,8 @@ pub record Tells (c : SubtreeCopying) (did : Did) (new : SubtreeCopying) : Type 
   pub barred : (trouble : Trouble) → did ≡ Troubled trouble → trouble.barrier ≡ at_barrier new.at
   pub apart : (trouble : Trouble) → did ≡ Troubled trouble → is_fresh c.at.stage ≡ true → trouble.barrier ≡ false
   pub kinds : (path : Route) (cause : Cause) → did ≡ Skipped path cause → holds c.skips (kind_in cause) ≡ true
+  pub merged : (pair : Pair) (names : List (List ℕ)) → did ≡ Merges pair names → MergesTop c pair names new
+  pub over : IsOver c.at → IsOver new.at × (changes did ≡ false)
 
 -- what is left as it is: all that a history tells of the copy stays
 abbrev pub Passes : SubtreeCopying → Route → SubtreeCopying → Type 0

@@ -1,17 +1,15 @@
 //! The setting of a mode, with what is dirty: the thing itself joins that before it is given its mode, when there may still be no memory,
 //! and leaves it with its sync.
-ghost use Rattle.std.specs.Prelude.{◌≡◌, false, true};
+ghost use Rattle.std.specs.Prelude.{◌≡◌};
 ghost use Rattle.copy_move.specs.DeletionSteps.{after_try};
 ghost use Rattle.copy_move.specs.Settling.{with_change};
-ghost use Rattle.mode_setting.specs.Settings.{is_dirty, is_fresh};
+ghost use Rattle.mode_setting.specs.Settings.{is_dirty};
 ghost use Rattle.mode_setting.specs.SettingSteps.{StepsOn, Winds};
 
-use crate::noting::{but_not, note_try};
-use crate::reports::without_call;
 use job_reports::{Did, Ending, LastStepResult, StepResult, out_of_memory};
 use mode_setting::ModeSetting;
 use std::alloc::Global;
-use tree_deletion::Dirty;
+use tree_deletion::{Dirty, without_call};
 use tree_trait::Tree;
 
 /// Does the next piece of work of a setting.
@@ -25,48 +23,16 @@ pub(crate) fn step_setting<T: Tree>(
         (T.contents tree.new) (T.fault_count tree.old) (T.fault_count tree.new) }
     ensures leaves { dirty.new ≡ with_change (is_dirty setting.old.stage) (is_dirty setting.new.stage) setting.old.path dirty.old }
 {
-    if setting.is_fresh() {
-        give_first(setting, alloc, tree, dirty)
-    } else {
-        work_on(setting, alloc, tree, dirty)
-    }
-}
-
-/// The step that may give the mode.
-fn give_first<T: Tree>(
-    setting: &mut ModeSetting,
-    alloc: Global,
-    tree: &mut T,
-    dirty: &mut Dirty,
-) -> StepResult
-    requires fresh { is_fresh setting.old.stage ≡ true }
-    ensures steps { StepsOn setting.old setting.new result.did result.calls (T.contents tree.old)
-        (T.contents tree.new) (T.fault_count tree.old) (T.fault_count tree.new) }
-    ensures leaves { dirty.new ≡ with_change (is_dirty setting.old.stage) (is_dirty setting.new.stage) setting.old.path dirty.old }
-{
-    let Ok(joined) = dirty.join(alloc, setting.path()) else {
+    let Ok(readied) = dirty.ready(
+        alloc,
+        setting.path(),
+        setting.is_fresh(),
+        setting.is_dirty(),
+    ) else {
         return without_call(Did::Troubled(out_of_memory(false)));
     };
     let stepped = setting.step(alloc, tree);
-    dirty.drop_last_if(but_not(joined, setting.is_dirty()));
-    stepped
-}
-
-/// A step once the mode was given, or the thing was passed over.
-fn work_on<T: Tree>(
-    setting: &mut ModeSetting,
-    alloc: Global,
-    tree: &mut T,
-    dirty: &mut Dirty,
-) -> StepResult
-    requires changed { is_fresh setting.old.stage ≡ false }
-    ensures steps { StepsOn setting.old setting.new result.did result.calls (T.contents tree.old)
-        (T.contents tree.new) (T.fault_count tree.old) (T.fault_count tree.new) }
-    ensures leaves { dirty.new ≡ with_change (is_dirty setting.old.stage) (is_dirty setting.new.stage) setting.old.path dirty.old }
-{
-    let was_dirty = setting.is_dirty();
-    let stepped = setting.step(alloc, tree);
-    dirty.remove_if(but_not(was_dirty, setting.is_dirty()), setting.path());
+    dirty.follow(readied, setting.is_dirty(), setting.path());
     stepped
 }
 
@@ -83,6 +49,6 @@ pub(crate) fn wind_up_setting<T: Tree>(
     ensures tries { dirty.new ≡ after_try result.did result.left setting.old.path dirty.old }
 {
     let stepped = setting.wind_up(alloc, tree, ending);
-    note_try(dirty, &stepped.did, stepped.left, setting.path());
+    dirty.note_try(&stepped.did, stepped.left, setting.path());
     stepped
 }

@@ -5,8 +5,6 @@ ghost use Rattle.job_reports.specs.Jobs.{is_workable};
 ghost use Rattle.copy_move.specs.Jobs.{IsGoing, first_work};
 
 use crate::deletion::TreeDeletion;
-use crate::making::ThingMaking;
-use crate::new_thing::NewThing;
 use crate::work::Work;
 use file_copy::FileCopy;
 use job_reports::{Job, Pair, Pairs};
@@ -14,6 +12,7 @@ use mc_text::{NoMemory, Path, Paths, Text};
 use mode_setting::ModeSetting;
 use std::alloc::Global;
 use subtree_copy::SubtreeCopy;
+use thing_making::{NewThing, ThingMaking};
 
 /// The work of the plan of one source.
 pub(crate) fn begun_work(alloc: Global, source: &Job, id: u32) -> Result<Work, NoMemory>

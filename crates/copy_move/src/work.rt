@@ -7,9 +7,7 @@ ghost use Rattle.copy_move.specs.Steps.{WorkSkips, WorkSteps, WorkWindsUp};
 
 use crate::copying::{step_copy, wind_up_copy};
 use crate::deletion::TreeDeletion;
-use crate::dirty_making::{step_making, wind_up_making};
 use crate::dirty_setting::{step_setting, wind_up_setting};
-use crate::making::ThingMaking;
 use file_copy::{FileCopy, PartTest};
 use job_answers::{Replies, Skips};
 use job_reports::{Answer, Cause, Did, Ending, JobKind, LastStepResult, StepResult};
@@ -17,6 +15,7 @@ use mc_text::Path;
 use mode_setting::ModeSetting;
 use std::alloc::Global;
 use subtree_copy::SubtreeCopy;
+use thing_making::{ThingMaking, step_making, wind_up_making};
 use tree_deletion::Dirty;
 use tree_trait::Tree;
 

@@ -8,7 +8,7 @@ use Rattle.job_reports.specs.declared.question.Question.{Question}
 use Rattle.job_reports.specs.declared.report.Cause.{Cause}
 use Rattle.job_reports.specs.declared.report.Cause.TheVariants.{Tree}
 use Rattle.job_reports.specs.declared.report.Did.{Did}
-use Rattle.job_reports.specs.declared.report.Did.TheVariants.{Began, Chunk, Placed, Removed, Made, Set, Kept, Skipped, Cleaned, Barrier, Asked, Troubled, Ended}
+use Rattle.job_reports.specs.declared.report.Did.TheVariants.{Began, Chunk, Placed, Removed, Made, Set, Kept, Skipped, Cleaned, Barrier, Asked, Merges, Troubled, Ended}
 use Rattle.job_reports.specs.declared.report.Trouble.{Trouble}
 use Rattle.job_reports.specs.CallRuns.{AllDone, RunStops}
 use Rattle.job_reports.specs.Reports.{IsFault}
@@ -88,6 +88,7 @@ module _ (unclaimed : Route → Type 0) (replies : Replies) (p : Places) (folder
     made_tells (Cleaned part) new h = absurd h
     made_tells Barrier new h = absurd h
     made_tells (Asked question) new h = absurd h
+    made_tells (Merges pair names) new h = absurd h
     made_tells (Ended ending part) new h = absurd h
 
     made_falls : (did : Did) (new : Copying) → TellsMade facts (copying p Begin folder) did new → Falls did (copying p Begin folder) new
@@ -103,6 +104,7 @@ module _ (unclaimed : Route → Type 0) (replies : Replies) (p : Places) (folder
     made_falls (Cleaned part) new h = absurd h
     made_falls Barrier new h = absurd h
     made_falls (Asked question) new h = absurd h
+    made_falls (Merges pair names) new h = absurd h
     made_falls (Ended ending part) new h = absurd h
 
     made_sound : (did : Did) (new : Copying) → HasRange facts → TellsMade facts (copying p Begin folder) did new → IsSound new.stage new.folder
@@ -118,6 +120,7 @@ module _ (unclaimed : Route → Type 0) (replies : Replies) (p : Places) (folder
     made_sound (Cleaned part) new range h = absurd h
     made_sound Barrier new range h = absurd h
     made_sound (Asked question) new range h = absurd h
+    made_sound (Merges pair names) new range h = absurd h
     made_sound (Ended ending part) new range h = absurd h
 
     made_calls : (did : Did) (new : Copying) (log : CallLog) (after : Option CallLog) → TellsMade facts (copying p Begin folder) did new
@@ -141,6 +144,7 @@ module _ (unclaimed : Route → Type 0) (replies : Replies) (p : Places) (folder
     made_calls (Cleaned part) new log after tells is h = absurd h
     made_calls Barrier new log after tells is h = absurd h
     made_calls (Asked question) new log after tells is h = absurd h
+    made_calls (Merges pair names) new log after tells is h = absurd h
     made_calls (Ended ending part) new log after tells is h = absurd h
 
     pub makes_step : (moved : AfterStep) (after : Option CallLog) (f2 : ℕ) → HasRange facts → IfKnown before (λ log. Takes (current log) p replies (Copies facts))
@@ -173,6 +177,7 @@ tells_too c (Skipped path cause) new h = h
 tells_too c (Cleaned part) new h = h
 tells_too c Barrier new h = h
 tells_too c (Asked question) new h = absurd h
+tells_too c (Merges pair names) new h = absurd h
 tells_too c (Troubled trouble) new h = h
 tells_too c (Ended ending part) new h = h
 
@@ -197,6 +202,7 @@ calls_too unclaimed replies c (Skipped path cause) new log after past tells h = 
 calls_too unclaimed replies c (Cleaned part) new log after past tells h = h
 calls_too unclaimed replies c Barrier new log after past tells h = h
 calls_too unclaimed replies c (Asked question) new log after past tells h = absurd h
+calls_too unclaimed replies c (Merges pair names) new log after past tells h = absurd h
 calls_too unclaimed replies c (Troubled trouble) new log after past tells h = stops_too unclaimed _ replies c.stage trouble.cause trouble.path log after past h
 calls_too unclaimed replies c (Ended ending part) new log after past tells h = h
 
@@ -230,6 +236,7 @@ asked_from unclaimed replies old p stage taken folder moved before after f0 f1 i
 -- a copy that goes on has no part that it could not remove
 pub asked_ready : (c : Copying) (did : Did) (new : Copying) → AskedTells c did new → left_at c.stage ≡ None → left_at new.stage ≡ None
 asked_ready c (Asked question) new t ready = subst (λ (n : Copying). left_at n.stage ≡ None) (sym t.1) ready
+asked_ready c (Merges pair names) new t ready = absurd t
 asked_ready c (Kept path) new t ready = subst (λ (n : Copying). left_at n.stage ≡ None) (sym t.2) refl
 asked_ready c (Began part) new t ready = tells_ready c (Began part) new t ready
 asked_ready c (Chunk count) new t ready = tells_ready c (Chunk count) new t ready

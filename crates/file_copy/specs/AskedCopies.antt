@@ -14,7 +14,7 @@ use Rattle.job_reports.specs.declared.question.Question.{Question}
 use Rattle.job_reports.specs.declared.report.Cause.{Cause}
 use Rattle.job_reports.specs.declared.report.Cause.TheVariants.{Tree, TargetKind, SpecialSource, TooDeep, PartTaken, TooLong, Unnamed, Changed, Memory}
 use Rattle.job_reports.specs.declared.report.Did.{Did}
-use Rattle.job_reports.specs.declared.report.Did.TheVariants.{Began, Chunk, Placed, Removed, Made, Set, Kept, Skipped, Cleaned, Barrier, Asked, Troubled, Ended}
+use Rattle.job_reports.specs.declared.report.Did.TheVariants.{Began, Chunk, Placed, Removed, Made, Set, Kept, Skipped, Cleaned, Barrier, Asked, Merges, Troubled, Ended}
 use Rattle.job_reports.specs.CallRuns.{AllDone, RunStops, HasMore}
 use Rattle.job_reports.specs.Questions.{question_on}
 use Rattle.job_reports.specs.Reports.{IsFault}
@@ -89,6 +89,7 @@ AskedStops unclaimed p replies Decided cause path log after = CopyStops unclaime
 -- What a step may report that goes on, and where the copy stands then: before its part is made it may ask, or what stands at the target stays.
 abbrev pub AskedTells : Copying → Did → Copying → Type 0
 AskedTells c (Asked question) new = (c.stage ≡ Begin) × (new ≡ c)
+AskedTells c (Merges pair names) new = ⊥
 AskedTells c (Kept path) new = (c.stage ≡ Begin) × (path ≡ c.target) × (new ≡ record c { stage = Decided })
 AskedTells c (Began part) new = Tells c (Began part) new
 AskedTells c (Chunk count) new = Tells c (Chunk count) new
@@ -118,6 +119,7 @@ AskedCalls unclaimed replies c Barrier new log after = CopyCalls unclaimed c Bar
 AskedCalls unclaimed replies c (Removed path) new log after = ⊥
 AskedCalls unclaimed replies c (Made path) new log after = ⊥
 AskedCalls unclaimed replies c (Set path) new log after = ⊥
+AskedCalls unclaimed replies c (Merges pair names) new log after = ⊥
 AskedCalls unclaimed replies c (Skipped path cause) new log after = after ≡ Some log
 AskedCalls unclaimed replies c (Ended ending part) new log after = after ≡ Some log
 

@@ -1,10 +1,12 @@
 //! The calls that change a part, and those that bring it to its place: each refusal is named with its path.
-ghost use Rattle.std.specs.Prelude.{◌+◌, ◌≤◌, ◌^◌, ◌∷◌, [], length, true, false};
-ghost use Rattle.tree_trait.specs.Calls.{MakeFile, WriteAt, Rename, RemoveFile, SyncFile, SyncFolder};
+ghost use Rattle.std.specs.Prelude.{◌+◌, ◌≤◌, ◌^◌, ◌∷◌, [], length, false};
+ghost use Rattle.tree_trait.specs.Calls.{MakeFile, WriteAt, Rename, SyncFile};
 ghost use Rattle.file_copy.specs.CopyCalls.{moding, placing};
 ghost use Rattle.job_reports.specs.Stops.{Ran, RanFolded};
 
-use job_reports::{Stop, after_calls, made_or_stopped, out_of_memory, stopped_before};
+use job_reports::{
+    Stop, after_calls, made_or_stopped, out_of_memory, rename_thing, set_mode, stopped_before,
+};
 use mc_text::Path;
 use std::alloc::Global;
 use tree_trait::Tree;
@@ -75,10 +77,7 @@ fn give_mode<T: Tree>(alloc: Global, tree: &mut T, part: &Path, mode: u16) -> Re
     if mode | PART_MODE == mode {
         return Ok(0);
     }
-    let Ok(named) = part.copy(alloc) else {
-        return Err(stopped_before(out_of_memory(false)));
-    };
-    made_or_stopped(tree.set_mode(alloc, part, mode), named, false)
+    set_mode(alloc, tree, part, mode)
 }
 
 #[tactic(auto, using(job_reports::proofs::Runs::comes_then, job_reports::proofs::Runs::comes_stopped, job_reports::proofs::Runs::comes_few))]
@@ -118,32 +117,5 @@ fn rename_part<T: Tree>(
     ensures { RanFolded (Rename part.now target.now ∷ []) false result (T.contents tree.old) (T.contents tree.new)
         (T.fault_count tree.old) (T.fault_count tree.new) }
 {
-    let Ok(named) = target.copy(alloc) else {
-        return Err(stopped_before(out_of_memory(false)));
-    };
-    made_or_stopped(tree.rename(alloc, part, target), named, false)
-}
-
-pub(crate) fn remove_part<T: Tree>(alloc: Global, tree: &mut T, part: &Path) -> Result<u64, Stop>
-    ensures { Ran (RemoveFile part.now ∷ []) true result (T.contents tree.old) (T.contents tree.new)
-        (T.fault_count tree.old) (T.fault_count tree.new) }
-{
-    let Ok(named) = part.copy(alloc) else {
-        return Err(stopped_before(out_of_memory(true)));
-    };
-    made_or_stopped(tree.remove_file(alloc, part), named, true)
-}
-
-pub(crate) fn sync_target_folder<T: Tree>(
-    alloc: Global,
-    tree: &mut T,
-    folder: &Path,
-) -> Result<u64, Stop>
-    ensures { Ran (SyncFolder folder.now ∷ []) true result (T.contents tree.old) (T.contents tree.new)
-        (T.fault_count tree.old) (T.fault_count tree.new) }
-{
-    let Ok(named) = folder.copy(alloc) else {
-        return Err(stopped_before(out_of_memory(true)));
-    };
-    made_or_stopped(tree.sync_folder(alloc, folder), named, true)
+    rename_thing(alloc, tree, part, target)
 }

@@ -11,9 +11,9 @@ use crate::chunk::write_chunk;
 use crate::item::Item;
 use crate::looks::looks;
 use crate::part_name::{PartTest, choose_part};
-use crate::place::{PART_MODE, make_part, place, remove_part, sync_target_folder, write_part};
+use crate::place::{PART_MODE, make_part, place, write_part};
 use crate::stage::{FolderState, Next, SourceFacts, Stage};
-use job_reports::{Did, Ending, Stop, out_of_memory, stopped_before};
+use job_reports::{Did, Ending, Stop, out_of_memory, remove_part, stopped_before};
 use mc_text::Path;
 use std::alloc::Global;
 use tree_trait::Tree;
@@ -334,7 +334,7 @@ fn sync_names<T: Tree>(alloc: Global, tree: &mut T, item: &Item) -> AfterStep
     ensures { MovesOn (λ _. ⊤) (copying item.now Stage.Decided FolderState.Dirty) result (T.contents tree.old) (T.contents tree.new)
         (T.fault_count tree.old) (T.fault_count tree.new) }
 {
-    match sync_target_folder(alloc, tree, item.folder()) {
+    match job_reports::sync_names(alloc, tree, item.folder()) {
         Ok(calls) => AfterStep {
             did: Did::Barrier,
             calls,

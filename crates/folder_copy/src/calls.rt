@@ -1,6 +1,6 @@
-//! The calls that change a folder: each refusal is named with its path.
-ghost use Rattle.std.specs.Prelude.{◌≤◌, ◌∷◌, [], true, false};
-ghost use Rattle.tree_trait.specs.Calls.{MakeFolder, SetMode, SyncFolder};
+//! The call that makes a folder: its refusal is named with its path.
+ghost use Rattle.std.specs.Prelude.{◌≤◌, ◌∷◌, [], false};
+ghost use Rattle.tree_trait.specs.Calls.{MakeFolder};
 ghost use Rattle.job_reports.specs.Stops.{Ran};
 
 use job_reports::{Stop, made_or_stopped, out_of_memory, stopped_before};
@@ -18,35 +18,9 @@ pub(crate) fn make_folder<T: Tree>(
     ensures { Ran (MakeFolder folder.now mode ∷ []) false result (T.contents tree.old) (T.contents tree.new)
         (T.fault_count tree.old) (T.fault_count tree.new) }
 {
-    // The path of the report comes first, here and below: after the call it is too late to find no memory.
+    // The path of the report comes first: after the call it is too late to find no memory.
     let Ok(named) = folder.copy(alloc) else {
         return Err(stopped_before(out_of_memory(false)));
     };
     made_or_stopped(tree.make_folder(alloc, folder, mode), named, false)
-}
-
-pub(crate) fn set_mode<T: Tree>(
-    alloc: Global,
-    tree: &mut T,
-    folder: &Path,
-    mode: u16,
-) -> Result<u64, Stop>
-    requires { mode ≤ 0o7777 }
-    ensures { Ran (SetMode folder.now mode ∷ []) false result (T.contents tree.old) (T.contents tree.new)
-        (T.fault_count tree.old) (T.fault_count tree.new) }
-{
-    let Ok(named) = folder.copy(alloc) else {
-        return Err(stopped_before(out_of_memory(false)));
-    };
-    made_or_stopped(tree.set_mode(alloc, folder, mode), named, false)
-}
-
-pub(crate) fn sync_names<T: Tree>(alloc: Global, tree: &mut T, folder: &Path) -> Result<u64, Stop>
-    ensures { Ran (SyncFolder folder.now ∷ []) true result (T.contents tree.old) (T.contents tree.new)
-        (T.fault_count tree.old) (T.fault_count tree.new) }
-{
-    let Ok(named) = folder.copy(alloc) else {
-        return Err(stopped_before(out_of_memory(true)));
-    };
-    made_or_stopped(tree.sync_folder(alloc, folder), named, true)
 }

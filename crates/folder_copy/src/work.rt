@@ -4,9 +4,9 @@ ghost use Rattle.mc_text.specs.Routes.{Route};
 ghost use Rattle.folder_copy.specs.FolderCopying.{IsSound, copying, folder_mode, is_ready, owed_mode};
 ghost use Rattle.folder_copy.specs.FolderSteps.{MovesOn, moved_by};
 
-use crate::calls::{make_folder, set_mode, sync_names};
+use crate::calls::make_folder;
 use crate::stage::{FolderDid, NamesState, Stage};
-use job_reports::{Stop, out_of_memory, stopped_before};
+use job_reports::{Stop, out_of_memory, set_mode, stopped_before, sync_names};
 use mc_text::Path;
 use std::alloc::Global;
 use tree_trait::Tree;

@@ -14,10 +14,10 @@ use crate::next::Next;
 use crate::report::{MergeDid, MergeStep, short, troubled, without_call};
 use file_copy::Item;
 use job_answers::Standing;
-use job_reports::stopped_before;
+use job_reports::{rename_thing, stopped_before};
 use mc_text::{Kind, Names};
 use std::alloc::Global;
-use thing_move::{Taking, rename_thing, take_up};
+use thing_move::{Taking, take_up};
 use tree_trait::Tree;
 
 impl FolderMerge {

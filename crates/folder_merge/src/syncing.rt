@@ -9,9 +9,8 @@ ghost use Rattle.folder_merge.specs.Standing.{seen};
 use crate::merge::FolderMerge;
 use crate::report::{MergeDid, MergeStep, troubled, without_call};
 use job_answers::Standing;
-use job_reports::{out_of_memory, stopped_before};
+use job_reports::{out_of_memory, stopped_before, sync_names};
 use std::alloc::Global;
-use thing_move::sync_names;
 use tree_trait::Tree;
 
 impl FolderMerge {

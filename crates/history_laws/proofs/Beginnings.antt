@@ -6,7 +6,7 @@ use Rattle.tree_trait.specs.Shape.{IsTree}
 use Rattle.tree_trait.specs.Change.{CallLog, current}
 use Rattle.tree_trait.proofs.Visible.{same_path-self}
 use Rattle.job_reports.specs.declared.report.Did.{Did}
-use Rattle.job_reports.specs.declared.report.Did.TheVariants.{Began, Chunk, Placed, Removed, Made, Set, Kept, Skipped, Cleaned, Barrier, Asked, Troubled, Ended}
+use Rattle.job_reports.specs.declared.report.Did.TheVariants.{Began, Chunk, Placed, Removed, Made, Set, Kept, Skipped, Cleaned, Barrier, Asked, Merges, Troubled, Ended}
 use Rattle.job_reports.specs.declared.report.Ending.{Ending}
 use Rattle.session_history.specs.Named.{begins_change}
 use Rattle.job_answers.specs.declared.replies.Replies.{Replies}
@@ -70,6 +70,7 @@ winds_none ending old new (Chunk count) t h = false≢true h
 winds_none ending old new (Placed path) t h = false≢true h
 winds_none ending old new (Kept kept) t h = false≢true h
 winds_none ending old new (Asked question) t h = false≢true h
+winds_none ending old new (Merges pair names) t h = false≢true h
 winds_none ending old new (Skipped path why) t h = false≢true h
 winds_none ending old new (Cleaned part) t h = false≢true h
 winds_none ending old new Barrier t h = false≢true h
@@ -128,6 +129,7 @@ folder_stays job new (Set path) dirty dirty_after log now folders tree works kno
 folder_stays job new (Placed path) dirty dirty_after log now folders tree works known = elim known [ inl stands ↦ stands | inr begins ↦ absurd (false≢true begins) ]
 folder_stays job new (Kept path) dirty dirty_after log now folders tree works known = elim known [ inl stands ↦ stands | inr begins ↦ absurd (false≢true begins) ]
 folder_stays job new (Asked question) dirty dirty_after log now folders tree works known = elim known [ inl stands ↦ stands | inr begins ↦ absurd (false≢true begins) ]
+folder_stays job new (Merges pair names) dirty dirty_after log now folders tree works known = elim known [ inl stands ↦ stands | inr begins ↦ absurd (false≢true begins) ]
 folder_stays job new (Skipped path why) dirty dirty_after log now folders tree works known = elim known [ inl stands ↦ stands | inr begins ↦ absurd (false≢true begins) ]
 folder_stays job new (Cleaned part) dirty dirty_after log now folders tree works known = elim known [ inl stands ↦ stands | inr begins ↦ absurd (false≢true begins) ]
 folder_stays job new Barrier dirty dirty_after log now folders tree works known = elim known [ inl stands ↦ stands | inr begins ↦ absurd (false≢true begins) ]
@@ -169,6 +171,7 @@ calm_stays job new (Chunk count) dirty dirty_after log now calm q other works ow
 calm_stays job new (Placed path) dirty dirty_after log now calm q other works own known = elim known [ inl stands ↦ stands | inr begins ↦ absurd (false≢true begins) ]
 calm_stays job new (Kept path) dirty dirty_after log now calm q other works own known = elim known [ inl stands ↦ stands | inr begins ↦ absurd (false≢true begins) ]
 calm_stays job new (Asked question) dirty dirty_after log now calm q other works own known = elim known [ inl stands ↦ stands | inr begins ↦ absurd (false≢true begins) ]
+calm_stays job new (Merges pair names) dirty dirty_after log now calm q other works own known = elim known [ inl stands ↦ stands | inr begins ↦ absurd (false≢true begins) ]
 calm_stays job new (Skipped path why) dirty dirty_after log now calm q other works own known = elim known [ inl stands ↦ stands | inr begins ↦ absurd (false≢true begins) ]
 calm_stays job new (Cleaned part) dirty dirty_after log now calm q other works own known = elim known [ inl stands ↦ stands | inr begins ↦ absurd (false≢true begins) ]
 calm_stays job new Barrier dirty dirty_after log now calm q other works own known = elim known [ inl stands ↦ stands | inr begins ↦ absurd (false≢true begins) ]

@@ -12,7 +12,7 @@ use Rattle.job_reports.specs.Jobs.{Item, Copies, Removes, Makes, MakesLink, Sets
 use Rattle.job_reports.specs.Paths.{folder_of}
 use Rattle.job_reports.specs.Reports.{ends}
 use Rattle.job_reports.specs.declared.report.Did.{Did}
-use Rattle.job_reports.specs.declared.report.Did.TheVariants.{Began, Chunk, Placed, Removed, Made, Set, Kept, Skipped, Cleaned, Barrier, Asked, Troubled, Ended}
+use Rattle.job_reports.specs.declared.report.Did.TheVariants.{Began, Chunk, Placed, Removed, Made, Set, Kept, Skipped, Cleaned, Barrier, Asked, Merges, Troubled, Ended}
 use Rattle.job_reports.specs.declared.report.Ending.{Ending}
 use Rattle.file_copy.specs.AskedCopies.{AskedCalls, AskedTells}
 use Rattle.job_answers.specs.declared.replies.Replies.{Replies}
@@ -23,8 +23,8 @@ use Rattle.file_copy.specs.declared.stage.Stage.{Stage}
 use Rattle.file_copy.specs.declared.stage.Stage.TheVariants.{Begin, Fill, Clean, Left, Decided}
 use Rattle.session_history.specs.Named.{begins_change, names}
 use Rattle.copy_move.specs.Jobs.{CallsOn, Running, TellsOn, WorkCalls, WorkTells, WorkWinds}
-use Rattle.copy_move.specs.declared.new_thing.NewThing.{NewThing}
-use Rattle.copy_move.specs.declared.new_thing.NewThing.TheVariants as thing
+use Rattle.thing_making.specs.declared.new_thing.NewThing.{NewThing}
+use Rattle.thing_making.specs.declared.new_thing.NewThing.TheVariants as thing
 use Rattle.copy_move.specs.declared.run.Course.{Course}
 use Rattle.copy_move.specs.declared.run.Course.TheVariants.{GoesOn, Asking, InTrouble, OwedSyncFailed, Skips, Ends}
 use Rattle.copy_move.specs.declared.work.Work.{Work}
@@ -130,6 +130,7 @@ module _ (told : Said) (dirty dirty_after : List Route) (marks : Marks) (log now
     of_tells replies new (Set changed) k t calls on = absurd t
     of_tells replies new (Kept kept) k t calls on = (refl, λ h. absurd (false≢true h))
     of_tells replies new (Asked question) k t calls on = (refl, λ h. absurd (false≢true h))
+    of_tells replies new (Merges pair names) k t calls on = absurd t
     of_tells replies new (Skipped file why) k t calls on = absurd t
 
     of_winds : (ending : Ending) (new : Copying) (did : Did) → FileKnows told dirty marks (current log) (Ends ending) c → Winds ending c did new → ends did ≡ false → IsOff did
@@ -144,6 +145,7 @@ module _ (told : Said) (dirty dirty_after : List Route) (marks : Marks) (log now
     of_winds ending new (Set changed) k t on = absurd t
     of_winds ending new (Kept kept) k t on = absurd t
     of_winds ending new (Asked question) k t on = absurd t
+    of_winds ending new (Merges pair names) k t on = absurd t
     of_winds ending new (Skipped file why) k t on = absurd t
     of_winds ending new (Troubled trouble) k t on = absurd t
 

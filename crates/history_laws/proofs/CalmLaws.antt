@@ -81,8 +81,9 @@ module _ (free : Route → Bool) (old new : Seen) (did : Did) (log now : CallLog
   next_part none clean (inr (inl t)) = file_part _ t.works
   next_part none clean (inr (inr (inl t))) = link_part (link_begun t.pair t.part) (taken_link free old new did log now known clean t) (λ has. absurd (false≢true has)) t.works
   next_part none clean (inr (inr (inr (inl t)))) = same none (let w = t.works in ap (λ (c : Seen). c.item) w.stands)
-  next_part none clean (inr (inr (inr (inr (next, inl (debt, ends)))))) = same none (ap (λ (c : Seen). c.item) ends.stands)
-  next_part none clean (inr (inr (inr (inr (next, inr (debt, f, stays)))))) = same none (ap (λ (c : Seen). c.item) f.stands)
+  next_part none clean (inr (inr (inr (inr (inl t))))) = same none (ap (λ (c : Seen). c.item) t.stands)
+  next_part none clean (inr (inr (inr (inr (inr (next, inl (debt, ends))))))) = same none (ap (λ (c : Seen). c.item) ends.stands)
+  next_part none clean (inr (inr (inr (inr (inr (next, inr (debt, f, stays))))))) = same none (ap (λ (c : Seen). c.item) f.stands)
 
   works_part : (item : Item) → old.item ≡ item → ItemKnown log old item → PartCalm log item → WorksOn item Unclaimed old new did (Some log) (Some now) → PartCalm now new.item
   works_part Next is item part (inl s) = same is (ap (λ (c : Seen). c.item) s.stands)

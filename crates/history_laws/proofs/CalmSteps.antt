@@ -23,7 +23,7 @@ use Rattle.folder_copy.specs.declared.stage.Stage.{Stage}
 use Rattle.folder_copy.specs.declared.stage.Stage.TheVariants as at
 use Rattle.subtree_walk.specs.Places.{opened}
 use Rattle.copy_levels.specs.declared.level.Level.{Level}
-use Rattle.copy_levels.specs.Levels.{IsLeft, Levels, closed, is_around_dirty, level, made_levels, owes, with_copy}
+use Rattle.copy_levels.specs.Levels.{IsLeft, Levels, closed, is_around_dirty, level, made_levels, owes, passed, with_copy}
 use Rattle.tree_copy.specs.declared.item.Item.{Item}
 use Rattle.tree_copy.specs.declared.item.Item.TheVariants.{Next, File, Link, Stays}
 use Rattle.tree_copy.specs.declared.progress.Progress.{Progress}
@@ -239,8 +239,10 @@ module _ (p : Route) where
       takes clean (inr (inr (inl t))) =
           link_works (link_begun t.pair t.part) (taken_link free old new did log now known clean t) (λ has. absurd (false≢true has)) (λ at. nothing_filled old.item p none at) t.works
       takes clean (inr (inr (inr (inl t)))) = let n = next_of old old.levels.inner.names.names t.pair t.next in makes t.pair t.names t.mode (target_name old n.name) n.target_is t.works
-      takes clean (inr (inr (inr (inr (next, inl (debt, e)))))) = ends clean e
-      takes clean (inr (inr (inr (inr (next, inr (debt, f, same)))))) =
+      takes clean (inr (inr (inr (inr (inl t))))) =
+          as_new (record old { levels = passed false old.levels }) t.stands (calm_map p now (Sets old) _ (λ set. inr (set_passed p false old.levels set)) (same_log (Sets old) (some_log now log t.same) alone))
+      takes clean (inr (inr (inr (inr (inr (next, inl (debt, e))))))) = ends clean e
+      takes clean (inr (inr (inr (inr (inr (next, inr (debt, f, same))))))) =
           as_new (at_end old) f.stands (calm_map p now (Sets old) _ (λ set. inr (set_closed p old.levels set)) (same_log (Sets old) (some_log now log same) alone))
 
     pub works_calm : (item : Item) → old.item ≡ item → ItemKnown log old item → PartCalm log item → WorksOn item Unclaimed old new did (Some log) (Some now) → Then

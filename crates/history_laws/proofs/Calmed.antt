@@ -7,7 +7,7 @@ use Rattle.tree_trait.specs.Change.{CallLog, current}
 use Rattle.tree_trait.specs.CrashImages.{Among, all_settled}
 use Rattle.crash_law.specs.Guarded.{Marks}
 use Rattle.job_reports.specs.declared.report.Did.{Did}
-use Rattle.job_reports.specs.declared.report.Did.TheVariants.{Began, Chunk, Placed, Removed, Made, Set, Kept, Skipped, Cleaned, Barrier, Asked, Troubled, Ended}
+use Rattle.job_reports.specs.declared.report.Did.TheVariants.{Began, Chunk, Placed, Removed, Made, Set, Kept, Skipped, Cleaned, Barrier, Asked, Merges, Troubled, Ended}
 use Rattle.job_reports.specs.Paths.{folder_of}
 use Rattle.file_copy.specs.Copying as copying
 use Rattle.session_history.specs.declared.history.Event.TheVariants.{Step}
@@ -21,7 +21,7 @@ use Rattle.copy_move.specs.declared.work.Work.TheVariants.{Copy, CopyTree, Delet
 use Rattle.tree_deletion.specs.declared.deletion.Stage.{Stage}
 use Rattle.tree_deletion.specs.declared.deletion.Stage.TheVariants.{Begin, Going, Sync}
 use Rattle.tree_deletion.specs.Standing.{at_barrier, is_fresh as is_fresh_stage}
-use Rattle.copy_move.specs.Makings as makings
+use Rattle.thing_making.specs.Makings as makings
 use Rattle.mode_setting.specs.Settings as settings
 use Rattle.copy_move.specs.Jobs.{Running, WorkTells, is_fresh}
 use Rattle.copy_move.specs.Settling.{NoneOwed, changed_folder}
@@ -85,6 +85,7 @@ module _ (told : Said) (dirty : List Route) (marks : Marks) (log : CallLog) (cou
   fresh_then (Copy c) (Copy new) (Made made) t h clean k = absurd t
   fresh_then (Copy c) (Copy new) (Kept kept) t h clean k = absurd (false≢true h)
   fresh_then (Copy c) (Copy new) (Asked question) t h clean k = absurd (false≢true h)
+  fresh_then (Copy c) (Copy new) (Merges pair names) t h clean k = absurd (false≢true h)
   fresh_then (Copy c) (Copy new) (Skipped path why) t h clean k = absurd (false≢true h)
   fresh_then (Copy c) (Copy new) (Cleaned part) t h clean k = absurd (false≢true h)
   fresh_then (Copy c) (Copy new) Barrier t h clean k = absurd (false≢true h)
@@ -102,6 +103,7 @@ module _ (told : Said) (dirty : List Route) (marks : Marks) (log : CallLog) (cou
   fresh_then (Delete d) (Delete new) (Made made) t h clean k = absurd t
   fresh_then (Delete d) (Delete new) (Kept kept) t h clean k = absurd (false≢true h)
   fresh_then (Delete d) (Delete new) (Asked question) t h clean k = absurd (false≢true h)
+  fresh_then (Delete d) (Delete new) (Merges pair names) t h clean k = absurd (false≢true h)
   fresh_then (Delete d) (Delete new) (Skipped path why) t h clean k = absurd (false≢true h)
   fresh_then (Delete d) (Delete new) (Cleaned part) t h clean k = absurd (false≢true h)
   fresh_then (Delete d) (Delete new) Barrier t h clean k = absurd (false≢true h)
@@ -132,6 +134,7 @@ module _ (told : Said) (dirty : List Route) (marks : Marks) (log : CallLog) (cou
   fresh_then (Make m) (Make new) (Removed made) t h clean k = absurd t
   fresh_then (Make m) (Make new) (Kept kept) t h clean k = absurd (false≢true h)
   fresh_then (Make m) (Make new) (Asked question) t h clean k = absurd (false≢true h)
+  fresh_then (Make m) (Make new) (Merges pair names) t h clean k = absurd (false≢true h)
   fresh_then (Make m) (Make new) (Skipped path why) t h clean k = absurd (false≢true h)
   fresh_then (Make m) (Make new) (Cleaned part) t h clean k = absurd (false≢true h)
   fresh_then (Make m) (Make new) Barrier t h clean k = absurd (false≢true h)
@@ -145,6 +148,7 @@ module _ (told : Said) (dirty : List Route) (marks : Marks) (log : CallLog) (cou
   fresh_then (SetMode s) (SetMode new) (Removed made) t h clean k = absurd t
   fresh_then (SetMode s) (SetMode new) (Kept kept) t h clean k = absurd (false≢true h)
   fresh_then (SetMode s) (SetMode new) (Asked question) t h clean k = absurd (false≢true h)
+  fresh_then (SetMode s) (SetMode new) (Merges pair names) t h clean k = absurd (false≢true h)
   fresh_then (SetMode s) (SetMode new) (Skipped path why) t h clean k = absurd (false≢true h)
   fresh_then (SetMode s) (SetMode new) (Cleaned part) t h clean k = absurd (false≢true h)
   fresh_then (SetMode s) (SetMode new) Barrier t h clean k = absurd (false≢true h)

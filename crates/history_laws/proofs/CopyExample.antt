@@ -51,8 +51,16 @@ made_traced : IsTraced (log []) made_entries (stand (job has_made ∷ []) ([] �
 made_traced =
     own_step (log []) 1 1 (Made target) begun_entries (stand (job begins ∷ []) []) (stand (job has_made ∷ []) ([] ∷ [])) (log []) made_log (job begins) (job has_made) begun_traced (inl (refl, refl))
     (works begins has_made (Made target) 1 [] ([] ∷ []) (log []) made_log
-    (record { may = tt; after = record { top = refl; part = refl; stage = refl; skips = refl }; first = λ fresh. tt; on = refl; no_trouble = λ trouble is. let f : ⊥ = cc in f; no_skip = λ path cause is. let f : ⊥ = cc in f })
-    makes (λ fresh. refl) (record { folder = []; own = refl; was = false; now = true; list = refl; synced = λ was now. absurd (false≢true was) })) refl refl refl
+    (record {
+      may = tt;
+      after = record { top = refl; part = refl; stage = refl; skips = refl };
+      first = λ fresh. tt;
+      on = refl;
+      no_trouble = λ trouble is. let f : ⊥ = cc in f;
+      no_skip = λ path cause is. let f : ⊥ = cc in f;
+      merged = λ pair names is. absurd (let f : ⊥ = cc in f);
+      over = λ over. absurd (let e = over.names in let f : ⊥ = cc in f);
+    }) makes (λ fresh. refl) (record { folder = []; own = refl; was = false; now = true; list = refl; synced = λ was now. absurd (false≢true was) })) refl refl refl
 
 stands_traced : IsTraced (log []) stands_entries (stand (job brought_in ∷ []) []) stands_log
 stands_traced =
@@ -65,6 +73,8 @@ stands_traced =
       on = refl;
       no_trouble = λ trouble is. let f : ⊥ = cc in f;
       no_skip = λ path cause is. let f : ⊥ = cc in f;
+      merged = λ pair names is. absurd (let f : ⊥ = cc in f);
+      over = λ over. absurd (let e = over.around in let f : ⊥ = cc in f);
     }) brings_in (λ fresh. absurd (false≢true fresh)) (record { folder = []; own = refl; was = true; now = false; list = refl; synced = λ was now. refl })) refl refl refl
 
 given_traced : IsTraced (log []) given_entries (stand (job given ∷ []) (target ∷ [])) given_log
@@ -78,6 +88,8 @@ given_traced =
       on = refl;
       no_trouble = λ trouble is. let f : ⊥ = cc in f;
       no_skip = λ path cause is. let f : ⊥ = cc in f;
+      merged = λ pair names is. absurd (let f : ⊥ = cc in f);
+      over = λ over. absurd (let e = over.around in let f : ⊥ = cc in f);
     }) gives (λ fresh. refl) (record { folder = target; own = refl; was = false; now = true; list = refl; synced = λ was now. absurd (false≢true was) })) refl refl refl
 
 synced_traced : IsTraced (log []) synced_entries (stand (job synced ∷ []) []) synced_log
@@ -91,6 +103,8 @@ synced_traced =
       on = refl;
       no_trouble = λ trouble is. let f : ⊥ = cc in f;
       no_skip = λ path cause is. let f : ⊥ = cc in f;
+      merged = λ pair names is. absurd (let f : ⊥ = cc in f);
+      over = λ over. absurd (let e = over.around in let f : ⊥ = cc in f);
     }) syncs (λ fresh. absurd (false≢true fresh)) (record { folder = target; own = refl; was = true; now = false; list = refl; synced = λ was now. refl })) refl refl refl
 
 finished_traced : IsTraced (log []) finished_entries (stand [] []) synced_log
@@ -104,6 +118,8 @@ finished_traced =
       on = refl;
       no_trouble = λ trouble is. let f : ⊥ = cc in f;
       no_skip = λ path cause is. let f : ⊥ = cc in f;
+      merged = λ pair names is. absurd (let f : ⊥ = cc in f);
+      over = λ over. absurd (let e = over.around in let f : ⊥ = cc in f);
     }) finishes (λ fresh. refl) (record { folder = []; own = refl; was = false; now = false; list = refl; synced = λ was now. absurd (false≢true was) })) refl refl refl
 
 -- until the folder was synced a crash may leave it with the mode of its making

@@ -1,5 +1,5 @@
 -- How a folder is copied that its owner may not change, step by step: it is made, brought onto the disk, given the mode of its source, and synced.
-use Rattle.std.proofs.Common.{◌≡◌, ℕ, ◌≤◌, pos, Bool, true, List, [], ◌∷◌, refl, sym, ap, subst, inl, inr, Option, Some, None, arith}
+use Rattle.std.proofs.Common.{◌≡◌, ℕ, ◌≤◌, pos, Bool, true, false, List, [], ◌∷◌, refl, sym, ap, subst, inl, inr, Option, Some, None, arith}
 use Rattle.std.proofs.lemmas.Bool.{false≢true}
 use Rattle.mc_text.specs.Routes.{Route}
 use Rattle.mc_text.specs.declared.kind.Kind.TheVariants.{Folder}
@@ -18,7 +18,7 @@ use Rattle.job_reports.specs.declared.report.Cause.{Cause}
 use Rattle.job_reports.specs.declared.report.Trouble.{Trouble}
 use Rattle.job_reports.specs.declared.job.Pair.{Pair}
 use Rattle.job_reports.specs.declared.report.Did.{Did}
-use Rattle.job_reports.specs.declared.report.Did.TheVariants.{Made, Set, Skipped, Barrier, Troubled, Ended}
+use Rattle.job_reports.specs.declared.report.Did.TheVariants.{Made, Set, Skipped, Barrier, Merges, Troubled, Ended}
 use Rattle.job_reports.specs.declared.report.Ending.TheVariants.{Finished}
 use Rattle.folder_copy.specs.FolderCopying.{FolderCopying, copying}
 use Rattle.folder_copy.specs.FolderSteps.{FolderCalls}
@@ -28,11 +28,13 @@ use Rattle.folder_copy.specs.declared.stage.Stage.TheVariants as folder_stage
 use Rattle.copy_levels.specs.Levels.{Levels, closed, level, made_levels, with_copy}
 use Rattle.copy_levels.specs.declared.level.Level.{Level}
 use Rattle.subtree_walk.specs.Places.{opened}
+use Rattle.tree_copy.specs.Reports.{changes}
 use Rattle.tree_copy.specs.Standing.{Seen, is_fresh}
 use Rattle.tree_copy.specs.Steps.{Counts, at_end}
 use Rattle.tree_copy.specs.Taking.{IsTaken}
 use Rattle.tree_copy.specs.declared.copy.Stage.TheVariants.{Going}
 use Rattle.tree_copy.specs.declared.looking.Taken.TheVariants as taken
+use Rattle.subtree_copy.specs.Merged.{IsOver, MergesTop}
 use Rattle.subtree_copy.specs.Reporting.{ChangesOwn, MayTell}
 use Rattle.subtree_copy.specs.Standing.{SubtreeCopying, started}
 use Rattle.subtree_copy.specs.SubtreeSteps.{SubtreeSteps, step_result}
@@ -233,7 +235,7 @@ gives = record {
       leaves = refl;
       works = inr (
         refl,
-        inr (inr (inr (inr (
+        inr (inr (inr (inr (inr (
           refl,
           inl (
             refl,
@@ -247,7 +249,7 @@ gives = record {
               stands = refl;
             },
           ),
-        )))),
+        ))))),
       );
       counts = counts (Set target) 1 stands_log given_log refl (omega arith) (λ h. h);
     };
@@ -273,7 +275,7 @@ syncs = record {
       leaves = refl;
       works = inr (
         refl,
-        inr (inr (inr (inr (
+        inr (inr (inr (inr (inr (
           refl,
           inl (
             refl,
@@ -287,7 +289,7 @@ syncs = record {
               stands = refl;
             },
           ),
-        )))),
+        ))))),
       );
       counts = counts Barrier 1 given_log synced_log refl (omega arith) (λ h. h);
     };
@@ -311,7 +313,7 @@ finishes = record {
       folders = 0;
       mid = around.at;
       leaves = refl;
-      works = inr (refl, inr (inr (inr (inr (refl, inr (refl, record { last = refl; says = refl; stands = refl }, refl))))));
+      works = inr (refl, inr (inr (inr (inr (inr (refl, inr (refl, record { last = refl; says = refl; stands = refl }, refl)))))));
       counts = counts (Ended Finished None) 0 synced_log synced_log refl (omega arith) (λ h. h);
     };
     list = refl;
@@ -333,6 +335,8 @@ pub record IsDone (old new : SubtreeCopying) (did : Did) : Type 0 where
   pub on : course_after did ≡ GoesOn
   pub no_trouble : (trouble : Trouble) → did ≡ Troubled trouble → ⊥
   pub no_skip : (path : Route) (cause : Cause) → did ≡ Skipped path cause → ⊥
+  pub merged : (pair : Pair) (names : List (List ℕ)) → did ≡ Merges pair names → MergesTop old pair names new
+  pub over : IsOver old.at → IsOver new.at × (changes did ≡ false)
 
 pub works : (old new : SubtreeCopying) (did : Did) (calls : ℕ) (dirty dirty_after : List Route) (before now : CallLog) → IsDone old new did → IsStep old new did calls dirty dirty_after before now
     → (is_fresh old.at.stage ≡ true → dirty ≡ []) → ChangesOwn old did dirty dirty_after → WorkLeads (job old) did (job new) dirty dirty_after before now
@@ -346,6 +350,8 @@ works old new did calls dirty dirty_after before now done step clean leaves = re
       barred = λ trouble is. absurd (done.no_trouble trouble is);
       apart = λ trouble is. absurd (done.no_trouble trouble is);
       kinds = λ path cause is. absurd (done.no_skip path cause is);
+      merged = done.merged;
+      over = done.over;
     },
     ap (λ course. (let r : Running = record { id = 1; work = CopyTree new; course = course; replies = no_replies } in r)) (sym done.on),
   );

@@ -21,7 +21,7 @@ use Rattle.job_reports.specs.declared.report.Cause.{Cause}
 use Rattle.job_reports.specs.declared.report.Cause.TheVariants as cause
 use Rattle.job_reports.specs.declared.report.Ending.TheVariants.{Finished, Aborted, Killed, NoMemory}
 use Rattle.job_reports.specs.declared.report.Did.{Did}
-use Rattle.job_reports.specs.declared.report.Did.TheVariants.{Began, Chunk, Placed, Removed, Made, Set, Kept, Skipped, Cleaned, Barrier, Asked, Troubled, Ended}
+use Rattle.job_reports.specs.declared.report.Did.TheVariants.{Began, Chunk, Placed, Removed, Made, Set, Kept, Skipped, Cleaned, Barrier, Asked, Merges, Troubled, Ended}
 use Rattle.file_copy.specs.declared.stage.FolderState.TheVariants.{Synced, Dirty}
 use Rattle.file_copy.specs.declared.stage.Next.{Next}
 use Rattle.file_copy.specs.declared.stage.Next.TheVariants as next
@@ -285,6 +285,7 @@ module _ (told : Said) (dirty dirty_after : List Route) (marks : Marks) (log now
   copy_tells new (Set path) knows tells calls settled leaves = absurd tells
   copy_tells new (Kept path) knows tells calls settled leaves = absurd tells
   copy_tells new (Asked question) knows tells calls settled leaves = absurd tells
+  copy_tells new (Merges pair names) knows tells calls settled leaves = absurd tells
   copy_tells new (Skipped path why) knows tells done settled leaves = absurd tells
 
   -- a copy that asks stops where it begins as one that doesn't
@@ -308,6 +309,7 @@ module _ (told : Said) (dirty dirty_after : List Route) (marks : Marks) (log now
       stands told dirty dirty_after marks log now kept Asking (Copy new)
       (subst (λ (x : Copying). WorkKnows told dirty marks log Asking (Copy x)) (sym new_is) (work_course told dirty marks log GoesOn Asking (Copy c) (λ e. refl) (λ still. refl) knows))
       (leaves_same new (ap (λ (x : Copying). x.folder) new_is) leaves) (some_log now log calls.1)
+  asked_tells replies new (Merges pair names) knows tells calls settled leaves = absurd tells
   asked_tells replies new (Kept path) (name, listed, knows) (stage, path_is, new_is) calls settled leaves =
       let at_begin = subst (λ x. StageKnows told marks (current log) GoesOn c x) stage knows in
       stands told dirty dirty_after marks log now kept GoesOn (Copy new) (subst (λ (x : Copying). WorkKnows told dirty marks log GoesOn (Copy x)) (sym new_is) (name, listed, at_begin.0))

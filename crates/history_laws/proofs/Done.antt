@@ -37,8 +37,8 @@ use Rattle.history_laws.proofs.Lasting.{finished_stays_law}
 use Rattle.history_laws.proofs.Moments.{log_of, prefix_is, traced_count}
 use Rattle.history_laws.proofs.Reports.{HasLive}
 use Rattle.history_laws.proofs.Sources.{item_in, making_item}
-use Rattle.copy_move.specs.declared.new_thing.NewThing.{NewThing}
-use Rattle.copy_move.specs.declared.new_thing.NewThing.TheVariants as thing
+use Rattle.thing_making.specs.declared.new_thing.NewThing.{NewThing}
+use Rattle.thing_making.specs.declared.new_thing.NewThing.TheVariants as thing
 use Rattle.history_laws.proofs.Stepped.{more}
 use Rattle.history_laws.proofs.Turns.{done_with}
 use Rattle.history_laws.proofs.Unnamed.{replayed_since}

@@ -17,7 +17,7 @@ use Rattle.folder_copy.specs.declared.stage.FolderDid.TheVariants as folder_did
 use Rattle.folder_copy.specs.declared.stage.Stage.{Stage}
 use Rattle.folder_copy.specs.declared.stage.Stage.TheVariants as at
 use Rattle.subtree_walk.specs.Places.{opened}
-use Rattle.copy_levels.specs.Levels.{Levels, made_levels}
+use Rattle.copy_levels.specs.Levels.{Levels, made_levels, passed}
 use Rattle.tree_copy.specs.declared.due.Due.TheVariants.{End, Thing}
 use Rattle.tree_copy.specs.declared.item.Item.{Item}
 use Rattle.tree_copy.specs.declared.item.Item.TheVariants.{Next, File, Link, Stays}
@@ -145,9 +145,11 @@ module _ (unclaimed : Route → Type 0) (old new : Seen) (did : Did) (before aft
   takes_ends none (inr (inl t)) = file_ends (file.begun old.job t.pair.source t.pair.target) (λ over. met_not old.levels.inner.names.names old t.pair t.next over.last) t.works
   takes_ends none (inr (inr (inl t))) = link_ends (link_begun t.pair t.part) (λ over. met_not old.levels.inner.names.names old t.pair t.next over.last) t.works
   takes_ends none (inr (inr (inr (inl t)))) = makes_ends t.pair t.names t.mode (λ over. met_not old.levels.inner.names.names old t.pair t.next over.last) t.works
-  takes_ends none (inr (inr (inr (inr (next, inl (debt, e)))))) =
+  takes_ends none (inr (inr (inr (inr (inl t))))) =
+      kept (λ over. met_not old.levels.inner.names.names old t.pair t.next over.last) (as_new old (record old { levels = passed false old.levels }) new t.stands (record { stage = refl; around = refl }))
+  takes_ends none (inr (inr (inr (inr (inr (next, inl (debt, e))))))) =
       over_ends old new (ap (λ (c : Seen). is_open c.levels.inner.copy.stage) e.stands ∙ end_open (let c = at_end old in c.levels.inner.copy) e.moved e.report did e.tells e.says (closing_open old.levels.inner.copy.stage ends.open_still)) (ap (λ (c : Seen). c.item) e.stands ∙ none) (ap (λ (c : Seen). c.levels.inner.names.names) e.stands ∙ end_last old.levels.inner.names.names old next) (ap (λ (c : Seen). c.levels.around) e.stands) ends.around
-  takes_ends none (inr (inr (inr (inr (next, inr (debt, f, same)))))) =
+  takes_ends none (inr (inr (inr (inr (inr (next, inr (debt, f, same))))))) =
       over_ends old new (ap (λ (c : Seen). is_open c.levels.inner.copy.stage) f.stands ∙ closing_open old.levels.inner.copy.stage ends.open_still) (ap (λ (c : Seen). c.item) f.stands ∙ none) (ap (λ (c : Seen). c.levels.inner.names.names) f.stands ∙ end_last old.levels.inner.names.names old next) (ap (λ (c : Seen). c.levels.around) f.stands) ends.around
 
   syncs_ends : old.item ≡ Next → SyncsAround old new did before after → EndsLast new

@@ -9,7 +9,7 @@ use Rattle.tree_trait.specs.Change.{CallLog, current}
 use Rattle.crash_law.specs.Guarded.{Marks}
 use Rattle.job_reports.specs.Paths.{folder_of}
 use Rattle.job_reports.specs.declared.report.Did.{Did}
-use Rattle.job_reports.specs.declared.report.Did.TheVariants.{Began, Chunk, Placed, Removed, Made, Set, Kept, Skipped, Cleaned, Barrier, Asked, Troubled, Ended}
+use Rattle.job_reports.specs.declared.report.Did.TheVariants.{Began, Chunk, Placed, Removed, Made, Set, Kept, Skipped, Cleaned, Barrier, Asked, Merges, Troubled, Ended}
 use Rattle.job_reports.specs.declared.report.Ending.TheVariants.{Finished, Aborted, Killed, NoMemory}
 use Rattle.file_copy.specs.Copying.{Copying, Tells, is_dirty, is_fresh}
 use Rattle.file_copy.specs.declared.stage.FolderState.{FolderState}
@@ -82,6 +82,7 @@ folder_stays f moved (Made path) going t = absurd t
 folder_stays f moved (Set path) going t = absurd t
 folder_stays f moved (Kept path) going t = absurd t
 folder_stays f moved (Asked question) going t = absurd t
+folder_stays f moved (Merges pair names) going t = absurd t
 folder_stays f moved (Skipped path cause) going t = absurd t
 
 module _ (told : Said) (dirty dirty_after : List Route) (marks : Marks) (log now : CallLog) (kept : IsKept told dirty marks log) (c : SubtreeCopying) (f : Copying) (old new : Seen) (did : Did) (unclaimed : Route → Type 0) (item : old.item ≡ File f)
@@ -150,6 +151,7 @@ module _ (told : Said) (dirty dirty_after : List Route) (marks : Marks) (log now
   by (Set path) is t come = absurd t
   by (Kept path) is t come = absurd t
   by (Asked question) is t come = absurd t
+  by (Merges pair names) is t come = absurd t
   by (Skipped path cause) is t come = absurd t
 
   -- a step of the file at work

@@ -11,7 +11,7 @@ use Rattle.job_reports.specs.declared.report.Ending.{Ending}
 use Rattle.job_reports.specs.declared.report.Ending.TheVariants.{Aborted}
 use Rattle.job_reports.specs.declared.report.Cause.{Cause}
 use Rattle.job_reports.specs.declared.report.Did.{Did}
-use Rattle.job_reports.specs.declared.report.Did.TheVariants.{Began, Chunk, Placed, Removed, Made, Set, Kept, Skipped, Cleaned, Barrier, Asked, Troubled, Ended}
+use Rattle.job_reports.specs.declared.report.Did.TheVariants.{Began, Chunk, Placed, Removed, Made, Set, Kept, Skipped, Cleaned, Barrier, Asked, Merges, Troubled, Ended}
 use Rattle.job_reports.specs.Jobs.{Item, folder_changed}
 use Rattle.job_reports.specs.declared.job.Job.{Job}
 use Rattle.job_reports.specs.declared.answer.Answer.{Answer}
@@ -87,6 +87,7 @@ after_going (Removed path) = tt
 after_going (Made made) = tt
 after_going (Kept kept) = tt
 after_going (Asked question) = tt
+after_going (Merges pair names) = tt
 after_going (Skipped path why) = tt
 after_going (Cleaned part) = tt
 after_going Barrier = tt

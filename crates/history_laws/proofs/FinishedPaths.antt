@@ -23,11 +23,11 @@ use Rattle.copy_move.specs.declared.run.Course.{Course}
 use Rattle.copy_move.specs.declared.run.Course.TheVariants.{GoesOn, Asking, InTrouble, OwedSyncFailed, Skips, Ends}
 use Rattle.copy_move.specs.Deletions.{started}
 use Rattle.copy_move.specs.declared.work.Work.{Work}
-use Rattle.copy_move.specs.declared.making.MakingStage.{MakingStage}
-use Rattle.copy_move.specs.declared.making.MakingStage.TheVariants as making
+use Rattle.thing_making.specs.declared.making.MakingStage.{MakingStage}
+use Rattle.thing_making.specs.declared.making.MakingStage.TheVariants as making
 use Rattle.copy_move.specs.declared.work.Work.TheVariants.{Copy, CopyTree, Delete, Make, SetMode}
-use Rattle.copy_move.specs.Makings.{Making}
-use Rattle.copy_move.specs.Makings as makings
+use Rattle.thing_making.specs.Makings.{Making}
+use Rattle.thing_making.specs.Makings as makings
 use Rattle.mode_setting.specs.Settings.{Setting}
 use Rattle.mode_setting.specs.Settings as settings
 use Rattle.copy_move.specs.Jobs.{Running, TellsOn, WorkTells}

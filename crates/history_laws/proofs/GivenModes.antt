@@ -163,8 +163,9 @@ module _ (v : View) where
     takes_owe made (inr (inl t)) = file_owes unclaimed old new did (Some log) (Some now) h (file.begun old.job t.pair.source t.pair.target) t.works
     takes_owe made (inr (inr (inl t))) = link_owes unclaimed old new did (Some log) (Some now) h (link_begun t.pair t.part) t.works
     takes_owe made (inr (inr (inr (inl t)))) = makes_owe t
-    takes_owe made (inr (inr (inr (inr (next, inl (debt, e)))))) = ends_owe made e
-    takes_owe made (inr (inr (inr (inr (next, inr (debt, f, same)))))) = subst (OwedModes v) (sym f.stands) (closed_owe old h)
+    takes_owe made (inr (inr (inr (inr (inl t))))) = subst (OwedModes v) (sym t.stands) (owe_passed false old.levels h)
+    takes_owe made (inr (inr (inr (inr (inr (next, inl (debt, e))))))) = ends_owe made e
+    takes_owe made (inr (inr (inr (inr (inr (next, inr (debt, f, same))))))) = subst (OwedModes v) (sym f.stands) (closed_owe old h)
 
     syncs_owe : SyncsAround old new did (Some log) (Some now) → OwedModes v new
     syncs_owe s =

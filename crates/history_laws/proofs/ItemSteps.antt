@@ -118,8 +118,9 @@ module _ (free : Route → Bool) (old new : Seen) (did : Did) (log now : CallLog
   takes_next none clean (inr (inl t)) = takes_file clean t
   takes_next none clean (inr (inr (inl t))) = takes_link clean t
   takes_next none clean (inr (inr (inr (inl t)))) = (let w = t.works in none_known now new (ap (λ (c : Seen). c.item) w.stands ∙ none))
-  takes_next none clean (inr (inr (inr (inr (next, inl (debt, ends)))))) = none_known now new (ap (λ (c : Seen). c.item) ends.stands ∙ none)
-  takes_next none clean (inr (inr (inr (inr (next, inr (debt, f, same)))))) = none_known now new (ap (λ (c : Seen). c.item) f.stands ∙ none)
+  takes_next none clean (inr (inr (inr (inr (inl t))))) = none_known now new (ap (λ (c : Seen). c.item) t.stands ∙ none)
+  takes_next none clean (inr (inr (inr (inr (inr (next, inl (debt, ends))))))) = none_known now new (ap (λ (c : Seen). c.item) ends.stands ∙ none)
+  takes_next none clean (inr (inr (inr (inr (inr (next, inr (debt, f, same))))))) = none_known now new (ap (λ (c : Seen). c.item) f.stands ∙ none)
 
   goes_on : old.item ≡ Next → GoesOn Unclaimed old new did (Some log) (Some now) → ItemKnown now new new.item
   goes_on none (inl s) = none_known now new (ap (λ (c : Seen). c.item) s.stands ∙ none)

@@ -16,7 +16,7 @@ use Rattle.copy_move.specs.declared.work.Work.TheVariants.{Copy, CopyTree, Delet
 use Rattle.job_answers.specs.declared.replies.Replies.{Replies}
 use Rattle.copy_move.specs.declared.run.Course.{Course}
 use Rattle.copy_move.specs.declared.run.Course.TheVariants.{GoesOn, Asking, InTrouble, OwedSyncFailed, Skips, Ends}
-use Rattle.copy_move.specs.Makings.{Making}
+use Rattle.thing_making.specs.Makings.{Making}
 use Rattle.copy_move.specs.Jobs.{Running, CallsOn, TellsOn, WorkCalls, WorkLastCalls, WorkTells, PassesOver, WorkWinds, course_after, is_fresh, unreported_skip}
 use Rattle.copy_move.specs.DeletionSteps.{after_try}
 use Rattle.copy_move.specs.Settling.{NoneOwed, WorkLeaves}

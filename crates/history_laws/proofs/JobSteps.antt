@@ -16,7 +16,7 @@ use Rattle.crash_law.specs.Guarded.{Marks}
 use Rattle.job_reports.specs.declared.report.Ending.{Ending}
 use Rattle.job_reports.specs.declared.report.Ending.TheVariants.{NoMemory}
 use Rattle.job_reports.specs.declared.report.Did.{Did}
-use Rattle.job_reports.specs.declared.report.Did.TheVariants.{Began, Chunk, Placed, Removed, Made, Set, Kept, Skipped, Cleaned, Barrier, Asked, Troubled, Ended}
+use Rattle.job_reports.specs.declared.report.Did.TheVariants.{Began, Chunk, Placed, Removed, Made, Set, Kept, Skipped, Cleaned, Barrier, Asked, Merges, Troubled, Ended}
 use Rattle.file_copy.specs.declared.stage.FolderState.{FolderState}
 use Rattle.file_copy.specs.declared.stage.FolderState.TheVariants.{Synced, Dirty}
 use Rattle.file_copy.specs.declared.stage.Stage.{Stage}
@@ -227,5 +227,6 @@ module _ (told : Said) (dirty dirty_after : List Route) (marks : Marks) (log now
   copy_winds c new ending (Made made) left knows winds tells rows leaves = absurd winds
   copy_winds c new ending (Kept kept) left knows winds tells rows leaves = absurd winds
   copy_winds c new ending (Asked question) left knows winds tells rows leaves = absurd winds
+  copy_winds c new ending (Merges pair names) left knows winds tells rows leaves = absurd winds
   copy_winds c new ending (Skipped path why) left knows winds tells rows leaves = absurd winds
   copy_winds c new ending (Troubled trouble) left knows winds tells rows leaves = absurd winds

@@ -8,7 +8,7 @@ use Rattle.job_answers.specs.declared.skips.Skips.{Skips as Kinds}
 use Rattle.job_reports.specs.declared.job.Pair.{Pair}
 use Rattle.job_reports.specs.declared.report.Cause.{Cause}
 use Rattle.job_reports.specs.declared.report.Did.{Did}
-use Rattle.job_reports.specs.declared.report.Did.TheVariants.{Began, Chunk, Placed, Removed, Made, Set, Kept, Skipped, Cleaned, Barrier, Asked, Troubled, Ended}
+use Rattle.job_reports.specs.declared.report.Did.TheVariants.{Began, Chunk, Placed, Removed, Made, Set, Kept, Skipped, Cleaned, Barrier, Asked, Merges, Troubled, Ended}
 use Rattle.job_reports.specs.declared.report.StepResult.{StepResult}
 use Rattle.file_copy.specs.Copying as file
 use Rattle.file_copy.specs.Copying.{Copying}
@@ -81,6 +81,7 @@ left_marks (Removed path) c marked = marked
 left_marks (Set path) c marked = marked
 left_marks (Kept path) c marked = marked
 left_marks (Asked question) c marked = marked
+left_marks (Merges pair names) c marked = marked
 left_marks (Skipped path cause) c marked = marked
 left_marks (Cleaned part) c marked = marked
 left_marks Barrier c marked = marked
@@ -169,8 +170,9 @@ module _ (old new : Seen) (did : Did) (dirty dirty_after : List Route) (before a
   takes_listed unclaimed brings (inr (inl t)) = file_listed unclaimed _ brings t.works
   takes_listed unclaimed brings (inr (inr (inl t))) = link_listed _ brings t.works
   takes_listed unclaimed brings (inr (inr (inr (inl t)))) = makes_listed t.pair t.names t.mode brings t.works
-  takes_listed unclaimed brings (inr (inr (inr (inr (next, inl (debt, e)))))) = ends_listed brings e
-  takes_listed unclaimed brings (inr (inr (inr (inr (next, inr (debt, f, same)))))) = same_listed brings (now_same old (at_end old) new f.stands (refl, refl))
+  takes_listed unclaimed brings (inr (inr (inr (inr (inl t))))) = same_listed brings (now_same old (record old { levels = passed false old.levels }) new t.stands (refl, refl))
+  takes_listed unclaimed brings (inr (inr (inr (inr (inr (next, inl (debt, e))))))) = ends_listed brings e
+  takes_listed unclaimed brings (inr (inr (inr (inr (inr (next, inr (debt, f, same))))))) = same_listed brings (now_same old (at_end old) new f.stands (refl, refl))
 
   -- the folder around was synced
   syncs_listed : brings_made old ≡ true → SyncsAround old new did before after → MarksListed dirty_after new

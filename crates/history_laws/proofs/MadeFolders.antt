@@ -108,10 +108,11 @@ module _ (log now : CallLog) (tree : IsTree (current log)) where
     made_in (inr (inl t)) = (let w = t.works in absurd w.tells)
     made_in (inr (inr (inl t))) = (let w = t.works in absurd w.tells)
     made_in (inr (inr (inr (inl t)))) = folder_made t
-    made_in (inr (inr (inr (inr (next, inl (debt, e)))))) =
+    made_in (inr (inr (inr (inr (inl t))))) = absurd (let e : common.Made path ≡ common.Merges t.pair t.names = t.says in let f : ⊥ = cc in f)
+    made_in (inr (inr (inr (inr (inr (next, inl (debt, e))))))) =
         let tells = subst (λ r. Tells (let c = at_end old in c.levels.inner.copy) r e.moved) (told_made e.report e.says) e.tells in
         absurd (closing_not old.levels.inner.copy.stage known.made tells.0 tells.1)
-    made_in (inr (inr (inr (inr (next, inr (debt, f, same)))))) = absurd (let e : common.Made path ≡ _ = f.says in let x : ⊥ = cc in x)
+    made_in (inr (inr (inr (inr (inr (next, inr (debt, f, same))))))) = absurd (let e : common.Made path ≡ _ = f.says in let x : ⊥ = cc in x)
 
     made_by_work : (item : Item) → WorksOn item (IsPartPlace free old) old new did (Some log) (Some now) → Is
     made_by_work Next (inl s) =

@@ -18,24 +18,24 @@ use Rattle.crash_law.specs.Guarded.{Marks}
 use Rattle.job_reports.specs.declared.report.Ending.{Ending}
 use Rattle.job_reports.specs.declared.report.Ending.TheVariants.{Finished, Aborted, Killed, NoMemory}
 use Rattle.job_reports.specs.declared.report.Did.{Did}
-use Rattle.job_reports.specs.declared.report.Did.TheVariants.{Began, Chunk, Placed, Removed, Made, Set, Kept, Skipped, Cleaned, Barrier, Asked, Troubled, Ended}
+use Rattle.job_reports.specs.declared.report.Did.TheVariants.{Began, Chunk, Placed, Removed, Made, Set, Kept, Skipped, Cleaned, Barrier, Asked, Merges, Troubled, Ended}
 use Rattle.job_reports.specs.Jobs.{folder_changed, new_folder_mode}
 use Rattle.job_reports.specs.Paths.{folder_of, without}
 use Rattle.job_reports.specs.Stops.{sync_answer}
 use Rattle.job_reports.proofs.CallAnswers.{IsDoneCall, done_call, some_log}
 use Rattle.job_reports.proofs.PermittedCalls.{IsMaking, making_passes}
-use Rattle.copy_move.specs.declared.making.MakingStage.{MakingStage}
-use Rattle.copy_move.specs.declared.making.MakingStage.TheVariants as making
-use Rattle.copy_move.specs.declared.new_thing.NewThing.{NewThing}
-use Rattle.copy_move.specs.declared.new_thing.NewThing.TheVariants as thing
+use Rattle.thing_making.specs.declared.making.MakingStage.{MakingStage}
+use Rattle.thing_making.specs.declared.making.MakingStage.TheVariants as making
+use Rattle.thing_making.specs.declared.new_thing.NewThing.{NewThing}
+use Rattle.thing_making.specs.declared.new_thing.NewThing.TheVariants as thing
 use Rattle.copy_move.specs.declared.work.Work.{Work}
 use Rattle.copy_move.specs.declared.work.Work.TheVariants.{Make}
 use Rattle.copy_move.specs.declared.run.Course.{Course}
 use Rattle.copy_move.specs.declared.run.Course.TheVariants.{GoesOn, Ends}
 use Rattle.copy_move.specs.DeletionSteps.{after_try}
-use Rattle.copy_move.specs.Makings.{Answers, LastMakingCalls, Making, MakingCalls, MakingLeaves, Tells, Winds, call_of, is_fresh, sync_of}
-use Rattle.copy_move.specs.Makings as makings
-use Rattle.copy_move.specs.NewThings.{making_call}
+use Rattle.thing_making.specs.Makings.{Answers, LastMakingCalls, Making, MakingCalls, MakingLeaves, Tells, Winds, call_of, is_fresh, sync_of}
+use Rattle.thing_making.specs.Makings as makings
+use Rattle.thing_making.specs.NewThings.{making_call}
 use Rattle.copy_move.specs.Jobs.{course_after}
 use Rattle.copy_move.specs.Settling.{with_change as moves_dirty}
 use Rattle.history_laws.specs.Replayed.{made_by}
@@ -209,6 +209,7 @@ module _ (told : Said) (dirty dirty_after : List Route) (marks : Marks) (log now
   making_tells w new (Removed path) knows tells done settled leaves = absurd tells
   making_tells w new (Kept kept) knows tells done settled leaves = absurd tells
   making_tells w new (Asked question) knows tells done settled leaves = absurd tells
+  making_tells w new (Merges pair names) knows tells done settled leaves = absurd tells
   making_tells w new (Skipped path cause) knows tells done settled leaves = absurd tells
   making_tells w new (Cleaned part) knows tells done settled leaves = absurd tells
 
@@ -228,6 +229,7 @@ module _ (told : Said) (dirty dirty_after : List Route) (marks : Marks) (log now
   making_winds w new ending (Made path) left knows tells answer calls leaves = absurd tells
   making_winds w new ending (Kept kept) left knows tells answer calls leaves = absurd tells
   making_winds w new ending (Asked question) left knows tells answer calls leaves = absurd tells
+  making_winds w new ending (Merges pair names) left knows tells answer calls leaves = absurd tells
   making_winds w new ending (Skipped path cause) left knows tells answer calls leaves = absurd tells
   making_winds w new ending (Cleaned part) left knows tells answer calls leaves = absurd tells
   making_winds w new ending (Troubled trouble) left knows tells answer calls leaves = absurd tells

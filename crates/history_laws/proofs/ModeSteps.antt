@@ -15,7 +15,7 @@ use Rattle.job_reports.specs.declared.report.Cause.{Cause}
 use Rattle.job_reports.specs.declared.report.Ending.{Ending}
 use Rattle.job_reports.specs.declared.report.Ending.TheVariants.{Finished, Aborted, Killed, NoMemory}
 use Rattle.job_reports.specs.declared.report.Did.{Did}
-use Rattle.job_reports.specs.declared.report.Did.TheVariants.{Began, Chunk, Placed, Removed, Made, Set, Kept, Skipped, Cleaned, Barrier, Asked, Troubled, Ended}
+use Rattle.job_reports.specs.declared.report.Did.TheVariants.{Began, Chunk, Placed, Removed, Made, Set, Kept, Skipped, Cleaned, Barrier, Asked, Merges, Troubled, Ended}
 use Rattle.job_reports.specs.CallRuns.{AllDone}
 use Rattle.job_reports.specs.Paths.{folder_of, without}
 use Rattle.job_reports.proofs.CallAnswers.{IsDoneCall, one_done, some_log}
@@ -177,6 +177,7 @@ module _ (told : Said) (dirty dirty_after : List Route) (marks : Marks) (log now
   setting_tells s new (Made path) knows tells done settled leaves = absurd tells
   setting_tells s new (Kept kept) knows tells done settled leaves = absurd tells
   setting_tells s new (Asked question) knows tells done settled leaves = absurd tells
+  setting_tells s new (Merges pair names) knows tells done settled leaves = absurd tells
   setting_tells s new (Skipped path cause) knows tells done settled leaves = absurd tells
   setting_tells s new (Cleaned part) knows tells done settled leaves = absurd tells
 
@@ -194,6 +195,7 @@ module _ (told : Said) (dirty dirty_after : List Route) (marks : Marks) (log now
   setting_winds s new ending (Made path) left knows tells tried calls leaves = absurd tells
   setting_winds s new ending (Kept kept) left knows tells tried calls leaves = absurd tells
   setting_winds s new ending (Asked question) left knows tells tried calls leaves = absurd tells
+  setting_winds s new ending (Merges pair names) left knows tells tried calls leaves = absurd tells
   setting_winds s new ending (Skipped path cause) left knows tells tried calls leaves = absurd tells
   setting_winds s new ending (Cleaned part) left knows tells tried calls leaves = absurd tells
   setting_winds s new ending (Troubled trouble) left knows tells tried calls leaves = absurd tells

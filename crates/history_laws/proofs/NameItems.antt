@@ -14,7 +14,7 @@ use Rattle.job_reports.specs.CallRuns.{AllDone}
 use Rattle.job_reports.specs.Paths.{folder_of}
 use Rattle.job_reports.specs.declared.report.Cause.{Cause}
 use Rattle.job_reports.specs.declared.report.Did.{Did}
-use Rattle.job_reports.specs.declared.report.Did.TheVariants.{Began, Chunk, Placed, Removed, Made, Set, Kept, Skipped, Cleaned, Barrier, Asked, Troubled, Ended}
+use Rattle.job_reports.specs.declared.report.Did.TheVariants.{Began, Chunk, Placed, Removed, Made, Set, Kept, Skipped, Cleaned, Barrier, Asked, Merges, Troubled, Ended}
 use Rattle.job_reports.specs.declared.report.Ending.TheVariants.{Finished, Aborted, Killed, NoMemory}
 use Rattle.job_reports.proofs.CallAnswers.{done_call, some_log}
 use Rattle.job_reports.proofs.PermittedCalls.{IsMaking, making_passes}
@@ -116,6 +116,7 @@ module _ (name : List ℕ) (up : Route) (log now : CallLog) (files : IsOfFiles l
     file_names moved (Set path) tells calls = absurd tells
     file_names moved (Kept path) tells calls = absurd tells
     file_names moved (Asked question) tells calls = absurd tells
+    file_names moved (Merges pair names) tells calls = absurd tells
     file_names moved (Skipped path why) tells calls = absurd tells
 
   -- a link
@@ -175,4 +176,5 @@ module _ (name : List ℕ) (up : Route) (log now : CallLog) (files : IsOfFiles l
     link_names moved (Set path) tells calls = absurd tells
     link_names moved (Kept path) tells calls = absurd tells
     link_names moved (Asked question) tells calls = absurd tells
+    link_names moved (Merges pair names) tells calls = absurd tells
     link_names moved (Skipped path why) tells calls = absurd tells

@@ -4,7 +4,7 @@ use Rattle.mc_text.specs.Routes.{Route}
 use Rattle.tree_trait.specs.Change.{CallLog}
 use Rattle.job_reports.specs.declared.report.Cause.{Cause}
 use Rattle.job_reports.specs.declared.report.Did.{Did}
-use Rattle.job_reports.specs.declared.report.Did.TheVariants.{Began, Chunk, Placed, Removed, Made, Set, Kept, Skipped, Cleaned, Barrier, Asked, Troubled, Ended}
+use Rattle.job_reports.specs.declared.report.Did.TheVariants.{Began, Chunk, Placed, Removed, Made, Set, Kept, Skipped, Cleaned, Barrier, Asked, Merges, Troubled, Ended}
 use Rattle.job_reports.specs.declared.report.Ending.TheVariants.{Finished, Aborted, Killed, NoMemory}
 use Rattle.file_copy.specs.Copying as file
 use Rattle.file_copy.specs.Copying.{Copying}
@@ -73,6 +73,7 @@ file_under f moved (Made path) tells going = absurd tells
 file_under f moved (Set path) tells going = absurd tells
 file_under f moved (Kept path) tells going = absurd tells
 file_under f moved (Asked question) tells going = absurd tells
+file_under f moved (Merges pair names) tells going = absurd tells
 file_under f moved (Skipped path why) tells going = absurd tells
 
 link_under : (l moved : LinkCopying) (did : Did) → link.Tells l did moved → link_progress moved.stage ≡ UnderWay → (link.is_dirty moved.folder ≡ true) ⊎ (link_progress l.stage ≡ UnderWay)
@@ -88,6 +89,7 @@ link_under l moved (Made path) tells going = absurd tells
 link_under l moved (Set path) tells going = absurd tells
 link_under l moved (Kept path) tells going = absurd tells
 link_under l moved (Asked question) tells going = absurd tells
+link_under l moved (Merges pair names) tells going = absurd tells
 link_under l moved (Skipped path why) tells going = absurd tells
 
 module _ (unclaimed : Route → Type 0) (old new : Seen) (did : Did) (before after : Option CallLog) where
@@ -117,8 +119,9 @@ module _ (unclaimed : Route → Type 0) (old new : Seen) (did : Did) (before aft
   takes_marked none (inr (inl t)) = file_marked (file.begun old.job t.pair.source t.pair.target) (λ going. absurd (let f : ⊥ = cc in f)) t.works
   takes_marked none (inr (inr (inl t))) = link_marked (link_begun t.pair t.part) (λ going. absurd (let f : ⊥ = cc in f)) t.works
   takes_marked none (inr (inr (inr (inl t)))) = same none (let w = t.works in ap (λ (c : Seen). c.item) w.stands)
-  takes_marked none (inr (inr (inr (inr (next, inl (debt, e)))))) = same none (ap (λ (c : Seen). c.item) e.stands)
-  takes_marked none (inr (inr (inr (inr (next, inr (debt, f, stays)))))) = same none (ap (λ (c : Seen). c.item) f.stands)
+  takes_marked none (inr (inr (inr (inr (inl t))))) = same none (ap (λ (c : Seen). c.item) t.stands)
+  takes_marked none (inr (inr (inr (inr (inr (next, inl (debt, e))))))) = same none (ap (λ (c : Seen). c.item) e.stands)
+  takes_marked none (inr (inr (inr (inr (inr (next, inr (debt, f, stays))))))) = same none (ap (λ (c : Seen). c.item) f.stands)
 
   works_marked : (item : Item) → old.item ≡ item → IsMarked old → WorksOn item unclaimed old new did before after → IsMarked new
   works_marked Next is marked (inl s) = same is (ap (λ (c : Seen). c.item) s.stands)

@@ -24,7 +24,7 @@ use Rattle.folder_copy.specs.declared.stage.Stage.{Stage}
 use Rattle.folder_copy.specs.declared.stage.Stage.TheVariants as at
 use Rattle.subtree_walk.specs.Places.{opened}
 use Rattle.copy_levels.specs.declared.level.Level.{Level}
-use Rattle.copy_levels.specs.Levels.{IsLeft, Levels, closed, dirtied, is_around_dirty, level, made_levels, with_copy}
+use Rattle.copy_levels.specs.Levels.{IsLeft, Levels, closed, dirtied, is_around_dirty, level, made_levels, passed, with_copy}
 use Rattle.tree_copy.specs.declared.item.Item.{Item}
 use Rattle.tree_copy.specs.declared.item.Item.TheVariants.{Next, File, Link, Stays}
 use Rattle.tree_copy.specs.declared.progress.Progress.{Progress}
@@ -202,8 +202,10 @@ module _ (name : List ℕ) (up : Route) where
         let n = next_of old old.levels.inner.names.names t.pair t.next in
         let w = t.works in
         with_levels (after_report did old.stage) (let m = w.moved in made_levels m.stage (opened t.pair.source t.names) m old.levels) w.stands (made_by t.pair t.names t.mode (target_name old n.name) n.target_is w.moved w.report w.tells (w.called log refl))
-    takes (inr (inr (inr (inr (next, inl (debt, e)))))) clean = with_levels (after_report did old.stage) (with_copy e.moved old.levels) e.stands (ends_by e.moved e.report e.says e.tells (e.called log refl))
-    takes (inr (inr (inr (inr (next, inr (debt, f, stays)))))) clean =
+    takes (inr (inr (inr (inr (inl t))))) clean =
+        as_new (record old { levels = passed false old.levels }) t.stands (waits_map name up now (Marks old) _ (marked_passed up false old.levels) (same (Marks old) (some_log now log t.same) h))
+    takes (inr (inr (inr (inr (inr (next, inl (debt, e))))))) clean = with_levels (after_report did old.stage) (with_copy e.moved old.levels) e.stands (ends_by e.moved e.report e.says e.tells (e.called log refl))
+    takes (inr (inr (inr (inr (inr (next, inr (debt, f, stays))))))) clean =
         as_new (at_end old) f.stands (waits_map name up now (Marks old) _ (marked_closed up old.levels) (same (Marks old) (some_log now log stays) h))
 
     pub works_names : (item : Item) → old.item ≡ item → ItemKnown log old item → IsMarked old → WorksOn item Unclaimed old new did (Some log) (Some now) → Then

@@ -16,13 +16,13 @@ use Rattle.copy_move.specs.declared.run.Course.TheVariants.{GoesOn}
 use Rattle.copy_move.specs.declared.work.Work.{Work}
 use Rattle.copy_move.specs.declared.work.Work.TheVariants.{Copy, CopyTree, Delete, Make, SetMode}
 use Rattle.copy_move.specs.Deletions.{DeletionLeaves, Tells}
-use Rattle.copy_move.specs.Makings as makings
+use Rattle.thing_making.specs.Makings as makings
 use Rattle.mode_setting.specs.Settings as settings
 use Rattle.copy_move.specs.Jobs.{Running, TellsOn, WorkTells, is_fresh}
 use Rattle.copy_move.specs.Settling.{LiesApart, NoneOwed, WorkLeaves, changed_folder, is_own, with_change}
 use Rattle.file_copy.specs.Copying as copying
 use Rattle.job_reports.specs.declared.report.Did.{Did}
-use Rattle.job_reports.specs.declared.report.Did.TheVariants.{Began, Chunk, Placed, Removed, Made, Set, Kept, Skipped, Cleaned, Barrier, Asked, Troubled, Ended}
+use Rattle.job_reports.specs.declared.report.Did.TheVariants.{Began, Chunk, Placed, Removed, Made, Set, Kept, Skipped, Cleaned, Barrier, Asked, Merges, Troubled, Ended}
 use Rattle.tree_deletion.specs.Folders.{is_one_of, joined}
 use Rattle.tree_trait.specs.declared.file_system.FileSystem.{FileSystem}
 use Rattle.tree_trait.specs.declared.calls.TreeError.TheVariants.{Missing}
@@ -185,6 +185,7 @@ own_or_before (Delete d) (Delete next) (Delete new) did q dirty dirty_after befo
     by Barrier t (folder, own, left, called) = inr (in_filter (λ kept. not (same_path kept folder)) q dirty (subst (λ xs. Among xs q) left among))
     by (Kept path) t h = inr (subst (λ xs. Among xs q) h among)
     by (Asked question) t h = inr (subst (λ xs. Among xs q) h among)
+    by (Merges pair names) t h = inr (subst (λ xs. Among xs q) h among)
     by (Troubled trouble) t h = inr (subst (λ xs. Among xs q) h among)
     by (Ended ending part) t h = inr (subst (λ xs. Among xs q) h.1 among)
     by (Began part) t h = absurd t

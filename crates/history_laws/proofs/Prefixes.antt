@@ -5,7 +5,7 @@ use Rattle.std.proofs.lemmas.List.{take-append-le}
 use Rattle.std.specs.Option.{option_map_or}
 use Rattle.mc_text.specs.Routes.{Route, same_path}
 use Rattle.job_reports.specs.declared.report.Did.{Did}
-use Rattle.job_reports.specs.declared.report.Did.TheVariants.{Began, Chunk, Placed, Removed, Made, Set, Kept, Skipped, Cleaned, Barrier, Asked, Troubled, Ended}
+use Rattle.job_reports.specs.declared.report.Did.TheVariants.{Began, Chunk, Placed, Removed, Made, Set, Kept, Skipped, Cleaned, Barrier, Asked, Merges, Troubled, Ended}
 use Rattle.job_reports.specs.Jobs.{Item, folder_changed}
 use Rattle.tree_trait.specs.FileSystem.{View}
 use Rattle.tree_trait.specs.Change.{Change, CallLog, current}
@@ -124,6 +124,7 @@ known_by (Set path) folder before p unnamed h = or_right _ _ h
 known_by (Placed path) folder before p unnamed h = h
 known_by (Kept kept) folder before p unnamed h = h
 known_by (Asked question) folder before p unnamed h = h
+known_by (Merges pair names) folder before p unnamed h = h
 known_by (Skipped path cause) folder before p unnamed h = h
 known_by (Cleaned part) folder before p unnamed h = h
 known_by Barrier folder before p unnamed h = h

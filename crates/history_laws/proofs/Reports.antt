@@ -6,14 +6,14 @@ use Rattle.mc_text.specs.Routes.{Route, parent_of}
 use Rattle.tree_trait.specs.Change.{CallLog}
 use Rattle.crash_law.specs.Guarded.{Marks}
 use Rattle.job_reports.specs.declared.report.Did.{Did}
-use Rattle.job_reports.specs.declared.report.Did.TheVariants.{Began, Chunk, Placed, Removed, Made, Set, Kept, Skipped, Cleaned, Barrier, Asked, Troubled, Ended}
+use Rattle.job_reports.specs.declared.report.Did.TheVariants.{Began, Chunk, Placed, Removed, Made, Set, Kept, Skipped, Cleaned, Barrier, Asked, Merges, Troubled, Ended}
 use Rattle.job_reports.specs.declared.job.Pair.{Pair}
 use Rattle.job_reports.specs.declared.job.Job.{Job}
 use Rattle.job_reports.specs.declared.job.Job.TheVariants as plan
 use Rattle.job_reports.specs.Jobs.{Item, is_link_text}
 use Rattle.copy_move.specs.declared.run.Course.TheVariants.{GoesOn}
-use Rattle.copy_move.specs.declared.new_thing.NewThing.{NewThing}
-use Rattle.copy_move.specs.declared.new_thing.NewThing.TheVariants as thing
+use Rattle.thing_making.specs.declared.new_thing.NewThing.{NewThing}
+use Rattle.thing_making.specs.declared.new_thing.NewThing.TheVariants as thing
 use Rattle.copy_move.specs.declared.work.Work.{Work}
 use Rattle.copy_move.specs.Jobs.{Running, first_work}
 use Rattle.session_history.specs.LiveJobs.{LiveJob, after_report}
@@ -54,6 +54,7 @@ module _ (told : Said) (dirty : List Route) (marks : Marks) (log : CallLog) (new
   knows_after (Made made) k = k
   knows_after (Kept kept) k = k
   knows_after (Asked question) k = k
+  knows_after (Merges pair names) k = k
   knows_after (Skipped path why) k = k
   knows_after (Cleaned part) k = k
   knows_after Barrier k = k
@@ -82,6 +83,7 @@ module _ (id : ℕ) (item : Item) (part : Option Route) (new : Running) (same : 
   live_after (Made made) = stays part _ (kept_if (id == id) _ _ (same_id id))
   live_after (Kept kept) = stays part _ (kept_if (id == id) _ _ (same_id id))
   live_after (Asked question) = stays part _ (kept_if (id == id) _ _ (same_id id))
+  live_after (Merges pair names) = stays part _ (kept_if (id == id) _ _ (same_id id))
   live_after (Skipped path why) = stays part _ (kept_if (id == id) _ _ (same_id id))
   live_after (Cleaned p) = stays None _ (kept_if (id == id) _ _ (same_id id))
   live_after Barrier = stays part _ (kept_if (id == id) _ _ (same_id id))

@@ -132,8 +132,9 @@ module _ (log now : CallLog) (tree : IsTree (current log)) (v : View) (shows : S
         let w = t.works in
         let tells = subst (λ r. Tells (copying t.pair.source t.pair.target (at.Make t.mode) Synced) r w.moved) (told_set w.report w.says) w.tells in
         absurd (let e = tells.1 in let f : ⊥ = cc in f)
-    set_in clean (inr (inr (inr (inr (next, inl (debt, e)))))) = folder_set clean e
-    set_in clean (inr (inr (inr (inr (next, inr (debt, f, same)))))) = absurd (let e : common.Set path ≡ _ = f.says in let x : ⊥ = cc in x)
+    set_in clean (inr (inr (inr (inr (inl t))))) = absurd (let e : common.Set path ≡ common.Merges t.pair t.names = t.says in let f : ⊥ = cc in f)
+    set_in clean (inr (inr (inr (inr (inr (next, inl (debt, e))))))) = folder_set clean e
+    set_in clean (inr (inr (inr (inr (inr (next, inr (debt, f, same))))))) = absurd (let e : common.Set path ≡ _ = f.says in let x : ⊥ = cc in x)
 
     set_by_work : (item : Item) → WorksOn item (IsPartPlace free old) old new did (Some log) (Some now) → Is
     set_by_work Next (inl s) =

@@ -11,23 +11,23 @@ use Rattle.job_reports.specs.declared.report.Ending.{Ending}
 use Rattle.job_reports.specs.declared.report.Ending.TheVariants.{Finished, Aborted, Killed, NoMemory}
 use Rattle.job_reports.specs.declared.report.Cause.{Cause}
 use Rattle.job_reports.specs.declared.report.Did.{Did}
-use Rattle.job_reports.specs.declared.report.Did.TheVariants.{Began, Chunk, Placed, Removed, Made, Set, Kept, Skipped, Cleaned, Barrier, Asked, Troubled, Ended}
+use Rattle.job_reports.specs.declared.report.Did.TheVariants.{Began, Chunk, Placed, Removed, Made, Set, Kept, Skipped, Cleaned, Barrier, Asked, Merges, Troubled, Ended}
 use Rattle.job_reports.specs.Paths.{folder_of}
 use Rattle.file_copy.specs.AskedCopies.{AskedTells}
 use Rattle.file_copy.specs.Copying.{Copying}
 use Rattle.file_copy.specs.LastSteps.{Winds}
 use Rattle.job_reports.specs.declared.answer.Answer.{Answer}
 use Rattle.job_reports.specs.declared.answer.Answer.TheVariants.{Yes, No, All, Update, Nothing, SizeDiffers, Retry, Skip, SkipAll, Abort}
-use Rattle.copy_move.specs.declared.new_thing.NewThing.{NewThing}
-use Rattle.copy_move.specs.declared.new_thing.NewThing.TheVariants as thing
+use Rattle.thing_making.specs.declared.new_thing.NewThing.{NewThing}
+use Rattle.thing_making.specs.declared.new_thing.NewThing.TheVariants as thing
 use Rattle.copy_move.specs.declared.work.Work.{Work}
 use Rattle.copy_move.specs.declared.work.Work.TheVariants.{Copy, CopyTree, Delete, Make, SetMode}
 use Rattle.copy_move.specs.declared.run.Course.{Course}
 use Rattle.copy_move.specs.declared.run.Course.TheVariants.{GoesOn, Asking, InTrouble, OwedSyncFailed, Skips, Ends}
 use Rattle.copy_move.specs.Deletions.{Deleting}
 use Rattle.copy_move.specs.Deletions as deletions
-use Rattle.copy_move.specs.Makings.{Making}
-use Rattle.copy_move.specs.Makings as makings
+use Rattle.thing_making.specs.Makings.{Making}
+use Rattle.thing_making.specs.Makings as makings
 use Rattle.copy_move.specs.ModeSettings as modes
 use Rattle.mode_setting.specs.Settings.{Setting}
 use Rattle.mode_setting.specs.Settings as settings
@@ -116,6 +116,7 @@ copy_paths c new (Removed path) t = absurd t
 copy_paths c new (Made made) t = absurd t
 copy_paths c new (Kept path) (stage, path_is, new_is) = ap (λ (x : Copying). item_in (Copy x)) new_is
 copy_paths c new (Asked question) (stage, new_is) = ap (λ (x : Copying). item_in (Copy x)) new_is
+copy_paths c new (Merges pair names) t = absurd t
 copy_paths c new (Skipped path why) t = absurd t
 
 deletion_paths : (d new : Deleting) (did : Did) → deletions.Tells d did new → item_in (Delete new) ≡ item_in (Delete d)
@@ -133,6 +134,7 @@ deletion_paths d new (Placed path) t = absurd t
 deletion_paths d new (Made made) t = absurd t
 deletion_paths d new (Kept path) (going, at) = ap Removes at.path_is
 deletion_paths d new (Asked question) t = absurd t
+deletion_paths d new (Merges pair names) t = absurd t
 deletion_paths d new (Skipped path why) (going, passes, at) = ap Removes at.path_is
 deletion_paths d new (Cleaned part) t = absurd t
 
@@ -151,6 +153,7 @@ making_paths m new (Placed path) t = absurd t
 making_paths m new (Removed made) t = absurd t
 making_paths m new (Kept kept) t = absurd t
 making_paths m new (Asked question) t = absurd t
+making_paths m new (Merges pair names) t = absurd t
 making_paths m new (Skipped path why) t = absurd t
 making_paths m new (Cleaned part) t = absurd t
 
@@ -166,6 +169,7 @@ copy_winds ending c new (Removed path) t = absurd t
 copy_winds ending c new (Made made) t = absurd t
 copy_winds ending c new (Kept kept) t = absurd t
 copy_winds ending c new (Asked question) t = absurd t
+copy_winds ending c new (Merges pair names) t = absurd t
 copy_winds ending c new (Skipped path why) t = absurd t
 copy_winds ending c new (Troubled trouble) t = absurd t
 
@@ -180,6 +184,7 @@ deletion_winds ending d new (Removed path) t = absurd t
 deletion_winds ending d new (Made made) t = absurd t
 deletion_winds ending d new (Kept kept) t = absurd t
 deletion_winds ending d new (Asked question) t = absurd t
+deletion_winds ending d new (Merges pair names) t = absurd t
 deletion_winds ending d new (Skipped path why) t = absurd t
 deletion_winds ending d new (Cleaned part) t = absurd t
 deletion_winds ending d new (Troubled trouble) t = absurd t
@@ -195,6 +200,7 @@ making_winds ending m new (Made path) t = absurd t
 making_winds ending m new (Removed made) t = absurd t
 making_winds ending m new (Kept kept) t = absurd t
 making_winds ending m new (Asked question) t = absurd t
+making_winds ending m new (Merges pair names) t = absurd t
 making_winds ending m new (Skipped path why) t = absurd t
 making_winds ending m new (Cleaned part) t = absurd t
 making_winds ending m new (Troubled trouble) t = absurd t
@@ -214,6 +220,7 @@ setting_paths s new (Placed path) t = absurd t
 setting_paths s new (Removed made) t = absurd t
 setting_paths s new (Kept kept) t = absurd t
 setting_paths s new (Asked question) t = absurd t
+setting_paths s new (Merges pair names) t = absurd t
 setting_paths s new (Skipped path why) t = absurd t
 setting_paths s new (Cleaned part) t = absurd t
 
@@ -228,6 +235,7 @@ setting_winds ending s new (Made path) t = absurd t
 setting_winds ending s new (Removed made) t = absurd t
 setting_winds ending s new (Kept kept) t = absurd t
 setting_winds ending s new (Asked question) t = absurd t
+setting_winds ending s new (Merges pair names) t = absurd t
 setting_winds ending s new (Skipped path why) t = absurd t
 setting_winds ending s new (Cleaned part) t = absurd t
 setting_winds ending s new (Troubled trouble) t = absurd t

@@ -9,7 +9,7 @@ use Rattle.crash_law.specs.Guarded.{Marks}
 use Rattle.job_reports.specs.Jobs.{Item, folder_changed}
 use Rattle.job_reports.specs.Paths.{folder_of}
 use Rattle.job_reports.specs.declared.report.Did.{Did}
-use Rattle.job_reports.specs.declared.report.Did.TheVariants.{Began, Chunk, Placed, Removed, Made, Set, Kept, Skipped, Cleaned, Barrier, Asked, Troubled, Ended}
+use Rattle.job_reports.specs.declared.report.Did.TheVariants.{Began, Chunk, Placed, Removed, Made, Set, Kept, Skipped, Cleaned, Barrier, Asked, Merges, Troubled, Ended}
 use Rattle.copy_move.specs.declared.work.Work.{Work}
 use Rattle.history_laws.specs.Replayed.{replayed_step, keeping}
 use Rattle.history_laws.specs.Staying.{may_change}
@@ -71,6 +71,7 @@ part_after (Removed path) before = before
 part_after (Made made) before = before
 part_after (Kept kept) before = before
 part_after (Asked question) before = before
+part_after (Merges pair names) before = before
 part_after (Skipped path cause) before = before
 part_after Barrier before = before
 part_after (Troubled trouble) before = before
@@ -86,6 +87,7 @@ doubt_by (Set path) part before = λ p. before p || same_path p path
 doubt_by (Made path) part before = λ p. before p || same_path p path
 doubt_by (Kept kept) part before = before
 doubt_by (Asked question) part before = before
+doubt_by (Merges pair names) part before = before
 doubt_by (Skipped path cause) part before = before
 doubt_by Barrier part before = before
 doubt_by (Troubled trouble) part before = before
@@ -102,6 +104,7 @@ folders_by (Chunk count) folder before = before
 folders_by (Set path) folder before = λ p. (same_path p folder || same_path p (folder_of path)) || before p
 folders_by (Kept kept) folder before = before
 folders_by (Asked question) folder before = before
+folders_by (Merges pair names) folder before = before
 folders_by (Skipped path cause) folder before = before
 folders_by Barrier folder before = before
 folders_by (Troubled trouble) folder before = before
@@ -117,6 +120,7 @@ modes_by (Removed path) before = before
 modes_by (Made path) before = before
 modes_by (Kept kept) before = before
 modes_by (Asked question) before = before
+modes_by (Merges pair names) before = before
 modes_by (Skipped path cause) before = before
 modes_by (Cleaned gone) before = before
 modes_by Barrier before = before
@@ -134,6 +138,7 @@ calm_by (Cleaned gone) item before = before
 calm_by (Chunk count) item before = before
 calm_by (Kept kept) item before = before
 calm_by (Asked question) item before = before
+calm_by (Merges pair names) item before = before
 calm_by (Skipped path cause) item before = before
 calm_by Barrier item before = before
 calm_by (Troubled trouble) item before = before

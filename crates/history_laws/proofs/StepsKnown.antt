@@ -86,8 +86,9 @@ module _ (unclaimed : Route → Type 0) (old new : Seen) (did : Did) (before aft
   next_name (inr (inl t)) = file_name (file.begun old.job t.pair.source t.pair.target) t.works
   next_name (inr (inr (inl t))) = link_name (link_begun t.pair t.part) t.works
   next_name (inr (inr (inr (inl t)))) = (let w = t.works in ap (λ (c : Seen). c.name) w.stands)
-  next_name (inr (inr (inr (inr (next, inl (debt, ends)))))) = ap (λ (c : Seen). c.name) ends.stands
-  next_name (inr (inr (inr (inr (next, inr (debt, f, same)))))) = ap (λ (c : Seen). c.name) f.stands
+  next_name (inr (inr (inr (inr (inl t))))) = ap (λ (c : Seen). c.name) t.stands
+  next_name (inr (inr (inr (inr (inr (next, inl (debt, ends))))))) = ap (λ (c : Seen). c.name) ends.stands
+  next_name (inr (inr (inr (inr (inr (next, inr (debt, f, same))))))) = ap (λ (c : Seen). c.name) f.stands
 
   pub works_name : (item : Item) → WorksOn item unclaimed old new did before after → new.name ≡ old.name
   works_name Next (inl s) = ap (λ (c : Seen). c.name) s.stands

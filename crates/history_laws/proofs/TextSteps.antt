@@ -58,8 +58,9 @@ module _ (unclaimed : Route → Type 0) (old new : Seen) (did : Did) (log now : 
   next_text none (inr (inl t)) = file_text (file.begun old.job t.pair.source t.pair.target) t.works
   next_text none (inr (inr (inl t))) = link_text_after (link_begun t.pair t.part) (λ has. absurd (false≢true has)) t.works
   next_text none (inr (inr (inr (inl t)))) = same none (let w = t.works in ap (λ (c : Seen). c.item) w.stands)
-  next_text none (inr (inr (inr (inr (next, inl (debt, ends)))))) = same none (ap (λ (c : Seen). c.item) ends.stands)
-  next_text none (inr (inr (inr (inr (next, inr (debt, f, stays)))))) = same none (ap (λ (c : Seen). c.item) f.stands)
+  next_text none (inr (inr (inr (inr (inl t))))) = same none (ap (λ (c : Seen). c.item) t.stands)
+  next_text none (inr (inr (inr (inr (inr (next, inl (debt, ends))))))) = same none (ap (λ (c : Seen). c.item) ends.stands)
+  next_text none (inr (inr (inr (inr (inr (next, inr (debt, f, stays))))))) = same none (ap (λ (c : Seen). c.item) f.stands)
 
   works_text : (item : Item) → old.item ≡ item → WorksOn item unclaimed old new did (Some log) (Some now) → TextKnown log item → TextKnown now new.item
   works_text Next is (inl s) known = same is (ap (λ (c : Seen). c.item) s.stands)

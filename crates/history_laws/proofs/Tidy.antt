@@ -10,7 +10,7 @@ use Rattle.tree_trait.specs.Change.{CallLog, current, found}
 use Rattle.tree_trait.specs.CrashImages.{Among}
 use Rattle.tree_trait.proofs.Visible.{same_path-self}
 use Rattle.job_reports.specs.declared.report.Did.{Did}
-use Rattle.job_reports.specs.declared.report.Did.TheVariants.{Began, Chunk, Placed, Removed, Made, Set, Kept, Skipped, Cleaned, Barrier, Asked, Troubled, Ended}
+use Rattle.job_reports.specs.declared.report.Did.TheVariants.{Began, Chunk, Placed, Removed, Made, Set, Kept, Skipped, Cleaned, Barrier, Asked, Merges, Troubled, Ended}
 use Rattle.job_reports.proofs.CallAnswers.{IsDoneCall, one_done}
 use Rattle.file_copy.specs.Copying.{Copying}
 use Rattle.file_copy.specs.Copying as copying
@@ -19,11 +19,11 @@ use Rattle.job_answers.specs.declared.replies.Replies.{Replies}
 use Rattle.copy_move.specs.declared.run.Course.{Course}
 use Rattle.copy_move.specs.declared.run.Course.TheVariants.{GoesOn, Asking, InTrouble, OwedSyncFailed, Skips, Ends}
 use Rattle.copy_move.specs.declared.work.Work.{Work}
-use Rattle.copy_move.specs.declared.making.MakingStage.{MakingStage}
-use Rattle.copy_move.specs.declared.making.MakingStage.TheVariants as making
+use Rattle.thing_making.specs.declared.making.MakingStage.{MakingStage}
+use Rattle.thing_making.specs.declared.making.MakingStage.TheVariants as making
 use Rattle.copy_move.specs.declared.work.Work.TheVariants.{Copy, CopyTree, Delete, Make, SetMode}
-use Rattle.copy_move.specs.Makings.{Making}
-use Rattle.copy_move.specs.Makings as makings
+use Rattle.thing_making.specs.Makings.{Making}
+use Rattle.thing_making.specs.Makings as makings
 use Rattle.mode_setting.specs.Settings.{Setting}
 use Rattle.mode_setting.specs.Settings as settings
 use Rattle.mode_setting.specs.SettingSteps.{SettingCalls}
@@ -35,7 +35,7 @@ use Rattle.copy_move.specs.Jobs.{CallsOn, PassesOver, Running, TellsOn, WorkCall
 use Rattle.copy_move.specs.Settling.{NoneOwed, WorkLeaves, with_change}
 use Rattle.copy_move.proofs.FolderSteps.{copy_stays}
 use Rattle.copy_move.proofs.ModeSteps.{setting_stays}
-use Rattle.copy_move.proofs.MakingFolders.{making_stays}
+use Rattle.thing_making.proofs.MakingFolders.{making_stays}
 use Rattle.job_reports.specs.Paths.{folder_of, without}
 use Rattle.copy_move.specs.Steps.{LeavesDirty}
 use Rattle.session_history.specs.Named.{begins_change}
@@ -55,6 +55,7 @@ dirty_then c new (Placed path) t h = absurd (false≢true h)
 dirty_then c new (Made made) t h = absurd t
 dirty_then c new (Kept kept) t h = absurd (false≢true h)
 dirty_then c new (Asked question) t h = absurd (false≢true h)
+dirty_then c new (Merges pair names) t h = absurd (false≢true h)
 dirty_then c new (Skipped path why) t h = absurd (false≢true h)
 dirty_then c new (Cleaned part) t h = absurd (false≢true h)
 dirty_then c new Barrier t h = absurd (false≢true h)
@@ -71,6 +72,7 @@ making_dirty m new (Set path) t h = absurd t
 making_dirty m new (Placed path) t h = absurd (false≢true h)
 making_dirty m new (Kept kept) t h = absurd (false≢true h)
 making_dirty m new (Asked question) t h = absurd (false≢true h)
+making_dirty m new (Merges pair names) t h = absurd (false≢true h)
 making_dirty m new (Skipped path why) t h = absurd (false≢true h)
 making_dirty m new (Cleaned part) t h = absurd (false≢true h)
 making_dirty m new Barrier t h = absurd (false≢true h)
@@ -87,6 +89,7 @@ setting_dirty s new (Chunk count) t h = absurd (false≢true h)
 setting_dirty s new (Placed path) t h = absurd (false≢true h)
 setting_dirty s new (Kept kept) t h = absurd (false≢true h)
 setting_dirty s new (Asked question) t h = absurd (false≢true h)
+setting_dirty s new (Merges pair names) t h = absurd (false≢true h)
 setting_dirty s new (Skipped path why) t h = absurd (false≢true h)
 setting_dirty s new (Cleaned part) t h = absurd (false≢true h)
 setting_dirty s new Barrier t h = absurd (false≢true h)
@@ -168,6 +171,7 @@ begins_set s (SetMode new) (Chunk count) dirty log now t calls owed h = absurd (
 begins_set s (SetMode new) (Placed path) dirty log now t calls owed h = absurd (false≢true h)
 begins_set s (SetMode new) (Kept kept) dirty log now t calls owed h = absurd (false≢true h)
 begins_set s (SetMode new) (Asked question) dirty log now t calls owed h = absurd (false≢true h)
+begins_set s (SetMode new) (Merges pair names) dirty log now t calls owed h = absurd (false≢true h)
 begins_set s (SetMode new) (Skipped path why) dirty log now t calls owed h = absurd (false≢true h)
 begins_set s (SetMode new) (Cleaned part) dirty log now t calls owed h = absurd (false≢true h)
 begins_set s (SetMode new) Barrier dirty log now t calls owed h = absurd (false≢true h)
@@ -204,6 +208,7 @@ going_then (Chunk count) stage h = absurd (false≢true h)
 going_then (Placed path) stage h = absurd (false≢true h)
 going_then (Kept kept) stage h = absurd (false≢true h)
 going_then (Asked question) stage h = absurd (false≢true h)
+going_then (Merges pair names) stage h = absurd (false≢true h)
 going_then (Skipped path why) stage h = absurd (false≢true h)
 going_then (Cleaned part) stage h = absurd (false≢true h)
 going_then Barrier stage h = absurd (false≢true h)

@@ -7,7 +7,8 @@ use Rattle.tree_trait.specs.Change.{Nothing, CallLog, current, with_change}
 use Rattle.crash_law.specs.Guarded.{Marks}
 use Rattle.job_reports.specs.declared.report.Ending.TheVariants.{Finished}
 use Rattle.job_reports.specs.declared.report.Did.{Did}
-use Rattle.job_reports.specs.declared.report.Did.TheVariants.{Barrier, Troubled, Ended}
+use Rattle.job_reports.specs.declared.report.Did.TheVariants.{Barrier, Merges, Troubled, Ended}
+use Rattle.job_reports.proofs.CallAnswers.{some_log}
 use Rattle.job_reports.specs.declared.report.Trouble.{Trouble}
 use Rattle.folder_copy.specs.FolderCopying as folder
 use Rattle.folder_copy.specs.FolderSteps.{FolderCalls, at_sync}
@@ -17,7 +18,7 @@ use Rattle.copy_levels.specs.Levels.{is_around_dirty}
 use Rattle.tree_deletion.specs.Folders.{with_change as change_list}
 use Rattle.tree_copy.specs.Reports.{IsToldAs}
 use Rattle.tree_copy.specs.Standing.{Seen, after_report, is_fresh}
-use Rattle.tree_copy.specs.Steps.{Finishes, FolderEnds, LeavesAll, SyncsAround, at_end}
+use Rattle.tree_copy.specs.Steps.{Finishes, FolderEnds, LeavesAll, SyncsAround, TakesMerged, at_end}
 use Rattle.tree_copy.specs.declared.item.Item.TheVariants.{Next}
 use Rattle.subtree_copy.specs.Marks.{folder_worked, is_dirty_after, was_dirty}
 use Rattle.subtree_copy.specs.Standing.{SubtreeCopying}
@@ -93,10 +94,23 @@ module _ (told : Said) (dirty dirty_after : List Route) (marks : Marks) (log now
       (λ m k idle. record { part = subst (λ i. ItemHas told dirty_after m (current now) (course_after (Troubled trouble)) i) (sym still) idle.0; around = idle.1; had = λ some. had_begun told dirty marks log c mid b some; modes = λ h. h }) come
 
   -- a call was refused, or none was made
+  quiet_known : (new : Seen) → new.item ≡ Next → dirty_after ≡ dirty → (now ≡ log) ⊎ (now ≡ with_change log Nothing) → Comes told told dirty_after log now (λ m. Idle new m (current now))
+  quiet_known new still list how =
+      subst (λ routes. Comes told told routes log now (λ m. Idle new m (current now))) (sym list) (idle_refused (Idle new) (idle_settles new) told dirty marks log now kept (idle_now new still) how)
+
   pub idle_quiet : (trouble : Trouble) (new : Seen) → new.item ≡ Next → dirty_after ≡ dirty → (now ≡ log) ⊎ (now ≡ with_change log Nothing) → Comes_to (Troubled trouble) new
-  idle_quiet trouble new still list how =
-      idle_trouble trouble new still (subst (λ routes. Comes told told routes log now (λ m. Idle new m (current now))) (sym list)
-      (idle_refused (Idle new) (idle_settles new) told dirty marks log now kept (idle_now new still) how))
+  idle_quiet trouble new still list how = idle_trouble trouble new still (quiet_known new still list how)
+
+  -- two folders are merged: none is made
+  pub merges : (did : Did) (new : Seen) → TakesMerged mid new did (Some log) (Some now) → dirty_after ≡ dirty → Comes_to did new
+  merges did new t list = subst (λ d. Comes_to d new) (sym t.says) (by (quiet_known new still list (inl (some_log now log t.same))))
+    where
+      still : new.item ≡ Next
+      still = ap (λ (x : Seen). x.item) t.stands ∙ none
+
+      by : Comes told told dirty_after log now (λ m. Idle new m (current now)) → Comes_to (Merges t.pair t.names) new
+      by come = comes_map told told dirty_after log now (λ m. Idle new m (current now)) (Then told dirty_after log now c (Merges t.pair t.names) new)
+          (λ m k idle. record { part = subst (λ i. ItemHas told dirty_after m (current now) GoesOn i) (sym still) idle.0; around = idle.1; had = λ some. had_begun told dirty marks log c mid b some; modes = λ h. h }) come
 
   -- a sync, once something was changed
   pub idle_barrier : (new : Seen) → new.item ≡ Next → is_fresh c.at.stage ≡ false → Comes told told dirty_after log now (λ m. Idle new m (current now)) → Comes_to Barrier new

@@ -52,8 +52,9 @@ module _ (top : Pair) (log : CallLog) (c : Seen) (h : LogHas top log c) where
     ends_next none (inr (inl t)) = (let w = t.works in let tells = w.tells in absurd (let e = tells.0 in let f : ⊥ = cc in f))
     ends_next none (inr (inr (inl t))) = (let w = t.works in absurd w.tells)
     ends_next none (inr (inr (inr (inl t)))) = (let w = t.works in no_end w.report part w.says)
-    ends_next none (inr (inr (inr (inr (due, inl (debt, e)))))) = no_end e.report part e.says
-    ends_next none (inr (inr (inr (inr (due, inr (debt, f, same)))))) = record {
+    ends_next none (inr (inr (inr (inr (inl t))))) = absurd (let e : common.Ended Finished part ≡ common.Merges t.pair t.names = t.says in let f : ⊥ = cc in f)
+    ends_next none (inr (inr (inr (inr (inr (due, inl (debt, e))))))) = no_end e.report part e.says
+    ends_next none (inr (inr (inr (inr (inr (due, inr (debt, f, same))))))) = record {
       none = none;
       outermost = f.last;
       clean = false_from_ne_true _ (λ dirty. let ends = h.ends in not_owing c.levels.inner.copy.stage c.levels.inner.copy.names ends.open_still debt dirty);

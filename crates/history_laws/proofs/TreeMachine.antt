@@ -9,7 +9,7 @@ use Rattle.job_answers.specs.declared.skips.Skips.{Skips as Kinds}
 use Rattle.job_reports.specs.CallRuns.{AllDone}
 use Rattle.job_reports.specs.declared.report.Cause.{Cause}
 use Rattle.job_reports.specs.declared.report.Did.{Did}
-use Rattle.job_reports.specs.declared.report.Did.TheVariants.{Began, Chunk, Placed, Removed, Made, Set, Kept, Skipped, Cleaned, Barrier, Asked, Troubled, Ended}
+use Rattle.job_reports.specs.declared.report.Did.TheVariants.{Began, Chunk, Placed, Removed, Made, Set, Kept, Skipped, Cleaned, Barrier, Asked, Merges, Troubled, Ended}
 use Rattle.job_reports.specs.declared.report.Trouble.{Trouble}
 use Rattle.job_reports.proofs.CallAnswers.{some_log}
 use Rattle.folder_copy.specs.FolderCopying as folder
@@ -34,7 +34,7 @@ use Rattle.copy_move.specs.declared.run.Course.TheVariants.{GoesOn}
 use Rattle.history_laws.proofs.GivenModes.{file_owes, link_owes, works_owe}
 use Rattle.history_laws.proofs.Knowing.{IsKept, Said}
 use Rattle.history_laws.proofs.OwedModes.{OwedModes}
-use Rattle.history_laws.proofs.TreeBefore.{Before, Result, ends_refused, ends_synced, finishes, is_begun, stops_before, syncs_around}
+use Rattle.history_laws.proofs.TreeBefore.{Before, Result, ends_refused, ends_synced, finishes, is_begun, merges, stops_before, syncs_around}
 use Rattle.history_laws.proofs.TreeBegins.{none_left}
 use Rattle.history_laws.proofs.TreeKnown.{ItemHas}
 use Rattle.history_laws.proofs.TreeListed.{list_joins, list_stays}
@@ -58,6 +58,7 @@ passed_trouble skips (Made path) why is = absurd (let f : ⊥ = cc in f)
 passed_trouble skips (Set path) why is = absurd (let f : ⊥ = cc in f)
 passed_trouble skips (Kept path) why is = absurd (let f : ⊥ = cc in f)
 passed_trouble skips (Asked question) why is = absurd (let f : ⊥ = cc in f)
+passed_trouble skips (Merges pair names) why is = absurd (let f : ⊥ = cc in f)
 passed_trouble skips (Skipped path cause) why is = absurd (let f : ⊥ = cc in f)
 passed_trouble skips (Cleaned part) why is = absurd (let f : ⊥ = cc in f)
 passed_trouble skips Barrier why is = absurd (let f : ⊥ = cc in f)
@@ -132,8 +133,12 @@ module _ (told : Said) (dirty dirty_after : List Route) (marks : Marks) (log now
   takes none clean (inr (inl t)) = takes_file told dirty dirty_after marks log now kept c mid b none clean free did new t list
   takes none clean (inr (inr (inl t))) = takes_link told dirty dirty_after marks log now kept c mid b none clean free did new t list
   takes none clean (inr (inr (inr (inl t)))) = takes_folder told dirty dirty_after marks log now kept c mid b none clean free did new t list
-  takes none clean (inr (inr (inr (inr (next, inl (debt, e)))))) = ends_at none clean e
-  takes none clean (inr (inr (inr (inr (next, inr (debt, f, same)))))) =
+  takes none clean (inr (inr (inr (inr (inl t))))) =
+      merges told dirty dirty_after marks log now kept c mid b none did new t
+      (list_stays told dirty dirty_after marks log now kept c mid b none clean free did new list
+      (ap (λ d. is_left_dirty d new) t.says ∙ ap (λ (x : Seen). folder.is_dirty x.levels.inner.copy.names) t.stands))
+  takes none clean (inr (inr (inr (inr (inr (next, inl (debt, e))))))) = ends_at none clean e
+  takes none clean (inr (inr (inr (inr (inr (next, inr (debt, f, same))))))) =
       finishes told dirty dirty_after marks log now kept c mid b none did new f
       (list_stays told dirty dirty_after marks log now kept c mid b none clean free did new list
       (ap (λ d. is_left_dirty d new) f.says ∙ ap (λ (x : Seen). folder.is_dirty x.levels.inner.copy.names) f.stands)) (some_log now log same)

@@ -192,9 +192,10 @@ module _ (unclaimed : Route → Type 0) (old new : Seen) (did : Did) (before aft
       let w = t.works in
       subst (λ (c : Seen). AreLaid old.name c.levels.inner c.levels.around) (sym w.stands)
       (laid_made old.name t.pair t.names t.mode w.moved w.report (target_name old next.name) old.levels t.in_order next.target_is w.tells h)
-  laid_next (inr (inr (inr (inr (next, inl (debt, e)))))) =
+  laid_next (inr (inr (inr (inr (inl t))))) = subst (λ (c : Seen). AreLaid old.name c.levels.inner c.levels.around) (sym t.stands) (laid_passed old.name false old.levels h)
+  laid_next (inr (inr (inr (inr (inr (next, inl (debt, e))))))) =
       subst (λ (c : Seen). AreLaid old.name c.levels.inner c.levels.around) (sym e.stands) (laid_ends old.name (closed old.levels) e.moved e.report e.tells (laid_closed old.name old.levels h))
-  laid_next (inr (inr (inr (inr (next, inr (debt, f, same)))))) = subst (λ (c : Seen). AreLaid old.name c.levels.inner c.levels.around) (sym f.stands) (laid_closed old.name old.levels h)
+  laid_next (inr (inr (inr (inr (inr (next, inr (debt, f, same))))))) = subst (λ (c : Seen). AreLaid old.name c.levels.inner c.levels.around) (sym f.stands) (laid_closed old.name old.levels h)
 
   laid_goes : GoesOn unclaimed old new did before after → Then
   laid_goes (inl s) =

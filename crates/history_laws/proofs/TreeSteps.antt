@@ -35,6 +35,7 @@ use Rattle.history_laws.proofs.FoldersLie.{AreNested}
 use Rattle.history_laws.proofs.PartsApart.{parts_apart}
 use Rattle.history_laws.proofs.TreeFiles.{FileKnown, file_step}
 use Rattle.history_laws.proofs.TreeFolders.{closed_levels, folder_ends, folder_makes, syncs_around}
+use Rattle.history_laws.proofs.TreeKnows.{levels_passed}
 use Rattle.history_laws.proofs.TreeLinks.{LinkKnown, link_step}
 
 -- What is known of a tree's copy as a step begins.
@@ -149,10 +150,12 @@ module _ (free : Route → Bool) (old new : Seen) (did : Did) (log now : CallLog
   takes_next clean (inr (inl t)) = file_works (file.begun old.job t.pair.source t.pair.target) (taken_file clean t) t.works
   takes_next clean (inr (inr (inl t))) = link_works (link_begun t.pair t.part) (taken_link clean t) t.works
   takes_next clean (inr (inr (inr (inl t)))) = takes_folder clean t
-  takes_next clean (inr (inr (inr (inr (next, inl (debt, ends)))))) =
+  takes_next clean (inr (inr (inr (inr (inl t))))) =
+      subst (λ (x : Seen). LevelsKnow now old.name x.levels) (sym t.stands) (levels_passed now old.name false old.levels (same_log (some_log now log t.same)))
+  takes_next clean (inr (inr (inr (inr (inr (next, inl (debt, ends))))))) =
       folder_ends log now old.name (closed old.levels) (record { tree = known.tree; files = known.files; nested = known.nested; levels = closed_levels log old.name old.levels known.levels }) clean
       (closing_not old.levels.inner.copy.stage known.made) (at_end old) new did refl ends
-  takes_next clean (inr (inr (inr (inr (next, inr (debt, f, same)))))) =
+  takes_next clean (inr (inr (inr (inr (inr (next, inr (debt, f, same))))))) =
       subst (λ (x : Seen). LevelsKnow now old.name x.levels) (sym f.stands) (closed_levels now old.name old.levels (same_log (some_log now log same)))
 
   goes_on : GoesOn Unclaimed old new did (Some log) (Some now) → Stay

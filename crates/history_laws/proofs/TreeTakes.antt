@@ -9,7 +9,7 @@ use Rattle.crash_law.specs.Guarded.{Marks}
 use Rattle.job_reports.specs.Jobs.{Copies}
 use Rattle.job_reports.specs.Paths.{folder_of}
 use Rattle.job_reports.specs.declared.report.Did.{Did}
-use Rattle.job_reports.specs.declared.report.Did.TheVariants.{Began, Chunk, Placed, Removed, Made, Set, Kept, Skipped, Cleaned, Barrier, Asked, Troubled, Ended}
+use Rattle.job_reports.specs.declared.report.Did.TheVariants.{Began, Chunk, Placed, Removed, Made, Set, Kept, Skipped, Cleaned, Barrier, Asked, Merges, Troubled, Ended}
 use Rattle.job_reports.specs.declared.report.Ending.TheVariants.{Finished, Aborted, Killed, NoMemory}
 use Rattle.job_reports.specs.declared.report.Trouble.{Trouble}
 use Rattle.job_reports.proofs.CallAnswers.{one_done, some_log}
@@ -199,4 +199,5 @@ module _ (told : Said) (dirty dirty_after : List Route) (marks : Marks) (log now
   takes_file (Set path) new t list = (let w = t.works in absurd w.tells)
   takes_file (Kept path) new t list = (let w = t.works in absurd w.tells)
   takes_file (Asked question) new t list = (let w = t.works in absurd w.tells)
+  takes_file (Merges pair names) new t list = (let w = t.works in absurd w.tells)
   takes_file (Skipped path cause) new t list = (let w = t.works in absurd w.tells)

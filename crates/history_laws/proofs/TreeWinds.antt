@@ -17,7 +17,7 @@ use Rattle.job_reports.specs.Paths.{folder_of}
 use Rattle.job_reports.specs.declared.job.Pair.{Pair}
 use Rattle.job_reports.specs.declared.report.Ending.{Ending}
 use Rattle.job_reports.specs.declared.report.Did.{Did}
-use Rattle.job_reports.specs.declared.report.Did.TheVariants.{Began, Chunk, Placed, Removed, Made, Set, Kept, Skipped, Cleaned, Barrier, Asked, Troubled, Ended}
+use Rattle.job_reports.specs.declared.report.Did.TheVariants.{Began, Chunk, Placed, Removed, Made, Set, Kept, Skipped, Cleaned, Barrier, Asked, Merges, Troubled, Ended}
 use Rattle.job_reports.specs.declared.report.LastStepResult.{LastStepResult}
 use Rattle.job_reports.proofs.CallAnswers.{some_log}
 use Rattle.file_copy.specs.Copying as file
@@ -214,5 +214,6 @@ module _ (told : Said) (dirty dirty_after : List Route) (marks : Marks) (log now
     tree_winds (Set path) count tells f0 f1 wound s rows leaves = absurd wound.may
     tree_winds (Kept path) count tells f0 f1 wound s rows leaves = absurd wound.may
     tree_winds (Asked question) count tells f0 f1 wound s rows leaves = absurd wound.may
+    tree_winds (Merges pair names) count tells f0 f1 wound s rows leaves = absurd wound.may
     tree_winds (Skipped path cause) count tells f0 f1 wound s rows leaves = absurd wound.may
     tree_winds (Troubled trouble) count tells f0 f1 wound s rows leaves = absurd wound.may

@@ -9,7 +9,7 @@ use Rattle.job_answers.specs.declared.skips.Skips.{Skips}
 use Rattle.job_reports.specs.declared.job.Job.{Job}
 use Rattle.job_reports.specs.Jobs.{Item, item_of}
 use Rattle.job_reports.specs.declared.report.Ending.TheVariants.{Finished, Aborted, Killed, NoMemory}
-use Rattle.job_reports.specs.declared.report.Did.TheVariants.{Began, Chunk, Placed, Removed, Made, Set, Kept, Skipped, Cleaned, Barrier, Asked, Troubled, Ended}
+use Rattle.job_reports.specs.declared.report.Did.TheVariants.{Began, Chunk, Placed, Removed, Made, Set, Kept, Skipped, Cleaned, Barrier, Asked, Merges, Troubled, Ended}
 use Rattle.session_history.specs.declared.history.Event.{Event}
 use Rattle.session_history.specs.declared.history.Event.TheVariants.{Key, Look, Sought, Order, Step, Next, Closed}
 use Rattle.session_history.specs.declared.history.Event.TheVariants as event
@@ -77,6 +77,7 @@ done_with id (Step number (Removed path)) is = absurd is
 done_with id (Step number (Made made)) is = absurd is
 done_with id (Step number (Kept kept)) is = absurd is
 done_with id (Step number (Asked question)) is = absurd is
+done_with id (Step number (Merges pair names)) is = absurd is
 done_with id (Step number (Skipped path why)) is = absurd is
 done_with id (Step number (Cleaned part)) is = absurd is
 done_with id (Step number Barrier) is = absurd is

@@ -4,9 +4,9 @@ use Rattle.std.specs.Prelude.{if◌then◌else◌, is_some, nat_le, not, ◌&&�
 use Rattle.std.proofs.lemmas.Bool.{true≢false}
 use Rattle.mc_text.specs.Routes.{Route, parent_of, same_path}
 use Rattle.job_reports.specs.declared.report.Did.{Did}
-use Rattle.job_reports.specs.declared.report.Did.TheVariants.{Began, Chunk, Placed, Removed, Made, Set, Kept, Skipped, Cleaned, Barrier, Asked, Troubled, Ended}
-use Rattle.copy_move.specs.declared.making.MakingStage.{MakingStage}
-use Rattle.copy_move.specs.declared.making.MakingStage.TheVariants as making
+use Rattle.job_reports.specs.declared.report.Did.TheVariants.{Began, Chunk, Placed, Removed, Made, Set, Kept, Skipped, Cleaned, Barrier, Asked, Merges, Troubled, Ended}
+use Rattle.thing_making.specs.declared.making.MakingStage.{MakingStage}
+use Rattle.thing_making.specs.declared.making.MakingStage.TheVariants as making
 use Rattle.job_reports.specs.declared.job.Job.{Job}
 use Rattle.job_reports.specs.declared.job.Pair.{Pair}
 use Rattle.job_reports.specs.declared.report.Ending.{Ending}
@@ -16,11 +16,11 @@ use Rattle.file_copy.specs.Copying as copying
 use Rattle.tree_deletion.specs.declared.deletion.Stage.{Stage}
 use Rattle.tree_deletion.specs.declared.deletion.Stage.TheVariants.{Begin, Going, Sync}
 use Rattle.tree_deletion.specs.Standing.{after_item}
-use Rattle.copy_move.specs.declared.new_thing.NewThing.{NewThing}
-use Rattle.copy_move.specs.declared.new_thing.NewThing.TheVariants as thing
+use Rattle.thing_making.specs.declared.new_thing.NewThing.{NewThing}
+use Rattle.thing_making.specs.declared.new_thing.NewThing.TheVariants as thing
 use Rattle.copy_move.specs.declared.work.Work.{Work}
 use Rattle.copy_move.specs.declared.work.Work.TheVariants.{Copy, CopyTree, Delete, Make, SetMode}
-use Rattle.copy_move.specs.Makings as makings
+use Rattle.thing_making.specs.Makings as makings
 use Rattle.copy_move.specs.ModeSettings as modes
 use Rattle.mode_setting.specs.declared.setting.Stage.{Stage as SettingStage}
 use Rattle.mode_setting.specs.declared.setting.Stage.TheVariants as setting
@@ -196,6 +196,7 @@ clean_after (Placed path) job new other none h clean = some_job (record job { wo
 clean_after (Made path) job new other none h clean = absurd (true≢false none)
 clean_after (Kept path) job new other none h clean = some_job (record job { work = spared path job.work }) new h ∙ spared_begun path job.work clean
 clean_after (Asked question) job new other none h clean = some_job (record job { course = Rattle.copy_move.specs.declared.run.Course.TheVariants.Asking }) new h ∙ clean
+clean_after (Merges pair names) job new other none h clean = some_job job new h ∙ clean
 clean_after (Skipped path why) job new other none h clean = some_job (record job { work = skipped path job.work; course = Rattle.copy_move.specs.declared.run.Course.TheVariants.GoesOn }) new h ∙ skipped_begun path job.work clean
 clean_after (Cleaned part) job new other none h clean = some_job (record job { work = cleaned job.course job.work }) new h ∙ (cleaned_begun job.course job.work other ∙ clean)
 clean_after Barrier job new other none h clean = some_job (record job { work = synced job.work }) new h ∙ synced_begun job.work clean
@@ -215,6 +216,7 @@ stage_stays (Removed path) stage may none = absurd may
 stage_stays (Set path) stage may none = absurd may
 stage_stays (Kept path) stage may none = absurd may
 stage_stays (Asked question) stage may none = absurd may
+stage_stays (Merges pair names) stage may none = refl
 stage_stays (Cleaned part) stage may none = absurd may
 stage_stays Barrier stage may none = absurd may
 

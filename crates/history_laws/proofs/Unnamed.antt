@@ -8,7 +8,7 @@ use Rattle.tree_trait.specs.Change.{CallLog, current}
 use Rattle.tree_trait.specs.CrashImages.{Among}
 use Rattle.tree_trait.proofs.Visible.{same_path-self}
 use Rattle.job_reports.specs.declared.report.Did.{Did}
-use Rattle.job_reports.specs.declared.report.Did.TheVariants.{Began, Chunk, Placed, Removed, Made, Set, Kept, Skipped, Cleaned, Barrier, Asked, Troubled, Ended}
+use Rattle.job_reports.specs.declared.report.Did.TheVariants.{Began, Chunk, Placed, Removed, Made, Set, Kept, Skipped, Cleaned, Barrier, Asked, Merges, Troubled, Ended}
 use Rattle.job_reports.specs.Jobs.{Item, Copies, Removes, Makes, MakesLink, Sets}
 use Rattle.session_history.specs.declared.history.Event.{Event}
 use Rattle.session_history.specs.declared.history.Event.TheVariants.{Key, Look, Sought, Order, Step, Next, Closed}
@@ -49,6 +49,7 @@ step_unnamed log (Set changed) item v path unnamed = set_unnamed item changed v 
 step_unnamed log (Made folder) item v path unnamed = put_off v folder (Some (made_by item folder v)) path unnamed
 step_unnamed log (Kept kept) item v path unnamed = refl
 step_unnamed log (Asked question) item v path unnamed = refl
+step_unnamed log (Merges pair names) item v path unnamed = refl
 step_unnamed log (Skipped file cause) item v path unnamed = refl
 step_unnamed log (Cleaned part) item v path unnamed = refl
 step_unnamed log Barrier item v path unnamed = refl
@@ -81,6 +82,7 @@ named_step (Removed file) left parts path unnamed among = among
 named_step (Made folder) left parts path unnamed among = in_filter (λ kept. Rattle.std.specs.Prelude.not (same_path kept folder)) path parts among
 named_step (Kept kept) left parts path unnamed among = among
 named_step (Asked question) left parts path unnamed among = among
+named_step (Merges pair names) left parts path unnamed among = among
 named_step (Skipped file cause) left parts path unnamed among = among
 named_step (Cleaned part) left parts path unnamed among = among
 named_step Barrier left parts path unnamed among = among
@@ -97,6 +99,7 @@ earlier_unnamed (Chunk count) v before path unnamed = refl
 earlier_unnamed (Set changed) v before path unnamed = put_off before changed (v changed).value path unnamed
 earlier_unnamed (Kept kept) v before path unnamed = refl
 earlier_unnamed (Asked question) v before path unnamed = refl
+earlier_unnamed (Merges pair names) v before path unnamed = refl
 earlier_unnamed (Skipped file cause) v before path unnamed = refl
 earlier_unnamed (Cleaned part) v before path unnamed = refl
 earlier_unnamed Barrier v before path unnamed = refl

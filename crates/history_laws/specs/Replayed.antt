@@ -7,7 +7,7 @@ use Rattle.mc_text.specs.declared.kind.Kind.TheVariants.{File, Folder, Link, Oth
 use Rattle.tree_trait.specs.FileSystem.{Value, View, put, value_at, visible_tree}
 use Rattle.tree_trait.specs.Change.{CallLog, current}
 use Rattle.job_reports.specs.declared.report.Did.{Did}
-use Rattle.job_reports.specs.declared.report.Did.TheVariants.{Began, Chunk, Placed, Removed, Made, Set, Kept, Skipped, Cleaned, Barrier, Asked, Troubled, Ended}
+use Rattle.job_reports.specs.declared.report.Did.TheVariants.{Began, Chunk, Placed, Removed, Made, Set, Kept, Skipped, Cleaned, Barrier, Asked, Merges, Troubled, Ended}
 use Rattle.session_history.specs.Named.{changed_by}
 use Rattle.file_copy.specs.Copied.{copied}
 use Rattle.session_history.specs.declared.history.Event.{Event}
@@ -99,6 +99,7 @@ replayed_step log (Set path) item v = set_by item path v
 replayed_step log (Made path) item v = put v path (Some (made_by item path v))
 replayed_step log (Kept kept) item v = v
 replayed_step log (Asked question) item v = v
+replayed_step log (Merges pair names) item v = v
 replayed_step log (Skipped path cause) item v = v
 replayed_step log (Cleaned part) item v = v
 replayed_step log Barrier item v = v

@@ -1,7 +1,5 @@
 -- What choosing one thing comes to, from the look at it.
-use Rattle.std.proofs.Common.{◌≡◌, ◌≤◌, ◌<◌, ◌+◌, ℕ, true, false, ◌||◌, List, [], ◌∷◌, length, take, get_or, refl, sym, ◌∙◌, ap, subst, Option, Some, None, IfOk, Result, Ok, Err}
-use Rattle.std.specs.List.{list_any}
-use Rattle.std.proofs.lemmas.List.Folds.{list_any_more}
+use Rattle.std.proofs.Common.{◌≡◌, ◌≤◌, ◌<◌, ◌+◌, ℕ, true, List, [], ◌∷◌, length, drop, get_or, zero, suc, arith, refl, sym, ◌∙◌, ap, subst, Option, Some, None, IfOk, Result, Ok, Err}
 use Rattle.mc_text.specs.declared.error.NoMemory.{NoMemory}
 use Rattle.mc_text.specs.declared.kind.Kind.{Kind}
 use Rattle.mc_text.specs.Routes.{Route, spelled}
@@ -15,7 +13,7 @@ use Rattle.panel_listing.specs.declared.item.Item.{Item}
 use Rattle.job_plans.specs.declared.choosing.Choice.{Choice}
 use Rattle.job_plans.specs.declared.choosing.Choice.TheVariants.{NoSelection, Nothing, Things, Refused}
 use Rattle.job_plans.specs.declared.choosing.Opens.{Opens}
-use Rattle.job_plans.specs.Choices.{IsChoiceOf, IsThing, is_tagged_otherwise, paths_in}
+use Rattle.job_plans.specs.Choices.{IsChoiceOf, IsThing, first_kind, or_kind, paths_in, tagged_kind}
 use Rattle.job_plans.specs.Copies.{HasKind, HasMode, MayAsk}
 use Rattle.job_plans.specs.Reading.{sight}
 use Rattle.job_plans.proofs.Sights.{thing_look}
@@ -38,9 +36,15 @@ module _ (box : Opens) (contents : Option CallLog) (listed : Option Kind) (folde
   one_chosen name path meta (Ok choice) is near reads h = is_thing name path meta choice is (thing_look contents (name ∷ folder) path meta is near reads) h
   one_chosen name path meta (Err e) is near reads h = tt
 
--- of one row more none is tagged and no file
-pub none_otherwise : (tags : TagSet) (rows : List (Option Item)) (row : ℕ) → row < length rows → list_any (is_tagged_otherwise tags) (take row rows) ≡ false
-    → is_tagged_otherwise tags (get_or rows row None) ≡ false → list_any (is_tagged_otherwise tags) (take (row + 1) rows) ≡ false
-none_otherwise tags rows row within none here =
-    list_any_more (is_tagged_otherwise tags) rows row None within
-    ∙ (ap (λ b. b || is_tagged_otherwise tags (get_or rows row None)) none ∙ here)
+-- the kind of the first row that is tagged, from this row on
+pub first_from : (tags : TagSet) (rows : List (Option Item)) (row : ℕ) → row < length rows → first_kind tags (drop row rows) ≡ or_kind (tagged_kind tags (get_or rows row None)) (first_kind tags (drop (row + 1) rows))
+first_from tags [] row within = absurd (omega (arith, within))
+first_from tags (first ∷ rows) zero within = refl
+first_from tags (first ∷ rows) (suc row) within =
+    first_from tags rows row (omega (arith, within))
+    ∙ ap (λ n. or_kind (tagged_kind tags (get_or rows row None)) (first_kind tags (drop n (first ∷ rows)))) (let e : suc (row + 1) ≡ suc row + 1 = omega arith in e)
+
+-- behind the last row none is
+pub first_past : (tags : TagSet) (rows : List (Option Item)) → first_kind tags (drop (length rows) rows) ≡ None
+first_past tags [] = refl
+first_past tags (row ∷ rows) = first_past tags rows

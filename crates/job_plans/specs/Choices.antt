@@ -3,7 +3,6 @@ use Rattle.std.specs.Prelude.{◌≡◌, ⊤, ℕ, Bool, true, false, not, ◌&&
 use Rattle.std.specs.FinSet as set
 use Rattle.std.specs.List.{list_any}
 use Rattle.mc_text.specs.declared.kind.Kind.{Kind}
-use Rattle.mc_text.specs.declared.kind.Kind.TheVariants.{File}
 use Rattle.mc_text.specs.Routes.{Route, spelled}
 use Rattle.tree_trait.specs.declared.calls.Meta.{Meta}
 use Rattle.tree_trait.specs.FileSystem.{View}
@@ -21,7 +20,7 @@ use Rattle.job_plans.specs.declared.choosing.Choice.{Choice}
 use Rattle.job_plans.specs.declared.choosing.Choice.TheVariants.{NoSelection, Nothing, Things, Refused}
 use Rattle.job_plans.specs.declared.copying.JobPlan.{JobPlan}
 use Rattle.job_plans.specs.declared.copying.JobPlan.TheVariants.{Begins, Refuses}
-use Rattle.job_plans.specs.Copies.{HasKind, HasMode, MayAsk, is_file}
+use Rattle.job_plans.specs.Copies.{HasKind, HasMode, MayAsk}
 
 -- the things of these names in a folder
 abbrev pub paths_in : Route → List (List ℕ) → List Route
@@ -36,14 +35,23 @@ are_several [] = false
 are_several (one ∷ []) = false
 are_several (one ∷ other ∷ more) = true
 
--- a row that is tagged and no file
-abbrev pub is_tagged_otherwise : TagSet → Option Item → Bool
-is_tagged_otherwise tags None = false
-is_tagged_otherwise tags (Some item) = set.contains tags item.name && not (is_file item.kind)
+-- the kind of what a row lists, where it is tagged
+abbrev pub tagged_kind : TagSet → Option Item → Option Kind
+tagged_kind tags None = None
+tagged_kind tags (Some item) = if set.contains tags item.name then Some item.kind else None
 
--- the kind of several things that are tagged, as the panel lists them: that of a file, where each is one
+abbrev pub or_kind : Option Kind → Option Kind → Option Kind
+or_kind None rest = rest
+or_kind (Some kind) rest = Some kind
+
+-- that of the first row that is tagged
+abbrev pub first_kind : TagSet → List (Option Item) → Option Kind
+first_kind tags [] = None
+first_kind tags (row ∷ rows) = or_kind (tagged_kind tags row) (first_kind tags rows)
+
+-- Of several things that are tagged the kind of the first, as the panel lists it: that one is taken up first, and each later one is looked at in its turn.
 abbrev pub listed_kind : PanelState → Option Kind
-listed_kind p = if list_any (is_tagged_otherwise (tag_set p)) (rows_in p.listing) then None else Some File
+listed_kind p = first_kind (tag_set p) (rows_in p.listing)
 
 -- of several things that are to be copied their kind is kept, as it is listed
 abbrev pub kind_kept : Opens → Option Kind → Option Kind

@@ -12,12 +12,6 @@ use Rattle.job_reports.specs.declared.job.Job.TheVariants as plan
 use Rattle.job_reports.specs.declared.job.Pair.{Pair}
 use Rattle.box_words.specs.Chosen.{is_within}
 
-abbrev pub is_file : Kind → Bool
-is_file File = true
-is_file Folder = false
-is_file Link = false
-is_file Other = false
-
 -- a box may ask of the thing at a path: exactly where something stands there, as far as the tree can be seen, and the path isn't too long
 abbrev pub MayAsk : Option View → Route → Bool → Type 0
 MayAsk None path asks = ⊤
@@ -40,7 +34,7 @@ delete_plan paths = plan.Delete paths
 abbrev pub mode_plan : List Route → ℕ → Job
 mode_plan paths mode = plan.SetMode paths mode
 
--- the copy of things that are all files, or of things with all that lies in them
+-- the copy of some things, of which the first is a file, or else of things with all that lies in them
 abbrev pub copies : Option Kind → List Pair → Job
 copies (Some File) pairs = plan.Copy pairs
 copies (Some Folder) pairs = plan.CopyTree pairs

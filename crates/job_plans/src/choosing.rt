@@ -2,8 +2,7 @@
 ghost use Rattle.std.specs.Prelude.{◌≡◌, ◌∷◌, [], true, None, IfOk, option_copied};
 ghost use Rattle.mc_panels.specs.Selections.{selection};
 ghost use Rattle.box_words.specs.Chosen.{can_be_chosen};
-ghost use Rattle.job_plans.specs.Choices.{ArePathsIn, IsChoice, IsChoiceOf, IsLookAtFirst, IsThing, are_several, choice_refusals, is_tagged_otherwise, listed_kind, looked_at, paths_in};
-ghost use Rattle.job_plans.specs.Copies.{is_file};
+ghost use Rattle.job_plans.specs.Choices.{ArePathsIn, IsChoice, IsChoiceOf, IsLookAtFirst, IsThing, are_several, choice_refusals, listed_kind, looked_at, paths_in, tagged_kind};
 ghost use Rattle.job_plans.specs.Reading.{ReadsTree, sight};
 
 use box_words::Chosen;
@@ -124,36 +123,27 @@ fn choose_several<T: ReadTree>(
     }
 }
 
-/// The kind of several things that are tagged, as the panel lists them: that of a file, where each is one.
+/// The kind of the first of the things that are tagged, as the panel lists it.
 fn listed_kind(panel: &Panel) -> Option<Kind>
     ensures { result ≡ listed_kind panel.now }
 {
     let listing = panel.listing();
     let tags = panel.tags();
     for row in 0..listing.len() {
-        if is_tagged_otherwise(tags, listing.item(row)) {
-            return None;
+        if let Some(kind) = tagged_kind(tags, listing.item(row)) {
+            return Some(kind);
         }
     }
-    Some(Kind::File)
+    None
 }
 
-/// Whether a row is tagged, and no file.
-fn is_tagged_otherwise(tags: &Tags, row: Option<&Item>) -> bool
-    ensures { result ≡ is_tagged_otherwise tags.now (option_copied row.entry) }
+/// The kind of what a row lists, where it is tagged.
+fn tagged_kind(tags: &Tags, row: Option<&Item>) -> Option<Kind>
+    ensures { result ≡ tagged_kind tags.now (option_copied row.entry) }
 {
     match row {
-        Some(item) if tags.has(item.name.text()) => !is_file(item.kind),
-        _ => false,
-    }
-}
-
-fn is_file(kind: Kind) -> bool
-    ensures { result ≡ is_file kind }
-{
-    match kind {
-        Kind::File => true,
-        Kind::Folder | Kind::Link | Kind::Other => false,
+        Some(item) if tags.has(item.name.text()) => Some(item.kind),
+        _ => None,
     }
 }
 

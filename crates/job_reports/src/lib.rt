@@ -2,6 +2,7 @@
 #![tactic(auto)]
 
 mod answer;
+mod calls;
 mod job;
 mod question;
 mod report;
@@ -10,6 +11,7 @@ mod stop;
 mod waits;
 
 pub use answer::{Answer, AnswerError};
+pub use calls::{remove_part, rename_thing, set_mode, sync_names};
 pub use job::{Job, Pair, Pairs};
 pub use question::Question;
 pub use report::{Cause, Did, Ending, LastStepResult, StepResult, Trouble, is_end};

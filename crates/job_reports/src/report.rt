@@ -2,8 +2,9 @@
 ghost use Rattle.std.specs.Prelude.{◌≡◌, IfOk};
 ghost use Rattle.job_reports.specs.Reports.{ends};
 
+use crate::job::Pair;
 use crate::question::Question;
-use mc_text::{Kind, NoMemory, Path};
+use mc_text::{Kind, Names, NoMemory, Path};
 use std::alloc::Global;
 use tree_trait::TreeError;
 
@@ -96,6 +97,8 @@ pub enum Did {
     Barrier,
     /// It waits for an answer: is what stands at the target to be replaced?
     Asked(Question),
+    /// Both source and target are folders, and that at the target stays: what lies in the source, by these names, is copied into it next.
+    Merges(Pair, Names),
     Troubled(Trouble),
     /// The job ended; `part` is a part file that it could not remove.
     Ended { ending: Ending, part: Option<Path> },

@@ -1,7 +1,7 @@
-//! The reading of the link, and the calls that change its part: each refusal is named with its path.
-ghost use Rattle.std.specs.Prelude.{◌≡◌, ◌∷◌, [], true, false, None, IfOk, MatchResult};
+//! The reading of the link, and the call that makes its part: each refusal is named with its path.
+ghost use Rattle.std.specs.Prelude.{◌≡◌, ◌∷◌, [], false, None, IfOk, MatchResult};
 ghost use Rattle.tree_trait.specs.Answers.{IfKnown, IsLinkText};
-ghost use Rattle.tree_trait.specs.Calls.{ReadLink, MakeLink, Rename, RemoveFile, SyncFolder};
+ghost use Rattle.tree_trait.specs.Calls.{ReadLink, MakeLink};
 ghost use Rattle.tree_trait.specs.Change.{current};
 ghost use Rattle.tree_trait.specs.Refusals.{refusal_of};
 ghost use Rattle.job_reports.specs.Reading.{Peeks};
@@ -43,44 +43,9 @@ pub(crate) fn make_part<T: Tree>(
     ensures { Ran (MakeLink part.now text.now ∷ []) false result (T.contents tree.old) (T.contents tree.new)
         (T.fault_count tree.old) (T.fault_count tree.new) }
 {
-    // The path of the report comes first, here and below: after the call it is too late to find no memory.
+    // The path of the report comes first: after the call it is too late to find no memory.
     let Ok(named) = part.copy(alloc) else {
         return Err(stopped_before(out_of_memory(false)));
     };
     made_or_stopped(tree.make_link(alloc, part, text), named, false)
-}
-
-pub(crate) fn rename_part<T: Tree>(
-    alloc: Global,
-    tree: &mut T,
-    part: &Path,
-    target: &Path,
-) -> Result<u64, Stop>
-    ensures { Ran (Rename part.now target.now ∷ []) false result (T.contents tree.old) (T.contents tree.new)
-        (T.fault_count tree.old) (T.fault_count tree.new) }
-{
-    let Ok(named) = target.copy(alloc) else {
-        return Err(stopped_before(out_of_memory(false)));
-    };
-    made_or_stopped(tree.rename(alloc, part, target), named, false)
-}
-
-pub(crate) fn remove_part<T: Tree>(alloc: Global, tree: &mut T, part: &Path) -> Result<u64, Stop>
-    ensures { Ran (RemoveFile part.now ∷ []) true result (T.contents tree.old) (T.contents tree.new)
-        (T.fault_count tree.old) (T.fault_count tree.new) }
-{
-    let Ok(named) = part.copy(alloc) else {
-        return Err(stopped_before(out_of_memory(true)));
-    };
-    made_or_stopped(tree.remove_file(alloc, part), named, true)
-}
-
-pub(crate) fn sync_names<T: Tree>(alloc: Global, tree: &mut T, folder: &Path) -> Result<u64, Stop>
-    ensures { Ran (SyncFolder folder.now ∷ []) true result (T.contents tree.old) (T.contents tree.new)
-        (T.fault_count tree.old) (T.fault_count tree.new) }
-{
-    let Ok(named) = folder.copy(alloc) else {
-        return Err(stopped_before(out_of_memory(true)));
-    };
-    made_or_stopped(tree.sync_folder(alloc, folder), named, true)
 }

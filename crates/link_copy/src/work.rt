@@ -3,11 +3,13 @@ ghost use Rattle.std.specs.Prelude.{◌≡◌, true};
 ghost use Rattle.link_copy.specs.LinkCopying.{after_clean as stage_after, copying, is_ready};
 ghost use Rattle.link_copy.specs.LinkSteps.{Makes, MovesOn, moved_by};
 
-use crate::calls::{make_part, read_text, remove_part, rename_part, sync_names};
+use crate::calls::{make_part, read_text};
 use crate::places::Places;
 use crate::stage::{Next, Stage};
 use file_copy::FolderState;
-use job_reports::{Did, Stop, out_of_memory, stopped_before};
+use job_reports::{
+    Did, Stop, out_of_memory, remove_part, rename_thing, stopped_before, sync_names,
+};
 use mc_text::Path;
 use std::alloc::Global;
 use std::convert::AsStr;
@@ -97,7 +99,7 @@ fn place<T: Tree>(alloc: Global, tree: &mut T, places: &Places, folder: FolderSt
     let Ok(placed) = places.target().copy(alloc) else {
         return troubled(stopped_before(out_of_memory(false)), Stage::Place, folder);
     };
-    match rename_part(alloc, tree, places.part(), places.target()) {
+    match rename_thing(alloc, tree, places.part(), places.target()) {
         Ok(calls) => AfterStep {
             did: Did::Placed(placed),
             calls,

@@ -9,7 +9,7 @@ use Rattle.tree_trait.specs.Change.{CallLog}
 use Rattle.tree_trait.specs.Answers.{IfKnown, HasRisen}
 use Rattle.job_reports.specs.CallRuns.{HasMore}
 use Rattle.job_reports.specs.declared.report.Did.{Did}
-use Rattle.job_reports.specs.declared.report.Did.TheVariants.{Began as BeganPart, Chunk, Placed, Removed, Made, Set, Kept, Skipped, Cleaned, Barrier, Asked, Troubled, Ended}
+use Rattle.job_reports.specs.declared.report.Did.TheVariants.{Began as BeganPart, Chunk, Placed, Removed, Made, Set, Kept, Skipped, Cleaned, Barrier, Asked, Merges, Troubled, Ended}
 use Rattle.job_reports.specs.declared.report.Trouble.{Trouble}
 use Rattle.job_reports.specs.declared.report.Ending.TheVariants.{Finished, Aborted, Killed, NoMemory}
 use Rattle.session_history.specs.declared.history.Entry.{Entry}
@@ -32,19 +32,20 @@ use Rattle.copy_move.proofs.StillTelling.{StillTells, step_tells}
 use Rattle.copy_move.proofs.Telling.{answered_told, began_told, closed_told, fresh_told, step_told, sync_told}
 use Rattle.history_laws.proofs.Owing.{step_law}
 use Rattle.history_laws.proofs.Reports.{with_one}
-use Rattle.session_history.specs.Sources.{IsInTurn, are_workable, later as rest_of, sources_of}
+use Rattle.session_history.specs.Sources.{IsInTurn, are_workable, later as rest_of, left_by, sources_of}
 use Rattle.job_boxes.specs.LiveJobs.{takes_answer}
 use Rattle.mc_ui.specs.Screens.{Begins, Answers, Ends, LookLeads, Screen}
 use Rattle.job_plans.specs.Refused.{has_fault}
-use Rattle.mc_desk.specs.Tallies.{Tally, faults_in, can_step, end_unseen_event, next_id, news_left}
+use Rattle.history_log.specs.Told.{news_left, waits_told}
+use Rattle.mc_desk.specs.Tallies.{Tally, faults_in, can_step, end_unseen_event, next_id}
 use Rattle.mc_desk.specs.Desks.{Seen, noted, stand_of, stand_with, with_end}
-use Rattle.mc_desk.specs.LiveRows.{row_of, rows_told, waits_told}
+use Rattle.mc_desk.specs.LiveRows.{row_of, rows_told}
 use Rattle.mc_desk.specs.Granting.{KeyWorks}
 use Rattle.mc_ui.specs.Seekings.{is_seeking}
 use Rattle.mc_desk.specs.Searches.{HasSought}
 use Rattle.mc_desk.specs.Shown.{DrawsFrame, PutsNothing, frame_due, none_before}
 use Rattle.mc_desk.specs.Sessions.{MayEnd, StepFault}
-use Rattle.mc_desk.specs.Turning.{finishes}
+use Rattle.job_sources.specs.Turning.{finishes}
 use Rattle.mc_desk.proofs.Answering.{part_told, waiting_told}
 use Rattle.mc_desk.proofs.Keeping.{Adds, Leads, before}
 
@@ -129,6 +130,7 @@ in_turn id (Ended NoMemory part) left h = tt
 in_turn id (BeganPart part) left h = tt
 in_turn id (Chunk bytes) left h = tt
 in_turn id (Asked question) left h = tt
+in_turn id (Merges pair names) left h = tt
 in_turn id (Set path) left h = tt
 in_turn id (Placed path) left h = tt
 in_turn id (Removed path) left h = tt
@@ -358,6 +360,7 @@ module _ (contents contents_after : Option CallLog) (faults : ℕ) (old new : Se
   unseen_step id (BeganPart part) b = refl
   unseen_step id (Chunk bytes) b = refl
   unseen_step id (Asked question) b = refl
+  unseen_step id (Merges pair names) b = refl
   unseen_step id (Set path) b = refl
   unseen_step id (Placed path) b = refl
   unseen_step id (Removed path) b = refl
@@ -398,8 +401,8 @@ module _ (contents contents_after : Option CallLog) (faults : ℕ) (old new : Se
       → new.newest ≡ entry seat calls count 0 (Step live.id did) ∷ old.newest
       → new.job ≡ if_closed old.tally.closed (if ends did then None else Some stepped)
       → new.tally ≡ record old.tally { job = option_map told new.job; has_unseen_end = ends did || old.tally.has_unseen_end; calls = calls }
-      → old.screen.planned ≡ None → faults_in faults old.newest ≤ before → after ≡ count → new.screen ≡ old.screen → new.quit ≡ old.quit → new.out.put ≡ old.out.put
-      → (finishes did ≡ true → old.later ≡ []) → new.later ≡ (if ends did then [] else old.later)
+      → old.screen.planned ≡ None → faults_in faults old.newest ≤ before → after ≤ count → new.screen ≡ old.screen → new.quit ≡ old.quit → new.out.put ≡ old.out.put
+      → (finishes did ≡ true → old.later ≡ []) → new.later ≡ left_by did old.later
       → Adds contents contents_after faults old new (entry seat calls count 0 (Step live.id did))
   adds_step live stepped did made calls before after is tells o calls_is more job tally settled had now screen quit put turn left =
       let s = o.own in
@@ -436,8 +439,8 @@ module _ (contents contents_after : Option CallLog) (faults : ℕ) (old new : Se
       → new.newest ≡ entry seat calls count 0 (Step live.id did) ∷ old.newest
       → new.job ≡ if_closed old.tally.closed (if ends did then None else Some stepped)
       → new.tally ≡ record old.tally { job = option_map told new.job; has_unseen_end = ends did || old.tally.has_unseen_end; calls = calls }
-      → old.screen.planned ≡ None → faults_in faults old.newest ≤ before → after ≡ count → new.screen ≡ old.screen → new.quit ≡ old.quit → new.out.put ≡ old.out.put
-      → (finishes did ≡ true → old.later ≡ []) → new.later ≡ (if ends did then [] else old.later)
+      → old.screen.planned ≡ None → faults_in faults old.newest ≤ before → after ≤ count → new.screen ≡ old.screen → new.quit ≡ old.quit → new.out.put ≡ old.out.put
+      → (finishes did ≡ true → old.later ≡ []) → new.later ≡ left_by did old.later
       → Adds contents contents_after faults old new (entry seat calls count 0 (Step live.id did))
   adds_settled live stepped did made calls before after is tells s calls_is more job tally settled had now screen quit put turn left = record {
     turn = in_turn live.id did old.later turn;

@@ -11,10 +11,10 @@ use Rattle.mc_ui.specs.Screens.{Screen}
 use Rattle.mc_ui.specs.Seekings.{is_seeking}
 use Rattle.mc_desk.specs.declared.starts.Start.{Start}
 use Rattle.mc_desk.specs.declared.standing.Standing.{Standing}
-use Rattle.mc_desk.specs.Logs.{Logged}
+use Rattle.history_log.specs.Logs.{Logged, plain_entry}
 use Rattle.mc_desk.specs.Outputs.{Output}
 use Rattle.mc_desk.specs.Shown.{PutsNothing}
-use Rattle.mc_desk.specs.Standings.{awaited, closed_standing, plain_entry}
+use Rattle.mc_desk.specs.Standings.{awaited, closed_standing}
 use Rattle.mc_desk.specs.Tallies.{Tally, faults_in}
 use Rattle.mc_desk.specs.Desks.{IsDesk, Seen, seen_of}
 use Rattle.mc_desk.proofs.Adding.{entry}

@@ -18,8 +18,9 @@ use Rattle.mc_ui.specs.Screens.{Screen}
 use Rattle.mc_desk.specs.declared.starts.Start.{Start}
 use Rattle.mc_desk.specs.declared.starts.StartMode.{StartMode}
 use Rattle.mc_desk.specs.declared.starts.StartMode.TheVariants.{Panels, View}
-use Rattle.mc_desk.specs.Logs.{Logged}
-use Rattle.mc_desk.specs.Tallies.{Tally, tally, after_entry, most_calls, faults_in, next_id, news_left}
+use Rattle.history_log.specs.Logs.{Logged}
+use Rattle.history_log.specs.Told.{news_left}
+use Rattle.mc_desk.specs.Tallies.{Tally, tally, after_entry, most_calls, faults_in, next_id}
 use Rattle.mc_desk.specs.LiveRows.{rows_told}
 use Rattle.mc_desk.specs.Sessions.{Before, IsOpeningIn, IsSession, SessionState, Traces, BeginsIn, EventLeads, HasCauses, IsTimely, Counts}
 use Rattle.mc_desk.specs.Starts.{IsOpened}

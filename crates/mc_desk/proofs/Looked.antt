@@ -17,14 +17,15 @@ use Rattle.job_plans.specs.Refused.{has_fault}
 use Rattle.mc_desk.specs.declared.starts.Start.{Start}
 use Rattle.mc_desk.specs.declared.standing.Due.{Due}
 use Rattle.mc_desk.specs.declared.standing.Standing.{Standing}
-use Rattle.mc_desk.specs.LiveRows.{rows_of, rows_told, waits_told}
-use Rattle.mc_desk.specs.Logs.{Logged}
+use Rattle.history_log.specs.Told.{waits_told, news_left}
+use Rattle.mc_desk.specs.LiveRows.{rows_of, rows_told}
+use Rattle.history_log.specs.Logs.{Logged}
 use Rattle.mc_desk.specs.Outputs.{FitsScreen, Output, ShowsFrame}
 use Rattle.mc_desk.specs.Shown.{frame_at, frame_due, rows_then}
 use Rattle.mc_screen.specs.Drawings.{Display}
 use Rattle.mc_ui.specs.Frames.{frame_of}
 use Rattle.mc_desk.specs.Standings.{after_look, awaited, tally_of}
-use Rattle.mc_desk.specs.Tallies.{Tally, can_step, faults_in, next_id, news_left}
+use Rattle.mc_desk.specs.Tallies.{Tally, can_step, faults_in, next_id}
 use Rattle.mc_desk.specs.Desks.{IsDesk, Seen, seen_of, with_end}
 use Rattle.mc_desk.proofs.Adding.{entry}
 use Rattle.mc_desk.proofs.Answering.{steps_told}

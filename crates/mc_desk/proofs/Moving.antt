@@ -5,7 +5,7 @@ use Rattle.mc_text.specs.Routes.{Route}
 use Rattle.tree_trait.specs.declared.calls.TreeError.{TreeError}
 use Rattle.tree_trait.specs.Change.{CallLog}
 use Rattle.job_reports.specs.declared.report.Did.{Did}
-use Rattle.job_reports.specs.declared.report.Did.TheVariants.{Began, Chunk, Placed, Removed, Made, Set, Kept, Skipped, Cleaned, Barrier, Asked, Troubled, Ended}
+use Rattle.job_reports.specs.declared.report.Did.TheVariants.{Began, Chunk, Placed, Removed, Made, Set, Kept, Skipped, Cleaned, Barrier, Asked, Merges, Troubled, Ended}
 use Rattle.job_reports.specs.declared.report.Ending.{Ending}
 use Rattle.job_reports.specs.declared.report.Ending.TheVariants.{Finished, Aborted, Killed, NoMemory}
 use Rattle.file_copy.specs.AskedCopies.{AskedTells}
@@ -19,9 +19,9 @@ use Rattle.copy_move.specs.declared.run.Course.TheVariants.{GoesOn, Asking, InTr
 use Rattle.copy_move.specs.Deletions.{Deleting, DeletionLeaves}
 use Rattle.copy_move.specs.Deletions as deletions
 use Rattle.copy_move.specs.DeletionSteps.{after_try}
-use Rattle.copy_move.specs.declared.making.MakingStage.{MakingStage}
-use Rattle.copy_move.specs.declared.making.MakingStage.TheVariants as making
-use Rattle.copy_move.specs.Makings as makings
+use Rattle.thing_making.specs.declared.making.MakingStage.{MakingStage}
+use Rattle.thing_making.specs.declared.making.MakingStage.TheVariants as making
+use Rattle.thing_making.specs.Makings as makings
 use Rattle.mode_setting.specs.Settings as settings
 use Rattle.copy_move.specs.Jobs.{Running, TellsOn, WorkTells}
 use Rattle.copy_move.specs.Settling.{WorkLeaves, is_own, with_change}
@@ -64,6 +64,7 @@ copy_synced c new Barrier t was now = refl
 copy_synced c new (Began part) t was now = absurd (true≢false (sym (ap (λ (n : copying.Copying). copying.is_dirty n.folder) t.1.1) ∙ now))
 copy_synced c new (Chunk count) (part, said, done, at, some, few, within, is) was now = absurd (true≢false (sym was ∙ (sym (ap (λ (n : copying.Copying). copying.is_dirty n.folder) is) ∙ now)))
 copy_synced c new (Asked question) (at, is) was now = absurd (true≢false (sym was ∙ (sym (ap (λ (n : copying.Copying). copying.is_dirty n.folder) is) ∙ now)))
+copy_synced c new (Merges pair names) t was now = absurd t
 copy_synced c new (Set path) t was now = absurd t
 copy_synced c new (Placed path) (part, said, at, target, is) was now = absurd (true≢false (sym was ∙ (sym (ap (λ (n : copying.Copying). copying.is_dirty n.folder) is) ∙ now)))
 copy_synced c new (Cleaned part) (follows, at, is) was now = absurd (true≢false (sym was ∙ (sym (ap (λ (n : copying.Copying). copying.is_dirty n.folder) is) ∙ now)))
@@ -82,6 +83,7 @@ making_synced m new (Ended ending part) t was now = absurd (true≢false (sym wa
 making_synced m new (Began part) t was now = absurd t
 making_synced m new (Chunk count) t was now = absurd t
 making_synced m new (Asked question) t was now = absurd t
+making_synced m new (Merges pair names) t was now = absurd t
 making_synced m new (Set path) t was now = absurd t
 making_synced m new (Placed path) t was now = absurd t
 making_synced m new (Removed made) t was now = absurd t
@@ -98,6 +100,7 @@ setting_synced s new (Ended ending part) t was now = absurd (true≢false (sym w
 setting_synced s new (Began part) t was now = absurd t
 setting_synced s new (Chunk count) t was now = absurd t
 setting_synced s new (Asked question) t was now = absurd t
+setting_synced s new (Merges pair names) t was now = absurd t
 setting_synced s new (Placed path) t was now = absurd t
 setting_synced s new (Removed path) t was now = absurd t
 setting_synced s new (Made path) t was now = absurd t
@@ -136,6 +139,7 @@ module _ (job : Option Running) (newest older : List Entry) (dirty dirty_after :
   deletion_moves live d new before after is work (Began part) did_is t h = absurd t
   deletion_moves live d new before after is work (Chunk bytes) did_is t h = absurd t
   deletion_moves live d new before after is work (Asked question) did_is t h = absurd t
+  deletion_moves live d new before after is work (Merges pair names) did_is t h = absurd t
   deletion_moves live d new before after is work (Set path) did_is t h = absurd t
   deletion_moves live d new before after is work (Placed path) did_is t h = absurd t
   deletion_moves live d new before after is work (Made made) did_is t h = absurd t
@@ -223,6 +227,7 @@ module _ (job : Option Running) (newest older : List Entry) (dirty dirty_after :
   tries folder refusal (Began part) is left = inl left
   tries folder refusal (Chunk bytes) is left = inl left
   tries folder refusal (Asked question) is left = inl left
+  tries folder refusal (Merges pair names) is left = inl left
   tries folder refusal (Set path) is left = inl left
   tries folder refusal (Placed path) is left = inl left
   tries folder refusal (Removed path) is left = inl left

@@ -8,8 +8,9 @@ use Rattle.mc_ui.specs.Screens.{Screen}
 use Rattle.mc_ui.specs.Seekings.{is_seeking}
 use Rattle.mc_desk.specs.declared.starts.Start.{Start}
 use Rattle.mc_desk.specs.declared.standing.Standing.{Standing}
-use Rattle.mc_desk.specs.LiveRows.{rows_of, rows_told, waits_told}
-use Rattle.mc_desk.specs.Logs.{Logged}
+use Rattle.history_log.specs.Told.{waits_told}
+use Rattle.mc_desk.specs.LiveRows.{rows_of, rows_told}
+use Rattle.history_log.specs.Logs.{Logged}
 use Rattle.mc_desk.specs.Outputs.{FitsScreen, Output, ShowsFrame}
 use Rattle.mc_desk.specs.Shown.{frame_due}
 use Rattle.mc_screen.specs.Drawings.{Display}

@@ -10,8 +10,9 @@ use Rattle.copy_move.specs.Told.{told}
 use Rattle.mc_ui.specs.Screens.{Screen}
 use Rattle.mc_desk.specs.declared.granting.Deed.{Deed}
 use Rattle.mc_desk.specs.declared.granting.Deed.TheVariants as deed
-use Rattle.mc_desk.specs.Standings.{event_of, followed}
-use Rattle.mc_desk.specs.LiveRows.{waits_told}
+use Rattle.history_log.specs.Logs.{followed}
+use Rattle.mc_desk.specs.Standings.{event_of}
+use Rattle.history_log.specs.Told.{waits_told}
 use Rattle.mc_desk.specs.Desks.{IsShown, Seen, ShowsDesk, frame_now}
 use Rattle.mc_desk.specs.Outputs.{FitsScreen, Output, ShowsFrame, ShowsLast}
 use Rattle.mc_desk.specs.Shown.{Put, ShowsOverAny, none_before}

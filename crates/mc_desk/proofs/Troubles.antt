@@ -7,7 +7,7 @@ use Rattle.tree_trait.specs.Change.{CallLog}
 use Rattle.job_reports.specs.declared.answer.Answer.{Answer}
 use Rattle.job_reports.specs.declared.answer.Answer.TheVariants.{Yes, No, All, Update, Nothing, SizeDiffers, Retry, Skip, SkipAll, Abort}
 use Rattle.job_reports.specs.declared.report.Did.{Did}
-use Rattle.job_reports.specs.declared.report.Did.TheVariants.{Began as BeganPart, Chunk, Placed, Removed, Made, Set, Kept, Skipped, Cleaned, Barrier, Asked, Troubled, Ended}
+use Rattle.job_reports.specs.declared.report.Did.TheVariants.{Began as BeganPart, Chunk, Placed, Removed, Made, Set, Kept, Skipped, Cleaned, Barrier, Asked, Merges, Troubled, Ended}
 use Rattle.job_reports.specs.declared.report.Trouble.{Trouble}
 use Rattle.job_reports.specs.Waits.{waits_at}
 use Rattle.job_reports.specs.declared.waits.Waits.{Waits}
@@ -30,7 +30,8 @@ use Rattle.job_answers.specs.declared.answer.Waiting.TheVariants as waiting
 use Rattle.job_boxes.specs.LiveJobs.{takes_answer, waiting_with}
 use Rattle.mc_ui.specs.Screens.{Screen}
 use Rattle.mc_desk.specs.declared.starts.Start.{Start}
-use Rattle.mc_desk.specs.LiveRows.{is_report, question_in, reported_waits, row_of, state_with, trouble_in, waits_in, waits_told}
+use Rattle.history_log.specs.Told.{is_report, reported_waits, waits_told}
+use Rattle.mc_desk.specs.LiveRows.{question_in, row_of, state_with, trouble_in, waits_in}
 use Rattle.mc_desk.specs.Shown.{Put}
 use Rattle.mc_desk.specs.Sessions.{Before, EventLeads, IsSession, SessionState, before_entry}
 
@@ -83,6 +84,7 @@ step_waits id live (Skipped path cause) allowed = λ waits. absurd (false≢true
 step_waits id live (Cleaned part) allowed = λ waits. absurd (not_ready live (Cleaned part) allowed waits)
 step_waits id live Barrier allowed = λ waits. absurd (not_ready live Barrier allowed waits)
 step_waits id live (Asked question) allowed = λ waits. refl
+step_waits id live (Merges pair names) allowed = λ waits. absurd (not_ready live (Merges pair names) allowed waits)
 step_waits id live (Troubled trouble) allowed = λ waits. trouble_waits live trouble
 step_waits id live (Ended ending part) allowed = tt
 

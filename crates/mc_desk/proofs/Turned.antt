@@ -9,7 +9,7 @@ use Rattle.job_reports.specs.declared.report.Did.TheVariants.{Ended}
 use Rattle.job_reports.specs.declared.report.Ending.TheVariants.{Finished, NoMemory}
 use Rattle.job_reports.specs.Jobs.{is_workable}
 use Rattle.session_history.specs.declared.history.Event.TheVariants.{Next, Step}
-use Rattle.session_history.specs.Sources.{later as rest_of}
+use Rattle.session_history.specs.Sources.{IsPlanOf, later as rest_of}
 use Rattle.copy_move.specs.declared.run.Course.TheVariants.{Ends, GoesOn}
 use Rattle.copy_move.specs.Jobs.{Running, part_of, waits_on}
 use Rattle.copy_move.specs.Steps.{OwnStep, RunStep, SyncsOwed, step_made}
@@ -41,13 +41,13 @@ own_leads job new made dirty dirty_after log before after own = record {
 }
 
 module _ (contents contents_after : Option CallLog) (same : contents_after ≡ contents) (faults : ℕ) (old new : Seen) (seat count : ℕ) (main : seat ≡ 0) where
-  pub adds_turned : (live stepped run : Running) (plan : Job) (made before after : ℕ) → old.job ≡ Some live → old.tally.job ≡ option_map told old.job → live.course ≡ GoesOn
+  pub adds_turned : (live stepped run : Running) (source plan : Job) (made before after : ℕ) → IsPlanOf source plan → old.job ≡ Some live → old.tally.job ≡ option_map told old.job → live.course ≡ GoesOn
       → OwnStep IsUnclaimed (step_made live stepped (Ended Finished None) made old.dirty new.dirty contents contents_after before after) → turned plan live ≡ Some run → is_workable plan ≡ true
-      → new.newest ≡ entry seat old.tally.calls count 0 (Next live.id plan) ∷ old.newest → old.later ≡ plan ∷ new.later → new.job ≡ if_closed old.tally.closed (Some run)
+      → new.newest ≡ entry seat old.tally.calls count 0 (Next live.id plan) ∷ old.newest → old.later ≡ source ∷ new.later → new.job ≡ if_closed old.tally.closed (Some run)
       → new.tally ≡ record old.tally { job = option_map told new.job } → old.screen.planned ≡ None → faults_in faults old.newest ≤ count → new.screen ≡ old.screen → new.quit ≡ old.quit → new.out.put ≡ old.out.put
       → Adds contents contents_after faults old new (entry seat old.tally.calls count 0 (Next live.id plan))
-  adds_turned live stepped run plan made before after is tells goes own run_is workable more left job tally settled later screen quit put = record {
-    turn = (new.later, left);
+  adds_turned live stepped run source plan made before after plan_is is tells goes own run_is workable more left job tally settled later screen quit put = record {
+    turn = (source, new.later, left, plan_is);
     left = sym (ap rest_of left);
     draws = record { same = put; none = refl };
     more = more;
@@ -88,7 +88,7 @@ module _ (contents contents_after : Option CallLog) (same : contents_after ≡ c
 -- the step that finishes a source, and the one that goes on, written down
 module _ (start : Option Start) (opening contents contents_after : Option CallLog) (faults : ℕ) (old new : Seen) (seat count made calls before after : ℕ) (live stepped : Running) (part : Option Route) (main : seat ≡ 0)
     (desk : IsDesk start opening contents faults old) (is : old.job ≡ Some live) (steps : RunStep IsUnclaimed (step_made live stepped (Ended Finished part) made old.dirty new.dirty contents contents_after before after))
-    (had : faults_in faults old.newest ≤ before) (now : after ≡ count) (ready : waits_on live.course ≡ false) where
+    (had : faults_in faults old.newest ≤ before) (now : after ≤ count) (ready : waits_on live.course ≡ false) where
   abbrev told_is : old.tally.job ≡ Some (told live)
   told_is = desk.written.told ∙ ap (option_map told) is
 
@@ -122,14 +122,14 @@ module _ (start : Option Start) (opening contents contents_after : Option CallLo
   counted : faults_in faults old.newest ≤ count
   counted = (let s = own.own in let l = s.later in omega (arith, l, had, now))
 
-  pub desk_turned : (plan : Job) (run : Running) → turned plan stepped ≡ Some run → is_workable plan ≡ true → calls ≡ old.tally.calls → new.newest ≡ entry seat calls count 0 (Next live.id plan) ∷ old.newest → old.later ≡ plan ∷ new.later
+  pub desk_turned : (source plan : Job) (run : Running) → IsPlanOf source plan → turned plan stepped ≡ Some run → is_workable plan ≡ true → calls ≡ old.tally.calls → new.newest ≡ entry seat calls count 0 (Next live.id plan) ∷ old.newest → old.later ≡ source ∷ new.later
       → new.job ≡ if_closed old.tally.closed (Some run) → new.tally ≡ record old.tally { job = option_map told new.job } → new.screen ≡ old.screen → new.quit ≡ old.quit → 2 ≤ new.spare → new.out ≡ old.out
       → IsDesk start opening contents_after faults new
-  desk_turned plan run run_is workable all more left job tally screen quit room out =
+  desk_turned source plan run plan_is run_is workable all more left job tally screen quit room out =
       let f = finished in
       desk_of start opening contents_after faults new
       (written_more faults old new _ start opening contents contents_after desk.written
-      (adds_turned contents contents_after same_contents faults old new seat count main live stepped run plan made before after is desk.written.told f.goes own
+      (adds_turned contents contents_after same_contents faults old new seat count main live stepped run source plan made before after plan_is is desk.written.told f.goes own
       (sym (turned_alike plan live stepped f.number f.skips f.replies) ∙ run_is) workable (more ∙ ap (λ n. entry seat n count 0 (Next live.id plan) ∷ old.newest) all) left job tally desk.settled counted screen quit
       (ap (λ (o : Output). o.put) out)))
       (ap (λ (s : Screen). s.planned) screen ∙ desk.settled) (λ h. ap (λ (t : Tally). t.closed) tally ∙ desk.lost (sym (ap (λ (t : Tally). t.lost) tally) ∙ h))
@@ -137,11 +137,16 @@ module _ (start : Option Start) (opening contents contents_after : Option CallLo
       (λ h. ap (λ (t : Tally). t.due) tally ∙ desk.shut (sym (ap (λ (t : Tally). t.closed) tally) ∙ h)) room
       (shown_stepping old new live desk.shown desk.written.tally told_is ready (ap (λ (t : Tally). t.closed) tally) (ap (λ (t : Tally). t.due) tally) out screen)
 
-  -- there is no memory to go on
-  pub desk_short : calls ≡ old.tally.calls → new.newest ≡ entry seat calls count 0 (Step live.id (Ended NoMemory (part_of stepped.work))) ∷ old.newest → new.job ≡ None
-      → new.tally ≡ record old.tally { job = None; has_unseen_end = true } → new.screen ≡ old.screen → new.quit ≡ old.quit → kept_room old.tally.closed None ≤ new.spare → new.later ≡ [] → new.out ≡ old.out
-      → IsDesk start opening contents_after faults new
-  desk_short all more job tally screen quit room left out =
-      let f = finished in
-      desk_gave_up start opening contents contents_after faults old new seat count live (part_of stepped.work) same_contents main desk is ready f.stays counted
-      (more ∙ ap (λ n. entry seat n count 0 (Step live.id (Ended NoMemory (part_of stepped.work))) ∷ old.newest) all) job tally screen quit room f.list left out
+-- There is no memory to go on after a step that left all as it was: that which finished a source, or told that a folder is merged.
+pub desk_short : (start : Option Start) (opening contents contents_after : Option CallLog) (faults : ℕ) (old new : Seen) (seat count calls before after : ℕ) (live stepped : Running) → seat ≡ 0 → IsDesk start opening contents faults old
+    → old.job ≡ Some live → Finishes live stepped None old.dirty new.dirty contents contents_after → (contents ≡ None → contents_after ≡ None) → faults_in faults old.newest ≤ before → before ≤ after → after ≤ count → waits_on live.course ≡ false
+    → calls ≡ old.tally.calls → new.newest ≡ entry seat calls count 0 (Step live.id (Ended NoMemory (part_of stepped.work))) ∷ old.newest → new.job ≡ None
+    → new.tally ≡ record old.tally { job = None; has_unseen_end = true } → new.screen ≡ old.screen → new.quit ≡ old.quit → kept_room old.tally.closed None ≤ new.spare → new.later ≡ [] → new.out ≡ old.out
+    → IsDesk start opening contents_after faults new
+desk_short start opening contents contents_after faults old new seat count calls before after live stepped main desk is f unknown had rises now ready all more job tally screen quit room left out =
+    desk_gave_up start opening contents contents_after faults old new seat count live (part_of stepped.work) (by contents refl) main desk is ready f.stays (omega (arith, had, rises, now))
+    (more ∙ ap (λ n. entry seat n count 0 (Step live.id (Ended NoMemory (part_of stepped.work))) ∷ old.newest) all) job tally screen quit room f.list left out
+  where
+    by : (c : Option CallLog) → contents ≡ c → contents_after ≡ contents
+    by None none = unknown none ∙ sym none
+    by (Some log) known = f.log log known ∙ sym known

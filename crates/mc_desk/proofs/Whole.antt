@@ -11,7 +11,7 @@ use Rattle.job_reports.specs.declared.report.Did.TheVariants.{Ended}
 use Rattle.job_reports.specs.declared.report.Ending.TheVariants.{NoMemory}
 use Rattle.job_reports.specs.declared.job.Job.{Job}
 use Rattle.job_reports.specs.declared.row.JobRow.{JobRow}
-use Rattle.session_history.specs.Sources.{are_workable, later as rest_of, sources_of}
+use Rattle.session_history.specs.Sources.{are_workable, later as rest_of, left_by, sources_of}
 use Rattle.session_history.specs.declared.history.Entry.{Entry}
 use Rattle.session_history.specs.declared.history.Event.TheVariants.{Key, Look, Sought, Began, Order, Step, Closed}
 use Rattle.session_history.specs.declared.history.JobOrder.TheVariants.{Answered}
@@ -31,14 +31,15 @@ use Rattle.job_boxes.specs.LiveJobs.{takes_answer}
 use Rattle.mc_ui.specs.Screens.{Screen, Begins, Answers, LookLeads}
 use Rattle.box_words.specs.declared.message.Message.{Message}
 use Rattle.job_plans.specs.Refused.{has_fault}
-use Rattle.mc_desk.specs.Tallies.{Tally, faults_in, can_step, next_id, news_left}
+use Rattle.history_log.specs.Told.{news_left, waits_told}
+use Rattle.mc_desk.specs.Tallies.{Tally, faults_in, can_step, next_id}
 use Rattle.mc_desk.specs.declared.starts.Start.{Start}
-use Rattle.mc_desk.specs.LiveRows.{row_of, rows_of, rows_told, waits_told}
+use Rattle.mc_desk.specs.LiveRows.{row_of, rows_of, rows_told}
 use Rattle.mc_desk.specs.Granting.{KeyWorks}
 use Rattle.mc_desk.specs.Outputs.{FitsScreen, Output}
 use Rattle.mc_ui.specs.Seekings.{is_seeking}
 use Rattle.mc_desk.specs.Searches.{HasSought}
-use Rattle.mc_desk.specs.Turning.{finishes}
+use Rattle.job_sources.specs.Turning.{finishes}
 use Rattle.mc_desk.specs.Shown.{DrawsFrame, PutsNothing, frame_due, none_before}
 use Rattle.mc_desk.specs.Desks.{Seen, kept_room, IsShown, IsWritten, IsDesk, noted, state_of}
 use Rattle.mc_desk.proofs.Showing.{shown_closed, shown_stepping}
@@ -268,12 +269,12 @@ few_made live stepped did made dirty dirty_after contents contents_after before 
 -- a step of the job, written down
 pub desk_stepped : (start : Option Start) (opening contents contents_after : Option CallLog) (faults : ℕ) (old new : Seen) (seat count made calls before after : ℕ) (live stepped : Running) (did : Did)
     → seat ≡ 0 → IsDesk start opening contents faults old → old.job ≡ Some live → RunStep IsUnclaimed (step_made live stepped did made old.dirty new.dirty contents contents_after before after) → length old.newest + 3 ≤ 2 ^ 56
-    → calls ≡ min (old.tally.calls + made) (2 ^ 64 - 1) → faults_in faults old.newest ≤ before → after ≡ count
+    → calls ≡ min (old.tally.calls + made) (2 ^ 64 - 1) → faults_in faults old.newest ≤ before → after ≤ count
     → new.newest ≡ entry seat calls count 0 (Step live.id did) ∷ old.newest
     → new.job ≡ if_closed old.tally.closed (if ends did then None else Some stepped)
     → new.tally ≡ record old.tally { job = option_map told new.job; has_unseen_end = ends did || old.tally.has_unseen_end; calls = calls } → new.screen ≡ old.screen
     → new.quit ≡ old.quit → 2 ≤ new.spare → waits_on live.course ≡ false → new.out ≡ old.out
-    → (finishes did ≡ true → old.later ≡ []) → new.later ≡ (if ends did then [] else old.later) → IsDesk start opening contents_after faults new
+    → (finishes did ≡ true → old.later ≡ []) → new.later ≡ left_by did old.later → IsDesk start opening contents_after faults new
 desk_stepped start opening contents contents_after faults old new seat count made calls before after live stepped did main desk is steps fits calls_is had now more job tally screen quit room ready out turn left =
     let all : calls ≡ old.tally.calls + made =
     let few = desk.written.calls in let three = few_made live stepped did made old.dirty new.dirty contents contents_after before after steps in omega (arith, calls_is, three, fits, few) in

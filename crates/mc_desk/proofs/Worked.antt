@@ -36,13 +36,14 @@ use Rattle.mc_desk.specs.declared.granting.Deed.{Deed}
 use Rattle.mc_desk.specs.declared.granting.Deed.TheVariants as deed
 use Rattle.mc_desk.specs.declared.standing.Standing.{Standing}
 use Rattle.mc_desk.specs.Granting.{CanBeDone, IsWorked, KeyWorks, with_deed}
-use Rattle.mc_desk.specs.LiveRows.{question_in, row_of, rows_of, rows_told, state_with, trouble_in, waits_told}
-use Rattle.mc_desk.specs.Logs.{Logged}
+use Rattle.history_log.specs.Told.{waits_told}
+use Rattle.mc_desk.specs.LiveRows.{question_in, row_of, rows_of, rows_told, state_with, trouble_in}
+use Rattle.history_log.specs.Logs.{Logged, followed}
 use Rattle.mc_desk.specs.Outputs.{FitsScreen, Output, ShowsFrame}
 use Rattle.mc_desk.specs.Shown.{DrawsBehind, DrawsFrame, Put, begun_rows, frame_at, frame_due, ready_row, rows_then, none_before}
 use Rattle.mc_screen.specs.Drawings.{Display}
 use Rattle.mc_ui.specs.Frames.{frame_of}
-use Rattle.mc_desk.specs.Standings.{MayCarryOut, after_answer, after_deed, awaited, event_of, followed, order_of}
+use Rattle.mc_desk.specs.Standings.{MayCarryOut, after_answer, after_deed, awaited, event_of, order_of}
 use Rattle.mc_desk.specs.Tallies.{can_step, faults_in, next_id}
 use Rattle.mc_desk.specs.Desks.{IsDesk, IsShown, Seen, seen_of, with_end}
 use Rattle.mc_desk.proofs.Adding.{entry, unasked_screen}

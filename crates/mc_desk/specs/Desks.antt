@@ -29,13 +29,14 @@ use Rattle.mc_desk.specs.declared.replies.StepReply.{StepReply}
 use Rattle.mc_desk.specs.declared.replies.StepReply.TheVariants.{Ended, Idle}
 use Rattle.mc_desk.specs.Tallies.{Tally, can_step, tally, faults_in, keys_in}
 use Rattle.mc_desk.specs.Sessions.{IsSession, SessionState}
-use Rattle.mc_desk.specs.Logs.{Logged}
+use Rattle.history_log.specs.Logs.{Logged}
 use Rattle.mc_desk.specs.Outputs.{FitsScreen, Output}
-use Rattle.mc_desk.specs.LiveRows.{rows_of, waits_told}
+use Rattle.history_log.specs.Told.{waits_told}
+use Rattle.mc_desk.specs.LiveRows.{rows_of}
 use Rattle.mc_ui.specs.Frames.{frame_of}
 use Rattle.key_screen.specs.Grids.{CellGrid}
 use Rattle.mc_desk.specs.Standings.{tally_of}
-use Rattle.mc_desk.specs.Turning.{rank_left}
+use Rattle.job_sources.specs.Turning.{rank_left}
 use Rattle.mc_desk.specs.declared.standing.Standing.{Standing}
 
 -- what can be seen of a desk: its entries, the newest first, and how many more find room; the screen; the live job, and

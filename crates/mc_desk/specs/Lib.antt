@@ -1,7 +1,6 @@
 pub mod Desks
 pub mod Granting
 pub mod LiveRows
-pub mod Logs
 pub mod Outputs
 pub mod Searches
 pub mod Sessions
@@ -10,4 +9,3 @@ pub mod ShownEntries
 pub mod Standings
 pub mod Starts
 pub mod Tallies
-pub mod Turning

@@ -1,35 +1,17 @@
 -- The rows of the live jobs, as the screen sees them: each is what its run and its newest report say. Histories stand newest
 -- first here.
-use Rattle.std.specs.Prelude.{Bool, true, false, if◌then◌else◌, List, [], ◌∷◌, Option, Some, None}
+use Rattle.std.specs.Prelude.{false, if◌then◌else◌, List, [], ◌∷◌, Option, Some, None}
 use Rattle.job_reports.specs.declared.question.Question.{Question}
-use Rattle.job_reports.specs.declared.report.Did.TheVariants.{Asked as AskedStep, Troubled as TroubledStep}
 use Rattle.job_reports.specs.declared.report.Trouble.{Trouble}
 use Rattle.job_reports.specs.declared.row.JobRow.{JobRow}
 use Rattle.job_reports.specs.declared.row.JobState.{JobState}
 use Rattle.job_reports.specs.declared.row.JobState.TheVariants.{Ready, Asking, Troubled}
 use Rattle.job_reports.specs.declared.waits.Waits.{Waits}
 use Rattle.job_reports.specs.declared.waits.Waits.TheVariants as waits
-use Rattle.session_history.specs.declared.history.Event.{Event}
-use Rattle.session_history.specs.declared.history.Event.TheVariants.{Step}
 use Rattle.session_history.specs.declared.history.Entry.{Entry}
 use Rattle.copy_move.specs.Jobs.{Running, kind_of, path_of, waits_on}
 use Rattle.history_laws.specs.ToldJob.{live_job}
-
--- the entry reports a step
-abbrev pub is_report : Event → Bool
-is_report (Step id did) = true
-is_report event = false
-
--- the question or the trouble that it tells of
-abbrev pub reported_waits : Event → Option Waits
-reported_waits (Step id (AskedStep question)) = Some (waits.Question question)
-reported_waits (Step id (TroubledStep trouble)) = Some (waits.Trouble trouble)
-reported_waits event = None
-
--- the question or the trouble of the newest report, if it tells of one
-abbrev pub waits_told : List Entry → Option Waits
-waits_told [] = None
-waits_told (e ∷ older) = if is_report e.what then reported_waits e.what else waits_told older
+use Rattle.history_log.specs.Told.{waits_told}
 
 -- a job that waits for an answer waits with what was told; each other has a next step
 abbrev pub waits_in : Running → Option Waits → Option Waits

@@ -37,7 +37,8 @@ use Rattle.mc_desk.specs.Granting.{KeyWorks}
 use Rattle.mc_desk.specs.LiveRows.{rows_told}
 use Rattle.mc_desk.specs.Searches.{EventSeeks}
 use Rattle.mc_desk.specs.Shown.{EventDraws, HasPutNothing, Put, frame_due, none_before}
-use Rattle.mc_desk.specs.Tallies.{Tally, tally, most_calls, faults_in, next_id, news_left}
+use Rattle.history_log.specs.Told.{news_left}
+use Rattle.mc_desk.specs.Tallies.{Tally, tally, most_calls, faults_in, next_id}
 
 -- no key is worked in a closed session, where something is to be looked at, while a search goes on, or after one was lost
 pub record TakesKey (t : Tally) (screen : Screen) : Type 0 where

@@ -97,15 +97,6 @@ awaited_by Go = None
 awaited_by (Wait job) = Some job
 awaited_by Quit = None
 
--- an entry that draws nothing, and is written down with these counts
-abbrev pub plain_entry : ℕ → ℕ → Event → Entry
-plain_entry calls faults what = record { seat = 0; calls = calls; faults = faults; shown = 0; what = what }
-
 -- an entry of steps of a search, behind which so many bytes are shown
 abbrev pub sought_entry : ℕ → ℕ → ℕ → Entry
 sought_entry calls faults shown = record { seat = 0; calls = calls; faults = faults; shown = shown; what = event.Sought }
-
--- these entries, and before them this event, if there is one
-abbrev pub followed : ℕ → ℕ → Option Event → List Entry → List Entry
-followed calls faults None newest = newest
-followed calls faults (Some what) newest = plain_entry calls faults what ∷ newest

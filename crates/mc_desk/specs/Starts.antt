@@ -18,7 +18,7 @@ use Rattle.panel_pair.specs.declared.side.Side.TheVariants.{Left, Right}
 use Rattle.mc_ui.specs.Screens.{Screen}
 use Rattle.mc_desk.specs.declared.starts.StartError.{StartError}
 use Rattle.mc_desk.specs.declared.starts.StartError.TheVariants.{Resolve, Memory}
-use Rattle.mc_desk.specs.Logs.{Logged}
+use Rattle.history_log.specs.Logs.{Logged}
 use Rattle.viewer_mode.specs.declared.opening.Opening.{Opening}
 use Rattle.viewer_mode.specs.declared.opening.Opening.TheVariants.{Viewed, NoWay, Unread}
 use Rattle.mc_desk.specs.Sessions.{IsOpening, viewing_alone}

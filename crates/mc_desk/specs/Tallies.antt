@@ -1,21 +1,15 @@
 -- What a history comes to: the live job, what is due, and what was counted. Histories stand newest first here.
 use Rattle.std.specs.Prelude.{ℕ, ◌+◌, ◌-◌, ◌^◌, nat_lt, Bool, true, false, ◌||◌, if◌then◌else◌, List, [], ◌∷◌, ◌++◌, Option, Some, None}
 use Rattle.std.specs.Option.{option_map}
-use Rattle.mc_text.specs.Routes.{Route}
 use Rattle.key_screen.specs.declared.keys.Key.{Key as KeyType}
 use Rattle.job_reports.specs.declared.report.Did.TheVariants.{Ended}
-use Rattle.job_reports.specs.declared.report.Ending.{Ending}
-use Rattle.job_reports.specs.declared.report.Ending.TheVariants.{Finished, Aborted, Killed, NoMemory}
 use Rattle.session_history.specs.declared.history.Event.{Event}
 use Rattle.session_history.specs.declared.history.Event.TheVariants.{Key, Look, Sought, Began, Order, Step, Next, Closed}
 use Rattle.session_history.specs.declared.history.Entry.{Entry}
 use Rattle.copy_move.specs.Jobs.{Running, waits_on}
-use Rattle.job_reports.specs.Reports.{ends}
 use Rattle.history_laws.specs.ToldJob.{live_job, after_event}
 use Rattle.session_history.specs.Entries.{last_id, is_closed, closes, id_after, calls_in}
 use Rattle.copy_move.specs.Told.{if_closed}
-use Rattle.box_words.specs.declared.message.Message.{Message}
-use Rattle.box_words.specs.declared.message.Message.TheVariants.{OutOfMemory, PartLeft}
 
 -- a job has ended, and no look has taken it up
 abbrev pub end_unseen_event : Event → Bool → Bool
@@ -26,29 +20,6 @@ end_unseen_event event before = before
 abbrev pub end_unseen : List Entry → Bool
 end_unseen [] = false
 end_unseen (e ∷ older) = end_unseen_event e.what (end_unseen older)
-
--- what is told of a job's end: that memory ran out, and the part that it left
-abbrev pub told_end : Ending → Option Route → Option Message
-told_end NoMemory part = Some (OutOfMemory part)
-told_end Finished part = option_map PartLeft part
-told_end Aborted part = option_map PartLeft part
-told_end Killed part = option_map PartLeft part
-
--- what is to be told of an event, where it is a job's end
-abbrev pub end_news : Event → Option Message
-end_news (Step id (Ended ending part)) = told_end ending part
-end_news event = None
-
--- a job's end, or a look, which takes up each earlier end
-abbrev pub is_end_or_look : Event → Bool
-is_end_or_look (Step id did) = ends did
-is_end_or_look (Look refusals) = true
-is_end_or_look event = false
-
--- what is to be told of the last job's end, if no look has taken this end up
-abbrev pub news_left : List Entry → Option Message
-news_left [] = None
-news_left (e ∷ older) = if is_end_or_look e.what then end_news e.what else news_left older
 
 -- the number of the next job, one more than the last one's, where one is left
 abbrev pub next_id : ℕ → Option ℕ

@@ -4,9 +4,9 @@ ghost use Rattle.session_history.specs.Sources.{later as rest_of, sources_of};
 ghost use Rattle.copy_move.specs.Jobs.{begun_work};
 ghost use Rattle.copy_move.specs.Told.{running};
 
-use crate::later::Later;
 use copy_move::Run;
 use job_reports::Job;
+use job_sources::Later;
 
 /// A job that was confirmed: its plan, the job as it starts, with its first source, and the sources to come.
 #[derive(Debug, Drop)]

@@ -6,7 +6,7 @@ ghost use Rattle.session_history.specs.Sources.{AreInTurn};
 ghost use Rattle.history_laws.specs.ToldJob.{live_job};
 ghost use Rattle.copy_move.specs.Told.{IsReady};
 ghost use Rattle.history_laws.specs.Traces.{IsTracedTo};
-ghost use Rattle.mc_desk.specs.Logs.{jobs_begun};
+ghost use Rattle.history_log.specs.Logs.{jobs_begun};
 ghost use Rattle.mc_desk.specs.Sessions.{BeginsIn, EndsSession};
 ghost use Rattle.mc_desk.specs.Starts.{CanStart, IsStartCause, is_start_fault};
 ghost use Rattle.mc_desk.specs.Tallies.{can_step, faults_in, has_lost};
@@ -16,6 +16,7 @@ ghost use Rattle.mc_desk.specs.Standings.{awaited_by, is_quit};
 ghost use Rattle.mc_desk.specs.Desks.{BlamesScreen, CountsByte, FailsClosed, IsFresh, IsNext, KeepsKeys, MovesDirty, RanNothing, Reads, ShowsDesk, idle_reply, is_over, rank_of, seeks};
 ghost use Rattle.mc_desk.specs.Searches.{steps_ahead};
 
+use crate::opening::open;
 use crate::replies::{DeskError, DeskReply, Ended, Refused, StepReply};
 use crate::session::Session;
 use crate::starts::Start;
@@ -72,9 +73,18 @@ impl<N: Tag, T: Tree, S: Sink, P: Spawner> Desk<N, T, S, P> {
         ensures same_screen { IfErr result (λ r. r.screen ≡ screen) }
         ensures same_spawner { IfErr result (λ r. r.spawner ≡ spawner) }
     {
-        match Session::begin(alloc, start, now, tree, screen, spawner) {
-            Ok(session) => Ok(Desk { session }),
-            Err(refused) => Err(refused),
+        let mut tree = tree;
+        match open(alloc, &mut tree, start, now) {
+            Ok((ui, log, blank)) => {
+                let session = Session::new(alloc, tree, screen, spawner, ui, log, blank);
+                Ok(Desk { session })
+            }
+            Err(error) => Err(Refused {
+                error,
+                tree,
+                screen,
+                spawner,
+            }),
         }
     }
 

@@ -7,9 +7,9 @@ ghost use Rattle.mc_desk.specs.declared.granting.Granted.{Granted as GrantedType
 ghost use Rattle.mc_desk.specs.Granting.{CanBeWorked, IsGranted, IsWorked, told_of};
 
 use crate::confirmed::Confirmed;
-use crate::sources::sources_in;
 use copy_move::Run;
 use job_reports::{Answer, Job, JobRows};
+use job_sources::sources_in;
 use key_screen::Key;
 use mc_text::NoMemory;
 use mc_ui::{Ask, KeyAct, Told, Ui};
@@ -124,7 +124,7 @@ fn begin(
     ensures { IfOk result (λ granted. IsGranted (Some number) (Ask.Begin plan background) refusals granted.deed granted.refusals) }
 {
     let mut later = sources_in(alloc, &plan)?;
-    let Some(first) = later.take_next() else {
+    let Some(first) = later.take_next(alloc)? else {
         unreachable!()
     };
     let run = Run::start(alloc, &first, number)?;

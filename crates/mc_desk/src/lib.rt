@@ -6,22 +6,17 @@ mod claims;
 mod confirmed;
 mod desk;
 mod granting;
-mod later;
-mod log;
 mod opening;
 mod replies;
 mod rows;
 mod seeking;
 mod session;
-mod sources;
 mod standing;
 mod starts;
 mod tag;
 mod terminal;
-mod turning;
 
 pub use desk::Desk;
-pub use log::Log;
 pub use mc_ui::{
     Ask, Choice, Chosen, Dialog, JobPlan, KeyAct, Told, Ui, choose, plan_copy, resolve_text,
 };

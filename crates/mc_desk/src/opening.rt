@@ -9,8 +9,8 @@ ghost use Rattle.viewer_mode.specs.Openings.{OpensThing, ReadsToOpen};
 ghost use Rattle.mc_desk.specs.Sessions.{IsOpeningIn, OpensPanels, OpensViewer, viewing_alone};
 ghost use Rattle.mc_desk.specs.Starts.{IsOpened, Starts, is_start_fault, place_of as place_on, start_error, unread_error, viewed_alone};
 
-use crate::log::Log;
 use crate::starts::{Start, StartError, StartMode, StartPlace};
+use history_log::Log;
 use mc_screen::Screen;
 use mc_text::{NoMemory, Path};
 use mc_ui::{Leaving, Ui};

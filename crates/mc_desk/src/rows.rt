@@ -1,9 +1,10 @@
 //! The rows of the live jobs, as the screen sees them.
 ghost use Rattle.std.specs.Prelude.{◌≡◌, ◌∷◌, [], IfOk};
-ghost use Rattle.mc_desk.specs.LiveRows.{question_in, row_of as row_for, rows_of as rows_for, state_with, trouble_in, waits_in as told_in, waits_told};
+ghost use Rattle.history_log.specs.Told.{waits_told};
+ghost use Rattle.mc_desk.specs.LiveRows.{question_in, row_of as row_for, rows_of as rows_for, state_with, trouble_in, waits_in as told_in};
 
-use crate::log::Log;
 use copy_move::Run;
+use history_log::Log;
 use job_reports::{JobRow, JobRows, JobState, Question, Trouble, Waits};
 use mc_text::NoMemory;
 use std::alloc::Global;

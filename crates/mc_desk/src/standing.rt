@@ -7,10 +7,10 @@ ghost use Rattle.mc_desk.specs.Standings.{MayCarryOut, after_deed, after_look, a
 
 use crate::confirmed::Confirmed;
 use crate::granting::Deed;
-use crate::later::Later;
 use crate::replies::DeskReply;
 use copy_move::Run;
 use job_reports::Answer;
+use job_sources::Later;
 use session_history::{Event, JobOrder};
 use std::alloc::Global;
 

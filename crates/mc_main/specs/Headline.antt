@@ -137,7 +137,7 @@ abbrev pub IsFinishedRun : CallLog → CallLog → List Entry → Type 0
 IsFinishedRun opening now newest = IsTree (current opening) → all_settled opening.changes ≡ true → StaysDone opening now newest
 
 -- Where a job is done with one of its sources, all that it was to do with it is done, but for what it passed over, and what it doesn't touch for it is as it
--- was where the job began with it; where it kept what stands at the target of a file, all is. So what it did with one is still so at its end, where no later one touches what
+-- was where the job began with it; where it kept what stands at the target of a file, or merged a folder with the one at its target, all is. So what it did with one is still so at its end, where no later one touches what
 -- concerns that.
 pub record HasOutcomes (opening now : CallLog) (newest : List Entry) : Type 0 where
   pub done : Leaves IsOutcome opening now newest

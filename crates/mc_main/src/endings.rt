@@ -3,7 +3,7 @@ ghost use Rattle.std.specs.Prelude.{◌≡◌, ◌≢◌, ◌≤◌, ◌<◌, �
 ghost use Rattle.tree_trait.specs.Answers.{IfKnown, HasRisen};
 ghost use Rattle.history_laws.specs.ToldJob.{live_job};
 ghost use Rattle.history_laws.specs.Traces.{IsTracedTo};
-ghost use Rattle.mc_desk.specs.Logs.{jobs_begun};
+ghost use Rattle.history_log.specs.Logs.{jobs_begun};
 ghost use Rattle.mc_desk.specs.Tallies.{faults_in, has_lost};
 ghost use Rattle.mc_desk.specs.Desks.{IsFresh, RanNothing};
 ghost use Rattle.mc_main.specs.Printed.{MayPutCause, PrintsCause, PutsSome, start_line as line_for};

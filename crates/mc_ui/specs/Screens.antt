@@ -358,6 +358,12 @@ is_request (ask.Answer answer) = true
 is_request ask.Nothing = false
 is_request ask.End = false
 
+-- What a key asks can be done. Where it is a request the screen stays as it was, and nothing is refused.
+pub record Asks (rows : List JobRow) (ask : Ask) (refusals : List Refusal) (before after : Screen) : Type 0 where
+  pub asked : WellAsked rows ask
+  pub stays : is_request ask ≡ true → after ≡ before
+  pub alone : is_request ask ≡ true → refusals ≡ []
+
 -- the screen once what a key asked is noted; the box that asked is shut
 abbrev pub with_ask : Ask → Screen → Screen
 with_ask (ask.Begin plan background) screen = record screen { panels = untagged_pair screen.panels; over = NoBox; planned = Some (Begins plan background) }

@@ -5,7 +5,7 @@ ghost use Rattle.mc_ui.specs.PanelKeys.{plain_base};
 ghost use Rattle.job_plans.specs.Reading.{ReadsTree};
 ghost use Rattle.mc_ui.specs.Boxes.{seen_box};
 ghost use Rattle.mc_ui.specs.Viewings.{LeavesUnread};
-ghost use Rattle.mc_ui.specs.Screens.{HasSameSize, KeyLeads, WellAsked, WorksBelow, WorksKey, after_message, at_second, frame_size, is_request, opened_screen, page_of, settled as screen_settled, with_ask, with_viewer, without_box};
+ghost use Rattle.mc_ui.specs.Screens.{Asks, HasSameSize, KeyLeads, WorksBelow, WorksKey, after_message, at_second, frame_size, opened_screen, page_of, settled as screen_settled, with_ask, with_viewer, without_box};
 
 mod find_box;
 mod job_questions;
@@ -158,9 +158,7 @@ impl Ui {
     ) -> Result<KeyAct, NoMemory>
         ensures leads { IfOk result (λ act. KeyLeads (T.contents tree.old) rows.now now key act.refusals
             self.old (with_ask act.ask self.new)) }
-        ensures asked { IfOk result (λ act. WellAsked rows.now act.ask) }
-        ensures stays { IfOk result (λ act. is_request act.ask ≡ true → self.new ≡ at_second now self.old) }
-        ensures alone { IfOk result (λ act. is_request act.ask ≡ true → act.refusals ≡ []) }
+        ensures asks { IfOk result (λ act. Asks rows.now act.ask act.refusals (at_second now self.old) self.new) }
         ensures size { HasSameSize self.old self.new }
         ensures settled { self.new.planned ≡ None }
         ensures still { LeavesUnread self.old.viewing key → tree.new ≡ tree.old }
@@ -189,9 +187,7 @@ impl Ui {
     ) -> Result<KeyAct, NoMemory>
         ensures leads { IfOk result (λ act. WorksKey (T.contents tree.old) rows.now key act.refusals
             self.old (with_ask act.ask self.new)) }
-        ensures asked { IfOk result (λ act. WellAsked rows.now act.ask) }
-        ensures stays { IfOk result (λ act. is_request act.ask ≡ true → self.new ≡ self.old) }
-        ensures alone { IfOk result (λ act. is_request act.ask ≡ true → act.refusals ≡ []) }
+        ensures asks { IfOk result (λ act. Asks rows.now act.ask act.refusals self.old self.new) }
         ensures size { HasSameSize self.old self.new }
         ensures settled { self.new.planned ≡ None }
         ensures still { LeavesUnread self.old.viewing key → tree.new ≡ tree.old }
@@ -215,9 +211,7 @@ impl Ui {
     ) -> Result<KeyAct, NoMemory>
         ensures leads { IfOk result (λ act. WorksBelow (T.contents tree.old) rows.now key act.refusals
             self.old (with_ask act.ask self.new)) }
-        ensures asked { IfOk result (λ act. WellAsked rows.now act.ask) }
-        ensures stays { IfOk result (λ act. is_request act.ask ≡ true → self.new ≡ self.old) }
-        ensures alone { IfOk result (λ act. is_request act.ask ≡ true → act.refusals ≡ []) }
+        ensures asks { IfOk result (λ act. Asks rows.now act.ask act.refusals self.old self.new) }
         ensures size { HasSameSize self.old self.new }
         ensures settled { self.new.planned ≡ None }
         ensures lost { OnErr result (self.new ≡ self.old) }

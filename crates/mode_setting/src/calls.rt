@@ -1,31 +1,14 @@
 //! The calls of a setting: each refusal is named with its path.
-ghost use Rattle.std.specs.Prelude.{◌≡◌, ◌≤◌, ◌∷◌, [], true, false};
-ghost use Rattle.tree_trait.specs.Calls.{SetMode, SyncFile, SyncFolder};
+ghost use Rattle.std.specs.Prelude.{◌≡◌, ◌∷◌, [], true};
+ghost use Rattle.tree_trait.specs.Calls.{SyncFile};
 ghost use Rattle.job_reports.specs.Stops.{Ran};
 ghost use Rattle.mode_setting.specs.SettingSteps.{SyncRan, sync_by};
 
 use file_copy::look;
-use job_reports::{Stop, Trouble, made_or_stopped, out_of_memory, stopped_before};
+use job_reports::{Stop, Trouble, made_or_stopped, out_of_memory, stopped_before, sync_names};
 use mc_text::{Kind, Path};
 use std::alloc::Global;
 use tree_trait::Tree;
-
-pub(crate) fn set_mode<T: Tree>(
-    alloc: Global,
-    tree: &mut T,
-    path: &Path,
-    mode: u16,
-) -> Result<u64, Stop>
-    requires { mode ≤ 0o7777 }
-    ensures { Ran (SetMode path.now mode ∷ []) false result (T.contents tree.old) (T.contents tree.new)
-        (T.fault_count tree.old) (T.fault_count tree.new) }
-{
-    // The path of the report comes first, here and below: after the call it is too late to find no memory.
-    let Ok(named) = path.copy(alloc) else {
-        return Err(stopped_before(out_of_memory(false)));
-    };
-    made_or_stopped(tree.set_mode(alloc, path, mode), named, false)
-}
 
 /// Syncs what stands at a path, after a look at what it is.
 pub fn sync_thing<T: Tree>(alloc: Global, tree: &mut T, path: &Path) -> Result<u64, Stop>
@@ -44,27 +27,18 @@ fn sync_kind<T: Tree>(alloc: Global, tree: &mut T, path: &Path, kind: Kind) -> R
         (T.fault_count tree.old) (T.fault_count tree.new) }
 {
     match kind {
-        Kind::Folder => sync_folder(alloc, tree, path),
+        Kind::Folder => sync_names(alloc, tree, path),
         Kind::File => sync_file(alloc, tree, path),
         Kind::Link => sync_file(alloc, tree, path),
         Kind::Other => sync_file(alloc, tree, path),
     }
 }
 
-fn sync_folder<T: Tree>(alloc: Global, tree: &mut T, path: &Path) -> Result<u64, Stop>
-    ensures { Ran (SyncFolder path.now ∷ []) true result (T.contents tree.old) (T.contents tree.new)
-        (T.fault_count tree.old) (T.fault_count tree.new) }
-{
-    let Ok(named) = path.copy(alloc) else {
-        return Err(stopped_before(out_of_memory(true)));
-    };
-    made_or_stopped(tree.sync_folder(alloc, path), named, true)
-}
-
 fn sync_file<T: Tree>(alloc: Global, tree: &mut T, path: &Path) -> Result<u64, Stop>
     ensures { Ran (SyncFile path.now ∷ []) true result (T.contents tree.old) (T.contents tree.new)
         (T.fault_count tree.old) (T.fault_count tree.new) }
 {
+    // The path of the report comes first: after the call it is too late to find no memory.
     let Ok(named) = path.copy(alloc) else {
         return Err(stopped_before(out_of_memory(true)));
     };

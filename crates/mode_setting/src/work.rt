@@ -7,10 +7,11 @@ ghost use Rattle.mode_setting.specs.SettingSteps.{MovesOn, SyncTried, TriedSync,
 ghost use Rattle.tree_trait.specs.Answers.{HasCause, IfKnown, Performs};
 ghost use Rattle.tree_trait.specs.declared.calls.TreeError.{TreeError};
 
-use crate::calls::{set_mode, sync_thing};
+use crate::calls::sync_thing;
 use crate::setting::Stage;
 use job_reports::{
-    Did, Ending, LastStepResult, Stop, calls_made, out_of_memory, refusal_in, stopped_before,
+    Did, Ending, LastStepResult, Stop, calls_made, out_of_memory, refusal_in, set_mode,
+    stopped_before,
 };
 use mc_text::{Kind, Path};
 use std::alloc::Global;

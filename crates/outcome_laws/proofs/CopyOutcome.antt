@@ -1,5 +1,5 @@
 -- What a job that copies has done, in each of its steps; and what it leaves once it is finished.
-use Rattle.std.proofs.Common.{◌≡◌, ℕ, Bool, true, List, [], ◌∷◌, ◌++◌, refl, sym, ◌∙◌, ap, subst, inl, inr, Option, Some, None}
+use Rattle.std.proofs.Common.{◌≡◌, ℕ, Bool, true, false, List, [], ◌∷◌, ◌++◌, refl, sym, ◌∙◌, ap, subst, inl, inr, Option, Some, None}
 use Rattle.std.specs.Prelude.{is_some}
 use Rattle.std.proofs.lemmas.Bool.{both_ways, false≢true}
 use Rattle.mc_text.specs.Routes.{Route, is_prefix, parent_of}
@@ -13,7 +13,7 @@ use Rattle.job_reports.specs.Jobs.{Copies}
 use Rattle.job_reports.specs.declared.job.Pair.{Pair}
 use Rattle.job_reports.specs.declared.report.Cause.{Cause}
 use Rattle.job_reports.specs.declared.report.Did.{Did}
-use Rattle.job_reports.specs.declared.report.Did.TheVariants.{Skipped, Troubled, Ended}
+use Rattle.job_reports.specs.declared.report.Did.TheVariants.{Merges, Skipped, Troubled, Ended}
 use Rattle.job_reports.specs.declared.report.Ending.TheVariants.{Finished}
 use Rattle.job_reports.specs.declared.report.StepResult.{StepResult}
 use Rattle.file_copy.specs.AskedCopies.{AskedCalls, AskedTells}
@@ -58,7 +58,7 @@ use Rattle.outcome_laws.proofs.TreeItems.{file_works, link_works}
 use Rattle.outcome_laws.proofs.TreeLevels.{closed_done, leaves_done, no_name}
 use Rattle.outcome_laws.proofs.TreeFolders.{syncs_done, takes_folder}
 use Rattle.outcome_laws.proofs.TreeClosings.{ends_done}
-use Rattle.outcome_laws.proofs.TreePasses.{retries_done, skips_done}
+use Rattle.outcome_laws.proofs.TreePasses.{name_passed, retries_done, skips_done}
 
 -- what the copy of a file has done
 abbrev pub FileAccounts : List Route → View → Copying → Type 0
@@ -130,10 +130,14 @@ module _ (now : CallLog) (v : View) (passed : List Route) (top : Pair) where
     takes_done none shows (inr (inr (inr (inl t)))) =
         takes_folder now v passed top old new did log (Some now) t.pair t.names t.mode h tree shows none
         (pair_moved top old.levels.inner.names.names old t.pair refl t.next place) (next_of old old.levels.inner.names.names t.pair refl t.next) (t.is log refl) t.works
-    takes_done none shows (inr (inr (inr (inr (next, inl (debt, e)))))) =
+    takes_done none shows (inr (inr (inr (inr (inl t))))) =
+        let n = next_of old old.levels.inner.names.names t.pair refl t.next in
+        subst (λ d. TreeDone (Then d) (passed_by d passed) top new) (sym t.says)
+        (subst (λ p. TreeDone v (p ∷ passed) top new) (sym n.3) (name_passed v passed top old h n.0 n.1 n.2 false new t.stands none))
+    takes_done none shows (inr (inr (inr (inr (inr (next, inl (debt, e))))))) =
         let at = closed_in_place top old place in
         ends_done now v passed top (at_end old) new did (Some log) (Some now) (closed_done v passed top old none h) none at.levels e
-    takes_done none shows (inr (inr (inr (inr (next, inr (debt, f, same)))))) =
+    takes_done none shows (inr (inr (inr (inr (inr (next, inr (debt, f, same))))))) =
         subst (λ d. TreeDone (Then d) (passed_by d passed) top new) (sym f.says) (subst (TreeDone v passed top) (sym f.stands) (closed_done v passed top old none h))
 
     works_done : (item : Item) → old.item ≡ item → (item ≡ Next → ShowsTree v log) → WorksOn item unclaimed old new did (Some log) (Some now) → After
@@ -240,8 +244,9 @@ module _ (told : Said) (dirty dirty_after : List Route) (marks : Marks) (log now
   takes_end unclaimed old next part (inr (inl t)) = (let w = t.works in let tells = w.tells in absurd (let e = tells.0 in let f : ⊥ = cc in f))
   takes_end unclaimed old next part (inr (inr (inl t))) = (let w = t.works in absurd w.tells)
   takes_end unclaimed old next part (inr (inr (inr (inl t)))) = (let w = t.works in absurd (no_end w.report part w.says))
-  takes_end unclaimed old next part (inr (inr (inr (inr (due, inl (debt, e)))))) = absurd (no_end e.report part e.says)
-  takes_end unclaimed old next part (inr (inr (inr (inr (due, inr (debt, f, same)))))) = (no_name old old.levels.inner.names.names due, f.last)
+  takes_end unclaimed old next part (inr (inr (inr (inr (inl t))))) = absurd (let e : Ended Finished part ≡ Merges t.pair t.names = t.says in let f : ⊥ = cc in f)
+  takes_end unclaimed old next part (inr (inr (inr (inr (inr (due, inl (debt, e))))))) = absurd (no_end e.report part e.says)
+  takes_end unclaimed old next part (inr (inr (inr (inr (inr (due, inr (debt, f, same))))))) = (no_name old old.levels.inner.names.names due, f.last)
 
   works_end : (unclaimed : Route → Type 0) (old next : Seen) (part : Option Route) (item : Item) → ItemDone told.tree passed c.top.target old.levels.inner item → WorksOn item unclaimed old next (Ended Finished part) (Some log) (Some now) → IsAtEnd old
   works_end unclaimed old next part Next d (inl x) = absurd (no_end x.report part x.says)

@@ -4,7 +4,7 @@ use Rattle.mc_text.specs.Routes.{Route, is_prefix}
 use Rattle.tree_trait.specs.Change.{CallLog}
 use Rattle.job_reports.specs.declared.job.Pair.{Pair}
 use Rattle.job_reports.specs.declared.report.Did.{Did}
-use Rattle.job_reports.specs.declared.report.Did.TheVariants.{Began, Chunk, Placed, Removed, Made, Set, Kept, Skipped, Cleaned, Barrier, Asked, Troubled, Ended}
+use Rattle.job_reports.specs.declared.report.Did.TheVariants.{Began, Chunk, Placed, Removed, Made, Set, Kept, Skipped, Cleaned, Barrier, Asked, Merges, Troubled, Ended}
 use Rattle.job_reports.specs.declared.report.StepResult.{StepResult}
 use Rattle.session_history.specs.Named.{changed_by}
 use Rattle.file_copy.specs.AskedCopies.{AskedTells}
@@ -38,6 +38,7 @@ copy_touches c new (Made made) path t changed = absurd t
 copy_touches c new (Set set) path t changed = absurd t
 copy_touches c new (Kept kept) path t changed = none_changed path changed
 copy_touches c new (Asked question) path t changed = none_changed path changed
+copy_touches c new (Merges pair names) path t changed = none_changed path changed
 copy_touches c new (Skipped left cause) path t changed = absurd t
 
 is_target : (top : Pair) (named path : Route) → IsTargetOf top named → named ≡ path → is_prefix top.target path ≡ true
@@ -52,6 +53,7 @@ by_names top (Began part) path may names changed = none_changed path changed
 by_names top (Chunk count) path may names changed = none_changed path changed
 by_names top (Kept kept) path may names changed = none_changed path changed
 by_names top (Asked question) path may names changed = none_changed path changed
+by_names top (Merges pair within) path may names changed = none_changed path changed
 by_names top (Skipped left cause) path may names changed = none_changed path changed
 by_names top (Cleaned part) path may names changed = none_changed path changed
 by_names top Barrier path may names changed = none_changed path changed

@@ -12,7 +12,7 @@ use Rattle.job_reports.specs.declared.job.Job.{Job}
 use Rattle.job_reports.specs.declared.job.Job.TheVariants as plan
 use Rattle.job_reports.specs.declared.report.Cause.{Cause}
 use Rattle.job_reports.specs.declared.report.Did.{Did}
-use Rattle.job_reports.specs.declared.report.Did.TheVariants.{Began, Chunk, Placed, Removed, Made, Set, Kept, Skipped, Cleaned, Barrier, Asked, Troubled, Ended}
+use Rattle.job_reports.specs.declared.report.Did.TheVariants.{Began, Chunk, Placed, Removed, Made, Set, Kept, Skipped, Cleaned, Barrier, Asked, Merges, Troubled, Ended}
 use Rattle.job_reports.specs.declared.answer.Answer.{Answer}
 use Rattle.job_reports.specs.declared.answer.Answer.TheVariants.{Yes, No, All, Update, Nothing, SizeDiffers, Retry, Skip, SkipAll, Abort}
 use Rattle.job_answers.specs.declared.skips.Skips.{Skips as SkippedKinds}
@@ -26,8 +26,8 @@ use Rattle.mode_setting.specs.SettingSteps.{SettingCalls}
 use Rattle.job_answers.specs.declared.replies.Replies.{Replies}
 use Rattle.job_reports.specs.Jobs.{Item}
 use Rattle.subtree_copy.specs.Reporting.{MayTell}
-use Rattle.copy_move.specs.declared.new_thing.NewThing.{NewThing}
-use Rattle.copy_move.specs.declared.new_thing.NewThing.TheVariants as thing
+use Rattle.thing_making.specs.declared.new_thing.NewThing.{NewThing}
+use Rattle.thing_making.specs.declared.new_thing.NewThing.TheVariants as thing
 use Rattle.copy_move.specs.declared.run.Course.{Course}
 use Rattle.copy_move.specs.declared.run.Course.TheVariants.{GoesOn, Asking, InTrouble, OwedSyncFailed, Skips, Ends}
 use Rattle.copy_move.specs.declared.work.Work.{Work}
@@ -82,6 +82,7 @@ on_course (Made made) passed v s work h = h
 on_course (Set path) passed v s work h = h
 on_course (Kept kept) passed v s work h = h
 on_course (Asked question) passed v s work h = h
+on_course (Merges pair names) passed v s work h = h
 on_course (Skipped path cause) passed v s work h = h
 on_course (Cleaned part) passed v s work h = h
 on_course Barrier passed v s work h = h
@@ -98,6 +99,7 @@ jobs_after (Made made) passed v s new h = h
 jobs_after (Set path) passed v s new h = h
 jobs_after (Kept kept) passed v s new h = h
 jobs_after (Asked question) passed v s new h = h
+jobs_after (Merges pair names) passed v s new h = h
 jobs_after (Skipped path cause) passed v s new h = h
 jobs_after (Cleaned part) passed v s new h = h
 jobs_after Barrier passed v s new h = h
@@ -142,6 +144,7 @@ in_plain item (Removed path) passed plain = refl
 in_plain item (Made made) passed plain = refl
 in_plain item (Set path) passed plain = refl
 in_plain item (Asked question) passed plain = refl
+in_plain item (Merges pair names) passed plain = refl
 in_plain item (Cleaned part) passed plain = refl
 in_plain item Barrier passed plain = refl
 in_plain item (Troubled trouble) passed plain = refl
@@ -158,6 +161,7 @@ in_told item (Removed path) passed may = refl
 in_told item (Made made) passed may = refl
 in_told item (Set path) passed may = refl
 in_told item (Asked question) passed may = refl
+in_told item (Merges pair names) passed may = refl
 in_told item (Cleaned part) passed may = refl
 in_told item Barrier passed may = refl
 in_told item (Troubled trouble) passed may = refl

@@ -19,7 +19,7 @@ use Rattle.job_reports.specs.Jobs.{Copies}
 use Rattle.job_reports.specs.declared.job.Pair.{Pair}
 use Rattle.job_reports.specs.declared.report.Cause.{Cause}
 use Rattle.job_reports.specs.declared.report.Did.{Did}
-use Rattle.job_reports.specs.declared.report.Did.TheVariants.{Began, Chunk, Placed, Removed, Made, Set, Kept, Skipped, Cleaned, Barrier, Asked, Troubled, Ended}
+use Rattle.job_reports.specs.declared.report.Did.TheVariants.{Began, Chunk, Placed, Removed, Made, Set, Kept, Skipped, Cleaned, Barrier, Asked, Merges, Troubled, Ended}
 use Rattle.job_reports.specs.declared.report.Ending.TheVariants.{Finished, Aborted, Killed, NoMemory}
 use Rattle.job_reports.proofs.PermittedCalls.{stat_missing}
 use Rattle.file_copy.specs.CopyCalls.{CopyCalls}
@@ -157,6 +157,7 @@ module _ (now : CallLog) (v : View) (passed : List Route) (top : Pair) where
   file_goes unclaimed f moved (Set path) log after m t called begins d = absurd t
   file_goes unclaimed f moved (Kept path) log after m t called begins d = absurd t
   file_goes unclaimed f moved (Asked question) log after m t called begins d = absurd t
+  file_goes unclaimed f moved (Merges pair names) log after m t called begins d = absurd t
   file_goes unclaimed f moved (Skipped path cause) log after m t called begins d = absurd t
 
 -- a file that is skipped is covered

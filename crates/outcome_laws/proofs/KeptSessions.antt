@@ -9,6 +9,7 @@ use Rattle.tree_trait.specs.Shape.{IsTree}
 use Rattle.tree_trait.specs.Change.{Change, CallLog, current}
 use Rattle.tree_trait.specs.CrashImages.{all_settled}
 use Rattle.job_reports.specs.declared.job.Job.{Job}
+use Rattle.job_reports.specs.declared.report.Cause.{Cause}
 use Rattle.job_reports.specs.declared.report.Did.{Did}
 use Rattle.job_reports.specs.declared.report.Did.TheVariants.{Ended}
 use Rattle.job_reports.specs.declared.report.Ending.TheVariants.{Finished}
@@ -20,15 +21,16 @@ use Rattle.session_history.specs.declared.history.Entry.{Entry}
 use Rattle.session_history.specs.Entries.{is_closed}
 use Rattle.session_history.specs.LiveJobs.{live_jobs}
 use Rattle.session_history.specs.Sources.{sources_of}
+use Rattle.copy_move.specs.declared.run.Course.TheVariants.{Skips}
 use Rattle.copy_move.specs.declared.work.Work.{Work}
 use Rattle.copy_move.specs.declared.work.Work.TheVariants.{Copy, CopyTree, Delete, Make, SetMode}
-use Rattle.copy_move.specs.declared.new_thing.NewThing.{NewThing}
-use Rattle.copy_move.specs.declared.new_thing.NewThing.TheVariants as thing
+use Rattle.thing_making.specs.declared.new_thing.NewThing.{NewThing}
+use Rattle.thing_making.specs.declared.new_thing.NewThing.TheVariants as thing
 use Rattle.copy_move.specs.Jobs.{Running, begun_work}
-use Rattle.copy_move.specs.Steps.{SyncsOwed}
+use Rattle.copy_move.specs.Steps.{SkipWalks, SyncsOwed, WalksOn}
 use Rattle.copy_move.specs.Told.{running}
 use Rattle.history_laws.specs.Replayed.{log_prefix, replayed_event, replayed_step, replayed_tree}
-use Rattle.history_laws.specs.Traces.{EventLeads, IsTraced, Stand, StepLeads, WorkLeads, before_others, if_closed, unless_ended, with_job}
+use Rattle.history_laws.specs.Traces.{EventLeads, IsTraced, IsUnclaimed, Stand, StepLeads, WorkLeads, before_others, if_closed, unless_ended, with_job}
 use Rattle.history_laws.proofs.Done.{IsFound, ender, found_moment}
 use Rattle.history_laws.proofs.Finished.{AreTidy, IsTidyJob, traced_tidy}
 use Rattle.history_laws.proofs.Going.{only_job}
@@ -43,7 +45,8 @@ use Rattle.outcome_laws.specs.Keeps.{KeptLaw, has_kept, keeps_after, keeps_by}
 use Rattle.outcome_laws.specs.Outcomes.{Finishes}
 use Rattle.outcome_laws.specs.Untouched.{begun_after, tree_begun}
 use Rattle.outcome_laws.proofs.Elsewhere.{begun_more, ended_on}
-use Rattle.outcome_laws.proofs.KeptTargets.{AllSame, JobSpares, JobsSpare, Spares, begun_spares, closed_spare, course_spares, orders_spare, spares_after, turned_spares}
+use Rattle.outcome_laws.proofs.KeptTrees.{AllSame}
+use Rattle.outcome_laws.proofs.KeptTargets.{JobSpares, JobsSpare, Spares, begun_spares, closed_spare, course_spares, orders_spare, spares_after, turned_spares}
 use Rattle.outcome_laws.proofs.MadeThings.{Unless}
 use Rattle.outcome_laws.proofs.Touching.{UnlessEnding, unless_ending}
 
@@ -94,11 +97,17 @@ module _ (opening : CallLog) (tree : IsTree (current opening)) (settled : all_se
     jobs_then : (new : Option Running) → after.jobs ≡ with_job id new was.jobs → after.jobs ≡ before_others new []
     jobs_then new is = is ∙ (ap (with_job id new) jobs_is ∙ (ap (λ n. with_job n new (job ∷ [])) (sym id_is) ∙ with_one job new))
 
+    -- what the machine does as it passes something over
+    skip_walks : (new : Running) → WorkLeads job did new was.dirty after.dirty before now → (cause : Cause) → job.course ≡ Skips cause → SkipWalks cause job.work did new.work
+    skip_walks new works cause is =
+        let walks = works.walks in
+        subst (λ course. WalksOn IsUnclaimed course job.work new.work did walks.0 was.dirty after.dirty (Some before) (Some now) walks.1 walks.2) is walks.3
+
     stepped : (new : Option Running) → StepLeads job did new was.dirty after.dirty before now → after.jobs ≡ with_job id new was.jobs → Then older calls (Step id did) now after.jobs
     stepped new (inl (next, inl works, after_is)) is =
         subst (λ js. Then older calls (Step id did) now js) (sym (jobs_then new is ∙ ap (λ o. before_others o []) after_is))
         (let same = tells_same job next did works.tells in
-        after_one next same.0 (course_spares now (replayed_tree opening before older) begun (has_kept job.id older) job next did job.course refl works.tells job_spares))
+        after_one next same.0 (course_spares now (replayed_tree opening before older) begun (has_kept job.id older) job next did job.course refl works.tells (skip_walks next works) job_spares))
     stepped new (inl (next, inr syncs, after_is)) is =
         subst (λ js. Then older calls (Step id did) now js) (sym (jobs_then new is ∙ ap (λ o. before_others o []) after_is)) (by syncs.synced)
       where
@@ -172,7 +181,7 @@ made_no_copy (thing.Link text) path source target is = absurd (let f : ⊥ = cc 
 
 all_same : (v was : View) (kept : Bool) (work : Work) (source target : Route) → item_in work ≡ Copies source target → kept ≡ true → Spares v was kept work → AllSame v was
 all_same v was kept (Copy c) source target is has s = s.1 has
-all_same v was kept (CopyTree c) source target is has s = absurd (let e : true ≡ false = sym has ∙ s in let f : ⊥ = cc in f)
+all_same v was kept (CopyTree c) source target is has s = (s.over has).1
 all_same v was kept (Delete d) source target is has s = absurd (let f : ⊥ = cc in f)
 all_same v was kept (Make m) source target is has s = made_no_copy m.thing m.path source target is
 all_same v was kept (SetMode w) source target is has s = absurd (let f : ⊥ = cc in f)

@@ -1,4 +1,4 @@
--- A copy of a file that isn't decided has changed nothing, and one that kept what stands at its target has changed nothing at all.
+-- A copy of a file that isn't decided has changed nothing, and one that kept what stands at its target has changed nothing at all; nor has one of folders that merged one.
 use Rattle.std.proofs.Common.{◌≡◌, ℕ, Bool, true, false, List, [], ◌∷◌, refl, sym, ◌∙◌, ap, subst, inl, inr, Some}
 use Rattle.std.specs.Prelude.{⊤, ◌&&◌, is_some, nat_le, if◌then◌else◌, map, ◌==◌}
 use Rattle.std.proofs.lemmas.Bool.{both_ways, false≢true}
@@ -12,9 +12,10 @@ use Rattle.job_reports.specs.declared.job.Job.{Job}
 use Rattle.job_reports.specs.declared.job.Job.TheVariants as plan
 use Rattle.job_reports.specs.declared.report.Cause.{Cause}
 use Rattle.job_reports.specs.declared.report.Did.{Did}
-use Rattle.job_reports.specs.declared.report.Did.TheVariants.{Began, Chunk, Placed, Removed, Made, Set, Kept, Skipped, Cleaned, Barrier, Asked, Troubled, Ended}
+use Rattle.job_reports.specs.declared.report.Did.TheVariants.{Began, Chunk, Placed, Removed, Made, Set, Kept, Skipped, Cleaned, Barrier, Asked, Merges, Troubled, Ended}
 use Rattle.session_history.specs.declared.history.JobOrder.{JobOrder}
 use Rattle.session_history.specs.declared.history.JobOrder.TheVariants.{Answered}
+use Rattle.job_answers.specs.Skipping.{kind_in, with_kind}
 use Rattle.job_answers.specs.declared.skips.Skips.{Skips as SkippedKinds}
 use Rattle.file_copy.specs.AskedCopies.{AskedTells}
 use Rattle.file_copy.specs.Copying.{Copying, after_clean, skipped, taken_anew}
@@ -22,20 +23,22 @@ use Rattle.file_copy.specs.declared.stage.Next.{Next}
 use Rattle.file_copy.specs.declared.stage.Next.TheVariants as next
 use Rattle.file_copy.specs.declared.stage.Stage.{Stage}
 use Rattle.file_copy.specs.declared.stage.Stage.TheVariants as at
-use Rattle.subtree_copy.specs.Reporting.{MayTell}
-use Rattle.copy_move.specs.declared.new_thing.NewThing.TheVariants as thing
+use Rattle.subtree_copy.specs.Standing.{started}
+use Rattle.thing_making.specs.declared.new_thing.NewThing.TheVariants as thing
 use Rattle.copy_move.specs.declared.run.Course.{Course}
 use Rattle.copy_move.specs.declared.run.Course.TheVariants.{GoesOn, Asking, InTrouble, OwedSyncFailed, Skips, Ends}
 use Rattle.copy_move.specs.declared.work.Work.{Work}
 use Rattle.copy_move.specs.declared.work.Work.TheVariants.{Copy, CopyTree, Delete, Make, SetMode}
 use Rattle.copy_move.specs.Jobs.{PassesOver, Running, TellsOn, WorkTells, answered_on, answered, begun_work, closed_job, first_work, passing_over, skips_of, with_skips}
 use Rattle.copy_move.specs.Jobs as works
+use Rattle.copy_move.specs.Steps.{SkipWalks}
 use Rattle.history_laws.specs.Replayed.{replayed_step}
 use Rattle.history_laws.specs.Traces.{before_others, ordered, unless_ended}
 use Rattle.history_laws.proofs.Sources.{item_in}
 use Rattle.history_laws.proofs.Turns.{Turned}
 use Rattle.outcome_laws.specs.Keeps.{keeps_by}
 use Rattle.outcome_laws.proofs.Doing.{ordered_id, some_if}
+use Rattle.outcome_laws.proofs.KeptTrees.{AllSame, TreeSpares, other_skips, tree_begins, tree_passes, tree_retries, tree_spares}
 use Rattle.outcome_laws.proofs.MadeThings.{Unless, unless_of}
 use Rattle.outcome_laws.proofs.Touching.{UnlessEnding, close_by}
 
@@ -47,13 +50,9 @@ IsUndecided (at.Clean part follows) = ⊤
 IsUndecided (at.Left part) = ⊤
 IsUndecided at.Decided = ⊥
 
--- all is as it was
-abbrev pub AllSame : View → View → Type 0
-AllSame v was = (path : Route) → v path ≡ was path
-
 abbrev pub Spares : View → View → Bool → Work → Type 0
 Spares v was kept (Copy c) = (IsUndecided c.stage → (kept ≡ false) × AllSame v was) × (kept ≡ true → AllSame v was)
-Spares v was kept (CopyTree c) = kept ≡ false
+Spares v was kept (CopyTree c) = TreeSpares v was kept c
 Spares v was kept (Delete d) = ⊤
 Spares v was kept (Make m) = ⊤
 Spares v was kept (SetMode s) = ⊤
@@ -71,6 +70,7 @@ module _ (now : CallLog) (v was : View) (kept : Bool) (c : Copying) where
 
   copy_spares : (new : Copying) (did : Did) → AskedTells c did new → Spares v was kept (Copy c) → Unless did (Then did new)
   copy_spares new (Asked question) (stage, new_is) s = subst (λ (x : Copying). Spares v was kept (Copy x)) (sym new_is) s
+  copy_spares new (Merges pair names) t s = absurd t
   copy_spares new (Kept path) (stage, path_is, new_is) s =
       let same = (s.0 (at_stage at.Begin stage tt)).1 in
       subst (λ (x : Copying). Spares v was true (Copy x)) (sym new_is) (λ u. absurd u, λ k. same)
@@ -89,22 +89,6 @@ module _ (now : CallLog) (v was : View) (kept : Bool) (c : Copying) where
   copy_spares new (Set path) t s = absurd t
   copy_spares new (Skipped path cause) t s = absurd t
 
--- what is copied whole keeps nothing
-tree_keeps : (did : Did) (kept : Bool) → MayTell did → kept ≡ false → keeps_by did kept ≡ false
-tree_keeps (Kept path) kept may none = absurd may
-tree_keeps (Began part) kept may none = none
-tree_keeps (Chunk count) kept may none = none
-tree_keeps (Placed path) kept may none = none
-tree_keeps (Removed path) kept may none = none
-tree_keeps (Made made) kept may none = none
-tree_keeps (Set path) kept may none = none
-tree_keeps (Skipped path cause) kept may none = none
-tree_keeps (Cleaned part) kept may none = none
-tree_keeps Barrier kept may none = none
-tree_keeps (Asked question) kept may none = none
-tree_keeps (Troubled trouble) kept may none = none
-tree_keeps (Ended ending part) kept may none = none
-
 skipped_before : (stage : Stage) → IsUndecided (skipped stage) → IsUndecided stage
 skipped_before at.Begin u = tt
 skipped_before (at.Fill part facts done) u = tt
@@ -122,7 +106,7 @@ anew_before at.Decided u = u
 module _ (now : CallLog) (v was : View) (kept : Bool) where
   work_spares : (old new : Work) (did : Did) → WorkTells old did new → Spares v was kept old → Unless did (Spares (replayed_step now did (Some (item_in old)) v) was (keeps_by did kept) new)
   work_spares (Copy c) (Copy new) did t s = copy_spares now v was kept c new did t s
-  work_spares (CopyTree c) (CopyTree new) did t s = unless_of did (keeps_by did kept ≡ false) (tree_keeps did kept t.may s)
+  work_spares (CopyTree c) (CopyTree new) did t s = tree_spares now (Some (item_in (CopyTree c))) v was kept c new did t s
   work_spares (Delete d) (Delete new) did t s = unless_of did ⊤ tt
   work_spares (Make m) (Make new) did t s = unless_of did ⊤ tt
   work_spares (SetMode w) (SetMode new) did t s = unless_of did ⊤ tt
@@ -147,37 +131,37 @@ module _ (now : CallLog) (v was : View) (kept : Bool) where
   work_spares (SetMode w) (Delete new) did t s = absurd t
   work_spares (SetMode w) (Make new) did t s = absurd t
 
-  passes_spares : (old new : Work) (path : Route) → PassesOver old path new → Spares v was kept old → Spares v was kept new
-  passes_spares (Copy c) (Copy new) path (path_is, new_is) s = subst (λ (x : Copying). Spares v was kept (Copy x)) (sym new_is) (λ u. s.0 (skipped_before c.stage u), s.1)
-  passes_spares (CopyTree c) (CopyTree new) path p s = s
-  passes_spares (Delete d) (Delete new) path p s = tt
-  passes_spares (Make m) (Make new) path p s = tt
-  passes_spares (SetMode w) (SetMode new) path p s = tt
-  passes_spares (Copy c) (CopyTree new) path p s = absurd p
-  passes_spares (Copy c) (Delete new) path p s = absurd p
-  passes_spares (Copy c) (Make new) path p s = absurd p
-  passes_spares (Copy c) (SetMode new) path p s = absurd p
-  passes_spares (CopyTree c) (Copy new) path p s = absurd p
-  passes_spares (CopyTree c) (Delete new) path p s = absurd p
-  passes_spares (CopyTree c) (Make new) path p s = absurd p
-  passes_spares (CopyTree c) (SetMode new) path p s = absurd p
-  passes_spares (Delete d) (Copy new) path p s = absurd p
-  passes_spares (Delete d) (CopyTree new) path p s = absurd p
-  passes_spares (Delete d) (Make new) path p s = absurd p
-  passes_spares (Delete d) (SetMode new) path p s = absurd p
-  passes_spares (Make m) (Copy new) path p s = absurd p
-  passes_spares (Make m) (CopyTree new) path p s = absurd p
-  passes_spares (Make m) (Delete new) path p s = absurd p
-  passes_spares (Make m) (SetMode new) path p s = absurd p
-  passes_spares (SetMode w) (Copy new) path p s = absurd p
-  passes_spares (SetMode w) (CopyTree new) path p s = absurd p
-  passes_spares (SetMode w) (Delete new) path p s = absurd p
-  passes_spares (SetMode w) (Make new) path p s = absurd p
+  passes_spares : (old new : Work) (cause : Cause) (did : Did) (path : Route) → PassesOver old path new → SkipWalks cause old did new → Spares v was kept old → Spares v was kept new
+  passes_spares (Copy c) (Copy new) cause did path (path_is, new_is) k s = subst (λ (x : Copying). Spares v was kept (Copy x)) (sym new_is) (λ u. s.0 (skipped_before c.stage u), s.1)
+  passes_spares (CopyTree c) (CopyTree new) cause did path p k s = tree_passes v was kept c new cause did path p k s
+  passes_spares (Delete d) (Delete new) cause did path p k s = tt
+  passes_spares (Make m) (Make new) cause did path p k s = tt
+  passes_spares (SetMode w) (SetMode new) cause did path p k s = tt
+  passes_spares (Copy c) (CopyTree new) cause did path p k s = absurd p
+  passes_spares (Copy c) (Delete new) cause did path p k s = absurd p
+  passes_spares (Copy c) (Make new) cause did path p k s = absurd p
+  passes_spares (Copy c) (SetMode new) cause did path p k s = absurd p
+  passes_spares (CopyTree c) (Copy new) cause did path p k s = absurd p
+  passes_spares (CopyTree c) (Delete new) cause did path p k s = absurd p
+  passes_spares (CopyTree c) (Make new) cause did path p k s = absurd p
+  passes_spares (CopyTree c) (SetMode new) cause did path p k s = absurd p
+  passes_spares (Delete d) (Copy new) cause did path p k s = absurd p
+  passes_spares (Delete d) (CopyTree new) cause did path p k s = absurd p
+  passes_spares (Delete d) (Make new) cause did path p k s = absurd p
+  passes_spares (Delete d) (SetMode new) cause did path p k s = absurd p
+  passes_spares (Make m) (Copy new) cause did path p k s = absurd p
+  passes_spares (Make m) (CopyTree new) cause did path p k s = absurd p
+  passes_spares (Make m) (Delete new) cause did path p k s = absurd p
+  passes_spares (Make m) (SetMode new) cause did path p k s = absurd p
+  passes_spares (SetMode w) (Copy new) cause did path p k s = absurd p
+  passes_spares (SetMode w) (CopyTree new) cause did path p k s = absurd p
+  passes_spares (SetMode w) (Delete new) cause did path p k s = absurd p
+  passes_spares (SetMode w) (Make new) cause did path p k s = absurd p
 
   -- a step, by the course
-  pub course_spares : (job new : Running) (did : Did) (course : Course) → job.course ≡ course → TellsOn course job did new → UnlessEnding course (Spares v was kept job.work)
+  pub course_spares : (job new : Running) (did : Did) (course : Course) → job.course ≡ course → TellsOn course job did new → ((cause : Cause) → course ≡ Skips cause → SkipWalks cause job.work did new.work) → UnlessEnding course (Spares v was kept job.work)
       → Unless did (UnlessEnding new.course (Spares (replayed_step now did (Some (item_in job.work)) v) was (keeps_by did kept) new.work))
-  course_spares job new did GoesOn is (work, t, new_is) s =
+  course_spares job new did GoesOn is (work, t, new_is) walks s =
       subst (λ (x : Running). Unless did (UnlessEnding x.course (Spares (replayed_step now did (Some (item_in job.work)) v) was (keeps_by did kept) x.work))) (sym new_is)
       (ending_by did (work_spares job.work work did t s))
     where
@@ -194,18 +178,19 @@ module _ (now : CallLog) (v was : View) (kept : Bool) where
       ending_by (Cleaned part) h = h
       ending_by Barrier h = h
       ending_by (Asked question) h = h
+      ending_by (Merges pair names) h = h
       ending_by (Troubled trouble) h = h
       ending_by (Ended ending part) h = h
-  course_spares job new did (InTrouble halt) is t s = absurd t
-  course_spares job new did (OwedSyncFailed cause) is t s = absurd t
-  course_spares job new did Asking is t s = absurd t
-  course_spares job new did (Skips cause) is (inl (path, work, did_is, passes, new_is)) s =
+  course_spares job new did (InTrouble halt) is t walks s = absurd t
+  course_spares job new did (OwedSyncFailed cause) is t walks s = absurd t
+  course_spares job new did Asking is t walks s = absurd t
+  course_spares job new did (Skips cause) is (inl (path, work, did_is, passes, new_is)) walks s =
       subst (λ (d : Did). Unless d (UnlessEnding new.course (Spares (replayed_step now d (Some (item_in job.work)) v) was (keeps_by d kept) new.work))) (sym did_is)
-      (subst (λ (x : Running). UnlessEnding x.course (Spares v was kept x.work)) (sym new_is) (passes_spares job.work work path passes s))
-  course_spares job new did (Skips cause) is (inr (off, did_is, new_is)) s =
+      (subst (λ (x : Running). UnlessEnding x.course (Spares v was kept x.work)) (sym new_is) (passes_spares job.work work cause did path passes (subst (λ (x : Running). SkipWalks cause job.work did x.work) new_is (walks cause refl)) s))
+  course_spares job new did (Skips cause) is (inr (off, did_is, new_is)) walks s =
       subst (λ (d : Did). Unless d (UnlessEnding new.course (Spares (replayed_step now d (Some (item_in job.work)) v) was (keeps_by d kept) new.work))) (sym did_is)
       (subst (λ (x : Running). UnlessEnding x.course (Spares v was kept x.work)) (sym new_is) s)
-  course_spares job new did (Ends ending) is (work, winds, new_is) s =
+  course_spares job new did (Ends ending) is (work, winds, new_is) walks s =
       subst (λ c. Unless did (UnlessEnding c (Spares (replayed_step now did (Some (item_in job.work)) v) was (keeps_by did kept) new.work))) (sym (ap (λ (x : Running). x.course) new_is ∙ is)) (unless_of did ⊤ tt)
 
 -- the live jobs
@@ -229,20 +214,21 @@ spares_after (Skipped path cause) v was kept new h = h
 spares_after (Cleaned part) v was kept new h = h
 spares_after Barrier v was kept new h = h
 spares_after (Asked question) v was kept new h = h
+spares_after (Merges pair names) v was kept new h = h
 spares_after (Troubled trouble) v was kept new h = h
 
 -- an answer, and the close of a session
 module _ (v was : View) (kept : Bool) where
   anew_spares : (work : Work) → Spares v was kept work → Spares v was kept (works.taken_anew work)
   anew_spares (Copy c) s = (λ u. s.0 (anew_before c.stage u), s.1)
-  anew_spares (CopyTree c) s = s
+  anew_spares (CopyTree c) s = tree_retries v was kept c s
   anew_spares (Delete d) s = s
   anew_spares (Make m) s = s
   anew_spares (SetMode w) s = s
 
   skips_spares : (cause : Cause) (work : Work) → Spares v was kept work → Spares v was kept (with_skips cause work)
   skips_spares cause (Copy c) s = s
-  skips_spares cause (CopyTree c) s = s
+  skips_spares cause (CopyTree c) s = other_skips v was kept c (with_kind (kind_in cause) c.skips) s
   skips_spares cause (Delete d) s = s
   skips_spares cause (Make m) s = s
   skips_spares cause (SetMode w) s = s
@@ -315,7 +301,7 @@ module _ (v : View) where
   first_spares id (plan.Copy (pair ∷ [])) w is = some_if (Spares v v false) (is_some (parent_of pair.source) && is_some (parent_of pair.target)) (works.copies id pair.source pair.target) w nothing_kept is
   first_spares id (plan.Copy (pair ∷ more ∷ pairs)) w is = absurd (let f : ⊥ = cc in f)
   first_spares id (plan.CopyTree []) w is = absurd (let f : ⊥ = cc in f)
-  first_spares id (plan.CopyTree (pair ∷ [])) w is = some_if (Spares v v false) (is_some (parent_of pair.source) && is_some (parent_of pair.target)) (works.copies_tree id pair) w refl is
+  first_spares id (plan.CopyTree (pair ∷ [])) w is = some_if (Spares v v false) (is_some (parent_of pair.source) && is_some (parent_of pair.target)) (works.copies_tree id pair) w (tree_begins v (started id pair)) is
   first_spares id (plan.CopyTree (pair ∷ more ∷ pairs)) w is = absurd (let f : ⊥ = cc in f)
   first_spares id (plan.MakeFolder path) w is = some_if (Spares v v false) (is_some (parent_of path)) (works.makes thing.Folder path) w tt is
   first_spares id (plan.MakeLink path text) w is = some_if (Spares v v false) (is_some (parent_of path) && is_link_text text) (works.makes (thing.Link text) path) w tt is
@@ -329,7 +315,7 @@ module _ (v : View) where
 
   passing_spares : (skips : SkippedKinds) (work : Work) → Spares v v false work → Spares v v false (passing_over skips work)
   passing_spares skips (Copy c) s = s
-  passing_spares skips (CopyTree c) s = s
+  passing_spares skips (CopyTree c) s = other_skips v v false c skips s
   passing_spares skips (Delete d) s = s
   passing_spares skips (Make m) s = s
   passing_spares skips (SetMode w) s = s

@@ -9,8 +9,10 @@ pub mod FileWork
 pub mod KeptExample
 pub mod KeptSessions
 pub mod KeptTargets
+pub mod KeptTrees
 pub mod LinkWork
 pub mod MadeThings
+pub mod MergedExample
 pub mod Outcome
 pub mod OverWork
 pub mod Owed

@@ -8,18 +8,18 @@ use Rattle.tree_trait.specs.FileSystem.{Spot, Value, View, put}
 use Rattle.tree_trait.specs.Change.{CallLog}
 use Rattle.tree_trait.specs.CrashImages.{Among}
 use Rattle.job_reports.specs.declared.report.Did.{Did}
-use Rattle.job_reports.specs.declared.report.Did.TheVariants.{Began, Chunk, Placed, Removed, Made, Set, Kept, Skipped, Cleaned, Barrier, Asked, Troubled, Ended}
+use Rattle.job_reports.specs.declared.report.Did.TheVariants.{Began, Chunk, Placed, Removed, Made, Set, Kept, Skipped, Cleaned, Barrier, Asked, Merges, Troubled, Ended}
 use Rattle.job_reports.specs.Jobs.{Sets}
 use Rattle.mode_setting.specs.declared.setting.Stage.{Stage}
 use Rattle.mode_setting.specs.declared.setting.Stage.TheVariants as setting
 use Rattle.mode_setting.specs.Settings as settings
 use Rattle.mode_setting.specs.Settings.{Setting}
-use Rattle.copy_move.specs.declared.making.MakingStage.{MakingStage}
-use Rattle.copy_move.specs.declared.making.MakingStage.TheVariants as making
-use Rattle.copy_move.specs.declared.new_thing.NewThing.{NewThing}
-use Rattle.copy_move.specs.declared.new_thing.NewThing.TheVariants as thing
-use Rattle.copy_move.specs.Makings as makings
-use Rattle.copy_move.specs.Makings.{Making}
+use Rattle.thing_making.specs.declared.making.MakingStage.{MakingStage}
+use Rattle.thing_making.specs.declared.making.MakingStage.TheVariants as making
+use Rattle.thing_making.specs.declared.new_thing.NewThing.{NewThing}
+use Rattle.thing_making.specs.declared.new_thing.NewThing.TheVariants as thing
+use Rattle.thing_making.specs.Makings as makings
+use Rattle.thing_making.specs.Makings.{Making}
 use Rattle.history_laws.specs.Replayed.{made_by, new_folder, new_link, replayed_step, set_by, with_mode}
 use Rattle.history_laws.proofs.Deleted.{put_at}
 use Rattle.history_laws.proofs.Intact.{prefix_append}
@@ -37,6 +37,7 @@ Unless (Made made) Holds = Holds
 Unless (Set path) Holds = Holds
 Unless (Kept kept) Holds = Holds
 Unless (Asked question) Holds = Holds
+Unless (Merges pair names) Holds = Holds
 Unless (Skipped path cause) Holds = Holds
 Unless (Cleaned part) Holds = Holds
 Unless Barrier Holds = Holds
@@ -52,6 +53,7 @@ unless_of (Made made) Holds h = h
 unless_of (Set path) Holds h = h
 unless_of (Kept kept) Holds h = h
 unless_of (Asked question) Holds h = h
+unless_of (Merges pair names) Holds h = h
 unless_of (Skipped path cause) Holds h = h
 unless_of (Cleaned part) Holds h = h
 unless_of Barrier Holds h = h
@@ -97,6 +99,7 @@ making_steps m new (Placed path) log passed v t k = absurd t
 making_steps m new (Removed made) log passed v t k = absurd t
 making_steps m new (Kept kept) log passed v t k = absurd t
 making_steps m new (Asked question) log passed v t k = absurd t
+making_steps m new (Merges pair names) log passed v t k = absurd t
 making_steps m new (Skipped path why) log passed v t k = absurd t
 making_steps m new (Cleaned part) log passed v t k = absurd t
 
@@ -156,6 +159,7 @@ setting_steps s new (Placed path) log passed v t stands k = absurd t
 setting_steps s new (Removed made) log passed v t stands k = absurd t
 setting_steps s new (Kept kept) log passed v t stands k = absurd t
 setting_steps s new (Asked question) log passed v t stands k = absurd t
+setting_steps s new (Merges pair names) log passed v t stands k = absurd t
 setting_steps s new (Skipped path why) log passed v t stands k = absurd t
 setting_steps s new (Cleaned part) log passed v t stands k = absurd t
 

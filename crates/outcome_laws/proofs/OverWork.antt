@@ -9,7 +9,7 @@ use Rattle.job_answers.specs.declared.replies.Replies.{Replies}
 use Rattle.job_reports.specs.Jobs.{Copies}
 use Rattle.job_reports.specs.declared.job.Pair.{Pair}
 use Rattle.job_reports.specs.declared.report.Did.{Did}
-use Rattle.job_reports.specs.declared.report.Did.TheVariants.{Began, Chunk, Placed, Removed, Made, Set, Kept, Skipped, Cleaned, Barrier, Asked, Troubled, Ended}
+use Rattle.job_reports.specs.declared.report.Did.TheVariants.{Began, Chunk, Placed, Removed, Made, Set, Kept, Skipped, Cleaned, Barrier, Asked, Merges, Troubled, Ended}
 use Rattle.job_reports.specs.declared.report.Ending.TheVariants.{Finished, Aborted, Killed, NoMemory}
 use Rattle.file_copy.specs.AskedCopies.{AskedCalls, AskedTells}
 use Rattle.file_copy.specs.Copying.{Copying, after_clean, places_of, skipped, taken_anew}
@@ -54,6 +54,7 @@ module _ (now : CallLog) (v : View) (passed : List Route) (f : Copying) where
   pub over_goes : (unclaimed : Route → Type 0) (replies : Replies) (moved : Copying) (did : Did) (log : CallLog) (after : Option CallLog) → AskedTells f did moved → AskedCalls unclaimed replies f did moved log after
       → (f.stage ≡ at.Begin → IsTree (current log) × ShowsTree v log) → Here v f.stage → Goes did moved
   over_goes unclaimed replies moved (Asked question) log after (stage, new_is) called begins d = subst (λ (x : Copying). OverDone v passed x.source x.target x.stage) (sym new_is) d
+  over_goes unclaimed replies moved (Merges pair names) log after t called begins d = absurd t
   over_goes unclaimed replies moved (Kept path) log after (stage, path_is, new_is) called begins d =
       subst (λ (x : Copying). OverDone v (f.source ∷ passed) x.source x.target x.stage) (sym new_is) (inl (covered_now passed f.source f.source (self_prefix f.source)))
   over_goes unclaimed replies moved (Began part) log after (stage, (facts, new_is)) called begins d =

@@ -9,23 +9,23 @@ use Rattle.tree_trait.specs.Change.{CallLog, current}
 use Rattle.tree_trait.proofs.Visible.{same_path-self, same_path-true}
 use Rattle.job_reports.specs.declared.answer.Answer.{Answer}
 use Rattle.job_reports.specs.declared.report.Did.{Did}
-use Rattle.job_reports.specs.declared.report.Did.TheVariants.{Began, Chunk, Placed, Removed, Made, Set, Kept, Skipped, Cleaned, Barrier, Asked, Troubled, Ended}
+use Rattle.job_reports.specs.declared.report.Did.TheVariants.{Began, Chunk, Placed, Removed, Made, Set, Kept, Skipped, Cleaned, Barrier, Asked, Merges, Troubled, Ended}
 use Rattle.job_reports.specs.Jobs.{Item, Copies, Removes, Makes, MakesLink, Sets}
 use Rattle.session_history.specs.declared.history.JobOrder.{JobOrder}
 use Rattle.session_history.specs.declared.history.JobOrder.TheVariants.{Answered}
 use Rattle.session_history.specs.Named.{changed_by}
 use Rattle.mode_setting.specs.Settings as settings
 use Rattle.mode_setting.specs.Settings.{Setting}
-use Rattle.copy_move.specs.declared.new_thing.NewThing.{NewThing}
-use Rattle.copy_move.specs.declared.new_thing.NewThing.TheVariants as thing
+use Rattle.thing_making.specs.declared.new_thing.NewThing.{NewThing}
+use Rattle.thing_making.specs.declared.new_thing.NewThing.TheVariants as thing
 use Rattle.copy_move.specs.declared.run.Course.{Course}
 use Rattle.copy_move.specs.declared.run.Course.TheVariants.{GoesOn, Asking, InTrouble, OwedSyncFailed, Skips, Ends}
 use Rattle.copy_move.specs.declared.work.Work.{Work}
 use Rattle.copy_move.specs.declared.work.Work.TheVariants.{Copy, CopyTree, Delete, Make, SetMode}
 use Rattle.copy_move.specs.Deletions as deletions
 use Rattle.copy_move.specs.Deletions.{Deleting}
-use Rattle.copy_move.specs.Makings as makings
-use Rattle.copy_move.specs.Makings.{Making}
+use Rattle.thing_making.specs.Makings as makings
+use Rattle.thing_making.specs.Makings.{Making}
 use Rattle.copy_move.specs.Jobs.{Running, TellsOn, WorkTells, answered, answered_on, closed_course, closed_job}
 use Rattle.copy_move.specs.Steps.{Walks, WalksOn}
 use Rattle.history_laws.specs.Replayed.{made_by, moved_from, placed_by, placed_copy, replayed_step, set_by, with_mode, with_mode_of}
@@ -64,6 +64,7 @@ unless_map (Made made) A B to a = to a
 unless_map (Set path) A B to a = to a
 unless_map (Kept kept) A B to a = to a
 unless_map (Asked question) A B to a = to a
+unless_map (Merges pair names) A B to a = to a
 unless_map (Skipped path cause) A B to a = to a
 unless_map (Cleaned part) A B to a = to a
 unless_map Barrier A B to a = to a
@@ -90,6 +91,7 @@ kept_after (Made made) v was new h = h
 kept_after (Set path) v was new h = h
 kept_after (Kept kept) v was new h = h
 kept_after (Asked question) v was new h = h
+kept_after (Merges pair names) v was new h = h
 kept_after (Skipped path cause) v was new h = h
 kept_after (Cleaned part) v was new h = h
 kept_after Barrier v was new h = h
@@ -124,6 +126,7 @@ step_else (Began part) log item v on = λ p off. refl
 step_else (Chunk count) log item v on = λ p off. refl
 step_else (Kept kept) log item v on = λ p off. refl
 step_else (Asked question) log item v on = λ p off. refl
+step_else (Merges pair names) log item v on = λ p off. refl
 step_else (Skipped path cause) log item v on = λ p off. refl
 step_else (Cleaned part) log item v on = λ p off. refl
 step_else Barrier log item v on = λ p off. refl
@@ -140,6 +143,7 @@ deletion_touches : (d new : Deleting) (did : Did) (path : Route) → deletions.T
 deletion_touches d new (Removed p) path (off, within, at) is = subst (λ (q : Route). is_prefix d.path q ≡ true) (same_some p path is) within
 deletion_touches d new (Kept p) path t is = some_path path is
 deletion_touches d new (Asked question) path t is = absurd t
+deletion_touches d new (Merges pair names) path t is = absurd t
 deletion_touches d new (Skipped p why) path t is = some_path path is
 deletion_touches d new (Troubled trouble) path t is = some_path path is
 deletion_touches d new Barrier path t is = some_path path is
@@ -167,6 +171,7 @@ making_touches m new (Placed p) path t is = absurd t
 making_touches m new (Removed p) path t is = absurd t
 making_touches m new (Kept kept) path t is = absurd t
 making_touches m new (Asked question) path t is = absurd t
+making_touches m new (Merges pair names) path t is = absurd t
 making_touches m new (Skipped p why) path t is = absurd t
 making_touches m new (Cleaned part) path t is = absurd t
 
@@ -182,6 +187,7 @@ setting_touches s new (Placed p) path t is = absurd t
 setting_touches s new (Removed p) path t is = absurd t
 setting_touches s new (Kept kept) path t is = absurd t
 setting_touches s new (Asked question) path t is = absurd t
+setting_touches s new (Merges pair names) path t is = absurd t
 setting_touches s new (Skipped p why) path t is = absurd t
 setting_touches s new (Cleaned part) path t is = absurd t
 

@@ -10,7 +10,7 @@ use Rattle.tree_trait.specs.Shape.{IsTree}
 use Rattle.job_reports.specs.Jobs.{Copies}
 use Rattle.job_reports.specs.declared.job.Pair.{Pair}
 use Rattle.job_reports.specs.declared.report.Did.{Did}
-use Rattle.job_reports.specs.declared.report.Did.TheVariants.{Began, Chunk, Placed, Removed, Made, Set, Kept, Skipped, Cleaned, Barrier, Asked, Troubled, Ended}
+use Rattle.job_reports.specs.declared.report.Did.TheVariants.{Began, Chunk, Placed, Removed, Made, Set, Kept, Skipped, Cleaned, Barrier, Asked, Merges, Troubled, Ended}
 use Rattle.job_reports.specs.declared.report.Ending.TheVariants.{Finished, Aborted, Killed, NoMemory}
 use Rattle.file_copy.specs.Copying as file
 use Rattle.file_copy.specs.Copying.{Copying}
@@ -56,6 +56,7 @@ file_paths f moved (Made path) t = absurd t
 file_paths f moved (Set path) t = absurd t
 file_paths f moved (Kept path) t = absurd t
 file_paths f moved (Asked question) t = absurd t
+file_paths f moved (Merges pair names) t = absurd t
 file_paths f moved (Skipped path cause) t = absurd t
 
 pub link_paths : (l moved : LinkCopying) (did : Did) → link.Tells l did moved → (moved.source ≡ l.source) × (moved.target ≡ l.target)
@@ -71,6 +72,7 @@ link_paths l moved (Made path) t = absurd t
 link_paths l moved (Set path) t = absurd t
 link_paths l moved (Kept path) t = absurd t
 link_paths l moved (Asked question) t = absurd t
+link_paths l moved (Merges pair names) t = absurd t
 link_paths l moved (Skipped path cause) t = absurd t
 
 -- what a path of the source that doesn't lie at or below this one has come to
@@ -209,6 +211,7 @@ module _ (now : CallLog) (v : View) (passed : List Route) (top : Pair) where
   file_changes f moved (Set path) m t d = absurd t
   file_changes f moved (Kept path) m t d = absurd t
   file_changes f moved (Asked question) m t d = absurd t
+  file_changes f moved (Merges pair names) m t d = absurd t
   file_changes f moved (Skipped path cause) m t d = absurd t
 
   link_changes : (l moved : LinkCopying) (did : Did) → IsMoved top l.source l.target → link.Tells l did moved → LinkDone v passed top.target l.source l.target l.stage → Changes did l.target
@@ -226,6 +229,7 @@ module _ (now : CallLog) (v : View) (passed : List Route) (top : Pair) where
   link_changes l moved (Set path) m t d = absurd t
   link_changes l moved (Kept path) m t d = absurd t
   link_changes l moved (Asked question) m t d = absurd t
+  link_changes l moved (Merges pair names) m t d = absurd t
   link_changes l moved (Skipped path cause) m t d = absurd t
 
   -- of other paths it is so still

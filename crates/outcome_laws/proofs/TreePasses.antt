@@ -1,5 +1,5 @@
 -- What a copy of folders has done after it passes something over, or takes something up anew.
-use Rattle.std.proofs.Common.{◌≡◌, ◌⊎◌, ℕ, true, false, List, [], ◌∷◌, ◌++◌, refl, sym, ◌∙◌, ap, subst, inl, inr, Option, Some, None}
+use Rattle.std.proofs.Common.{◌≡◌, ◌⊎◌, ℕ, Bool, true, false, List, [], ◌∷◌, ◌++◌, refl, sym, ◌∙◌, ap, subst, inl, inr, Option, Some, None}
 use Rattle.std.specs.Prelude.{drop}
 use Rattle.mc_text.specs.Routes.{Route, is_prefix}
 use Rattle.tree_trait.specs.CrashImages.{Among}
@@ -36,6 +36,50 @@ more_passed v passed did inner around source target (inl covered) = inl (covered
 more_passed v passed did inner around source target (inr (inl pending)) = inr (inl pending)
 more_passed v passed did inner around source target (inr (inr copy)) = inr (inr copy)
 
+module _ (v : View) (passed : List Route) (top : Pair) (old : Seen) (h : TreeDone v passed top old) where
+  -- names or the mode that are due no more are those of what was passed over
+  passed_done : (left : Route) (next : Level) → next.copy.source ≡ old.levels.inner.copy.source → next.copy.target ≡ old.levels.inner.copy.target → (next.copy.stage ≡ old.levels.inner.copy.stage) ⊎ (owed_of next.copy.stage ≡ None)
+      → ((path : Route) → IsDue old.levels.inner path → IsDue next path ⊎ (is_prefix left path ≡ true)) → (x : Seen) → x.levels.inner ≡ next → x.levels.around ≡ old.levels.around → x.item ≡ Next → TreeDone v (left ∷ passed) top x
+  passed_done left next from to stage goes x inner_is around_is item_is = record {
+    things = λ rest off. subst (λ (l : Level). IsAccounted v (left ∷ passed) l x.levels.around (rest ++ top.source) (rest ++ top.target)) (sym inner_is)
+        (subst (λ (ls : List Level). IsAccounted v (left ∷ passed) next ls (rest ++ top.source) (rest ++ top.target)) (sym around_is) (went (rest ++ top.source) (rest ++ top.target) (h.things rest off)));
+    folders = subst (λ (l : Level). AreOpened v top.target l x.levels.around) (sym inner_is)
+        (subst (λ (ls : List Level). AreOpened v top.target next ls) (sym around_is) (opened_inner v top.target old.levels.inner next old.levels.around opens h.folders));
+    item = subst (λ i. ItemDone v (left ∷ passed) top.target x.levels.inner i) (sym item_is) tt;
+  }
+    where
+      went : (source target : Route) → IsAccounted v passed old.levels.inner old.levels.around source target → IsAccounted v (left ∷ passed) next old.levels.around source target
+      went source target (inl covered) = inl (covered_more passed left source covered)
+      went source target (inr (inr copy)) = inr (inr copy)
+      went source target (inr (inl pending)) = elim (pending_or old.levels.inner next old.levels.around source (goes source) pending) [
+        | inl still ↦ inr (inl still)
+        | inr below ↦ inl (covered_now passed left source below)
+      ]
+
+      made_then : (next.copy.stage ≡ old.levels.inner.copy.stage) ⊎ (owed_of next.copy.stage ≡ None) → IsOpened v top.target old.levels.inner → (mode : ℕ) → next.copy.stage ≡ at.Make mode → ⊥
+      made_then (inl same) o mode is = o.made mode (sym same ∙ is)
+      made_then (inr owes) o mode is = (let e : (let n : Option ℕ = None in n) ≡ Some mode = sym owes ∙ ap owed_of is in let f : ⊥ = cc in f)
+
+      opens : IsOpened v top.target old.levels.inner → IsOpened v top.target next
+      opens o = record {
+        made = made_then stage o;
+        shown = λ off. subst (λ s. IsShown v s next.copy.target) (sym from) (subst (λ t. IsShown v old.levels.inner.copy.source t) (sym to) (o.shown (subst (λ s. is_prefix top.target s ≡ false) from off)));
+      }
+
+  -- the next name is passed, with all that lies in it
+  pub name_passed : (name : List ℕ) (names : List (List ℕ)) → old.levels.inner.names.names ≡ name ∷ names → (left : Bool) (new : Seen) → new ≡ record old { levels = passed_level left old.levels } → old.item ≡ Next
+      → TreeDone v ((name ∷ old.levels.inner.copy.source) ∷ passed) top new
+  name_passed name names names_is left new new_is none =
+      passed_done (name ∷ old.levels.inner.copy.source) (let l = passed_level left old.levels in l.inner) refl refl (inl refl) goes new (ap (λ (x : Seen). x.levels.inner) new_is) (ap (λ (x : Seen). x.levels.around) new_is) (ap (λ (x : Seen). x.item) new_is ∙ none)
+    where
+      goes : (path : Route) → IsDue old.levels.inner path → IsDue (let l = passed_level left old.levels in l.inner) path ⊎ (is_prefix (name ∷ old.levels.inner.copy.source) path ≡ true)
+      goes path (inr owed) = inl (inr owed)
+      goes path (inl (other, among, below)) = by (subst (λ ns. Among ns other) names_is among)
+        where
+          by : (other ≡ name) ⊎ Among names other → IsDue (let l = passed_level left old.levels in l.inner) path ⊎ (is_prefix (name ∷ old.levels.inner.copy.source) path ≡ true)
+          by (inl same) = inr (subst (λ n. is_prefix (n ∷ old.levels.inner.copy.source) path ≡ true) same below)
+          by (inr later) = inl (inl (other, subst (λ ns. Among (drop 1 ns) other) (sym names_is) later, below))
+
 module _ (v : View) (passed : List Route) (top : Pair) (cause : Cause) (old new : Seen) (did : Did) (h : TreeDone v passed top old) where
   elsewhere : (source : Route) → Elsewhere v (passed_by did passed) top old.levels.inner old.levels.around source
   elsewhere source rest off apart = more_passed v passed did old.levels.inner old.levels.around (rest ++ top.source) (rest ++ top.target) (h.things rest off)
@@ -50,40 +94,11 @@ module _ (v : View) (passed : List Route) (top : Pair) (cause : Cause) (old new 
     abbrev up : Route
     up = old.levels.inner.copy.source
 
-    -- names or the mode that are due no more are those of what was passed over
-    passed_done : (left : Route) (next : Level) → next.copy.source ≡ up → next.copy.target ≡ old.levels.inner.copy.target → (next.copy.stage ≡ old.levels.inner.copy.stage) ⊎ (owed_of next.copy.stage ≡ None)
-        → ((path : Route) → IsDue old.levels.inner path → IsDue next path ⊎ (is_prefix left path ≡ true)) → (x : Seen) → x.levels.inner ≡ next → x.levels.around ≡ old.levels.around → x.item ≡ Next → TreeDone v (left ∷ passed) top x
-    passed_done left next from to stage goes x inner_is around_is item_is = record {
-      things = λ rest off. subst (λ (l : Level). IsAccounted v (left ∷ passed) l x.levels.around (rest ++ top.source) (rest ++ top.target)) (sym inner_is)
-          (subst (λ (ls : List Level). IsAccounted v (left ∷ passed) next ls (rest ++ top.source) (rest ++ top.target)) (sym around_is) (went (rest ++ top.source) (rest ++ top.target) (h.things rest off)));
-      folders = subst (λ (l : Level). AreOpened v top.target l x.levels.around) (sym inner_is)
-          (subst (λ (ls : List Level). AreOpened v top.target next ls) (sym around_is) (opened_inner v top.target old.levels.inner next old.levels.around opens h.folders));
-      item = subst (λ i. ItemDone v (left ∷ passed) top.target x.levels.inner i) (sym item_is) tt;
-    }
-      where
-        went : (source target : Route) → IsAccounted v passed old.levels.inner old.levels.around source target → IsAccounted v (left ∷ passed) next old.levels.around source target
-        went source target (inl covered) = inl (covered_more passed left source covered)
-        went source target (inr (inr copy)) = inr (inr copy)
-        went source target (inr (inl pending)) = elim (pending_or old.levels.inner next old.levels.around source (goes source) pending) [
-          | inl still ↦ inr (inl still)
-          | inr below ↦ inl (covered_now passed left source below)
-        ]
-
-        made_then : (next.copy.stage ≡ old.levels.inner.copy.stage) ⊎ (owed_of next.copy.stage ≡ None) → IsOpened v top.target old.levels.inner → (mode : ℕ) → next.copy.stage ≡ at.Make mode → ⊥
-        made_then (inl same) o mode is = o.made mode (sym same ∙ is)
-        made_then (inr owes) o mode is = (let e : (let n : Option ℕ = None in n) ≡ Some mode = sym owes ∙ ap owed_of is in let f : ⊥ = cc in f)
-
-        opens : IsOpened v top.target old.levels.inner → IsOpened v top.target next
-        opens o = record {
-          made = made_then stage o;
-          shown = λ off. subst (λ s. IsShown v s next.copy.target) (sym from) (subst (λ t. IsShown v up t) (sym to) (o.shown (subst (λ s. is_prefix top.target s ≡ false) from off)));
-        }
-
     rest_passed : SkipsRest cause old did new → TreeDone v (passed_by did passed) top new
     rest_passed (inr room) = no_room none room
     rest_passed (inl (did_is, new_is)) =
         subst (λ x. TreeDone v (passed_by x passed) top new) (sym did_is)
-        (passed_done up (let l = emptied old.levels in l.inner) refl refl (inl refl) goes new (ap (λ (x : Seen). x.levels.inner) new_is) (ap (λ (x : Seen). x.levels.around) new_is) (ap (λ (x : Seen). x.item) new_is ∙ none))
+        (passed_done v passed top old h up (let l = emptied old.levels in l.inner) refl refl (inl refl) goes new (ap (λ (x : Seen). x.levels.inner) new_is) (ap (λ (x : Seen). x.levels.around) new_is) (ap (λ (x : Seen). x.item) new_is ∙ none))
       where
         goes : (path : Route) → IsDue old.levels.inner path → IsDue (let l = emptied old.levels in l.inner) path ⊎ (is_prefix up path ≡ true)
         goes path (inl (name, among, below)) = inr (prefix_through up (name ∷ up) path (prefix_append up (name ∷ [])) below)
@@ -102,7 +117,7 @@ module _ (v : View) (passed : List Route) (top : Pair) (cause : Cause) (old new 
     end_passed (moved, inl (did_is, moved_is), new_is) =
         subst (λ x. TreeDone v (passed_by x passed) top new) (sym did_is)
         (subst (TreeDone v (up ∷ passed) top) (sym (new_is ∙ ap (λ (c : FolderCopying). (let x : Seen = record old { levels = with_copy c old.levels } in x)) moved_is))
-        (passed_done up (level old.levels.inner.names (record old.levels.inner.copy { stage = skipped old.levels.inner.copy.stage })) refl refl (skipped_none old.levels.inner.copy.stage) goes
+        (passed_done v passed top old h up (level old.levels.inner.names (record old.levels.inner.copy { stage = skipped old.levels.inner.copy.stage })) refl refl (skipped_none old.levels.inner.copy.stage) goes
         (record old { levels = with_copy (record old.levels.inner.copy { stage = skipped old.levels.inner.copy.stage }) old.levels }) refl refl none))
       where
         goes : (path : Route) → IsDue old.levels.inner path → IsDue (level old.levels.inner.names (record old.levels.inner.copy { stage = skipped old.levels.inner.copy.stage })) path ⊎ (is_prefix up path ≡ true)
@@ -113,17 +128,7 @@ module _ (v : View) (passed : List Route) (top : Pair) (cause : Cause) (old new 
     named_passed [] names_is s = end_passed s
     named_passed (name ∷ names) names_is (inr (inl (long, rest))) = rest_passed rest
     named_passed (name ∷ names) names_is (inr (inr room)) = no_room none room
-    named_passed (name ∷ names) names_is (inl (did_is, new_is)) =
-        subst (λ x. TreeDone v (passed_by x passed) top new) (sym did_is)
-        (passed_done (name ∷ up) (let l = passed_level true old.levels in l.inner) refl refl (inl refl) goes new (ap (λ (x : Seen). x.levels.inner) new_is) (ap (λ (x : Seen). x.levels.around) new_is) (ap (λ (x : Seen). x.item) new_is ∙ none))
-      where
-        goes : (path : Route) → IsDue old.levels.inner path → IsDue (let l = passed_level true old.levels in l.inner) path ⊎ (is_prefix (name ∷ up) path ≡ true)
-        goes path (inr owed) = inl (inr owed)
-        goes path (inl (other, among, below)) = by (subst (λ ns. Among ns other) names_is among)
-          where
-            by : (other ≡ name) ⊎ Among names other → IsDue (let l = passed_level true old.levels in l.inner) path ⊎ (is_prefix (name ∷ up) path ≡ true)
-            by (inl same) = inr (subst (λ n. is_prefix (n ∷ up) path ≡ true) same below)
-            by (inr later) = inl (inl (other, subst (λ ns. Among (drop 1 ns) other) (sym names_is) later, below))
+    named_passed (name ∷ names) names_is (inl (did_is, new_is)) = subst (λ x. TreeDone v (passed_by x passed) top new) (sym did_is) (name_passed v passed top old h name names names_is true new new_is none)
 
   pub skips_done : (item : Item) → old.item ≡ item → ItemMoved top item → SkipsAt item cause old did new → TreeDone v (passed_by did passed) top new
   skips_done Next is m s = named_passed is old.levels.inner.names.names refl s

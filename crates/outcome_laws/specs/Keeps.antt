@@ -1,11 +1,11 @@
--- Where a job keeps what stands at the target of a file, it has changed nothing; in the words of the history alone. Histories stand newest first here.
+-- Where a job keeps what stands at the target of a file, or the folder there that a folder is merged with, it has changed nothing; in the words of the history alone. Histories stand newest first here.
 use Rattle.std.specs.Prelude.{◌≡◌, ℕ, ◌==◌, Bool, true, false, if◌then◌else◌, List, [], ◌∷◌}
 use Rattle.mc_text.specs.Routes.{Route}
 use Rattle.tree_trait.specs.Shape.{IsTree}
 use Rattle.tree_trait.specs.Change.{CallLog, current}
 use Rattle.tree_trait.specs.CrashImages.{all_settled}
 use Rattle.job_reports.specs.declared.report.Did.{Did}
-use Rattle.job_reports.specs.declared.report.Did.TheVariants.{Began, Chunk, Placed, Removed, Made, Set, Kept, Skipped, Cleaned, Barrier, Asked, Troubled, Ended}
+use Rattle.job_reports.specs.declared.report.Did.TheVariants.{Began, Chunk, Placed, Removed, Made, Set, Kept, Skipped, Cleaned, Barrier, Asked, Merges, Troubled, Ended}
 use Rattle.job_reports.specs.Jobs.{Copies}
 use Rattle.session_history.specs.declared.history.Event.{Event}
 use Rattle.session_history.specs.declared.history.Event.TheVariants.{Key, Look, Sought, Order, Step, Next, Closed}
@@ -17,7 +17,7 @@ use Rattle.history_laws.specs.Traces.{IsTraced, Stand}
 use Rattle.outcome_laws.specs.Outcomes.{Finishes}
 use Rattle.outcome_laws.specs.Untouched.{tree_begun}
 
--- whether a job has kept something once it has reported this
+-- whether a job has kept something once it has reported this: what stands at the target of a file, or a folder there, with which that of the source is merged
 abbrev pub keeps_by : Did → Bool → Bool
 keeps_by (Kept path) before = true
 keeps_by (Began part) before = before
@@ -30,6 +30,7 @@ keeps_by (Skipped path cause) before = before
 keeps_by (Cleaned part) before = before
 keeps_by Barrier before = before
 keeps_by (Asked question) before = before
+keeps_by (Merges pair names) before = true
 keeps_by (Troubled trouble) before = before
 keeps_by (Ended ending part) before = before
 

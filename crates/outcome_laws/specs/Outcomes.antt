@@ -10,7 +10,7 @@ use Rattle.tree_trait.specs.Shape.{IsTree}
 use Rattle.tree_trait.specs.Change.{CallLog, current}
 use Rattle.tree_trait.specs.CrashImages.{Among, all_settled}
 use Rattle.job_reports.specs.declared.report.Did.{Did}
-use Rattle.job_reports.specs.declared.report.Did.TheVariants.{Began, Chunk, Placed, Removed, Made, Set, Kept, Skipped, Cleaned, Barrier, Asked, Troubled, Ended}
+use Rattle.job_reports.specs.declared.report.Did.TheVariants.{Began, Chunk, Placed, Removed, Made, Set, Kept, Skipped, Cleaned, Barrier, Asked, Merges, Troubled, Ended}
 use Rattle.job_reports.specs.Jobs.{Item, Copies, Removes, Makes, MakesLink, Sets}
 use Rattle.session_history.specs.declared.history.Event.{Event}
 use Rattle.session_history.specs.declared.history.Event.TheVariants.{Key, Look, Sought, Order, Step, Next, Closed}
@@ -22,7 +22,8 @@ use Rattle.session_history.specs.Sources.{IsDoneWith}
 use Rattle.history_laws.specs.Replayed.{new_folder, new_link, placed_copy, replayed_tree}
 use Rattle.history_laws.specs.Traces.{IsTraced, Stand}
 
--- what was skipped once a job has reported this
+-- What was passed over once a job has reported this: what it skipped, and a folder that is merged with that at its target, since what lies in it is copied after it, each
+-- thing as a source of its own.
 abbrev pub passed_by : Did → List Route → List Route
 passed_by (Skipped path cause) before = path ∷ before
 passed_by (Began part) before = before
@@ -33,6 +34,7 @@ passed_by (Made made) before = before
 passed_by (Set path) before = before
 passed_by (Kept kept) before = before
 passed_by (Asked question) before = before
+passed_by (Merges pair names) before = pair.source ∷ before
 passed_by (Cleaned part) before = before
 passed_by Barrier before = before
 passed_by (Troubled trouble) before = before
@@ -47,7 +49,7 @@ kept_of (Some (MakesLink path text)) before = before
 kept_of (Some (Sets path mode)) before = before
 kept_of None before = before
 
--- what a job that works on this has passed over once it has reported this: what it skipped, and the source of a copy whose target stays as it was
+-- what a job that works on this has passed over once it has reported this, and the source of a copy whose target stays as it was
 abbrev pub passed_in : Option Item → Did → List Route → List Route
 passed_in item (Kept path) before = kept_of item before
 passed_in item (Skipped path cause) before = passed_by (Skipped path cause) before
@@ -58,6 +60,7 @@ passed_in item (Removed path) before = before
 passed_in item (Made made) before = before
 passed_in item (Set path) before = before
 passed_in item (Asked question) before = before
+passed_in item (Merges pair names) before = passed_by (Merges pair names) before
 passed_in item (Cleaned part) before = before
 passed_in item Barrier before = before
 passed_in item (Troubled trouble) before = before

@@ -3,7 +3,7 @@ use Rattle.std.specs.Prelude.{◌≡◌, ◌⊎◌, ℕ, ◌==◌, Bool, true, f
 use Rattle.std.specs.Option.{option_map_or}
 use Rattle.mc_text.specs.Routes.{Route, same_path}
 use Rattle.job_reports.specs.declared.report.Did.{Did}
-use Rattle.job_reports.specs.declared.report.Did.TheVariants.{Began, Chunk, Placed, Removed, Made, Set, Kept, Skipped, Cleaned, Barrier, Asked, Troubled, Ended}
+use Rattle.job_reports.specs.declared.report.Did.TheVariants.{Began, Chunk, Placed, Removed, Made, Set, Kept, Skipped, Cleaned, Barrier, Asked, Merges, Troubled, Ended}
 use Rattle.job_reports.specs.Paths.{without}
 use Rattle.session_history.specs.declared.history.Event.{Event}
 use Rattle.session_history.specs.declared.history.Event.TheVariants.{Key, Look, Sought, Order, Step, Next, Closed}
@@ -24,6 +24,7 @@ names (Kept kept) path = false
 names (Skipped file cause) path = false
 names Barrier path = false
 names (Asked question) path = false
+names (Merges pair within) path = false
 names (Troubled trouble) path = false
 
 abbrev pub names_path : Event → Route → Bool
@@ -54,6 +55,7 @@ changed_by (Skipped path cause) = None
 changed_by (Cleaned part) = None
 changed_by Barrier = None
 changed_by (Asked question) = None
+changed_by (Merges pair names) = None
 changed_by (Troubled trouble) = None
 changed_by (Ended ending part) = None
 
@@ -72,6 +74,7 @@ left_by (Skipped path cause) before = before
 left_by (Cleaned part) before = before
 left_by Barrier before = before
 left_by (Asked question) before = before
+left_by (Merges pair names) before = before
 left_by (Troubled trouble) before = before
 
 abbrev pub left_after : Event → List Route → List Route
@@ -108,6 +111,7 @@ named_by (Skipped path cause) left before = before
 named_by (Cleaned part) left before = before
 named_by Barrier left before = before
 named_by (Asked question) left before = before
+named_by (Merges pair names) left before = before
 named_by (Troubled trouble) left before = before
 named_by (Ended ending part) left before = before
 
@@ -139,6 +143,7 @@ begins_change (Skipped path cause) = false
 begins_change (Cleaned part) = false
 begins_change Barrier = false
 begins_change (Asked question) = false
+begins_change (Merges pair names) = false
 begins_change (Troubled trouble) = false
 begins_change (Ended ending part) = false
 

@@ -1,9 +1,11 @@
 -- How the sources of a job are worked: one after another, in the order of its plan. Histories stand newest first here.
-use Rattle.std.specs.Prelude.{◌≡◌, ℕ, ⊤, Bool, true, false, List, [], ◌∷◌, map, Option, None, if◌then◌else◌}
+use Rattle.std.specs.Prelude.{◌≡◌, ◌⊎◌, ℕ, ⊤, Bool, true, false, List, [], ◌∷◌, ◌++◌, map, Option, None, Some, if◌then◌else◌}
 use Rattle.std.specs.List.{list_all}
 use Rattle.job_reports.specs.declared.job.Job.{Job}
 use Rattle.job_reports.specs.declared.job.Job.TheVariants.{Copy, CopyTree, Delete, MakeFolder, MakeLink, SetMode}
-use Rattle.job_reports.specs.declared.report.Did.TheVariants.{Ended}
+use Rattle.job_reports.specs.declared.job.Pair.{Pair}
+use Rattle.job_reports.specs.declared.report.Did.{Did}
+use Rattle.job_reports.specs.declared.report.Did.TheVariants.{Ended, Merges}
 use Rattle.job_reports.specs.declared.report.Ending.TheVariants.{Finished}
 use Rattle.job_reports.specs.Jobs.{Item, is_workable, item_of}
 use Rattle.job_reports.specs.Reports.{ends}
@@ -43,11 +45,20 @@ abbrev pub later : List Job → List Job
 later [] = []
 later (source ∷ more) = more
 
+-- what lies in a folder that is merged with the one at its target, by these names, is copied next, each with all that lies in it
+abbrev pub children_in : Pair → List (List ℕ) → List Job
+children_in pair names = map (λ name. CopyTree (record { source = name ∷ pair.source; target = name ∷ pair.target } ∷ [])) names
+
+-- the sources that are left once a step has reported this
+abbrev pub left_by : Did → List Job → List Job
+left_by (Merges pair names) left = children_in pair names ++ left
+left_by did left = if ends did then [] else left
+
 -- the sources that the live job is yet to take up, after an event
 abbrev pub left_after : Event → List Job → List Job
 left_after (event.Began id plan background) left = later (sources_of plan)
 left_after (Next id plan) left = later left
-left_after (Step id did) left = if ends did then [] else left
+left_after (Step id did) left = left_by did left
 left_after (Key key now refusals lost) left = left
 left_after (Look refusals) left = left
 left_after Sought left = left
@@ -59,9 +70,26 @@ abbrev pub sources_left : List Entry → List Job
 sources_left [] = []
 sources_left (e ∷ older) = left_after e.what (sources_left older)
 
+-- the same source, copied as a file, which asks before it replaces anything, in place of a thing with all that lies in it, or the other way round
+abbrev pub copied_otherwise : Job → Option Job
+copied_otherwise (Copy []) = None
+copied_otherwise (Copy (pair ∷ [])) = Some (CopyTree (pair ∷ []))
+copied_otherwise (Copy (pair ∷ more ∷ pairs)) = None
+copied_otherwise (CopyTree []) = None
+copied_otherwise (CopyTree (pair ∷ [])) = Some (Copy (pair ∷ []))
+copied_otherwise (CopyTree (pair ∷ more ∷ pairs)) = None
+copied_otherwise (Delete paths) = None
+copied_otherwise (MakeFolder path) = None
+copied_otherwise (MakeLink path text) = None
+copied_otherwise (SetMode paths mode) = None
+
+-- A source is worked by its own plan, and one that is copied by that of a file, or of a thing with all that lies in it.
+abbrev pub IsPlanOf : Job → Job → Type 0
+IsPlanOf source plan = (plan ≡ source) ⊎ (copied_otherwise source ≡ Some plan)
+
 -- what a job goes on with is the first source that is left, and it is finished only where none is
 abbrev pub IsInTurn : Event → List Job → Type 0
-IsInTurn (Next id plan) left = (more : List Job) × (left ≡ plan ∷ more)
+IsInTurn (Next id plan) left = (source : Job) × (more : List Job) × (left ≡ source ∷ more) × IsPlanOf source plan
 IsInTurn (Step id (Ended Finished part)) left = left ≡ []
 IsInTurn event left = ⊤
 

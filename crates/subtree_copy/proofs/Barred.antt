@@ -6,7 +6,7 @@ use Rattle.tree_trait.specs.Change.{CallLog}
 use Rattle.job_reports.specs.declared.job.Pair.{Pair}
 use Rattle.job_reports.specs.declared.report.Cause.{Cause}
 use Rattle.job_reports.specs.declared.report.Did.{Did}
-use Rattle.job_reports.specs.declared.report.Did.TheVariants.{Began, Chunk, Placed, Removed, Made, Set, Kept, Skipped, Cleaned, Barrier, Asked, Troubled, Ended}
+use Rattle.job_reports.specs.declared.report.Did.TheVariants.{Began, Chunk, Placed, Removed, Made, Set, Kept, Skipped, Cleaned, Barrier, Asked, Merges, Troubled, Ended}
 use Rattle.job_reports.specs.declared.report.StepResult.{StepResult}
 use Rattle.job_reports.specs.declared.report.Trouble.{Trouble}
 use Rattle.job_reports.specs.Stops.{out_of_memory_at}
@@ -189,8 +189,9 @@ takes_barred unclaimed old new did before after t (inr (inr (inl w))) says free 
     link_begins (link_begun w.pair w.part) old new did before after t w.works says refl clean (next_at old.levels.inner.names.names old w.pair w.next)
 takes_barred unclaimed old new did before after t (inr (inr (inr (inl w)))) says free clean steady =
     makes_next w.pair w.names w.mode old new did before after t w.works says free clean (next_at old.levels.inner.names.names old w.pair w.next)
-takes_barred unclaimed old new did before after t (inr (inr (inr (inr (next, inl (debt, e)))))) says free clean steady = ends_barred old new did before after t e says next debt free clean steady
-takes_barred unclaimed old new did before after t (inr (inr (inr (inr (next, inr (debt, f, same)))))) says free clean steady = absurd (let e = sym f.says ∙ says in let g : ⊥ = cc in g)
+takes_barred unclaimed old new did before after t (inr (inr (inr (inr (inl m))))) says free clean steady = absurd (let e = sym m.says ∙ says in let g : ⊥ = cc in g)
+takes_barred unclaimed old new did before after t (inr (inr (inr (inr (inr (next, inl (debt, e))))))) says free clean steady = ends_barred old new did before after t e says next debt free clean steady
+takes_barred unclaimed old new did before after t (inr (inr (inr (inr (inr (next, inr (debt, f, same))))))) says free clean steady = absurd (let e = sym f.says ∙ says in let g : ⊥ = cc in g)
 
 goes_barred : (unclaimed : Route → Type 0) (old new : Seen) (did : Did) (before after : Option CallLog) (t : Trouble) → GoesOn unclaimed old new did before after → Says did t → old.item ≡ Next → IsSteady old
     → t.barrier ≡ at_barrier new
@@ -303,6 +304,7 @@ passed_trouble skips (Removed path) why is = absurd (let f : ⊥ = cc in f)
 passed_trouble skips (Made path) why is = absurd (let f : ⊥ = cc in f)
 passed_trouble skips (Kept path) why is = absurd (let f : ⊥ = cc in f)
 passed_trouble skips (Asked question) why is = absurd (let f : ⊥ = cc in f)
+passed_trouble skips (Merges pair names) why is = absurd (let f : ⊥ = cc in f)
 passed_trouble skips (Skipped path cause) why is = absurd (let f : ⊥ = cc in f)
 passed_trouble skips (Cleaned part) why is = absurd (let f : ⊥ = cc in f)
 passed_trouble skips Barrier why is = absurd (let f : ⊥ = cc in f)

@@ -10,7 +10,7 @@ use Rattle.job_answers.specs.declared.skips.Skips.{Skips}
 use Rattle.job_reports.specs.declared.report.Cause.{Cause}
 use Rattle.job_reports.specs.declared.report.Cause.TheVariants.{Tree}
 use Rattle.job_reports.specs.declared.report.Did.{Did}
-use Rattle.job_reports.specs.declared.report.Did.TheVariants.{Began, Chunk, Placed, Removed, Made, Set, Kept, Skipped, Cleaned, Barrier, Asked, Troubled, Ended}
+use Rattle.job_reports.specs.declared.report.Did.TheVariants.{Began, Chunk, Placed, Removed, Made, Set, Kept, Skipped, Cleaned, Barrier, Asked, Merges, Troubled, Ended}
 use Rattle.job_reports.specs.declared.report.StepResult.{StepResult}
 use Rattle.job_reports.specs.declared.report.Trouble.{Trouble}
 use Rattle.job_reports.specs.Reports.{IsFault}
@@ -57,6 +57,7 @@ meets (Made path) h = absurd h
 meets (Set path) h = absurd h
 meets (Kept path) h = absurd h
 meets (Asked question) h = absurd h
+meets (Merges pair names) h = absurd h
 meets (Cleaned part) h = absurd h
 meets Barrier h = absurd h
 meets (Ended ending part) h = absurd h
@@ -83,8 +84,9 @@ takes_keep unclaimed old new did before after (inl s) p = let e = sym s.says ∙
 takes_keep unclaimed old new did before after (inr (inl t)) p = file_keeps unclaimed _ old new did before after t.works p
 takes_keep unclaimed old new did before after (inr (inr (inl t))) p = link_keeps _ old new did before after t.works p
 takes_keep unclaimed old new did before after (inr (inr (inr (inl t)))) p = let w = t.works in told_keeps w.report did w.says p
-takes_keep unclaimed old new did before after (inr (inr (inr (inr (next, inl (debt, e)))))) p = told_keeps e.report did e.says p
-takes_keep unclaimed old new did before after (inr (inr (inr (inr (next, inr (debt, f, same)))))) p = let e = sym f.says ∙ p.2 in let g : ⊥ = cc in g
+takes_keep unclaimed old new did before after (inr (inr (inr (inr (inl t))))) p = let e = sym t.says ∙ p.2 in let g : ⊥ = cc in g
+takes_keep unclaimed old new did before after (inr (inr (inr (inr (inr (next, inl (debt, e))))))) p = told_keeps e.report did e.says p
+takes_keep unclaimed old new did before after (inr (inr (inr (inr (inr (next, inr (debt, f, same))))))) p = let e = sym f.says ∙ p.2 in let g : ⊥ = cc in g
 
 works_keep : (unclaimed : Route → Type 0) (item : Item) (old new : Seen) (did : Did) (before after : Option CallLog) → WorksOn item unclaimed old new did before after → Passes did → ⊥
 works_keep unclaimed Next old new did before after (inl s) p = told_keeps s.report did s.says p

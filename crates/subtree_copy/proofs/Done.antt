@@ -36,8 +36,9 @@ takes_so unclaimed old new did before after (inl s) none owes = absurd (none_lef
 takes_so unclaimed old new did before after (inr (inl t)) none owes = absurd (none_left old none (next_at old.levels.inner.names.names old t.pair t.next))
 takes_so unclaimed old new did before after (inr (inr (inl t))) none owes = absurd (none_left old none (next_at old.levels.inner.names.names old t.pair t.next))
 takes_so unclaimed old new did before after (inr (inr (inr (inl t)))) none owes = absurd (none_left old none (next_at old.levels.inner.names.names old t.pair t.next))
-takes_so unclaimed old new did before after (inr (inr (inr (inr (next, inl (debt, e)))))) none owes = absurd (false≢true (sym owes ∙ debt))
-takes_so unclaimed old new did before after (inr (inr (inr (inr (next, inr (debt, f, same)))))) none owes = ap (λ d. is_left_dirty d new) f.says ∙ ap (λ (c : Seen). is_dirty c.levels.inner.copy.names) f.stands
+takes_so unclaimed old new did before after (inr (inr (inr (inr (inl t))))) none owes = absurd (none_left old none (next_at old.levels.inner.names.names old t.pair t.next))
+takes_so unclaimed old new did before after (inr (inr (inr (inr (inr (next, inl (debt, e))))))) none owes = absurd (false≢true (sym owes ∙ debt))
+takes_so unclaimed old new did before after (inr (inr (inr (inr (inr (next, inr (debt, f, same))))))) none owes = ap (λ d. is_left_dirty d new) f.says ∙ ap (λ (c : Seen). is_dirty c.levels.inner.copy.names) f.stands
 
 goes_so : (unclaimed : Route → Type 0) (old new : Seen) (did : Did) (before after : Option CallLog) → GoesOn unclaimed old new did before after → is_around_dirty old.levels.around ≡ false
     → is_empty old.levels.inner.names.names ≡ true → owes_at_end old.levels.inner.copy.stage (is_dirty old.levels.inner.copy.names) ≡ false → StaysSo old new did

@@ -6,7 +6,7 @@ use Rattle.mc_text.specs.Routes.{Route}
 use Rattle.tree_trait.specs.Change.{CallLog}
 use Rattle.job_reports.specs.declared.job.Pair.{Pair}
 use Rattle.job_reports.specs.declared.report.Did.{Did}
-use Rattle.job_reports.specs.declared.report.Did.TheVariants.{Began, Chunk, Placed, Removed, Made, Set, Kept, Skipped, Cleaned, Barrier, Asked, Troubled, Ended}
+use Rattle.job_reports.specs.declared.report.Did.TheVariants.{Began, Chunk, Placed, Removed, Made, Set, Kept, Skipped, Cleaned, Barrier, Asked, Merges, Troubled, Ended}
 use Rattle.file_copy.specs.Copying as file
 use Rattle.file_copy.specs.Copying.{Copying, IsSound}
 use Rattle.file_copy.specs.declared.stage.Next.{Next as FileNext}
@@ -144,6 +144,7 @@ file_fits most enough f m (Made path) t sound h = absurd t
 file_fits most enough f m (Set path) t sound h = absurd t
 file_fits most enough f m (Kept path) t sound h = absurd t
 file_fits most enough f m (Asked question) t sound h = absurd t
+file_fits most enough f m (Merges pair names) t sound h = absurd t
 file_fits most enough f m (Skipped path cause) t sound h = absurd t
 
 link_from : (most : ℕ) (from to : LinkStage) (l m : LinkCopying) → l.stage ≡ from → m.stage ≡ to → FitsLink most (link_rank most from) to → FitsLink most (link_rank most l.stage) m.stage
@@ -166,6 +167,7 @@ link_fits most l m (Made path) t h = absurd t
 link_fits most l m (Set path) t h = absurd t
 link_fits most l m (Kept path) t h = absurd t
 link_fits most l m (Asked question) t h = absurd t
+link_fits most l m (Merges pair names) t h = absurd t
 link_fits most l m (Skipped path cause) t h = absurd t
 
 -- what was left before
@@ -292,8 +294,13 @@ takes_falls most enough unclaimed old new did before after (inr (inl t)) free h 
 takes_falls most enough unclaimed old new did before after (inr (inr (inl t))) free h fewer =
     link_falls most (link_begun t.pair t.part) old new did before after t.works (some_name old.levels.inner.names.names old t.pair t.next) h
 takes_falls most enough unclaimed old new did before after (inr (inr (inr (inl t)))) free h fewer = makes_falls most t.pair t.names t.mode old new did before after t.works free h fewer.1
-takes_falls most enough unclaimed old new did before after (inr (inr (inr (inr (next, inl (debt, e)))))) free h fewer = ends_falls most old new did before after e free h fewer.0
-takes_falls most enough unclaimed old new did before after (inr (inr (inr (inr (next, inr (debt, f, same)))))) free h fewer = absurd (false≢true (sym (ap goes_on f.says) ∙ h))
+takes_falls most enough unclaimed old new did before after (inr (inr (inr (inr (inl t))))) free h fewer =
+    let less = subst (λ (c : Seen). things_left c < things_left old) (sym t.stands) (pass_falls false (walked old.levels) (some_name old.levels.inner.names.names old t.pair t.next)) in
+    let item : item_rank most new.item ≡ anew most = ap (item_rank most) (ap (λ (c : Seen). c.item) t.stands ∙ free) in
+    let same : levels_rank new.levels ≡ levels_rank old.levels = ap (λ (c : Seen). levels_rank c.levels) t.stands in
+    fewer_falls (anew most) (things_left old) (things_left new) (anew most + levels_rank old.levels) (item_rank most new.item + levels_rank new.levels) less (omega (arith, item, same))
+takes_falls most enough unclaimed old new did before after (inr (inr (inr (inr (inr (next, inl (debt, e))))))) free h fewer = ends_falls most old new did before after e free h fewer.0
+takes_falls most enough unclaimed old new did before after (inr (inr (inr (inr (inr (next, inr (debt, f, same))))))) free h fewer = absurd (false≢true (sym (ap goes_on f.says) ∙ h))
 
 goes_falls : (most : ℕ) → 2 ^ 64 ≤ most → (unclaimed : Route → Type 0) (old new : Seen) (did : Did) (before after : Option CallLog) → GoesOn unclaimed old new did before after → old.item ≡ Next → goes_on did ≡ true
     → Things old new did → rank_by most new < Before most (anew most) old

@@ -75,8 +75,9 @@ takes_stays unclaimed old new part before after (inl s) around = absurd (let e :
 takes_stays unclaimed old new part before after (inr (inl t)) around = (let w = t.works in let tells = w.tells in absurd (let e = tells.0 in let f : ⊥ = cc in f))
 takes_stays unclaimed old new part before after (inr (inr (inl t))) around = (let w = t.works in absurd w.tells)
 takes_stays unclaimed old new part before after (inr (inr (inr (inl t)))) around = (let w = t.works in told_no_end w.report part w.says)
-takes_stays unclaimed old new part before after (inr (inr (inr (inr (due, inl (debt, e)))))) around = told_no_end e.report part e.says
-takes_stays unclaimed old new part before after (inr (inr (inr (inr (due, inr (debt, f, same)))))) around =
+takes_stays unclaimed old new part before after (inr (inr (inr (inr (inl t))))) around = absurd (let e : Ended Finished part ≡ common.Merges t.pair t.names = t.says in let f : ⊥ = cc in f)
+takes_stays unclaimed old new part before after (inr (inr (inr (inr (inr (due, inl (debt, e))))))) around = told_no_end e.report part e.says
+takes_stays unclaimed old new part before after (inr (inr (inr (inr (inr (due, inr (debt, f, same))))))) around =
     record { around = around; names = ap (λ (c : Seen). is_dirty c.levels.inner.copy.names) f.stands; log = same_log before after same }
 
 -- a file's copy that is finished has nothing owed

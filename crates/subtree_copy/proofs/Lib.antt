@@ -11,6 +11,8 @@ pub mod LastOnes
 mod LastRuns
 mod Left
 pub mod Listed
+pub mod MergeStill
+pub mod MergedOnes
 pub mod Ranked
 pub mod Reportings
 pub mod StillTelling

@@ -139,8 +139,9 @@ takes_troubled most unclaimed old new did before after t (inr (inr (inl w))) say
     let l = link_troubled most (link_begun w.pair w.part) old new did before after t w.works says (some_name old.levels.inner.names.names old w.pair w.next) in
     omega (arith, free_rank, l)
 takes_troubled most unclaimed old new did before after t (inr (inr (inr (inl w)))) says free = makes_troubled most w.pair w.names w.mode old new did before after t w.works says
-takes_troubled most unclaimed old new did before after t (inr (inr (inr (inr (next, inl (debt, e)))))) says free = ends_troubled most old new did before after t e says
-takes_troubled most unclaimed old new did before after t (inr (inr (inr (inr (next, inr (debt, f, same)))))) says free = absurd (let e = sym f.says ∙ says in let g : ⊥ = cc in g)
+takes_troubled most unclaimed old new did before after t (inr (inr (inr (inr (inl m))))) says free = absurd (let e = sym m.says ∙ says in let g : ⊥ = cc in g)
+takes_troubled most unclaimed old new did before after t (inr (inr (inr (inr (inr (next, inl (debt, e))))))) says free = ends_troubled most old new did before after t e says
+takes_troubled most unclaimed old new did before after t (inr (inr (inr (inr (inr (next, inr (debt, f, same))))))) says free = absurd (let e = sym f.says ∙ says in let g : ⊥ = cc in g)
 
 dirty_is : (names : NamesState) → is_dirty names ≡ true → names ≡ Dirty
 dirty_is Dirty h = refl

@@ -10,7 +10,7 @@ use Rattle.job_answers.specs.declared.skips.Skips.{Skips as Kinds}
 use Rattle.job_reports.specs.declared.job.Pair.{Pair}
 use Rattle.job_reports.specs.declared.report.Cause.{Cause}
 use Rattle.job_reports.specs.declared.report.Did.{Did}
-use Rattle.job_reports.specs.declared.report.Did.TheVariants.{Began, Chunk, Placed, Removed, Made, Set, Kept, Skipped, Cleaned, Barrier, Asked, Troubled, Ended}
+use Rattle.job_reports.specs.declared.report.Did.TheVariants.{Began, Chunk, Placed, Removed, Made, Set, Kept, Skipped, Cleaned, Barrier, Asked, Merges, Troubled, Ended}
 use Rattle.job_reports.specs.declared.report.Ending.{Ending}
 use Rattle.job_reports.specs.declared.report.Ending.TheVariants.{Finished, Aborted, Killed, NoMemory}
 use Rattle.job_reports.specs.declared.report.LastStepResult.{LastStepResult}
@@ -62,6 +62,7 @@ file_may f m (Ended NoMemory part) t = t
 file_may f m (Removed path) t = t
 file_may f m (Kept path) t = t
 file_may f m (Asked question) t = t
+file_may f m (Merges pair names) t = tt
 file_may f m (Began part) t = tt
 file_may f m (Chunk count) t = tt
 file_may f m (Placed path) t = tt
@@ -77,6 +78,7 @@ link_may l m (Ended ending part) t = absurd t
 link_may l m (Removed path) t = t
 link_may l m (Kept path) t = t
 link_may l m (Asked question) t = t
+link_may l m (Merges pair names) t = tt
 link_may l m (Began part) t = tt
 link_may l m (Chunk count) t = tt
 link_may l m (Placed path) t = tt
@@ -100,8 +102,9 @@ module _ (unclaimed : Route → Type 0) (old new : Seen) (did : Did) (before aft
   takes_may (inr (inl t)) = (let w = t.works in file_may (file.begun old.job t.pair.source t.pair.target) w.moved did w.tells)
   takes_may (inr (inr (inl t))) = (let w = t.works in link_may (link_begun t.pair t.part) w.moved did w.tells)
   takes_may (inr (inr (inr (inl t)))) = (let w = t.works in folder_may w.report did w.says)
-  takes_may (inr (inr (inr (inr (next, inl (debt, e)))))) = folder_may e.report did e.says
-  takes_may (inr (inr (inr (inr (next, inr (debt, f, same)))))) = subst MayTell (sym f.says) refl
+  takes_may (inr (inr (inr (inr (inl t))))) = subst MayTell (sym t.says) tt
+  takes_may (inr (inr (inr (inr (inr (next, inl (debt, e))))))) = folder_may e.report did e.says
+  takes_may (inr (inr (inr (inr (inr (next, inr (debt, f, same))))))) = subst MayTell (sym f.says) refl
 
   works_may : (item : Item) → WorksOn item unclaimed old new did before after → MayTell did
   works_may Next (inl s) = folder_may s.report did s.says
@@ -151,6 +154,7 @@ file_not f m (Ended ending part) t = tt
 file_not f m (Removed path) t = tt
 file_not f m (Kept path) t = tt
 file_not f m (Asked question) t = tt
+file_not f m (Merges pair names) t = tt
 file_not f m (Began part) t = tt
 file_not f m (Chunk count) t = tt
 file_not f m (Placed path) t = tt
@@ -166,6 +170,7 @@ link_not l m (Ended ending part) t = tt
 link_not l m (Removed path) t = tt
 link_not l m (Kept path) t = tt
 link_not l m (Asked question) t = tt
+link_not l m (Merges pair names) t = tt
 link_not l m (Began part) t = tt
 link_not l m (Chunk count) t = tt
 link_not l m (Placed path) t = tt
@@ -188,8 +193,9 @@ module _ (unclaimed : Route → Type 0) (old new : Seen) (did : Did) (before aft
   takes_not (inr (inl t)) = (let w = t.works in file_not (file.begun old.job t.pair.source t.pair.target) w.moved did w.tells)
   takes_not (inr (inr (inl t))) = (let w = t.works in link_not (link_begun t.pair t.part) w.moved did w.tells)
   takes_not (inr (inr (inr (inl t)))) = (let w = t.works in folder_not w.report did w.says)
-  takes_not (inr (inr (inr (inr (next, inl (debt, e)))))) = folder_not e.report did e.says
-  takes_not (inr (inr (inr (inr (next, inr (debt, f, same)))))) = subst NotSkipped (sym f.says) tt
+  takes_not (inr (inr (inr (inr (inl t))))) = subst NotSkipped (sym t.says) tt
+  takes_not (inr (inr (inr (inr (inr (next, inl (debt, e))))))) = folder_not e.report did e.says
+  takes_not (inr (inr (inr (inr (inr (next, inr (debt, f, same))))))) = subst NotSkipped (sym f.says) tt
 
   works_not : (item : Item) → WorksOn item unclaimed old new did before after → NotSkipped did
   works_not Next (inl s) = folder_not s.report did s.says
@@ -298,6 +304,7 @@ file_wound ending f m old new (Made path) w can stage now = absurd w
 file_wound ending f m old new (Set path) w can stage now = absurd w
 file_wound ending f m old new (Kept path) w can stage now = absurd w
 file_wound ending f m old new (Asked question) w can stage now = absurd w
+file_wound ending f m old new (Merges pair names) w can stage now = absurd w
 file_wound ending f m old new (Skipped path cause) w can stage now = absurd w
 file_wound ending f m old new (Troubled trouble) w can stage now = absurd w
 

@@ -9,7 +9,7 @@ use Rattle.tree_trait.specs.Answers.{Performs}
 use Rattle.job_reports.specs.declared.report.Cause.{Cause}
 use Rattle.job_reports.specs.declared.report.Cause.TheVariants.{Tree, TargetKind, SpecialSource, TooDeep, PartTaken, TooLong, Unnamed, Changed, Memory}
 use Rattle.job_reports.specs.declared.report.Did.{Did}
-use Rattle.job_reports.specs.declared.report.Did.TheVariants.{Began, Chunk, Placed, Removed, Made, Set, Kept, Skipped, Cleaned, Barrier, Asked, Troubled, Ended}
+use Rattle.job_reports.specs.declared.report.Did.TheVariants.{Began, Chunk, Placed, Removed, Made, Set, Kept, Skipped, Cleaned, Barrier, Asked, Merges, Troubled, Ended}
 use Rattle.job_reports.specs.CallRuns.{RunStops, StopsAt}
 use Rattle.job_reports.specs.Paths.{folder_of}
 use Rattle.job_reports.proofs.Runs.{all_some}
@@ -88,6 +88,7 @@ copy_tells unclaimed c (Removed path) new log after h = absurd h
 copy_tells unclaimed c (Made made) new log after h = absurd h
 copy_tells unclaimed c (Kept path) new log after h = absurd h
 copy_tells unclaimed c (Asked question) new log after h = absurd h
+copy_tells unclaimed c (Merges pair names) new log after h = absurd h
 copy_tells unclaimed c (Skipped path cause) new log after h = (log, h)
 copy_tells unclaimed c (Ended ending part) new log after h = (log, h)
 
@@ -113,6 +114,7 @@ link_tells l (Removed path) log after h = absurd h
 link_tells l (Made made) log after h = absurd h
 link_tells l (Kept path) log after h = absurd h
 link_tells l (Asked question) log after h = absurd h
+link_tells l (Merges pair names) log after h = absurd h
 link_tells l (Skipped path cause) log after h = absurd h
 link_tells l (Ended ending part) log after h = absurd h
 
@@ -137,8 +139,9 @@ module _ (unclaimed : Route → Type 0) (old new : Seen) (did : Did) (log : Call
   takes_tells (inr (inl t)) = file_works _ t.works
   takes_tells (inr (inr (inl t))) = link_works _ t.works
   takes_tells (inr (inr (inr (inl t)))) = (let w = t.works in folder_tells (copying t.pair.source t.pair.target (Make t.mode) Synced) w.report log after (w.called log refl))
-  takes_tells (inr (inr (inr (inr (next, inl (debt, e)))))) = folder_tells (let c : Seen = at_end old in c.levels.inner.copy) e.report log after (e.called log refl)
-  takes_tells (inr (inr (inr (inr (next, inr (debt, f, same)))))) = (log, same)
+  takes_tells (inr (inr (inr (inr (inl t))))) = (log, t.same)
+  takes_tells (inr (inr (inr (inr (inr (next, inl (debt, e))))))) = folder_tells (let c : Seen = at_end old in c.levels.inner.copy) e.report log after (e.called log refl)
+  takes_tells (inr (inr (inr (inr (inr (next, inr (debt, f, same))))))) = (log, same)
 
   works_tells : (item : Item) → WorksOn item unclaimed old new did (Some log) after → StillTells after
   works_tells Next (inl s) = folder_tells (folder.at_sync s.outer.copy) s.report log after (s.called log refl)

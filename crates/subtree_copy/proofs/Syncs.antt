@@ -17,7 +17,7 @@ use Rattle.folder_copy.specs.declared.stage.Stage.{Stage}
 use Rattle.job_answers.specs.declared.skips.Skips.{Skips}
 use Rattle.job_reports.specs.declared.job.Pair.{Pair}
 use Rattle.job_reports.specs.declared.report.Did.{Did}
-use Rattle.job_reports.specs.declared.report.Did.TheVariants.{Began, Chunk, Placed, Removed, Made, Set, Kept, Skipped, Cleaned, Barrier, Asked, Troubled, Ended}
+use Rattle.job_reports.specs.declared.report.Did.TheVariants.{Began, Chunk, Placed, Removed, Made, Set, Kept, Skipped, Cleaned, Barrier, Asked, Merges, Troubled, Ended}
 use Rattle.job_reports.specs.declared.report.StepResult.{StepResult}
 use Rattle.subtree_walk.specs.Places.{opened}
 use Rattle.copy_levels.specs.Levels.{Levels, is_around_dirty, made_levels}
@@ -48,6 +48,7 @@ left_clean (Placed path) c h = h
 left_clean (Removed path) c h = h
 left_clean (Kept path) c h = h
 left_clean (Asked question) c h = h
+left_clean (Merges pair names) c h = h
 left_clean (Skipped path cause) c h = h
 left_clean (Cleaned part) c h = h
 left_clean Barrier c h = h
@@ -103,8 +104,9 @@ takes_sync unclaimed old new did before after (inl s) was now = never did new (a
 takes_sync unclaimed old new did before after (inr (inl t)) was now = never did new (file_stays unclaimed _ old new did before after t.works was) now
 takes_sync unclaimed old new did before after (inr (inr (inl t))) was now = never did new (link_stays _ old new did before after t.works was) now
 takes_sync unclaimed old new did before after (inr (inr (inr (inl t)))) was now = never did new (makes_stay t.pair t.names t.mode old new did before after t.works now ∙ was) now
-takes_sync unclaimed old new did before after (inr (inr (inr (inr (next, inl (debt, e)))))) was now = ends_sync old new did before after e was now
-takes_sync unclaimed old new did before after (inr (inr (inr (inr (next, inr (debt, f, same)))))) was now = never did new (ap inner_dirty f.stands ∙ was) now
+takes_sync unclaimed old new did before after (inr (inr (inr (inr (inl t))))) was now = never did new (ap inner_dirty t.stands ∙ was) now
+takes_sync unclaimed old new did before after (inr (inr (inr (inr (inr (next, inl (debt, e))))))) was now = ends_sync old new did before after e was now
+takes_sync unclaimed old new did before after (inr (inr (inr (inr (inr (next, inr (debt, f, same))))))) was now = never did new (ap inner_dirty f.stands ∙ was) now
 
 around_syncs : (old new : Seen) (did : Did) (before after : Option CallLog) → SyncsAround old new did before after → is_around_dirty new.levels.around ≡ false → did ≡ Barrier
 around_syncs old new did before after s now =

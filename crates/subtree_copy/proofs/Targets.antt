@@ -86,8 +86,9 @@ takes_there unclaimed old new did before after (inl s) clean = ap target_of s.st
 takes_there unclaimed old new did before after (inr (inl t)) clean = file_there unclaimed _ old new did before after t.works
 takes_there unclaimed old new did before after (inr (inr (inl t))) clean = link_there _ old new did before after t.works
 takes_there unclaimed old new did before after (inr (inr (inr (inl t)))) clean = makes_there t.pair t.names t.mode old new did before after t.works clean
-takes_there unclaimed old new did before after (inr (inr (inr (inr (next, inl (debt, e)))))) clean = ends_there old new did before after e
-takes_there unclaimed old new did before after (inr (inr (inr (inr (next, inr (debt, f, same)))))) clean = ap target_of f.stands
+takes_there unclaimed old new did before after (inr (inr (inr (inr (inl t))))) clean = ap target_of t.stands
+takes_there unclaimed old new did before after (inr (inr (inr (inr (inr (next, inl (debt, e))))))) clean = ends_there old new did before after e
+takes_there unclaimed old new did before after (inr (inr (inr (inr (inr (next, inr (debt, f, same))))))) clean = ap target_of f.stands
 
 goes_there : (unclaimed : Route → Type 0) (old new : Seen) (did : Did) (before after : Option CallLog) → GoesOn unclaimed old new did before after → is_around_dirty old.levels.around ≡ false → is_left_dirty did new ≡ false
     → target_of new ≡ target_of old

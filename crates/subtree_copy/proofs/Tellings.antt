@@ -5,7 +5,7 @@ use Rattle.mc_text.specs.Routes.{Route}
 use Rattle.tree_trait.specs.Change.{CallLog}
 use Rattle.job_reports.specs.declared.report.Cause.{Cause}
 use Rattle.job_reports.specs.declared.report.Did.{Did}
-use Rattle.job_reports.specs.declared.report.Did.TheVariants.{Began, Chunk, Placed, Removed, Made, Set, Kept, Skipped, Cleaned, Barrier, Asked, Troubled, Ended}
+use Rattle.job_reports.specs.declared.report.Did.TheVariants.{Began, Chunk, Placed, Removed, Made, Set, Kept, Skipped, Cleaned, Barrier, Asked, Merges, Troubled, Ended}
 use Rattle.job_reports.specs.declared.report.Ending.TheVariants.{Finished, Aborted, Killed, NoMemory}
 use Rattle.job_reports.specs.declared.report.StepResult.{StepResult}
 use Rattle.job_reports.specs.declared.report.Trouble.{Trouble}
@@ -91,6 +91,7 @@ file_after f moved (Made path) t = absurd t
 file_after f moved (Set path) t = absurd t
 file_after f moved (Kept path) t = absurd t
 file_after f moved (Asked question) t = absurd t
+file_after f moved (Merges pair names) t = absurd t
 file_after f moved (Skipped path cause) t = absurd t
 
 cleaned_link : (next : LinkNext) (part : Route) → link_part (link.after_clean next) part ≡ None
@@ -113,6 +114,7 @@ link_after l moved (Made path) t = absurd t
 link_after l moved (Set path) t = absurd t
 link_after l moved (Kept path) t = absurd t
 link_after l moved (Asked question) t = absurd t
+link_after l moved (Merges pair names) t = absurd t
 link_after l moved (Skipped path cause) t = absurd t
 
 -- no part is begun or gone at a folder
@@ -151,8 +153,10 @@ module _ (old new : Seen) (did : Did) (before after : Option CallLog) where
   takes_goes unclaimed none (inr (inr (inl t))) = link_goes _ (ap part_of none) t.works
   takes_goes unclaimed none (inr (inr (inr (inl t)))) =
       let w = t.works in none_goes none (ap (λ (c : Seen). c.item) w.stands) (told_none w.report did w.says) (ap (λ (c : Seen). c.stage) w.stands)
-  takes_goes unclaimed none (inr (inr (inr (inr (next, inl (debt, e)))))) = none_goes none (ap (λ (c : Seen). c.item) e.stands) (told_none e.report did e.says) (ap (λ (c : Seen). c.stage) e.stands)
-  takes_goes unclaimed none (inr (inr (inr (inr (next, inr (debt, f, same)))))) =
+  takes_goes unclaimed none (inr (inr (inr (inr (inl t))))) =
+      none_goes none (ap (λ (c : Seen). c.item) t.stands) (ap (λ d. part_after d None) t.says) (ap (λ (c : Seen). c.stage) t.stands ∙ sym (ap (λ d. after_report d old.stage) t.says))
+  takes_goes unclaimed none (inr (inr (inr (inr (inr (next, inl (debt, e))))))) = none_goes none (ap (λ (c : Seen). c.item) e.stands) (told_none e.report did e.says) (ap (λ (c : Seen). c.stage) e.stands)
+  takes_goes unclaimed none (inr (inr (inr (inr (inr (next, inr (debt, f, same))))))) =
       none_goes none (ap (λ (c : Seen). c.item) f.stands) (ap (λ d. part_after d None) f.says) (ap (λ (c : Seen). c.stage) f.stands ∙ sym (ap (λ d. after_report d old.stage) f.says))
 
   works_goes : (unclaimed : Route → Type 0) (item : Item) → old.item ≡ item → WorksOn item unclaimed old new did before after → Goes did old new

@@ -1,13 +1,13 @@
 -- A copy that has changed nothing yet, after each step, skip and retry; and its troubles.
-use Rattle.std.proofs.Common.{◌≡◌, ℕ, suc, zero, refl, sym, ◌∙◌, ap, subst, inl, inr, Bool, true, false, not, List, [], ◌∷◌, Option, Some, None}
-use Rattle.std.specs.Prelude.{if◌then◌else◌}
+use Rattle.std.proofs.Common.{◌≡◌, ◌≤◌, ℕ, suc, zero, refl, sym, ◌∙◌, ap, subst, inl, inr, Bool, true, false, not, List, [], ◌∷◌, length, arith, Option, Some, None}
+use Rattle.std.specs.Prelude.{drop, if◌then◌else◌}
 use Rattle.std.proofs.lemmas.Bool.{false≢true, true≢false}
 use Rattle.mc_text.specs.Routes.{Route}
 use Rattle.tree_trait.specs.Change.{CallLog}
 use Rattle.job_reports.specs.declared.job.Pair.{Pair}
 use Rattle.job_reports.specs.declared.report.Cause.{Cause}
 use Rattle.job_reports.specs.declared.report.Did.{Did}
-use Rattle.job_reports.specs.declared.report.Did.TheVariants.{Began, Chunk, Placed, Removed, Made, Set, Kept, Skipped, Cleaned, Barrier, Asked, Troubled, Ended}
+use Rattle.job_reports.specs.declared.report.Did.TheVariants.{Began, Chunk, Placed, Removed, Made, Set, Kept, Skipped, Cleaned, Barrier, Asked, Merges, Troubled, Ended}
 use Rattle.job_reports.specs.declared.report.Ending.TheVariants.{Finished, Aborted, Killed, NoMemory}
 use Rattle.job_reports.specs.declared.report.StepResult.{StepResult}
 use Rattle.job_reports.specs.declared.report.Trouble.{Trouble}
@@ -57,20 +57,43 @@ fresh_before did old new stage fresh = by (changes did) refl
     by true is = absurd (false≢true (sym (ap is_fresh (stage ∙ ap (λ b. if b then Going else old.stage) is)) ∙ fresh))
     by false is = (is, sym (ap is_fresh (stage ∙ ap (λ b. if b then Going else old.stage) is)) ∙ fresh)
 
+-- how many names are to be met
+abbrev many : Seen → ℕ
+many c = length c.levels.inner.names.names
+
 -- what stands as it stood
-like : (old new : Seen) → new.item ≡ Next → new.levels.around ≡ old.levels.around → owes_at_end new.levels.inner.copy.stage false ≡ false → is_dirty new.levels.inner.copy.names ≡ is_dirty old.levels.inner.copy.names → IsOutside old
-    → IsOutside new
-like old new none around owes names o = record { none = none; around = around ∙ o.around; owes = owes; clean = names ∙ o.clean }
+like : (old new : Seen) → new.item ≡ Next → new.levels.around ≡ old.levels.around → many new ≤ many old → owes_at_end new.levels.inner.copy.stage false ≡ false
+    → is_dirty new.levels.inner.copy.names ≡ is_dirty old.levels.inner.copy.names → IsOutside old → IsOutside new
+like old new none around fewer owes names o =
+    record { none = none; around = around ∙ o.around; one = (let one = o.one in omega (arith, fewer, one)); owes = owes; clean = names ∙ o.clean }
+
+as_many : (old new : Seen) → new.levels.inner.names.names ≡ old.levels.inner.names.names → many new ≤ many old
+as_many old new same = let e : many new ≡ many old = ap (λ (xs : List (List ℕ)). length xs) same in omega (arith, e)
+
+-- the next name is done with
+one_fewer : (names : List (List ℕ)) → length (drop 1 names) ≤ length names
+one_fewer [] = omega arith
+one_fewer (name ∷ names) = omega arith
+
+with_fewer : (old new : Seen) → new.levels.inner.names.names ≡ drop 1 old.levels.inner.names.names → many new ≤ many old
+with_fewer old new same =
+    let e : many new ≡ length (drop 1 old.levels.inner.names.names) = ap (λ (xs : List (List ℕ)). length xs) same in
+    let fewer = one_fewer old.levels.inner.names.names in
+    omega (arith, e, fewer)
+
+none_left : (old new : Seen) → new.levels.inner.names.names ≡ [] → many new ≤ many old
+none_left old new none = let e : many new ≡ 0 = ap (λ (xs : List (List ℕ)). length xs) none in omega (arith, e)
 
 same_levels : (old new : Seen) → new.item ≡ Next → new.levels ≡ old.levels → IsOutside old → IsOutside new
 same_levels old new none same o =
-    like old new none (ap (λ (l : Levels). l.around) same) (ap (λ (l : Levels). owes_at_end l.inner.copy.stage false) same ∙ o.owes) (ap (λ (l : Levels). is_dirty l.inner.copy.names) same) o
+    like old new none (ap (λ (l : Levels). l.around) same) (as_many old new (ap (λ (l : Levels). l.inner.names.names) same)) (ap (λ (l : Levels). owes_at_end l.inner.copy.stage false) same ∙ o.owes)
+    (ap (λ (l : Levels). is_dirty l.inner.copy.names) same) o
 
 same_seen : (old new : Seen) → new ≡ old → IsOutside old → IsOutside new
 same_seen old new is o = subst IsOutside (sym is) o
 
 -- a folder that owes nothing owes nothing at its end, nor when that is skipped
-closes : (stage : Stage) → owes_at_end stage false ≡ false → owes_at_end (closing stage) false ≡ false
+pub closes : (stage : Stage) → owes_at_end stage false ≡ false → owes_at_end (closing stage) false ≡ false
 closes (Make mode) h = absurd (true≢false h)
 closes (Fill None) h = refl
 closes (Fill (Some mode)) h = absurd (true≢false h)
@@ -78,7 +101,7 @@ closes (Close None) h = refl
 closes (Close (Some mode)) h = absurd (true≢false h)
 closes Done h = refl
 
-skips_end : (stage : Stage) → owes_at_end stage false ≡ false → owes_at_end (folder.skipped stage) false ≡ false
+pub skips_end : (stage : Stage) → owes_at_end stage false ≡ false → owes_at_end (folder.skipped stage) false ≡ false
 skips_end (Make mode) h = absurd (true≢false h)
 skips_end (Fill None) h = refl
 skips_end (Fill (Some mode)) h = absurd (true≢false h)
@@ -94,6 +117,7 @@ quiet_file f m (Ended Killed part) begin t quiet = absurd t
 quiet_file f m (Ended NoMemory part) begin t quiet = absurd t
 quiet_file f m (Kept path) begin t quiet = absurd t
 quiet_file f m (Asked question) begin t quiet = absurd t
+quiet_file f m (Merges pair names) begin t quiet = absurd t
 quiet_file f m (Skipped path cause) begin t quiet = absurd t
 quiet_file f m (Began part) begin t quiet = absurd (true≢false quiet)
 quiet_file f m (Chunk count) begin t quiet = absurd (true≢false quiet)
@@ -109,6 +133,7 @@ quiet_link l m (Troubled trouble) t quiet = t.1
 quiet_link l m (Ended ending part) t quiet = absurd t
 quiet_link l m (Kept path) t quiet = absurd t
 quiet_link l m (Asked question) t quiet = absurd t
+quiet_link l m (Merges pair names) t quiet = absurd t
 quiet_link l m (Skipped path cause) t quiet = absurd t
 quiet_link l m (Began part) t quiet = absurd (true≢false quiet)
 quiet_link l m (Chunk count) t quiet = absurd (true≢false quiet)
@@ -134,6 +159,7 @@ begins_file f m (Removed path) begin t = t
 begins_file f m (Set path) begin t = t
 begins_file f m (Kept path) begin t = t
 begins_file f m (Asked question) begin t = t
+begins_file f m (Merges pair names) begin t = tt
 
 begins_link : (l m : LinkCopying) (did : Did) → l.stage ≡ link_stage.Make → link.Tells l did m → MayBegin did
 begins_link l m (Began part) make t = tt
@@ -149,6 +175,7 @@ begins_link l m (Removed path) make t = t
 begins_link l m (Set path) make t = t
 begins_link l m (Kept path) make t = t
 begins_link l m (Asked question) make t = t
+begins_link l m (Merges pair names) make t = tt
 
 begins_folder : (pair : Pair) (mode : ℕ) (m : FolderCopying) (report : FolderDid) (did : Did) → IsToldAs report did → folder.Tells (folder.copying pair.source pair.target (Make mode) marks.Synced) report m → MayBegin did
 begins_folder pair mode m (folder_did.Made path) did told t = subst MayBegin (sym told) tt
@@ -192,9 +219,12 @@ module _ (unclaimed : Route → Type 0) (old new : Seen) (did : Did) (before aft
   takes_outside (inr (inl t)) quiet = file_outside t.pair t.works quiet
   takes_outside (inr (inr (inl t))) quiet = link_outside t.pair t.part t.works quiet
   takes_outside (inr (inr (inr (inl t)))) quiet = makes_outside t.pair t.names t.mode t.works quiet
-  takes_outside (inr (inr (inr (inr (next, inl (debt, e)))))) quiet = absurd (no_debt debt)
-  takes_outside (inr (inr (inr (inr (next, inr (debt, f, same)))))) quiet =
-      subst IsOutside (sym f.stands) (like old (at_end old) o.none refl (closes old.levels.inner.copy.stage o.owes) refl o)
+  takes_outside (inr (inr (inr (inr (inl t))))) quiet =
+      like old new (ap (λ (c : Seen). c.item) t.stands ∙ o.none) (ap (λ (c : Seen). c.levels.around) t.stands) (with_fewer old new (ap (λ (c : Seen). c.levels.inner.names.names) t.stands)) (ap (λ (c : Seen). owes_at_end c.levels.inner.copy.stage false) t.stands ∙ o.owes)
+      (ap (λ (c : Seen). is_dirty c.levels.inner.copy.names) t.stands) o
+  takes_outside (inr (inr (inr (inr (inr (next, inl (debt, e))))))) quiet = absurd (no_debt debt)
+  takes_outside (inr (inr (inr (inr (inr (next, inr (debt, f, same))))))) quiet =
+      subst IsOutside (sym f.stands) (like old (at_end old) o.none refl (as_many old (at_end old) refl) (closes old.levels.inner.copy.stage o.owes) refl o)
 
   works_outside : (item : Item) → old.item ≡ item → WorksOn item unclaimed old new did before after → changes did ≡ false → IsOutside new
   works_outside Next is (inl s) quiet = absurd (false≢true (sym (ap is_around_dirty o.around) ∙ s.dirty))
@@ -209,8 +239,9 @@ module _ (unclaimed : Route → Type 0) (old new : Seen) (did : Did) (before aft
   takes_apart u (inr (inl t)) says = (let w = t.works in (file_same (file.begun old.job t.pair.source t.pair.target) w.moved did u w.tells says).0)
   takes_apart u (inr (inr (inl t))) says = (let w = t.works in (link_same (link_begun t.pair t.part) w.moved did u w.tells says).0)
   takes_apart u (inr (inr (inr (inl t)))) says = (let w = t.works in (folder_same (folder.copying t.pair.source t.pair.target (Make t.mode) marks.Synced) w.moved w.report did u w.says w.tells says).0)
-  takes_apart u (inr (inr (inr (inr (next, inl (debt, e)))))) says = absurd (no_debt debt)
-  takes_apart u (inr (inr (inr (inr (next, inr (debt, f, same)))))) says = absurd (let e = sym f.says ∙ says in let g : ⊥ = cc in g)
+  takes_apart u (inr (inr (inr (inr (inl t))))) says = absurd (let e = sym t.says ∙ says in let g : ⊥ = cc in g)
+  takes_apart u (inr (inr (inr (inr (inr (next, inl (debt, e))))))) says = absurd (no_debt debt)
+  takes_apart u (inr (inr (inr (inr (inr (next, inr (debt, f, same))))))) says = absurd (let e = sym f.says ∙ says in let g : ⊥ = cc in g)
 
   works_apart : (item : Item) → old.item ≡ item → WorksOn item unclaimed old new did before after → (u : Trouble) → Says did u → u.barrier ≡ false
   works_apart Next is (inl s) u says = absurd (false≢true (sym (ap is_around_dirty o.around) ∙ s.dirty))
@@ -225,8 +256,9 @@ module _ (unclaimed : Route → Type 0) (old new : Seen) (did : Did) (before aft
   takes_first (inr (inl t)) = (let w = t.works in begins_file (file.begun old.job t.pair.source t.pair.target) w.moved did refl w.tells)
   takes_first (inr (inr (inl t))) = (let w = t.works in begins_link (link_begun t.pair t.part) w.moved did refl w.tells)
   takes_first (inr (inr (inr (inl t)))) = (let w = t.works in begins_folder t.pair t.mode w.moved w.report did w.says w.tells)
-  takes_first (inr (inr (inr (inr (next, inl (debt, e)))))) = absurd (no_debt debt)
-  takes_first (inr (inr (inr (inr (next, inr (debt, f, same)))))) = subst MayBegin (sym f.says) tt
+  takes_first (inr (inr (inr (inr (inl t))))) = subst MayBegin (sym t.says) tt
+  takes_first (inr (inr (inr (inr (inr (next, inl (debt, e))))))) = absurd (no_debt debt)
+  takes_first (inr (inr (inr (inr (inr (next, inr (debt, f, same))))))) = subst MayBegin (sym f.says) tt
 
   works_first : (item : Item) → old.item ≡ item → WorksOn item unclaimed old new did before after → MayBegin did
   works_first Next is (inl s) = absurd (false≢true (sym (ap is_around_dirty o.around) ∙ s.dirty))
@@ -236,7 +268,7 @@ module _ (unclaimed : Route → Type 0) (old new : Seen) (did : Did) (before aft
   works_first (Stays part) is w = absurd w
 
 -- no folder was left, since none was gone into
-left_outside : (n : ℕ) (old mid : Seen) → LeavesAll n old mid → IsUnbegun old → is_fresh mid.stage ≡ true → IsOutside mid
+pub left_outside : (n : ℕ) (old mid : Seen) → LeavesAll n old mid → IsUnbegun old → is_fresh mid.stage ≡ true → IsOutside mid
 left_outside zero old mid is h fresh = subst IsOutside (sym is) (h (sym (ap (λ (c : Seen). is_fresh c.stage) is) ∙ fresh))
 left_outside (suc n) old mid (last, all, none, one) h fresh =
     let r = one.returns in
@@ -250,17 +282,17 @@ named_outside [] cause old new did (moved, skips, stands) o = by skips
   where
     by : folder_steps.Skips cause old.levels.inner.copy did moved → IsOutside new
     by (inl s) =
-        like old new (ap (λ (c : Seen). c.item) stands ∙ o.none) (ap (λ (c : Seen). c.levels.around) stands)
+        like old new (ap (λ (c : Seen). c.item) stands ∙ o.none) (ap (λ (c : Seen). c.levels.around) stands) (as_many old new (ap (λ (c : Seen). c.levels.inner.names.names) stands))
         (ap (λ (c : Seen). owes_at_end c.levels.inner.copy.stage false) stands ∙ (ap (λ (c : FolderCopying). owes_at_end c.stage false) s.1 ∙ skips_end old.levels.inner.copy.stage o.owes))
         (ap (λ (c : Seen). is_dirty c.levels.inner.copy.names) stands ∙ ap (λ (c : FolderCopying). is_dirty c.names) s.1) o
     by (inr room) =
-        like old new (ap (λ (c : Seen). c.item) stands ∙ o.none) (ap (λ (c : Seen). c.levels.around) stands)
+        like old new (ap (λ (c : Seen). c.item) stands ∙ o.none) (ap (λ (c : Seen). c.levels.around) stands) (as_many old new (ap (λ (c : Seen). c.levels.inner.names.names) stands))
         (ap (λ (c : Seen). owes_at_end c.levels.inner.copy.stage false) stands ∙ (ap (λ (c : FolderCopying). owes_at_end c.stage false) room.1 ∙ o.owes))
         (ap (λ (c : Seen). is_dirty c.levels.inner.copy.names) stands ∙ ap (λ (c : FolderCopying). is_dirty c.names) room.1) o
 named_outside (name ∷ names) cause old new did (inl s) o =
-    like old new (ap (λ (c : Seen). c.item) s.1 ∙ o.none) (ap (λ (c : Seen). c.levels.around) s.1) (ap (λ (c : Seen). owes_at_end c.levels.inner.copy.stage false) s.1 ∙ o.owes) (ap (λ (c : Seen). is_dirty c.levels.inner.copy.names) s.1) o
+    like old new (ap (λ (c : Seen). c.item) s.1 ∙ o.none) (ap (λ (c : Seen). c.levels.around) s.1) (with_fewer old new (ap (λ (c : Seen). c.levels.inner.names.names) s.1)) (ap (λ (c : Seen). owes_at_end c.levels.inner.copy.stage false) s.1 ∙ o.owes) (ap (λ (c : Seen). is_dirty c.levels.inner.copy.names) s.1) o
 named_outside (name ∷ names) cause old new did (inr (inl (long, inl s))) o =
-    like old new (ap (λ (c : Seen). c.item) s.1 ∙ o.none) (ap (λ (c : Seen). c.levels.around) s.1) (ap (λ (c : Seen). owes_at_end c.levels.inner.copy.stage false) s.1 ∙ o.owes) (ap (λ (c : Seen). is_dirty c.levels.inner.copy.names) s.1) o
+    like old new (ap (λ (c : Seen). c.item) s.1 ∙ o.none) (ap (λ (c : Seen). c.levels.around) s.1) (none_left old new (ap (λ (c : Seen). c.levels.inner.names.names) s.1)) (ap (λ (c : Seen). owes_at_end c.levels.inner.copy.stage false) s.1 ∙ o.owes) (ap (λ (c : Seen). is_dirty c.levels.inner.copy.names) s.1) o
 named_outside (name ∷ names) cause old new did (inr (inl (long, inr room))) o = same_seen old new room.1 o
 named_outside (name ∷ names) cause old new did (inr (inr room)) o = same_seen old new room.1 o
 
@@ -393,7 +425,7 @@ retry_unbegun (Stays part) c is h = h
 
 pub unbegun_law : UnbegunLaw
 unbegun_law = record {
-  begins = λ job top fresh. record { none = refl; around = refl; owes = refl; clean = refl };
+  begins = λ job top fresh. record { none = refl; around = refl; one = omega arith; owes = refl; clean = refl };
   step = λ free old new did calls dirty dirty_after before after f0 f1 s can h. step_unbegun free old new did calls dirty dirty_after before after f0 f1 s h;
   skip = λ cause old new did s can h. skips_unbegun cause old.at new.at did s.skips can h;
   retry = λ c h. retry_unbegun c.at.item c.at refl h;

@@ -4,6 +4,7 @@ pub mod Known
 pub mod LastCalls
 pub mod Leaving
 pub mod Marks
+pub mod Merged
 pub mod Passing
 pub mod Ranks
 pub mod Reporting

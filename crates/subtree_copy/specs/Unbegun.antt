@@ -1,11 +1,11 @@
 -- A copy that has changed nothing yet: nothing is at work, no folder was gone into, and none is dirty. Its first change begins a part or makes a folder.
-use Rattle.std.specs.Prelude.{◌≡◌, ℕ, ⊤, Bool, true, false, List, [], Option}
+use Rattle.std.specs.Prelude.{◌≡◌, ◌≤◌, ℕ, ⊤, Bool, true, false, List, [], length, Option}
 use Rattle.mc_text.specs.Routes.{Route}
 use Rattle.tree_trait.specs.Change.{CallLog}
 use Rattle.job_reports.specs.declared.job.Pair.{Pair}
 use Rattle.job_reports.specs.declared.report.Cause.{Cause}
 use Rattle.job_reports.specs.declared.report.Did.{Did}
-use Rattle.job_reports.specs.declared.report.Did.TheVariants.{Began, Chunk, Placed, Removed, Made, Set, Kept, Skipped, Cleaned, Barrier, Asked, Troubled, Ended}
+use Rattle.job_reports.specs.declared.report.Did.TheVariants.{Began, Chunk, Placed, Removed, Made, Set, Kept, Skipped, Cleaned, Barrier, Asked, Merges, Troubled, Ended}
 use Rattle.job_reports.specs.declared.report.Trouble.{Trouble}
 use Rattle.folder_copy.specs.FolderCopying.{is_dirty}
 use Rattle.tree_copy.specs.declared.item.Item.TheVariants.{Next}
@@ -15,10 +15,11 @@ use Rattle.subtree_copy.specs.Leaving.{owes_at_end}
 use Rattle.subtree_copy.specs.Standing.{IsGoing, SubtreeCopying, retries, started}
 use Rattle.subtree_copy.specs.SubtreeSteps.{SubtreeSkips, SubtreeSteps}
 
--- where it stands: in the folder of its source, which owes nothing
+-- where it stands: in the folder of its source, which owes nothing, and has at most that one name to be met
 pub record IsOutside (c : Seen) : Type 0 where
   pub none : c.item ≡ Next
   pub around : c.levels.around ≡ []
+  pub one : length c.levels.inner.names.names ≤ 1
   pub owes : owes_at_end c.levels.inner.copy.stage false ≡ false
   pub clean : is_dirty c.levels.inner.copy.names ≡ false
 
@@ -38,6 +39,7 @@ MayBegin (Removed path) = ⊥
 MayBegin (Set path) = ⊥
 MayBegin (Kept path) = ⊥
 MayBegin (Asked question) = ⊥
+MayBegin (Merges pair names) = ⊤
 MayBegin (Cleaned part) = ⊥
 MayBegin Barrier = ⊥
 

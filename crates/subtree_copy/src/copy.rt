@@ -4,6 +4,7 @@ ghost use Rattle.mc_text.specs.Routes.{is_prefix, parent_of};
 ghost use Rattle.job_answers.specs.Skipping.{kind_in, with_kind};
 ghost use Rattle.job_reports.specs.Paths.{folder_of};
 ghost use Rattle.tree_trait.specs.Answers.{IfKnown};
+ghost use Rattle.tree_copy.specs.InPlace.{IsInPlace};
 ghost use Rattle.tree_copy.specs.Standing.{is_fresh};
 ghost use Rattle.subtree_copy.specs.LastCalls.{LastCalls, TellsTried};
 ghost use Rattle.subtree_copy.specs.Reporting.{ChangesOwn, IsWound};
@@ -75,6 +76,7 @@ impl SubtreeCopy {
         ensures steps { SubtreeSteps (P.is_free parts.now) self.old self.new result.did result.calls
             dirty.old dirty.new (T.contents tree.old) (T.contents tree.new) (T.fault_count tree.old) (T.fault_count tree.new) }
         ensures own { ChangesOwn self.old result.did dirty.old dirty.new }
+        ensures in_place { IsInPlace self.old.top self.old.at }
         ensures going { IsGoing self.new }
     {
         leave_settled(&mut self.machine);

@@ -2,6 +2,7 @@
 ghost use Rattle.subtree_copy.specs.Barriers.{BarrierLaw};
 ghost use Rattle.subtree_copy.specs.Counted.{CountLaw, LastCountLaw};
 ghost use Rattle.subtree_copy.specs.Known.{KnownLaw};
+ghost use Rattle.subtree_copy.specs.Merged.{MergedLaw};
 ghost use Rattle.subtree_copy.specs.Ranks.{AnsweredLaw, LastRankLaw, RankLaw, SteadyLaw, WaitingLaw};
 ghost use Rattle.subtree_copy.specs.Reporting.{ReportingLaw};
 ghost use Rattle.subtree_copy.specs.Told.{ToldLaw};
@@ -56,6 +57,11 @@ pub fn what_a_trouble_leaves()
 /// A copy that has changed nothing yet has nothing at work and is in no folder, and its troubles are at no barrier.
 pub fn what_an_unbegun_copy_is()
     ensures { UnbegunLaw }
+{}
+
+/// A copy that merges has changed nothing, what it merges is what it copies, and then it is over and changes nothing more.
+pub fn what_a_merge_leaves()
+    ensures { MergedLaw }
 {}
 
 /// Which reports a step and a last step make, and that each changes a folder of the copy's own.

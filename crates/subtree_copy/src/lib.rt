@@ -15,5 +15,5 @@ pub use laws::{
     a_last_step_counts_its_calls, a_step_counts_its_calls, a_trouble_stands_where_the_copy_does,
     each_copy_is_steady, each_last_step_leaves_fewer, each_step_keeps_the_tree_known,
     each_step_leaves_fewer, last_steps_are_fewer, what_a_copy_reports, what_a_history_can_tell,
-    what_a_trouble_leaves, what_an_unbegun_copy_is, what_answers_leave,
+    what_a_merge_leaves, what_a_trouble_leaves, what_an_unbegun_copy_is, what_answers_leave,
 };

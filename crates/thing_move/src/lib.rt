@@ -1,13 +1,11 @@
 //! The move of one thing on one mount, by a renaming, step by step: the thing is looked at and renamed, and then both folders are synced.
 #![tactic(auto)]
 
-mod calls;
 mod moving;
 mod report;
 mod taking;
 mod work;
 
-pub use calls::{rename_thing, sync_names};
 pub use moving::{Stage, ThingMove};
 pub use report::{MoveDid, MoveStep};
 pub use taking::{Taking, take_up};

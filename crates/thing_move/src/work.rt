@@ -6,14 +6,14 @@ ghost use Rattle.thing_move.specs.Moves.{after_sync as stage_after, after_target
 ghost use Rattle.thing_move.specs.MoveSteps.{MovesOn, RenamesOn, moved_by};
 ghost use Rattle.thing_move.specs.MoveEnds.{SyncTried};
 
-use crate::calls::{rename_thing, sync_names};
 use crate::moving::Stage;
 use crate::report::MoveDid;
 use crate::taking::{Taking, take_up};
 use file_copy::Item;
 use job_answers::Standing;
 use job_reports::{
-    Did, LastStepResult, Question, Stop, calls_made, out_of_memory, refusal_in, stopped_before,
+    Did, LastStepResult, Question, Stop, calls_made, out_of_memory, refusal_in, rename_thing,
+    stopped_before, sync_names,
 };
 use mc_text::Path;
 use std::alloc::Global;

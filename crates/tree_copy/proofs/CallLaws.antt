@@ -102,12 +102,14 @@ module _ (top : Pair) (job : ℕ) where
         subst (HasPart job) (sym w.stands) record { by = h.by; beside = h.beside },
         make_makes top job t.pair t.mode w.report log after (pair_moved top old.levels.inner.names.names old t.pair refl t.next p) (w.called log known),
       )
-  takes unclaimed old new did before after (inr (inr (inr (inr (next, inl (debt, e)))))) p h = λ log known.
+  takes unclaimed old new did before after (inr (inr (inr (inr (inl t))))) p h = λ log known.
+      (subst (HasPart job) (sym t.stands) record { by = h.by; beside = h.beside }, none (MayCall top job) log after (t.same ∙ known))
+  takes unclaimed old new did before after (inr (inr (inr (inr (inr (next, inl (debt, e))))))) p h = λ log known.
       let at = closed_in_place top old p in (
         subst (HasPart job) (sym e.stands) record { by = h.by; beside = h.beside },
         level_makes top job old.levels.around (let c = at_end old in c.levels.inner) e.report log after at.levels (e.called log known),
       )
-  takes unclaimed old new did before after (inr (inr (inr (inr (next, inr (debt, f, same)))))) p h = no_call (at_end old) new before after same f.stands record { by = h.by; beside = h.beside }
+  takes unclaimed old new did before after (inr (inr (inr (inr (inr (next, inr (debt, f, same))))))) p h = no_call (at_end old) new before after same f.stands record { by = h.by; beside = h.beside }
 
   syncs : (old new : Seen) (did : Did) (before after : Option CallLog) → SyncsAround old new did before after → IsInPlace top old → HasPart job old → Makes before after new
   syncs old new did before after s p h = λ log known.

@@ -6,7 +6,7 @@ use Rattle.mc_text.specs.Routes.{Route}
 use Rattle.tree_trait.specs.Change.{CallLog}
 use Rattle.job_reports.specs.declared.job.Pair.{Pair}
 use Rattle.job_reports.specs.declared.report.Did.{Did}
-use Rattle.job_reports.specs.declared.report.Did.TheVariants.{Began, Chunk, Placed, Removed, Made, Set, Kept, Skipped, Cleaned, Barrier, Asked, Troubled, Ended}
+use Rattle.job_reports.specs.declared.report.Did.TheVariants.{Began, Chunk, Placed, Removed, Made, Set, Kept, Skipped, Cleaned, Barrier, Asked, Merges, Troubled, Ended}
 use Rattle.file_copy.specs.Copying as file
 use Rattle.file_copy.specs.Copying.{Copying}
 use Rattle.link_copy.specs.LinkCopying as link
@@ -29,7 +29,7 @@ use Rattle.copy_levels.specs.declared.level.Level.{Level}
 use Rattle.tree_copy.specs.declared.progress.Progress.{Progress}
 use Rattle.tree_copy.specs.declared.progress.Progress.TheVariants.{UnderWay, Decided, Anew}
 use Rattle.tree_copy.specs.Falling.{AllMade, FallingLaw, HasName, IsSteady, decides, is_made, things_left}
-use Rattle.copy_levels.specs.Levels.{IsLeft, Levels, level, made_levels, walked, with_copy}
+use Rattle.copy_levels.specs.Levels.{IsLeft, Levels, level, made_levels, passed, walked, with_copy}
 use Rattle.tree_copy.specs.Parts.{IsPartPlace}
 use Rattle.tree_copy.specs.Progress.{link_progress, progress}
 use Rattle.tree_copy.specs.Reports.{IsToldAs}
@@ -78,6 +78,7 @@ file_decided f new (Set path) t h = absurd (false≢true h)
 file_decided f new (Removed path) t h = absurd (false≢true h)
 file_decided f new (Kept path) t h = absurd (false≢true h)
 file_decided f new (Asked question) t h = absurd (false≢true h)
+file_decided f new (Merges pair names) t h = absurd (false≢true h)
 file_decided f new (Skipped path cause) t h = absurd (false≢true h)
 file_decided f new (Cleaned part) t h = absurd (false≢true h)
 file_decided f new Barrier t h = absurd (false≢true h)
@@ -93,6 +94,7 @@ link_decided l new (Set path) t h = absurd (false≢true h)
 link_decided l new (Removed path) t h = absurd (false≢true h)
 link_decided l new (Kept path) t h = absurd (false≢true h)
 link_decided l new (Asked question) t h = absurd (false≢true h)
+link_decided l new (Merges pair names) t h = absurd (false≢true h)
 link_decided l new (Skipped path cause) t h = absurd (false≢true h)
 link_decided l new (Cleaned part) t h = absurd (false≢true h)
 link_decided l new Barrier t h = absurd (false≢true h)
@@ -237,8 +239,18 @@ takes_leave unclaimed old new did before after (inr (inl t)) free h =
 takes_leave unclaimed old new did before after (inr (inr (inl t))) free h = link_leaves _ old new did before after t.works (named_at old.levels.inner.names.names old t.pair t.next) h.made
 takes_leave unclaimed old new did before after (inr (inr (inr (inl t)))) free h =
     folder_leaves t.pair t.names t.mode old new did before after t.works (let r = t.reach in r.0) (named_at old.levels.inner.names.names old t.pair t.next) free h.made
-takes_leave unclaimed old new did before after (inr (inr (inr (inr (next, inl (debt, e)))))) free h = end_leaves (at_end old) new did before after e free (closed_made old h.made)
-takes_leave unclaimed old new did before after (inr (inr (inr (inr (next, inr (debt, f, same)))))) free h =
+takes_leave unclaimed old new did before after (inr (inr (inr (inr (inl t))))) free h =
+    let less = pass_falls false (walked old.levels) (named_at old.levels.inner.names.names old t.pair t.next) in
+    subst (λ (s : Seen). Leaving old s (decides did ≡ true)) (sym t.stands) (
+      record {
+        named = subst (λ (i : Item). HasName i (passed false old.levels)) (sym free) tt;
+        made = made_inner old.levels.inner _ old.levels.around (inner_made old.levels.inner old.levels.around h.made) h.made;
+      },
+      omega (arith, less),
+      λ yes. less,
+    )
+takes_leave unclaimed old new did before after (inr (inr (inr (inr (inr (next, inl (debt, e))))))) free h = end_leaves (at_end old) new did before after e free (closed_made old h.made)
+takes_leave unclaimed old new did before after (inr (inr (inr (inr (inr (next, inr (debt, f, same))))))) free h =
     stays_so (at_end old) new did f.stands (ap decides f.says) (record { named = subst (λ (i : Item). HasName i (let c = at_end old in c.levels)) (sym free) tt; made = closed_made old h.made })
 
 -- the folder around is synced

@@ -6,7 +6,7 @@ use Rattle.tree_trait.specs.Change.{CallLog}
 use Rattle.tree_trait.specs.CrashImages.{Among}
 use Rattle.job_reports.specs.declared.job.Pair.{Pair}
 use Rattle.job_reports.specs.declared.report.Did.{Did}
-use Rattle.job_reports.specs.declared.report.Did.TheVariants.{Began, Chunk, Placed, Removed, Made, Set, Kept, Skipped, Cleaned, Barrier, Asked, Troubled, Ended}
+use Rattle.job_reports.specs.declared.report.Did.TheVariants.{Began, Chunk, Placed, Removed, Made, Set, Kept, Skipped, Cleaned, Barrier, Asked, Merges, Troubled, Ended}
 use Rattle.job_reports.specs.declared.report.Ending.TheVariants.{Finished, Aborted, Killed, NoMemory}
 use Rattle.file_copy.specs.Copying as file
 use Rattle.file_copy.specs.Copying.{Copying}
@@ -53,6 +53,7 @@ file_paths f new (Removed path) t = absurd t
 file_paths f new (Made made) t = absurd t
 file_paths f new (Kept path) t = absurd t
 file_paths f new (Asked question) t = absurd t
+file_paths f new (Merges pair names) t = absurd t
 file_paths f new (Skipped path cause) t = absurd t
 
 pub link_paths : (l new : LinkCopying) (did : Did) → link.Tells l did new → (new.source ≡ l.source) × (new.target ≡ l.target)
@@ -67,6 +68,7 @@ link_paths l new (Removed path) t = absurd t
 link_paths l new (Made made) t = absurd t
 link_paths l new (Kept path) t = absurd t
 link_paths l new (Asked question) t = absurd t
+link_paths l new (Merges pair names) t = absurd t
 link_paths l new (Skipped path cause) t = absurd t
 link_paths l new (Ended ending part) t = absurd t
 
@@ -135,6 +137,7 @@ module _ (top : Pair) where
   names_file f new (Removed path) t m = tt
   names_file f new (Kept path) t m = tt
   names_file f new (Asked question) t m = tt
+  names_file f new (Merges pair names) t m = tt
   names_file f new (Skipped path cause) t m = tt
   names_file f new (Cleaned part) t m = tt
   names_file f new Barrier t m = tt
@@ -150,6 +153,7 @@ module _ (top : Pair) where
   names_link l new (Removed path) t m = tt
   names_link l new (Kept path) t m = tt
   names_link l new (Asked question) t m = tt
+  names_link l new (Merges pair names) t m = tt
   names_link l new (Skipped path cause) t m = tt
   names_link l new (Cleaned part) t m = tt
   names_link l new Barrier t m = tt
@@ -288,8 +292,16 @@ module _ (top : Pair) where
   takes_keep unclaimed old new did before after (inr (inr (inl t))) h = link_keeps _ old new did before after t.works (pair_moved old.levels.inner.names.names old t.pair refl t.next h) h
   takes_keep unclaimed old new did before after (inr (inr (inr (inl t)))) h =
       folder_keeps t.pair t.names t.mode old new did before after t.works (pair_moved old.levels.inner.names.names old t.pair refl t.next h) h
-  takes_keep unclaimed old new did before after (inr (inr (inr (inr (next, inl (debt, e)))))) h = ends_keep (at_end old) new did before after e (closed_in_place old h)
-  takes_keep unclaimed old new did before after (inr (inr (inr (inr (next, inr (debt, f, same)))))) h =
+  takes_keep unclaimed old new did before after (inr (inr (inr (inr (inl t))))) h = (
+    subst (IsInPlace top) (sym t.stands) record {
+      name = h.name;
+      levels = levels_keep top old.levels.inner (let l = passed false old.levels in l.inner) old.levels.around refl refl (λ o. o) (λ name is. fewer old.levels.inner.names.names name is) h.levels;
+      item = h.item;
+    },
+    subst (NamesTarget top) (sym t.says) tt,
+  )
+  takes_keep unclaimed old new did before after (inr (inr (inr (inr (inr (next, inl (debt, e))))))) h = ends_keep (at_end old) new did before after e (closed_in_place old h)
+  takes_keep unclaimed old new did before after (inr (inr (inr (inr (inr (next, inr (debt, f, same))))))) h =
       (subst (IsInPlace top) (sym f.stands) (closed_in_place old h), subst (NamesTarget top) (sym f.says) tt)
 
   -- the folder around is synced

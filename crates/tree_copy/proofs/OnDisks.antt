@@ -103,8 +103,9 @@ takes unclaimed old new did before after (inr (inr (inl t))) free h = kept old.l
 takes unclaimed old new did before after (inr (inr (inr (inl t)))) free h =
     let w = t.works in
     subst IsOnDisk (sym w.stands) (made_on_disk w.moved.stage (opened t.pair.source t.names) w.moved old did (made_clean t.pair.source t.pair.target t.mode w.moved w.report w.tells) free h)
-takes unclaimed old new did before after (inr (inr (inr (inr (next, inl (debt, e)))))) free h = kept old.levels.around new (ap (λ (c : Seen). c.levels.around) e.stands) h
-takes unclaimed old new did before after (inr (inr (inr (inr (next, inr (debt, f, same)))))) free h = kept old.levels.around new (ap (λ (c : Seen). c.levels.around) f.stands) h
+takes unclaimed old new did before after (inr (inr (inr (inr (inl t))))) free h = kept old.levels.around new (ap (λ (c : Seen). c.levels.around) t.stands) h
+takes unclaimed old new did before after (inr (inr (inr (inr (inr (next, inl (debt, e))))))) free h = kept old.levels.around new (ap (λ (c : Seen). c.levels.around) e.stands) h
+takes unclaimed old new did before after (inr (inr (inr (inr (inr (next, inr (debt, f, same))))))) free h = kept old.levels.around new (ap (λ (c : Seen). c.levels.around) f.stands) h
 
 nearest : (item : Item) (inner outer : Level) (was around : List Level) → was ≡ outer ∷ around → AroundSynced item inner was → AroundSynced item inner (outer ∷ around)
 nearest item inner outer was around is h = subst (AroundSynced item inner) is h

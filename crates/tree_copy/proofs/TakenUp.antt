@@ -1,5 +1,5 @@
 -- What a step does with what it takes up.
-use Rattle.std.proofs.Common.{◌≡◌, ℕ, refl, sym, ◌∙◌, subst, inl, inr, Bool, false, List, Option, Some, None}
+use Rattle.std.proofs.Common.{◌≡◌, ◌≤◌, ◌^◌, ℕ, length, refl, sym, ◌∙◌, subst, inl, inr, Bool, false, List, Option, Some, None}
 use Rattle.std.specs.Prelude.{◌⊎◌}
 use Rattle.mc_text.specs.Routes.{Route}
 use Rattle.tree_trait.specs.Change.{CallLog, current}
@@ -10,6 +10,8 @@ use Rattle.job_reports.specs.declared.report.Did.TheVariants as common
 use Rattle.job_reports.specs.Stops.{out_of_memory_at}
 use Rattle.file_copy.specs.Copying as file
 use Rattle.file_copy.specs.PartNames.{IsChosen}
+use Rattle.copy_levels.specs.Levels.{passed}
+use Rattle.tree_copy.specs.declared.copy.Stage.TheVariants.{Begin}
 use Rattle.tree_copy.specs.declared.due.Due.TheVariants.{Thing}
 use Rattle.tree_copy.specs.declared.looking.Taken.TheVariants as taken
 use Rattle.tree_copy.specs.declared.item.Item.{Item}
@@ -19,7 +21,7 @@ use Rattle.job_reports.specs.declared.report.StepResult.{StepResult}
 use Rattle.tree_copy.specs.Parts.{IsPartPlace}
 use Rattle.tree_copy.specs.Standing.{Seen, due}
 use Rattle.tree_copy.specs.Steps.{Advances, AdvancesNext, FileWorks, FolderMakes, GoesOn, Leaves, LinkWorks, RunsOut, TakesNext, WhyStopped, WorksOn, link_begun}
-use Rattle.tree_copy.specs.Taking.{IsInReach, IsShort, IsTaken}
+use Rattle.tree_copy.specs.Taking.{AreShort, IsInReach, IsShort, IsTaken}
 
 module _ (unclaimed : Route → Type 0) (old new : Seen) (did : Did) (before mid after : Option CallLog) (same : mid ≡ before) where
   -- looks were stopped
@@ -54,6 +56,23 @@ module _ (unclaimed : Route → Type 0) (old new : Seen) (did : Did) (before mid
       in_order = order;
       works = subst (λ (x : Option CallLog). FolderMakes pair names mode old new did x after) same works;
     })))
+
+    pub took_merged : (names : List (List ℕ)) → old.stage ≡ Begin → IfKnown before (λ log. IsTaken (current log) pair (taken.Merged names)) → AreShort pair names → IsAscending names → length names ≤ 2 ^ 64
+        → new ≡ record old { levels = passed false old.levels } → did ≡ common.Merges pair names → after ≡ mid → TakesNext unclaimed old new did before after
+    took_merged names fresh is short order few stands says made = inr (inr (inr (inr (inl record {
+      pair = pair;
+      names = names;
+      next = next;
+      reach = reach;
+      fresh = fresh;
+      is = is;
+      short = short;
+      few = few;
+      in_order = order;
+      says = says;
+      same = made ∙ same;
+      stands = stands;
+    }))))
 
     pub took_link : (part : Route) → IsShort part → IfKnown before (λ log. IsTaken (current log) pair taken.Link)
         → IfKnown before (λ log. IsChosen (current log) unclaimed (file.places old.job pair.source pair.target) part)

@@ -68,8 +68,9 @@ takes unclaimed old new did before after (inr (inl t)) free =
 takes unclaimed old new did before after (inr (inr (inl t))) free =
     link_step (link_begun t.pair t.part) old new did before after t.works (pair_in old.levels.inner.names.names old t.pair t.next)
 takes unclaimed old new did before after (inr (inr (inr (inl t)))) free = let w = t.works in none_in new (ap (λ (c : Seen). c.item) w.stands ∙ free)
-takes unclaimed old new did before after (inr (inr (inr (inr (next, inl (debt, e)))))) free = none_in new (ap (λ (c : Seen). c.item) e.stands ∙ free)
-takes unclaimed old new did before after (inr (inr (inr (inr (next, inr (debt, f, same)))))) free = none_in new (ap (λ (c : Seen). c.item) f.stands ∙ free)
+takes unclaimed old new did before after (inr (inr (inr (inr (inl t))))) free = none_in new (ap (λ (c : Seen). c.item) t.stands ∙ free)
+takes unclaimed old new did before after (inr (inr (inr (inr (inr (next, inl (debt, e))))))) free = none_in new (ap (λ (c : Seen). c.item) e.stands ∙ free)
+takes unclaimed old new did before after (inr (inr (inr (inr (inr (next, inr (debt, f, same))))))) free = none_in new (ap (λ (c : Seen). c.item) f.stands ∙ free)
 
 goes : (unclaimed : Route → Type 0) (old new : Seen) (did : Did) (before after : Option CallLog) → GoesOn unclaimed old new did before after → old.item ≡ Next → IsInWorked new
 goes unclaimed old new did before after (inl s) free = none_in new (ap (λ (c : Seen). c.item) s.stands ∙ free)

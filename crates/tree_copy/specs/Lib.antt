@@ -1,4 +1,5 @@
 pub mod MadeCalls
+pub mod Merging
 pub mod OnDisk
 pub mod Parts
 pub mod Progress

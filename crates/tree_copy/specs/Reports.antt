@@ -33,6 +33,7 @@ changes (common.Troubled trouble) = false
 changes (common.Skipped path cause) = false
 changes (common.Kept path) = false
 changes (common.Asked question) = false
+changes (common.Merges pair names) = false
 changes (common.Ended ending part) = false
 changes (common.Began part) = true
 changes (common.Chunk count) = true

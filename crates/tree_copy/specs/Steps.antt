@@ -32,6 +32,7 @@ use Rattle.folder_copy.specs.declared.stage.Stage.TheVariants as folder_stage
 use Rattle.folder_copy.specs.declared.stage.NamesState.{NamesState}
 use Rattle.folder_copy.specs.declared.stage.NamesState.TheVariants as folder_names
 use Rattle.subtree_walk.specs.Places.{opened}
+use Rattle.tree_copy.specs.declared.copy.Stage.TheVariants.{Begin}
 use Rattle.tree_copy.specs.declared.due.Due.TheVariants.{End, Thing}
 use Rattle.tree_copy.specs.declared.item.Item.{Item}
 use Rattle.copy_levels.specs.declared.level.Level.{Level}
@@ -45,7 +46,7 @@ use Rattle.tree_copy.specs.Parts.{IsPartPlace, IsShortPart}
 use Rattle.tree_copy.specs.Progress.{link_progress, progress}
 use Rattle.tree_copy.specs.Reports.{IsToldAs}
 use Rattle.tree_copy.specs.Standing.{Seen, after_report, due}
-use Rattle.tree_copy.specs.Taking.{DueStops, IsInReach, IsShort, IsTaken, LooksStop}
+use Rattle.tree_copy.specs.Taking.{AreShort, DueStops, IsInReach, IsShort, IsTaken, LooksStop}
 
 -- a step can be made: a file or a link is at work while its part stands, and no part is left that could not be removed
 abbrev pub IsWorkable : Item → Type 0
@@ -147,6 +148,21 @@ pub record TakesFolder (old new : Seen) (did : Did) (before after : Option CallL
   pub in_order : IsAscending names
   pub works : FolderMakes pair names mode old new did before after
 
+-- A folder is to be copied onto a folder: it is told that the two are merged, and the copy is done with it. What lies in it is copied by others.
+pub record TakesMerged (old new : Seen) (did : Did) (before after : Option CallLog) : Type 0 where
+  pub pair : Pair
+  pub names : List (List ℕ)
+  pub next : due old ≡ Thing pair
+  pub reach : IsInReach old.levels.left (Thing pair)
+  pub fresh : old.stage ≡ Begin
+  pub is : IfKnown before (λ log. IsTaken (current log) pair (taken.Merged names))
+  pub short : AreShort pair names
+  pub few : length names ≤ 2 ^ 64
+  pub in_order : IsAscending names
+  pub says : did ≡ common.Merges pair names
+  pub same : after ≡ before
+  pub stands : new ≡ record old { levels = passed false old.levels }
+
 -- a step at a folder whose children are decided
 pub record FolderEnds (old new : Seen) (did : Did) (before after : Option CallLog) : Type 0 where
   pub moved : FolderCopying
@@ -183,7 +199,7 @@ WorksAtEnd old new did before after =
 abbrev pub WhyStopped : (Route → Type 0) → Seen → Trouble → Option CallLog → Type 0
 WhyStopped unclaimed c t before =
     DueStops c t
-    ⊎ ((pair : Pair) × (due c ≡ Thing pair) × IsInReach c.levels.left (Thing pair) × IfKnown before (λ log. LooksStop (current log) pair t))
+    ⊎ ((pair : Pair) × (due c ≡ Thing pair) × IsInReach c.levels.left (Thing pair) × IfKnown before (λ log. LooksStop (current log) c.stage pair t))
     ⊎ ((pair : Pair) × (due c ≡ Thing pair) × IsInReach c.levels.left (Thing pair)
     × IfKnown before (λ log. IsTaken (current log) pair taken.Link × NameStops (current log) unclaimed (file.places c.job pair.source pair.target) t.cause t.path))
     ⊎ ((pair : Pair) × (due c ≡ Thing pair) × (t ≡ out_of_memory_at false))
@@ -217,6 +233,7 @@ TakesNext unclaimed old new did before after =
     ⊎ TakesFile unclaimed old new did before after
     ⊎ TakesLink unclaimed old new did before after
     ⊎ TakesFolder old new did before after
+    ⊎ TakesMerged old new did before after
     ⊎ WorksAtEnd old new did before after
 
 -- What a step does where nothing is at work: a folder that was made is brought onto the disk, and only then something is put into it.

@@ -9,6 +9,7 @@ use Rattle.tree_trait.specs.declared.calls.TreeError.TheVariants as refused
 use Rattle.tree_trait.specs.Calls.{Stat, ListFolder}
 use Rattle.tree_trait.specs.FileSystem.{node}
 use Rattle.tree_trait.specs.Change.{found}
+use Rattle.tree_trait.specs.CrashImages.{Among}
 use Rattle.tree_trait.specs.Refusals.{refusal_of}
 use Rattle.tree_trait.specs.Answers.{IsAscending, IsListing}
 use Rattle.job_reports.specs.declared.job.Pair.{Pair}
@@ -18,6 +19,8 @@ use Rattle.job_reports.specs.declared.report.Trouble.{Trouble}
 use Rattle.job_reports.specs.Paths.{folder_of}
 use Rattle.job_reports.specs.Reading.{IsRefusedWith, StatStops, TargetStops}
 use Rattle.job_reports.specs.Stops.{IsTroubleWithPath, out_of_memory_at}
+use Rattle.tree_copy.specs.declared.copy.Stage.{Stage}
+use Rattle.tree_copy.specs.declared.copy.Stage.TheVariants.{Begin}
 use Rattle.tree_copy.specs.declared.due.Due.{Due}
 use Rattle.tree_copy.specs.declared.due.Due.TheVariants.{End, Thing}
 use Rattle.tree_copy.specs.declared.looking.Taken.{Taken}
@@ -92,36 +95,71 @@ TargetRefuses s pair t =
     TargetStops s pair.target t.cause t.path
     ⊎ ((refusal_of s (Stat pair.target) ≡ None) × IsTroubleWithPath (TargetKind (node s (found s pair.target)).kind) pair.target t)
 
--- The trouble of looks at a thing, in their order: at the source; at the target, unless it is a file, whose copy looks there; the source is
--- a special file; it is a folder that can't be listed.
-abbrev pub LooksStop : FileSystem → Pair → Trouble → Type 0
-LooksStop s pair t =
-    StatStops s pair.source t.cause t.path
-    ⊎ (SourceIsNoFile s pair × TargetRefuses s pair t)
-    ⊎ (SourceIs s pair kind.Other × IsFree s pair × IsTroubleWithPath SpecialSource pair.source t)
-    ⊎ (SourceIs s pair kind.Folder × IsFree s pair × FolderStops s pair.source t)
-
 -- all names of a folder, each of which can be shown
 abbrev pub Lists : FileSystem → Route → List (List ℕ) → Type 0
 Lists s folder names = (refusal_of s (ListFolder folder) ≡ None) × IsListing s (found s folder) (record { names = names; unnamed = 0 })
 
--- what is taken up is a file; a link, or a folder with these names and this mode, at whose target nothing stands
+-- a folder stands at the target
+abbrev pub IsOnFolder : FileSystem → Pair → Type 0
+IsOnFolder s pair = (refusal_of s (Stat pair.target) ≡ None) × ((node s (found s pair.target)).kind ≡ kind.Folder)
+
+-- A folder that is to be copied onto a folder is merged with it, where the copy has changed nothing yet.
+abbrev pub CanMerge : FileSystem → Stage → Pair → Type 0
+CanMerge s stage pair = (stage ≡ Begin) × SourceIs s pair kind.Folder × IsOnFolder s pair
+
+-- The trouble of what stands at a target: the look there is refused; or something stands there, and the two aren't folders that can be merged.
+abbrev pub TargetHinders : FileSystem → Stage → Pair → Trouble → Type 0
+TargetHinders s stage pair t =
+    TargetStops s pair.target t.cause t.path
+    ⊎ ((refusal_of s (Stat pair.target) ≡ None) × IsTroubleWithPath (TargetKind (node s (found s pair.target)).kind) pair.target t × (CanMerge s stage pair → ⊥))
+
+-- The trouble of a thing with this name in a folder that is merged: its path, or that of its target, would be too long.
+abbrev pub ChildStops : Pair → List ℕ → Trouble → Type 0
+ChildStops pair name t =
+    (IsTroubleWithPath TooLong pair.source t × (4096 < length (spelled (name ∷ pair.source))))
+    ⊎ (IsTroubleWithPath TooLong (name ∷ pair.source) t × (4096 < length (spelled (name ∷ pair.target))))
+
+-- the paths of all that lies in a folder that is merged can be told, and those of their targets
+abbrev pub AreShort : Pair → List (List ℕ) → Type 0
+AreShort pair names = (name : List ℕ) → Among names name → IsShort (name ∷ pair.source) × IsShort (name ∷ pair.target)
+
+-- The trouble of looks at a thing, in their order: at the source; at the target, unless it is a file, whose copy looks there, or the two are folders that
+-- can be merged; the source is a special file; it is a folder that can't be listed; something that lies in a folder to be merged has too long a path.
+abbrev pub LooksStop : FileSystem → Stage → Pair → Trouble → Type 0
+LooksStop s stage pair t =
+    StatStops s pair.source t.cause t.path
+    ⊎ (SourceIsNoFile s pair × TargetHinders s stage pair t)
+    ⊎ (SourceIs s pair kind.Other × IsFree s pair × IsTroubleWithPath SpecialSource pair.source t)
+    ⊎ (SourceIs s pair kind.Folder × (IsFree s pair ⊎ CanMerge s stage pair) × FolderStops s pair.source t)
+    ⊎ (CanMerge s stage pair × ((name : List ℕ) × (names : List (List ℕ)) × Lists s pair.source names × Among names name × ChildStops pair name t))
+
+-- What is taken up is a file; a link, or a folder with these names and this mode, at whose target nothing stands; or a folder with these names, at whose
+-- target a folder stands.
 abbrev pub IsTaken : FileSystem → Pair → Taken → Type 0
 IsTaken s pair taken.File = SourceIs s pair kind.File
 IsTaken s pair taken.Link = SourceIs s pair kind.Link × IsFree s pair
 IsTaken s pair (taken.Folder names mode) =
     SourceIs s pair kind.Folder × IsFree s pair × Lists s pair.source names × (mode ≡ (node s (found s pair.source)).mode)
+IsTaken s pair (taken.Merged names) = SourceIs s pair kind.Folder × IsOnFolder s pair × Lists s pair.source names
+
+-- where a folder is merged the copy has changed nothing yet, and all that lies in it can be told
+abbrev pub MayTake : Stage → Pair → Taken → Type 0
+MayTake stage pair taken.File = ⊤
+MayTake stage pair taken.Link = ⊤
+MayTake stage pair (taken.Folder names mode) = ⊤
+MayTake stage pair (taken.Merged names) = (stage ≡ Begin) × AreShort pair names
 
 -- what looks at a thing come to
-abbrev pub Looks : FileSystem → Pair → Result Taken Trouble → Type 0
-Looks s pair (Ok what) = IsTaken s pair what
-Looks s pair (Err t) = LooksStop s pair t
+abbrev pub Looks : FileSystem → Stage → Pair → Result Taken Trouble → Type 0
+Looks s stage pair (Ok what) = IsTaken s pair what
+Looks s stage pair (Err t) = LooksStop s stage pair t
 
 -- names come in byte order, each once, and a mode has twelve bits
 abbrev pub IsSound : Taken → Type 0
 IsSound taken.File = ⊤
 IsSound taken.Link = ⊤
 IsSound (taken.Folder names mode) = IsAscending names × (mode ≤ 0o7777)
+IsSound (taken.Merged names) = IsAscending names
 
 -- the names of a listing, or the trouble where some can't be shown
 abbrev pub IsShown : Route → Children → Result (List (List ℕ)) Trouble → Type 0

@@ -62,7 +62,12 @@ impl TreeCopy {
 }
 
 /// The path of a name in a folder. Where it is too long, the trouble names another path.
-fn joined(alloc: Global, folder: &Path, name: &Name, named: &Path) -> Result<Path, Trouble>
+pub(crate) fn joined(
+    alloc: Global,
+    folder: &Path,
+    name: &Name,
+    named: &Path,
+) -> Result<Path, Trouble>
     ensures joins { Joins (name.now ∷ folder.now) named.now result }
     ensures apart { IfErr result (λ trouble. trouble.barrier ≡ false) }
 {

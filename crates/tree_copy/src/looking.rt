@@ -1,5 +1,5 @@
 //! Looks at a thing that is to be copied.
-ghost use Rattle.std.specs.Prelude.{◌≡◌, ◌≤◌, None, IfOk, MatchResult};
+ghost use Rattle.std.specs.Prelude.{◌≡◌, ◌≤◌, ◌∷◌, None, IfOk, MatchResult};
 ghost use Rattle.mc_text.specs.declared.kind.Kind.TheVariants as kind;
 ghost use Rattle.tree_trait.specs.Calls.{Stat};
 ghost use Rattle.tree_trait.specs.Change.{current};
@@ -8,11 +8,14 @@ ghost use Rattle.tree_trait.specs.Answers.{IfKnown, IsAscending, IsMeta};
 ghost use Rattle.tree_trait.specs.FileSystem.{node};
 ghost use Rattle.tree_trait.specs.Change.{found};
 ghost use Rattle.job_reports.specs.Reading.{Peeks};
-ghost use Rattle.tree_copy.specs.Taking.{FolderStops, IsFree, IsShown, IsSound, Lists, Looks, SourceIs, TargetRefuses};
+ghost use Rattle.tree_copy.specs.Taking.{FolderStops, IsFree, IsShort, IsShown, IsSound, Lists, Looks, MayTake, SourceIs, TargetRefuses};
+ghost use Rattle.tree_copy.specs.Merging.{AreChildrenOr, IsChildOr, IsFreshOnto, IsMergedOr, IsOnto, IsOntoKind, OntoStops, joins_folders};
 
+use crate::copy::Stage;
+use crate::due::joined;
 use file_copy::{look, look_at_target};
 use job_reports::{Cause, Pair, Trouble, reading_trouble, trouble_with_path};
-use mc_text::{Kind, Names, Path};
+use mc_text::{Kind, Name, Names, Path};
 use std::alloc::Global;
 use tree_trait::{Children, Meta, Tree};
 
@@ -25,20 +28,24 @@ pub enum Taken {
     Link,
     /// A folder with these names and this mode, at whose target nothing stands.
     Folder { names: Names, mode: u16 },
+    /// A folder with these names, at whose target a folder stands.
+    Merged { names: Names },
 }
 
-/// Looks at source and target; a folder is listed.
+/// Looks at source and target; a folder is listed. A folder onto a folder is merged by a copy that stands at its beginning.
 pub(crate) fn look_at_pair<T: Tree>(
     alloc: Global,
     tree: &mut T,
     pair: &Pair,
+    stage: Stage,
 ) -> Result<Taken, Trouble>
-    ensures known { IfKnown (T.contents tree.old) (λ log. Looks (current log) pair.now result) }
+    ensures known { IfKnown (T.contents tree.old) (λ log. Looks (current log) stage pair.now result) }
     ensures sound { IfOk result IsSound }
+    ensures may { IfOk result (MayTake stage pair.now) }
     ensures peeks { Peeks result (T.contents tree.old) (T.contents tree.new) (T.fault_count tree.old) (T.fault_count tree.new) }
 {
     match look(alloc, tree, &pair.source) {
-        Ok(meta) => look_on(alloc, tree, pair, meta),
+        Ok(meta) => look_on(alloc, tree, pair, stage, meta),
         Err(trouble) => Err(trouble),
     }
 }
@@ -48,26 +55,34 @@ fn look_on<T: Tree>(
     alloc: Global,
     tree: &mut T,
     pair: &Pair,
+    stage: Stage,
     source: Meta,
 ) -> Result<Taken, Trouble>
     requires known { IfKnown (T.contents tree.old) (λ log. (refusal_of (current log) (Stat pair.now.source) ≡ None) × IsMeta (current log) pair.now.source source) }
     requires mode { source.mode ≤ 0o7777 }
-    ensures known { IfKnown (T.contents tree.old) (λ log. Looks (current log) pair.now result) }
+    ensures known { IfKnown (T.contents tree.old) (λ log. Looks (current log) stage pair.now result) }
     ensures sound { IfOk result IsSound }
+    ensures may { IfOk result (MayTake stage pair.now) }
     ensures peeks { Peeks result (T.contents tree.old) (T.contents tree.new) (T.fault_count tree.old) (T.fault_count tree.new) }
 {
     match source.kind {
         Kind::File => Ok(Taken::File),
-        Kind::Folder => look_at_folder(alloc, tree, pair, source.mode),
-        Kind::Link => look_at_link(alloc, tree, pair),
-        Kind::Other => look_at_special(alloc, tree, pair),
+        Kind::Folder => look_at_folder(alloc, tree, pair, stage, source.mode),
+        Kind::Link => look_at_link(alloc, tree, pair, stage),
+        Kind::Other => look_at_special(alloc, tree, pair, stage),
     }
 }
 
-fn look_at_link<T: Tree>(alloc: Global, tree: &mut T, pair: &Pair) -> Result<Taken, Trouble>
+fn look_at_link<T: Tree>(
+    alloc: Global,
+    tree: &mut T,
+    pair: &Pair,
+    stage: Stage,
+) -> Result<Taken, Trouble>
     requires known { IfKnown (T.contents tree.old) (λ log. SourceIs (current log) pair.now kind.Link) }
-    ensures known { IfKnown (T.contents tree.old) (λ log. Looks (current log) pair.now result) }
+    ensures known { IfKnown (T.contents tree.old) (λ log. Looks (current log) stage pair.now result) }
     ensures sound { IfOk result IsSound }
+    ensures may { IfOk result (MayTake stage pair.now) }
     ensures peeks { Peeks result (T.contents tree.old) (T.contents tree.new) (T.fault_count tree.old) (T.fault_count tree.new) }
 {
     match free_target(alloc, tree, pair) {
@@ -77,10 +92,16 @@ fn look_at_link<T: Tree>(alloc: Global, tree: &mut T, pair: &Pair) -> Result<Tak
 }
 
 /// A special file can't be copied. What stands at its target goes first.
-fn look_at_special<T: Tree>(alloc: Global, tree: &mut T, pair: &Pair) -> Result<Taken, Trouble>
+fn look_at_special<T: Tree>(
+    alloc: Global,
+    tree: &mut T,
+    pair: &Pair,
+    stage: Stage,
+) -> Result<Taken, Trouble>
     requires known { IfKnown (T.contents tree.old) (λ log. SourceIs (current log) pair.now kind.Other) }
-    ensures known { IfKnown (T.contents tree.old) (λ log. Looks (current log) pair.now result) }
+    ensures known { IfKnown (T.contents tree.old) (λ log. Looks (current log) stage pair.now result) }
     ensures sound { IfOk result IsSound }
+    ensures may { IfOk result (MayTake stage pair.now) }
     ensures peeks { Peeks result (T.contents tree.old) (T.contents tree.new) (T.fault_count tree.old) (T.fault_count tree.new) }
 {
     match free_target(alloc, tree, pair) {
@@ -93,19 +114,142 @@ fn look_at_folder<T: Tree>(
     alloc: Global,
     tree: &mut T,
     pair: &Pair,
+    stage: Stage,
     mode: u16,
 ) -> Result<Taken, Trouble>
     requires known { IfKnown (T.contents tree.old) (λ log. SourceIs (current log) pair.now kind.Folder × (mode ≡ (node (current log) (found (current log) pair.now.source)).mode)) }
     requires mode { mode ≤ 0o7777 }
-    ensures known { IfKnown (T.contents tree.old) (λ log. Looks (current log) pair.now result) }
+    ensures known { IfKnown (T.contents tree.old) (λ log. Looks (current log) stage pair.now result) }
     ensures sound { IfOk result IsSound }
+    ensures may { IfOk result (MayTake stage pair.now) }
     ensures peeks { Peeks result (T.contents tree.old) (T.contents tree.new) (T.fault_count tree.old) (T.fault_count tree.new) }
 {
-    if let Err(trouble) = free_target(alloc, tree, pair) {
-        return Err(trouble);
+    match folder_target(alloc, tree, pair, stage) {
+        Ok(onto) => list_folder(alloc, tree, pair, stage, mode, onto),
+        Err(trouble) => Err(trouble),
     }
-    match names_in(alloc, tree, &pair.source) {
-        Ok(names) => Ok(Taken::Folder { names, mode }),
+}
+
+/// What stands at the target of a folder.
+#[derive(Clone, Copy, Drop)]
+enum Onto {
+    Nothing,
+    Folder,
+}
+
+/// Nothing stands at the target of a folder, or a folder with which it is merged, or the trouble of it.
+fn folder_target<T: Tree>(
+    alloc: Global,
+    tree: &mut T,
+    pair: &Pair,
+    stage: Stage,
+) -> Result<Onto, Trouble>
+    ensures known { IfKnown (T.contents tree.old) (λ log. MatchResult result (IsOnto (current log) pair.now) (OntoStops (current log) stage pair.now)) }
+    ensures fresh { IfOk result (IsFreshOnto stage) }
+    ensures peeks { Peeks result (T.contents tree.old) (T.contents tree.new) (T.fault_count tree.old) (T.fault_count tree.new) }
+{
+    match look_at_target(alloc, tree, &pair.target) {
+        Ok(None) => Ok(Onto::Nothing),
+        Ok(Some(meta)) => onto_kind(alloc, pair, stage, meta.kind),
+        Err(trouble) => Err(trouble),
+    }
+}
+
+/// A folder is merged with one, where the copy has changed nothing yet; anything else is in its way.
+fn onto_kind(alloc: Global, pair: &Pair, stage: Stage, kind: Kind) -> Result<Onto, Trouble>
+    ensures { IsOntoKind stage pair.now kind result }
+{
+    if merges(stage, kind) {
+        return Ok(Onto::Folder);
+    }
+    Err(trouble_with_path(alloc, Cause::TargetKind(kind), &pair.target))
+}
+
+/// Whether a folder is merged with what is of this kind.
+fn merges(stage: Stage, kind: Kind) -> bool
+    ensures { result ≡ joins_folders stage kind }
+{
+    match stage {
+        Stage::Begin => match kind {
+            Kind::Folder => true,
+            Kind::File => false,
+            Kind::Link => false,
+            Kind::Other => false,
+        },
+        Stage::Going => false,
+    }
+}
+
+/// The folder is listed.
+fn list_folder<T: Tree>(
+    alloc: Global,
+    tree: &mut T,
+    pair: &Pair,
+    stage: Stage,
+    mode: u16,
+    onto: Onto,
+) -> Result<Taken, Trouble>
+    requires known { IfKnown (T.contents tree.old) (λ log. SourceIs (current log) pair.now kind.Folder × (mode ≡ (node (current log) (found (current log) pair.now.source)).mode)) }
+    requires mode { mode ≤ 0o7777 }
+    requires onto { IfKnown (T.contents tree.old) (λ log. IsOnto (current log) pair.now onto) }
+    requires fresh { IsFreshOnto stage onto }
+    ensures known { IfKnown (T.contents tree.old) (λ log. Looks (current log) stage pair.now result) }
+    ensures sound { IfOk result IsSound }
+    ensures may { IfOk result (MayTake stage pair.now) }
+    ensures peeks { Peeks result (T.contents tree.old) (T.contents tree.new) (T.fault_count tree.old) (T.fault_count tree.new) }
+{
+    let names = match names_in(alloc, tree, &pair.source) {
+        Ok(names) => names,
+        Err(trouble) => return Err(trouble),
+    };
+    match onto {
+        Onto::Nothing => Ok(Taken::Folder { names, mode }),
+        Onto::Folder => merged(alloc, pair, names),
+    }
+}
+
+/// A folder of these names, all of which are to have paths that can be told, and so are their targets.
+fn merged(alloc: Global, pair: &Pair, names: Names) -> Result<Taken, Trouble>
+    ensures { IsMergedOr pair.now names result }
+{
+    match children(alloc, pair, names.as_slice()) {
+        Ok(()) => Ok(Taken::Merged { names }),
+        Err(trouble) => Err(trouble),
+    }
+}
+
+/// All that has one of these names in a folder that is merged can be told, and so can its target.
+fn children(alloc: Global, pair: &Pair, names: &[Name]) -> Result<(), Trouble>
+    ensures { AreChildrenOr pair.now names.now result }
+{
+    let mut rest = names;
+    while let Some((name, more)) = rest.split_first() {
+        if let Err(trouble) = child(alloc, pair, name) {
+            return Err(trouble);
+        }
+        rest = more;
+    }
+    Ok(())
+}
+
+/// The paths of what has this name in a folder that is merged, and of its target, can be told.
+fn child(alloc: Global, pair: &Pair, name: &Name) -> Result<(), Trouble>
+    ensures { IsChildOr pair.now name.now result }
+{
+    match joined(alloc, &pair.source, name, &pair.source) {
+        Ok(source) => target_of_child(alloc, pair, name, &source),
+        Err(trouble) => Err(trouble),
+    }
+}
+
+/// The same of the target, where the path of the thing itself can be told.
+fn target_of_child(alloc: Global, pair: &Pair, name: &Name, source: &Path) -> Result<(), Trouble>
+    requires source { source.now ≡ name.now ∷ pair.now.source }
+    requires short { IsShort source.now }
+    ensures { IsChildOr pair.now name.now result }
+{
+    match joined(alloc, &pair.target, name, source) {
+        Ok(_) => Ok(()),
         Err(trouble) => Err(trouble),
     }
 }

@@ -1,13 +1,13 @@
 //! The next thing is taken up, or the end of a folder is worked.
-ghost use Rattle.std.specs.Prelude.{◌≡◌, ◌⊎◌, false, true, IfOk};
+ghost use Rattle.std.specs.Prelude.{◌≡◌, ◌≤◌, ◌⊎◌, ◌^◌, false, true, length, IfOk};
 ghost use Rattle.tree_trait.specs.Change.{current};
 ghost use Rattle.tree_trait.specs.Answers.{IfKnown};
 ghost use Rattle.file_copy.specs.Copying.{begun as file_begun, places};
-ghost use Rattle.copy_levels.specs.Levels.{is_around_dirty};
+ghost use Rattle.copy_levels.specs.Levels.{is_around_dirty, passed};
 ghost use Rattle.tree_copy.specs.Parts.{IsPartPlace};
 ghost use Rattle.tree_copy.specs.Standing.{due, seen};
 ghost use Rattle.tree_copy.specs.Steps.{AdvancesIn, AdvancesNext, Counts, FileWorks, IsWorkable, LinkWorks, RunsOut, TakesNext, link_begun};
-ghost use Rattle.tree_copy.specs.Taking.{IsInReach, IsSound, IsTaken};
+ghost use Rattle.tree_copy.specs.Taking.{IsInReach, IsSound, IsTaken, MayTake};
 
 use crate::copy::TreeCopy;
 use crate::due::Due;
@@ -16,9 +16,9 @@ use crate::looking::{Taken, look_at_pair};
 use crate::parts::{PartPlaces, see_path};
 use crate::report::stopped;
 use file_copy::{FileCopy, Item as Places, PartTest, choose_part};
-use job_reports::{Pair, StepResult, out_of_memory};
+use job_reports::{Did, Pair, StepResult, out_of_memory};
 use link_copy::LinkCopy;
-use mc_text::{NoMemory, Path};
+use mc_text::{Names, NoMemory, Path};
 use std::alloc::Global;
 use tree_trait::Tree;
 
@@ -97,7 +97,7 @@ impl TreeCopy {
         ensures counts { Counts result.did result.calls (T.contents tree.old) (T.contents tree.new) (T.fault_count tree.old) (T.fault_count tree.new) }
         ensures workable { IsWorkable self.new.item }
     {
-        match look_at_pair(alloc, tree, &pair) {
+        match look_at_pair(alloc, tree, &pair, self.stage) {
             Ok(taken) => self.begin(alloc, tree, parts, pair, taken),
             Err(trouble) => stopped(trouble),
         }
@@ -117,6 +117,7 @@ impl TreeCopy {
         requires reach { IsInReach self.old.stack.levels.left (Due.Thing pair) }
         requires known { IfKnown (T.contents tree.old) (λ log. IsTaken (current log) pair taken) }
         requires sound { IsSound taken }
+        requires may { MayTake self.old.stage pair taken }
         ensures works { TakesNext (IsPartPlace (P.is_free parts.now) (seen self.old)) (seen self.old) (seen self.new) result.did (T.contents tree.old) (T.contents tree.new) }
         ensures counts { Counts result.did result.calls (T.contents tree.old) (T.contents tree.new) (T.fault_count tree.old) (T.fault_count tree.new) }
         ensures workable { IsWorkable self.new.item }
@@ -125,6 +126,22 @@ impl TreeCopy {
             Taken::File => self.begin_file(alloc, tree, parts, pair),
             Taken::Link => self.begin_link(alloc, tree, parts, pair),
             Taken::Folder { names, mode } => self.make_folder(alloc, tree, pair, names, mode),
+            Taken::Merged { names } => self.merge(pair, names),
+        }
+    }
+
+    /// The two folders are merged: what lies in the source is copied by others, so the copy is done with it.
+    fn merge(&mut self, pair: Pair, names: Names) -> StepResult
+        requires next { due (seen self.old) ≡ Due.Thing pair }
+        ensures passed { seen self.new ≡ record (seen self.old) { levels = passed false self.old.stack.levels } }
+        ensures told { result ≡ record { did = Did.Merges pair names; calls = 0 } }
+        ensures few { length names ≤ 2 ^ 64 }
+    {
+        let _count = names.as_slice().len();
+        self.stack.pass(false);
+        StepResult {
+            did: Did::Merges(pair, names),
+            calls: 0,
         }
     }
 

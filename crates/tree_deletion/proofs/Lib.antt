@@ -4,4 +4,5 @@ mod OnWay
 mod Refusals
 mod Synced
 mod Worked
+pub mod Changes
 pub mod Staying

@@ -1,4 +1,5 @@
 pub mod Folders
+pub mod Changes
 pub mod Standing
 pub mod Descending
 pub mod Steps

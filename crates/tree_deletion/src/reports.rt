@@ -6,26 +6,26 @@ use job_reports::{Cause, Did, Ending, StepResult, Trouble, out_of_memory};
 use mc_text::Path;
 use tree_trait::TreeError;
 
-pub(crate) fn without_call(did: Did) -> StepResult
+pub fn without_call(did: Did) -> StepResult
     ensures { result ≡ record { did = did; calls = 0 } }
 {
     StepResult { did, calls: 0 }
 }
 
-pub(crate) fn with_call(did: Did) -> StepResult
+pub fn with_call(did: Did) -> StepResult
     ensures { result ≡ record { did = did; calls = 1 } }
 {
     StepResult { did, calls: 1 }
 }
 
-pub(crate) fn ended(ending: Ending) -> Did
+pub fn ended(ending: Ending) -> Did
     ensures { result ≡ Did.Ended ending None }
 {
     Did::Ended { ending, part: None }
 }
 
 /// The report of a refused call. One that found no memory was not made.
-pub(crate) fn refused(error: TreeError, path: Path, barrier: bool) -> StepResult
+pub fn refused(error: TreeError, path: Path, barrier: bool) -> StepResult
     ensures did { result.did ≡ Did.Troubled (trouble_at error path barrier) }
     ensures calls { result.calls ≡ calls_made_for (Err error) }
 {

@@ -10,12 +10,12 @@ ghost use Rattle.mc_desk.specs.Searches.{steps_ahead};
 use super::Session;
 use crate::carrying::{Carried, carry_out};
 use crate::granting::{Granted, work};
-use crate::log::plain;
 use crate::replies::{DeskError, DeskReply};
 use crate::rows::rows_of;
 use crate::seeking::{Shown, drawn_behind, seek_and_show, sought_entry};
 use crate::standing::{Due, can_step};
 use crate::tag::Tag;
+use history_log::plain_entry;
 use key_screen::{Base, Fed, Key};
 use session_history::{Entry, Event, Refusals};
 use std::alloc::Global;
@@ -278,7 +278,7 @@ impl<N: Tag, T: Tree, S: Sink, P: Spawner> Session<N, T, S, P> {
                 lost: true,
             },
         });
-        self.log.note(plain(calls, faults, Event::Closed));
+        self.log.note(plain_entry(calls, faults, Event::Closed));
         self.standing.close();
         Err(DeskError::Memory)
     }

@@ -10,16 +10,16 @@ ghost use Rattle.mc_desk.specs.Tallies.{can_step, faults_in, keys_in, has_lost};
 ghost use Rattle.mc_desk.specs.Outputs.{Blames};
 ghost use Rattle.mc_desk.specs.Shown.{HasGiven, put_since};
 ghost use Rattle.mc_desk.specs.Desks.{KeepsKeys, MovesDirty, RanNothing, idle_reply, rank_of};
-ghost use Rattle.mc_desk.specs.Logs.{jobs_begun};
+ghost use Rattle.history_log.specs.Logs.{jobs_begun};
 
 use super::Session;
 use crate::claims::NoClaims;
-use crate::log::plain;
 use crate::replies::{Ended, StepReply};
 use crate::standing::closed;
 use crate::tag::Tag;
-use crate::turning::{Stepped, ended_without_memory, go_on};
 use copy_move::Run;
+use history_log::plain_entry;
+use job_sources::{Stepped, ended_without_memory, go_on};
 use session_history::{Entry, Event};
 use std::alloc::Global;
 use tree_trait::{Sink, Spawner, Tree};
@@ -38,7 +38,7 @@ impl<N: Tag, T: Tree, S: Sink, P: Spawner> Session<N, T, S, P> {
         if self.standing.closed {
             return;
         }
-        let closing = plain(self.standing.calls, self.tree.faults(), Event::Closed);
+        let closing = plain_entry(self.standing.calls, self.tree.faults(), Event::Closed);
         self.log.note(closing);
         self.standing.close();
     }
@@ -81,7 +81,13 @@ impl<N: Tag, T: Tree, S: Sink, P: Spawner> Session<N, T, S, P> {
             return StepReply::Did;
         }
         let made = job.step(alloc, &mut self.tree, &NoClaims, &mut self.dirty);
-        let Stepped { what, calls, job } = go_on(alloc, job, made, &mut self.standing.later);
+        let Stepped { what, calls, job } = go_on(
+            alloc,
+            &mut self.tree,
+            job,
+            made,
+            &mut self.standing.later,
+        );
         let calls = self.standing.calls.saturating_add(calls);
         let ended = has_ended(&job);
         self.log.note(Entry {

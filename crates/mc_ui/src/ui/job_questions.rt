@@ -6,7 +6,7 @@ ghost use Rattle.job_boxes.specs.Openings.{link_asked};
 ghost use Rattle.job_plans.specs.Reading.{ReadsTree};
 ghost use Rattle.mc_ui.specs.declared.asks.KeyAct.{KeyAct as KeyActType};
 ghost use Rattle.mc_ui.specs.Boxes.{NoBox, OneJobBox, seen_box};
-ghost use Rattle.mc_ui.specs.Screens.{JobLeads, WellAsked, is_request, with_ask};
+ghost use Rattle.mc_ui.specs.Screens.{Asks, JobLeads, with_ask};
 
 use super::Ui;
 use super::panel_keys::{asking, asking_nothing};
@@ -52,9 +52,7 @@ impl Ui {
         requires clear { self.old.over ≡ NoBox }
         ensures leads { IfOk result (λ act. JobLeads (seen asks) (T.contents tree.old) rows.now key act.refusals
             (record self.old { over = OneJobBox (seen asks) }) (with_ask act.ask self.new)) }
-        ensures asked { IfOk result (λ act. WellAsked rows.now act.ask) }
-        ensures stays { IfOk result (λ act. is_request act.ask ≡ true → self.new ≡ record self.old { over = OneJobBox (seen asks) }) }
-        ensures alone { IfOk result (λ act. is_request act.ask ≡ true → act.refusals ≡ []) }
+        ensures asks { IfOk result (λ act. Asks rows.now act.ask act.refusals (record self.old { over = OneJobBox (seen asks) }) self.new) }
         ensures rest { record self.new { over = NoBox; message = self.old.message } ≡ self.old }
         ensures lost { OnErr result (self.new ≡ record self.old { over = OneJobBox (seen asks) }) }
         ensures reads { ReadsTree (λ (act : KeyActType). act.refusals) result (T.contents tree.old) (T.contents tree.new)

@@ -1,9 +1,8 @@
--- None of the rows so far is tagged and no file.
-use Rattle.std.proofs.Common.{◌≡◌, false, take}
-use Rattle.std.specs.List.{list_any}
+-- The first row that is tagged is none of those so far.
+use Rattle.std.proofs.Common.{◌≡◌, drop}
 use Rattle.panel_listing.specs.Listings.{rows_in}
-use Rattle.job_plans.specs.Choices.{is_tagged_otherwise}
+use Rattle.job_plans.specs.Choices.{first_kind}
 use Rattle.job_plans.proofs.choosing.listed_kind.Given as goal
 
 abbrev pub invariant-loop-row : goal.invariant-loop-row
-invariant-loop-row l = list_any (is_tagged_otherwise l.tags) (take l.row (rows_in l.listing)) ≡ false
+invariant-loop-row l = first_kind l.tags (drop l.row (rows_in l.listing)) ≡ first_kind l.tags (rows_in l.listing)

@@ -2,7 +2,7 @@
 use Rattle.std.proofs.Common.{◌≡◌, false, subst}
 use Rattle.copy_move.specs.Jobs.{IsGoing, at_barrier}
 use Rattle.copy_move.proofs.FolderSteps.{copy_skips, deletion_skips}
-use Rattle.copy_move.proofs.MakingFolders.{making_skips}
+use Rattle.copy_move.proofs.MakingWorks.{making_skips}
 use Rattle.copy_move.proofs.ModeSteps.{setting_skips}
 use Rattle.copy_move.proofs.TreeSteps.{tree_skipped, tree_skips}
 use Rattle.copy_move.proofs.work.Work.skip.Goals as goal

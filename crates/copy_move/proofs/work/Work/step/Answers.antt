@@ -2,7 +2,7 @@
 use Rattle.std.proofs.Common.{◌≡◌, true, subst}
 use Rattle.copy_move.specs.Jobs.{IsGoing}
 use Rattle.copy_move.proofs.FolderSteps.{deletion_steps}
-use Rattle.copy_move.proofs.MakingFolders.{making_steps}
+use Rattle.copy_move.proofs.MakingWorks.{making_steps}
 use Rattle.copy_move.proofs.ModeSteps.{setting_steps}
 use Rattle.copy_move.proofs.TreeSteps.{tree_goes_on, tree_steps}
 use Rattle.copy_move.proofs.work.Work.step.Goals as goal
@@ -16,7 +16,7 @@ returns-in-Copy-clause-steps g c = rw c.in-Copy.is c.step_copy.ensures.steps
 pub returns-in-CopyTree-clause-steps : goal.returns-in-CopyTree-clause-steps
 returns-in-CopyTree-clause-steps g c =
     rw c.in-CopyTree.is (tree_steps (g.P.PartTest.is_free c.args.parts.now) _ _ _ _ _ _ _ _ _ _ c.step.ensures.steps (subst IsGoing c.in-CopyTree.is c.requires.going)
-    (λ path. g.P.PartTest.is_free c.args.parts.now path ≡ true) c.args.replies (λ path free. free) c.step.ensures.own)
+    (λ path. g.P.PartTest.is_free c.args.parts.now path ≡ true) c.args.replies (λ path free. free) c.step.ensures.in_place c.step.ensures.own)
 
 pub returns-in-CopyTree-clause-going : goal.returns-in-CopyTree-clause-going
 returns-in-CopyTree-clause-going g c =

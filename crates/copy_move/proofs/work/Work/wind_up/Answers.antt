@@ -1,6 +1,6 @@
 -- So is a last step.
 use Rattle.copy_move.proofs.FolderSteps.{deletion_winds_up}
-use Rattle.copy_move.proofs.MakingFolders.{making_winds_up}
+use Rattle.copy_move.proofs.MakingWorks.{making_winds_up}
 use Rattle.copy_move.proofs.ModeSteps.{setting_winds_up}
 use Rattle.copy_move.proofs.TreeSteps.{tree_winds_up}
 use Rattle.copy_move.proofs.work.Work.wind_up.Goals as goal

@@ -15,7 +15,7 @@ invariant_of-self g c =
     let had = c.self.invariant.counted in
     record {
       desk = closed_whole _ _ _ _ _ c.note.new.self _ inside.standing c.close.new.self _ _ _ _ count c.self.invariant.desk unclosed (omega (arith, counted, had))
-          (c.note.ensures.added ∙ ap (λ (e : Entry). e ∷ inside.log.newest) c.plain-closing.ensures) c.note.ensures.room c.close.ensures;
+          (c.note.ensures.added ∙ ap (λ (e : Entry). e ∷ inside.log.newest) c.plain_entry-closing.ensures) c.note.ensures.room c.close.ensures;
       counted = search rules;
       spawner = c.self.invariant.spawner;
     }

@@ -1,8 +1,8 @@
 -- A look is written down as it was made.
 use Rattle.std.proofs.Common.{rules, ◌≡◌, ◌≤◌, ◌∷◌, false, ℕ, Option, Some, IsSome, refl, ap, sym, ◌∙◌, subst, arith}
 use Rattle.session_history.specs.declared.history.Event.TheVariants.{Look}
-use Rattle.mc_desk.specs.LiveRows.{rows_of, waits_told}
-use Rattle.mc_desk.specs.Tallies.{news_left}
+use Rattle.history_log.specs.Told.{waits_told, news_left}
+use Rattle.mc_desk.specs.LiveRows.{rows_of}
 use Rattle.mc_desk.proofs.Adding.{entry}
 use Rattle.mc_desk.specs.Outputs.{ShowsFrame}
 use Rattle.mc_ui.specs.Frames.{frame_of}

@@ -4,7 +4,8 @@ use Rattle.session_history.specs.declared.history.Entry.{Entry}
 use Rattle.session_history.specs.declared.history.Event.TheVariants.{Closed, Key}
 use Rattle.mc_ui.specs.Seekings.{is_seeking}
 use Rattle.mc_desk.specs.Desks.{Seen}
-use Rattle.mc_desk.specs.Standings.{awaited, plain_entry}
+use Rattle.history_log.specs.Logs.{plain_entry}
+use Rattle.mc_desk.specs.Standings.{awaited}
 use Rattle.mc_desk.proofs.Adding.{entry}
 use Rattle.mc_desk.proofs.Closing.{lost_whole}
 use Rattle.mc_desk.proofs.session.Session.lose_key.Goals as goal
@@ -23,7 +24,7 @@ invariant_of-self g c =
     let room : 1 ≤ c.note-2.new.self.spare = search rules in
     record {
       desk = lost_whole _ _ _ _ _ c.note-2.new.self _ inside.standing c.close.new.self _ _ _ _ count c.self.invariant.desk unclosed (omega (arith, counted, had)) c.args.key c.args.now c.shown.result unasked looked sought
-          (c.note-2.ensures.added ∙ (ap (λ (e : Entry). e ∷ c.note.new.self.newest) c.plain.ensures
+          (c.note-2.ensures.added ∙ (ap (λ (e : Entry). e ∷ c.note.new.self.newest) c.plain_entry.ensures
           ∙ ap (λ es. plain_entry inside.standing.calls count Closed ∷ es) (c.note.ensures.added ∙ ap (λ rs. entry 0 inside.standing.calls count c.shown.result (Key c.args.key c.args.now rs true) ∷ inside.log.newest) c.new.ensures.items)))
           room c.close.ensures (record { same = refl; uncut = uncut; counted = λ bytes known. c.shown.ensures.counted ∙ c.shown.ensures.all uncut bytes known });
       counted = search rules;

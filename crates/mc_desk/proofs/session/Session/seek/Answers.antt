@@ -2,7 +2,8 @@
 use Rattle.std.proofs.Common.{rules, ◌≡◌, ◌≤◌, ◌<◌, ◌∷◌, true, None, ap, sym, ◌∙◌, subst, arith}
 use Rattle.session_history.specs.declared.history.Entry.{Entry}
 use Rattle.session_history.specs.declared.history.Event.TheVariants.{Sought}
-use Rattle.mc_desk.specs.LiveRows.{rows_of, waits_told}
+use Rattle.history_log.specs.Told.{waits_told}
+use Rattle.mc_desk.specs.LiveRows.{rows_of}
 use Rattle.mc_desk.specs.Outputs.{ShowsFrame}
 use Rattle.mc_desk.specs.Searches.{HasSought, steps_ahead}
 use Rattle.mc_desk.specs.Standings.{awaited}

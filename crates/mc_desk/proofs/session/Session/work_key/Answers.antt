@@ -4,11 +4,13 @@ use Rattle.session_history.specs.declared.history.Event.TheVariants.{Key}
 use Rattle.mc_ui.specs.Seekings.{is_seeking}
 use Rattle.mc_desk.specs.Desks.{IsDesk, Seen, ShowsDesk, seen_of}
 use Rattle.mc_desk.specs.Granting.{IsWorked}
-use Rattle.mc_desk.specs.LiveRows.{rows_of, waits_told}
+use Rattle.history_log.specs.Told.{waits_told}
+use Rattle.mc_desk.specs.LiveRows.{rows_of}
 use Rattle.mc_desk.specs.Outputs.{ShowsFrame}
 use Rattle.mc_ui.specs.Frames.{frame_of}
 use Rattle.mc_desk.specs.declared.standing.Standing.{Standing}
-use Rattle.mc_desk.specs.Standings.{after_deed, awaited, event_of, followed}
+use Rattle.history_log.specs.Logs.{followed}
+use Rattle.mc_desk.specs.Standings.{after_deed, awaited, event_of}
 use Rattle.mc_desk.specs.Tallies.{next_id}
 use Rattle.mc_desk.proofs.Adding.{entry}
 use Rattle.mc_desk.proofs.Carried.{unknown_due, unknown_sought}

@@ -1,5 +1,6 @@
 -- Folders are left, the machine makes its step, and what it is in trouble with may be passed over.
 use Rattle.std.proofs.Common.{refl, subst}
+use Rattle.tree_copy.specs.InPlace.{IsInPlace}
 use Rattle.tree_copy.specs.Standing.{seen}
 use Rattle.subtree_copy.specs.Standing.{SubtreeCopying}
 use Rattle.subtree_copy.specs.SubtreeSteps.{SubtreeSteps}
@@ -31,6 +32,9 @@ returns-clause-steps g c =
       passes = c.or_passed_over.ensures.passes;
       stands = refl;
     }
+
+pub returns-clause-in_place : goal.returns-clause-in_place
+returns-clause-in_place g c = subst (λ (d : SubtreeCopying). IsInPlace d.top d.at) c.self.view_is (let held = c.self.invariant in held.in_place)
 
 pub returns-clause-own : goal.returns-clause-own
 returns-clause-own g c =

@@ -1,11 +1,12 @@
 -- What was looked at is begun.
-use Rattle.std.proofs.Common.{◌≡◌, true, refl, subst}
+use Rattle.std.proofs.Common.{◌≡◌, true, refl, subst, ap}
 use Rattle.tree_trait.specs.Change.{current}
+use Rattle.job_reports.specs.declared.report.StepResult.{StepResult}
 use Rattle.tree_copy.specs.declared.looking.Taken.{Taken}
 use Rattle.tree_copy.specs.Parts.{IsPartPlace}
 use Rattle.tree_copy.specs.Standing.{seen}
-use Rattle.tree_copy.specs.Taking.{IsSound, IsTaken}
-use Rattle.tree_copy.proofs.TakenUp.{took_file, took_folder}
+use Rattle.tree_copy.specs.Taking.{IsSound, IsTaken, MayTake}
+use Rattle.tree_copy.proofs.TakenUp.{took_file, took_folder, took_merged}
 use Rattle.tree_copy.proofs.copy.TreeCopy.begin.Goals as goal
 
 pub returns-in-File-clause-works : goal.returns-in-File-clause-works
@@ -19,3 +20,10 @@ returns-in-Folder-clause-works g c =
     took_folder (IsPartPlace (g.P.PartTest.is_free c.args.parts.now) (seen c.args.self.now)) (seen c.args.self.now) (seen c.make_folder.new.self) c.make_folder.result.did (g.T.ReadTree.contents c.args.tree.now) (g.T.ReadTree.contents c.args.tree.now)
     (g.T.ReadTree.contents c.make_folder.new.tree) refl c.args.pair c.requires.next c.requires.reach c.in-Folder.names c.in-Folder.mode (λ log known. subst (λ (t : Taken). IsTaken (current log) c.args.pair t) c.in-Folder.is (c.requires.known log known)) sound.0
     c.make_folder.ensures.works
+
+pub returns-in-Merged-clause-works : goal.returns-in-Merged-clause-works
+returns-in-Merged-clause-works g c =
+    let may = subst (λ (t : Taken). MayTake c.args.self.now.stage c.args.pair t) c.in-Merged.is c.requires.may in
+    took_merged (IsPartPlace (g.P.PartTest.is_free c.args.parts.now) (seen c.args.self.now)) (seen c.args.self.now) (seen c.merge.new.self) c.merge.result.did (g.T.ReadTree.contents c.args.tree.now) (g.T.ReadTree.contents c.args.tree.now)
+    (g.T.ReadTree.contents c.args.tree.now) refl c.args.pair c.requires.next c.requires.reach c.in-Merged.names may.0 (λ log known. subst (λ (t : Taken). IsTaken (current log) c.args.pair t) c.in-Merged.is (c.requires.known log known)) may.1
+    (subst IsSound c.in-Merged.is c.requires.sound) c.merge.ensures.few c.merge.ensures.passed (ap (λ (s : StepResult). s.did) c.merge.ensures.told) refl

@@ -1,0 +1,4 @@
+pub mod Children
+pub mod Nearer
+pub mod Over
+pub mod Ranking

@@ -1,0 +1,247 @@
+-- A copy that is over merges nothing any more: what may be left as sources yet falls to nothing with a merge, and rises with no step.
+use Rattle.std.proofs.Common.{◌≡◌, ℕ, ◌+◌, ◌≤◌, Bool, true, false, not, List, [], ◌∷◌, refl, sym, ◌∙◌, ap, subst, inl, inr, Option, Some, None, arith}
+use Rattle.std.specs.Prelude.{if◌then◌else◌, ◌&&◌}
+use Rattle.std.proofs.lemmas.Bool.{false≢true, true≢false}
+use Rattle.mc_text.specs.Routes.{Route}
+use Rattle.tree_trait.specs.Change.{CallLog}
+use Rattle.folder_copy.specs.FolderCopying.{is_dirty}
+use Rattle.job_reports.specs.declared.job.Pair.{Pair}
+use Rattle.job_reports.specs.declared.report.Cause.{Cause}
+use Rattle.job_reports.specs.declared.report.Did.{Did}
+use Rattle.job_reports.specs.declared.report.Did.TheVariants.{Barrier, Merges, Skipped, Troubled}
+use Rattle.session_history.specs.Sources.{children_in}
+use Rattle.subtree_copy.specs.Leaving.{owes_at_end}
+use Rattle.subtree_copy.specs.Merged.{IsOver}
+use Rattle.subtree_copy.specs.Standing.{SubtreeCopying}
+use Rattle.subtree_copy.proofs.MergedOnes.{merged_law}
+use Rattle.subtree_walk.specs.Places.{is_empty}
+use Rattle.tree_copy.specs.declared.item.Item.{Item}
+use Rattle.tree_copy.specs.declared.item.Item.TheVariants as item
+use Rattle.tree_copy.specs.Standing.{Seen}
+use Rattle.copy_move.specs.declared.run.Course.{Course}
+use Rattle.copy_move.specs.declared.run.Course.TheVariants.{GoesOn, Asking, InTrouble, OwedSyncFailed, Skips, Ends}
+use Rattle.copy_move.specs.declared.work.Work.{Work}
+use Rattle.copy_move.specs.declared.work.Work.TheVariants.{Copy, CopyTree, Delete, Make, SetMode}
+use Rattle.copy_move.specs.Jobs.{PassesOver, Running, TellsOn, WorkTells, WorkWinds, closed_course, course_after}
+use Rattle.copy_move.specs.Steps.{OwnStep, RunStep, SkipWalks, SyncsOwed, WalksOn, step_made}
+use Rattle.copy_move.specs.TreeCopies as trees
+use Rattle.copy_move.proofs.Merging.{none_wound}
+use Rattle.job_sources.specs.Turning.{below_steps, children_left, children_on, is_next, is_over, merges, room_below, sources_rank, tree_steps}
+use Rattle.job_sources.proofs.Children.{children_within}
+
+all_five : (a b c d e : Bool) → a ≡ true → b ≡ true → c ≡ true → d ≡ false → e ≡ false → (a && (b && (c && (not d && not e)))) ≡ true
+all_five a b c d e pa pb pc pd pe =
+    ap (λ x. x && (b && (c && (not d && not e)))) pa ∙ (ap (λ x. x && (c && (not d && not e))) pb ∙ (ap (λ x. x && (not d && not e)) pc ∙ (ap (λ x. not x && not e) pd ∙ ap not pe)))
+
+over_so : (c : Seen) → IsOver c → is_over c ≡ true
+over_so c o =
+    all_five (is_next c.item) (is_empty c.levels.around) (is_empty c.levels.inner.names.names) (owes_at_end c.levels.inner.copy.stage false) (is_dirty c.levels.inner.copy.names)
+    (ap is_next o.none) (ap is_empty o.around) (ap is_empty o.names) o.owes o.clean
+
+first_of : (a b : Bool) → (a && b) ≡ true → a ≡ true
+first_of true b h = refl
+first_of false b h = absurd (false≢true h)
+
+second_of : (a b : Bool) → (a && b) ≡ true → b ≡ true
+second_of true b h = h
+second_of false b h = absurd (false≢true h)
+
+unless_so : (a : Bool) → not a ≡ true → a ≡ false
+unless_so true h = absurd (false≢true h)
+unless_so false h = refl
+
+next_so : (i : Item) → is_next i ≡ true → i ≡ item.Next
+next_so item.Next h = refl
+next_so (item.File f) h = absurd (false≢true h)
+next_so (item.Link l) h = absurd (false≢true h)
+next_so (item.Stays part) h = absurd (false≢true h)
+
+empty_so : {A : Type 0} (xs : List A) → is_empty xs ≡ true → xs ≡ []
+empty_so [] h = refl
+empty_so (x ∷ xs) h = absurd (false≢true h)
+
+so_over : (c : Seen) → is_over c ≡ true → IsOver c
+so_over c h =
+    let rest = second_of (is_next c.item) _ h in
+    let names = second_of (is_empty c.levels.around) _ rest in
+    let last = second_of (is_empty c.levels.inner.names.names) _ names in
+    record {
+      none = next_so c.item (first_of (is_next c.item) _ h);
+      around = empty_so c.levels.around (first_of (is_empty c.levels.around) _ rest);
+      names = empty_so c.levels.inner.names.names (first_of (is_empty c.levels.inner.names.names) _ names);
+      owes = unless_so (owes_at_end c.levels.inner.copy.stage false) (first_of _ _ last);
+      clean = unless_so (is_dirty c.levels.inner.copy.names) (second_of _ _ last);
+    }
+
+-- no course counts more than its work
+pub on_within : (course : Course) (work : Work) → children_on course work ≤ children_left work
+on_within GoesOn work = omega arith
+on_within (Skips cause) work = omega arith
+on_within (InTrouble halt) work = omega arith
+on_within (OwedSyncFailed cause) work = omega arith
+on_within Asking work = omega arith
+on_within (Ends ending) work = omega arith
+
+pub closed_within : (course : Course) (work : Work) → children_on (closed_course course) work ≤ children_on course work
+closed_within GoesOn work = omega arith
+closed_within (Skips cause) work = omega arith
+closed_within (InTrouble halt) work = omega arith
+closed_within (OwedSyncFailed cause) work = omega arith
+closed_within Asking work = omega arith
+closed_within (Ends ending) work = omega arith
+
+-- what stays over counts no more
+over_less : (a b : Bool) (m n : ℕ) → (a ≡ true → b ≡ true) → n ≡ m → (if b then 0 else n) ≤ (if a then 0 else m)
+over_less true b m n h same = let e : (if b then 0 else n) ≡ 0 = ap (λ x. if x then 0 else n) (h refl) in omega (arith, e)
+over_less false true m n h same = omega arith
+over_less false false m n h same = omega (arith, same)
+
+tree_less : (c new : SubtreeCopying) → new.top ≡ c.top → (IsOver c.at → IsOver new.at) → children_left (CopyTree new) ≤ children_left (CopyTree c)
+tree_less c new top over =
+    over_less (is_over c.at) (is_over new.at) (below_steps tree_steps (room_below c.top.source)) (below_steps tree_steps (room_below new.top.source))
+    (λ was. over_so new.at (over (so_over c.at was))) (ap (λ (p : Pair). below_steps tree_steps (room_below p.source)) top)
+
+-- a step of the work
+tells_less : (old new : Work) (did : Did) → WorkTells old did new → children_left new ≤ children_left old
+tells_less (CopyTree c) (CopyTree new) did t = (let a = t.after in tree_less c new a.top (λ o. (t.over o).0))
+tells_less (Copy c) (Copy new) did t = omega arith
+tells_less (Copy c) (CopyTree new) did t = absurd t
+tells_less (Copy c) (Delete new) did t = absurd t
+tells_less (Copy c) (Make new) did t = absurd t
+tells_less (Copy c) (SetMode new) did t = absurd t
+tells_less (CopyTree c) (Copy new) did t = absurd t
+tells_less (CopyTree c) (Delete new) did t = absurd t
+tells_less (CopyTree c) (Make new) did t = absurd t
+tells_less (CopyTree c) (SetMode new) did t = absurd t
+tells_less (Delete d) (Copy new) did t = absurd t
+tells_less (Delete d) (CopyTree new) did t = absurd t
+tells_less (Delete d) (Delete new) did t = omega arith
+tells_less (Delete d) (Make new) did t = absurd t
+tells_less (Delete d) (SetMode new) did t = absurd t
+tells_less (Make m) (Copy new) did t = absurd t
+tells_less (Make m) (CopyTree new) did t = absurd t
+tells_less (Make m) (Delete new) did t = absurd t
+tells_less (Make m) (Make new) did t = omega arith
+tells_less (Make m) (SetMode new) did t = absurd t
+tells_less (SetMode s) (Copy new) did t = absurd t
+tells_less (SetMode s) (CopyTree new) did t = absurd t
+tells_less (SetMode s) (Delete new) did t = absurd t
+tells_less (SetMode s) (Make new) did t = absurd t
+tells_less (SetMode s) (SetMode new) did t = omega arith
+
+-- a skip of it
+skips_less : (cause : Cause) (old new : Work) (did : Did) (path : Route) → PassesOver old path new → SkipWalks cause old did new → children_left new ≤ children_left old
+skips_less cause (CopyTree c) (CopyTree new) did path p s = tree_less c new (ap (λ (k : SubtreeCopying). k.top) s.stands) (λ o. merged_law.skip cause c new did s o)
+skips_less cause (Copy c) (Copy new) did path p s = omega arith
+skips_less cause (Copy c) (CopyTree new) did path p s = absurd p
+skips_less cause (Copy c) (Delete new) did path p s = absurd p
+skips_less cause (Copy c) (Make new) did path p s = absurd p
+skips_less cause (Copy c) (SetMode new) did path p s = absurd p
+skips_less cause (CopyTree c) (Copy new) did path p s = absurd p
+skips_less cause (CopyTree c) (Delete new) did path p s = absurd p
+skips_less cause (CopyTree c) (Make new) did path p s = absurd p
+skips_less cause (CopyTree c) (SetMode new) did path p s = absurd p
+skips_less cause (Delete d) (Copy new) did path p s = absurd p
+skips_less cause (Delete d) (CopyTree new) did path p s = absurd p
+skips_less cause (Delete d) (Delete new) did path p s = omega arith
+skips_less cause (Delete d) (Make new) did path p s = absurd p
+skips_less cause (Delete d) (SetMode new) did path p s = absurd p
+skips_less cause (Make m) (Copy new) did path p s = absurd p
+skips_less cause (Make m) (CopyTree new) did path p s = absurd p
+skips_less cause (Make m) (Delete new) did path p s = absurd p
+skips_less cause (Make m) (Make new) did path p s = omega arith
+skips_less cause (Make m) (SetMode new) did path p s = absurd p
+skips_less cause (SetMode m) (Copy new) did path p s = absurd p
+skips_less cause (SetMode m) (CopyTree new) did path p s = absurd p
+skips_less cause (SetMode m) (Delete new) did path p s = absurd p
+skips_less cause (SetMode m) (Make new) did path p s = absurd p
+skips_less cause (SetMode m) (SetMode new) did path p s = omega arith
+
+-- the children that come in are counted before
+merged_exactly : (a b : Bool) (m n k : ℕ) → (a ≡ true → ⊥) → b ≡ true → k ≤ m → (if b then 0 else n) + k ≤ (if a then 0 else m)
+merged_exactly true b m n k begins over within = absurd (begins refl)
+merged_exactly false b m n k begins over within = let e : (if b then 0 else n) ≡ 0 = ap (λ x. if x then 0 else n) over in omega (arith, e, within)
+
+merges_less : (id : ℕ) (old new : Work) (pair : Pair) (names : List (List ℕ)) → WorkTells old (Merges pair names) new → children_left new + sources_rank id (children_in pair names) ≤ children_left old
+merges_less id (CopyTree c) (CopyTree new) pair names t =
+    let m = t.merged pair names refl in
+    merged_exactly (is_over c.at) (is_over new.at) (below_steps tree_steps (room_below c.top.source)) (below_steps tree_steps (room_below new.top.source)) (sources_rank id (children_in pair names))
+    (λ was. m.begins (so_over c.at was)) (over_so new.at m.over)
+    (subst (λ (p : Pair). sources_rank id (children_in pair names) ≤ below_steps tree_steps (room_below p.source)) m.top (children_within id pair names m.short m.few))
+merges_less id (Copy c) (Copy new) pair names t = absurd t
+merges_less id (Copy c) (CopyTree new) pair names t = absurd t
+merges_less id (Copy c) (Delete new) pair names t = absurd t
+merges_less id (Copy c) (Make new) pair names t = absurd t
+merges_less id (Copy c) (SetMode new) pair names t = absurd t
+merges_less id (CopyTree c) (Copy new) pair names t = absurd t
+merges_less id (CopyTree c) (Delete new) pair names t = absurd t
+merges_less id (CopyTree c) (Make new) pair names t = absurd t
+merges_less id (CopyTree c) (SetMode new) pair names t = absurd t
+merges_less id (Delete d) (Copy new) pair names t = absurd t
+merges_less id (Delete d) (CopyTree new) pair names t = absurd t
+merges_less id (Delete d) (Delete new) pair names t = absurd t
+merges_less id (Delete d) (Make new) pair names t = absurd t
+merges_less id (Delete d) (SetMode new) pair names t = absurd t
+merges_less id (Make m) (Copy new) pair names t = absurd t
+merges_less id (Make m) (CopyTree new) pair names t = absurd t
+merges_less id (Make m) (Delete new) pair names t = absurd t
+merges_less id (Make m) (Make new) pair names t = absurd t
+merges_less id (Make m) (SetMode new) pair names t = absurd t
+merges_less id (SetMode s) (Copy new) pair names t = absurd t
+merges_less id (SetMode s) (CopyTree new) pair names t = absurd t
+merges_less id (SetMode s) (Delete new) pair names t = absurd t
+merges_less id (SetMode s) (Make new) pair names t = absurd t
+merges_less id (SetMode s) (SetMode new) pair names t = absurd t
+
+module _ (unclaimed : Route → Type 0) (job new : Running) (calls : ℕ) (dirty dirty_after : List Route) (before after : Option CallLog) (f0 f1 : ℕ) where
+  -- a step of the job that doesn't merge
+  course_less : (course : Course) (did : Did) → job.course ≡ course → TellsOn course job did new → WalksOn unclaimed course job.work new.work did calls dirty dirty_after before after f0 f1
+      → children_on new.course new.work ≤ children_on course job.work
+  course_less GoesOn did is (work, tells, new_is) walks =
+      let less = tells_less job.work work did tells in
+      let most = on_within new.course new.work in
+      let same : children_left new.work ≡ children_left work = ap (λ (r : Running). children_left r.work) new_is in
+      omega (arith, less, most, same)
+  course_less (InTrouble halt) did is tells walks = absurd tells
+  course_less (OwedSyncFailed cause) did is tells walks = absurd tells
+  course_less Asking did is tells walks = absurd tells
+  course_less (Skips cause) did is (inl (path, work, did_is, passes, new_is)) walks =
+      let same : new.work ≡ work = ap (λ (r : Running). r.work) new_is in
+      let less = skips_less cause job.work new.work did path (subst (λ w. PassesOver job.work path w) (sym same) passes) walks in
+      let most = on_within new.course new.work in
+      omega (arith, less, most)
+  course_less (Skips cause) did is (inr (apart, did_is, new_is)) walks =
+      let none : children_on new.course new.work ≡ 0 = ap (λ (r : Running). children_on r.course r.work) new_is in omega (arith, none)
+  course_less (Ends ending) did is (work, winds, new_is) walks =
+      let none : children_on new.course new.work ≡ 0 = ap (λ (r : Running). children_on r.course r.work) new_is ∙ ap (λ c. children_on c work) is in omega (arith, none)
+
+  owed_less : (did : Did) (path : Route) → SyncsOwed job path did new dirty dirty_after before after → children_on new.course new.work ≤ children_on job.course job.work
+  owed_less did path (inl s) = let same : children_on new.course new.work ≡ children_on job.course job.work = ap (λ (r : Running). children_on r.course r.work) s.new_is in omega (arith, same)
+  owed_less did path (inr s) = let none : children_on new.course new.work ≡ 0 = ap (λ (r : Running). children_on r.course r.work) s.new_is in omega (arith, none)
+
+  pub step_less : (did : Did) → RunStep unclaimed (step_made job new did calls dirty dirty_after before after f0 f1) → children_on new.course new.work ≤ children_on job.course job.work
+  step_less did (inl o) = (let s = o.own in course_less job.course did refl s.tells o.walks)
+  step_less did (inr s) = owed_less did s.path s.synced
+
+  -- a step that merges
+  module _ (pair : Pair) (names : List (List ℕ)) where
+    course_merges : (course : Course) → job.course ≡ course → TellsOn course job (Merges pair names) new → children_on new.course new.work + sources_rank new.id (children_in pair names) ≤ children_on course job.work
+    course_merges GoesOn is (work, tells, new_is) =
+        let less = merges_less new.id job.work work pair names tells in
+        let most = on_within new.course new.work in
+        let same : children_left new.work ≡ children_left work = ap (λ (r : Running). children_left r.work) new_is in
+        omega (arith, less, most, same)
+    course_merges (InTrouble halt) is tells = absurd tells
+    course_merges (OwedSyncFailed cause) is tells = absurd tells
+    course_merges Asking is tells = absurd tells
+    course_merges (Skips cause) is (inl (path, work, did_is, passes, new_is)) = absurd (let e : Merges pair names ≡ Skipped path cause = did_is in let f : ⊥ = cc in f)
+    course_merges (Skips cause) is (inr (apart, did_is, new_is)) = absurd (let e = did_is in let f : ⊥ = cc in f)
+    course_merges (Ends ending) is (work, winds, new_is) = absurd (none_wound pair names ending job.work work winds)
+
+    pub step_merges : RunStep unclaimed (step_made job new (Merges pair names) calls dirty dirty_after before after f0 f1) → children_on new.course new.work + sources_rank new.id (children_in pair names) ≤ children_on job.course job.work
+    step_merges (inl o) = (let s = o.own in course_merges job.course refl s.tells)
+    step_merges (inr s) = by s.synced
+      where
+        by : SyncsOwed job s.path (Merges pair names) new dirty dirty_after before after → children_on new.course new.work + sources_rank new.id (children_in pair names) ≤ children_on job.course job.work
+        by (inl h) = absurd (let e : Merges pair names ≡ Barrier = h.did_is in let f : ⊥ = cc in f)
+        by (inr h) = absurd (let e : Merges pair names ≡ Troubled h.trouble = h.did_is in let f : ⊥ = cc in f)

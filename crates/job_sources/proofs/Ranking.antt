@@ -1,0 +1,233 @@
+-- A step leaves the job fewer steps, also where the session is closed.
+use Rattle.std.proofs.Common.{◌≡◌, ℕ, ◌+◌, ◌<◌, ◌≤◌, Bool, true, false, not, List, [], ◌∷◌, length, refl, sym, ap, subst, inl, inr, Option, Some, None, arith}
+use Rattle.std.proofs.lemmas.List.{length-append}
+use Rattle.std.specs.Prelude.{◌^◌, if◌then◌else◌}
+use Rattle.mc_text.specs.Routes.{Route, same_path}
+use Rattle.tree_trait.specs.declared.calls.TreeError.{TreeError}
+use Rattle.tree_trait.specs.Change.{CallLog}
+use Rattle.tree_trait.specs.CrashImages.{Among}
+use Rattle.tree_trait.proofs.Visible.{same_path-self}
+use Rattle.job_reports.specs.declared.report.Did.{Did}
+use Rattle.job_reports.specs.declared.report.Did.TheVariants.{Began, Chunk, Placed, Removed, Made, Set, Kept, Skipped, Cleaned, Barrier, Asked, Merges, Troubled, Ended}
+use Rattle.file_copy.specs.declared.stage.Stage.{Stage}
+use Rattle.file_copy.specs.declared.stage.Stage.TheVariants.{Begin, Fill, Clean, Left, Decided}
+use Rattle.file_copy.specs.declared.stage.Next.TheVariants as next
+use Rattle.file_copy.specs.declared.stage.FolderState.{FolderState}
+use Rattle.file_copy.specs.declared.stage.FolderState.TheVariants.{Synced, Dirty}
+use Rattle.file_copy.specs.LastSteps.{last_steps}
+use Rattle.copy_move.specs.declared.work.Work.{Work}
+use Rattle.copy_move.specs.declared.work.Work.TheVariants.{Copy, CopyTree, Delete, Make, SetMode}
+use Rattle.copy_move.specs.declared.run.Course.{Course}
+use Rattle.copy_move.specs.declared.run.Course.TheVariants.{GoesOn, Asking, InTrouble, OwedSyncFailed, Skips, Ends}
+use Rattle.copy_move.specs.Jobs.{Running, closed_course}
+use Rattle.job_reports.specs.Reports.{ends}
+use Rattle.thing_making.specs.declared.making.MakingStage.{MakingStage}
+use Rattle.thing_making.specs.declared.making.MakingStage.TheVariants as making
+use Rattle.copy_move.specs.Deletions.{Deleting, DeletionLeaves}
+use Rattle.thing_making.specs.Makings as makings
+use Rattle.mode_setting.specs.declared.setting.Stage.{Stage as SettingStage}
+use Rattle.mode_setting.specs.declared.setting.Stage.TheVariants as setting
+use Rattle.mode_setting.specs.Settings as settings
+use Rattle.copy_move.specs.DeletionSteps.{after_try}
+use Rattle.copy_move.specs.Ranks.{copy_rank, last_making_steps, last_rank, last_setting_steps, making_rank, rank_at, rank_on, rank_with, setting_rank, work_rank}
+use Rattle.file_copy.specs.Copying as copying
+use Rattle.tree_deletion.specs.Folders.{joined}
+use Rattle.copy_move.specs.Settling.{WorkLeaves, with_change}
+use Rattle.job_reports.specs.Paths.{folder_of, without}
+use Rattle.copy_move.specs.Steps.{LeavesDirty, RunStep, OwedSyncStep, SyncsOwed, step_made}
+use Rattle.copy_move.specs.Told.{if_closed}
+use Rattle.copy_move.proofs.DeletionRuns.{fewer, one_fewer}
+use Rattle.copy_move.proofs.FolderSteps.{joined_more, one_more, tried_more}
+
+more : (most : ℕ) → 0 < most + 8
+more most = omega arith
+
+more_yet : (most : ℕ) → 0 < most + 9
+more_yet most = omega arith
+
+some_copy : (stage : Stage) (folder : FolderState) → 0 < copy_rank stage folder
+some_copy Begin folder = more (2 ^ 63)
+some_copy (Fill part said done) folder = omega arith
+some_copy (Clean part next.Begin) folder = more_yet (2 ^ 63)
+some_copy (Clean part next.Decided) folder = omega arith
+some_copy (Left part) folder = omega arith
+some_copy Decided Dirty = omega arith
+some_copy Decided Synced = omega arith
+
+some_last : (stage : Stage) (folder : FolderState) → 0 < last_steps stage folder
+some_last (Fill part said done) folder = omega arith
+some_last (Clean part follows) folder = omega arith
+some_last Begin Dirty = omega arith
+some_last Begin Synced = omega arith
+some_last (Left part) Dirty = omega arith
+some_last (Left part) Synced = omega arith
+some_last Decided Dirty = omega arith
+some_last Decided Synced = omega arith
+
+some_making : (stage : MakingStage) → 0 < making_rank stage
+some_making making.Make = omega arith
+some_making making.Sync = omega arith
+some_making making.Finish = omega arith
+some_making making.PassedOver = omega arith
+
+some_making_try : (stage : MakingStage) → 0 < last_making_steps stage
+some_making_try making.Make = omega arith
+some_making_try making.Sync = omega arith
+some_making_try making.Finish = omega arith
+some_making_try making.PassedOver = omega arith
+
+some_setting : (stage : SettingStage) → 0 < setting_rank stage
+some_setting setting.Give = omega arith
+some_setting setting.Sync = omega arith
+some_setting setting.Done = omega arith
+
+some_setting_try : (stage : SettingStage) → 0 < last_setting_steps stage
+some_setting_try setting.Give = omega arith
+some_setting_try setting.Sync = omega arith
+some_setting_try setting.Done = omega arith
+
+some_end : (work : Work) → 0 < last_rank work
+some_end (Copy c) = some_last c.stage c.folder
+some_end (CopyTree c) = omega arith
+some_end (Delete d) = omega arith
+some_end (Make m) = some_making_try m.stage
+some_end (SetMode s) = some_setting_try s.stage
+
+some_work : (work : Work) → 0 < work_rank work
+some_work (Copy c) = some_copy c.stage c.folder
+some_work (CopyTree c) = omega arith
+some_work (Delete d) = omega arith
+some_work (Make m) = some_making m.stage
+some_work (SetMode s) = some_setting s.stage
+
+-- a live job has steps left
+some_steps : (course : Course) (work : Work) → 0 < rank_on course work
+some_steps GoesOn work = some_work work
+some_steps (InTrouble halt) work = some_end work
+some_steps (OwedSyncFailed cause) work = some_end work
+some_steps Asking work = some_end work
+some_steps (Skips cause) (Copy c) = omega arith
+some_steps (Skips cause) (CopyTree c) = omega arith
+some_steps (Skips cause) (Delete d) = omega arith
+some_steps (Skips cause) (Make m) = omega arith
+some_steps (Skips cause) (SetMode s) = omega arith
+some_steps (Ends ending) work = some_end work
+
+-- a job that waits is counted as one that is aborted
+pub closed_rank : (course : Course) (work : Work) (dirty : List Route) → rank_at dirty (closed_course course) work ≤ rank_at dirty course work
+closed_rank GoesOn work dirty = omega arith
+closed_rank (InTrouble halt) (Copy c) dirty = omega arith
+closed_rank (InTrouble halt) (CopyTree c) dirty = omega arith
+closed_rank (InTrouble halt) (Delete d) dirty = omega arith
+closed_rank (InTrouble halt) (Make m) dirty = omega arith
+closed_rank (InTrouble halt) (SetMode s) dirty = omega arith
+closed_rank (OwedSyncFailed cause) (Copy c) dirty = omega arith
+closed_rank (OwedSyncFailed cause) (CopyTree c) dirty = omega arith
+closed_rank (OwedSyncFailed cause) (Delete d) dirty = omega arith
+closed_rank (OwedSyncFailed cause) (Make m) dirty = omega arith
+closed_rank (OwedSyncFailed cause) (SetMode s) dirty = omega arith
+closed_rank Asking (Copy c) dirty = omega arith
+closed_rank Asking (CopyTree c) dirty = omega arith
+closed_rank Asking (Delete d) dirty = omega arith
+closed_rank Asking (Make m) dirty = omega arith
+closed_rank Asking (SetMode s) dirty = omega arith
+closed_rank (Skips cause) work dirty = omega arith
+closed_rank (Ends ending) work dirty = omega arith
+
+-- a job has more steps left than none
+pub some_left : (dirty : List Route) (job : Running) → length dirty < rank_at dirty job.course job.work
+some_left dirty job = let some = some_steps job.course job.work in omega (arith, some)
+
+-- an end leaves no more than one dirty folder more
+ends_low : (dirty dirty_after : List Route) (job : Running) → length dirty_after ≤ length dirty + 1 → length dirty_after < rank_at dirty job.course job.work
+ends_low dirty dirty_after job few = let some = some_steps job.course job.work in omega (arith, some, few)
+
+rank_left : (closed : Bool) (job stepped : Running) (did : Did) (dirty dirty_after : List Route) → length dirty_after ≤ length dirty + 1 → (ends did ≡ false → rank_with dirty_after (Some stepped) < rank_with dirty (Some job))
+    → rank_with dirty_after (if_closed closed (if ends did then None else Some stepped)) < rank_with dirty (Some job)
+rank_left closed job stepped did dirty dirty_after few falls = go closed (ends did) falls
+  where
+    go : (closed ended : Bool) → (ended ≡ false → rank_with dirty_after (Some stepped) < rank_with dirty (Some job)) → rank_with dirty_after (if_closed closed (if ended then None else Some stepped)) < rank_with dirty (Some job)
+    go true true h = ends_low dirty dirty_after job few
+    go false true h = ends_low dirty dirty_after job few
+    go true false h = let less = h refl in let most = closed_rank stepped.course stepped.work dirty_after in omega (arith, less, most)
+    go false false h = h refl
+
+-- a change adds a folder at most
+deletion_more : (d : Deleting) (did : Did) (dirty dirty_after : List Route) (before after : Option CallLog) → DeletionLeaves d did dirty dirty_after before after → length dirty_after ≤ length dirty + 1
+deletion_more d (Removed path) dirty dirty_after before after (inl h) = subst (λ xs. length xs ≤ length dirty + 1) (sym h.0) (joined_more (folder_of path) dirty)
+deletion_more d (Removed path) dirty dirty_after before after (inr h) =
+    subst (λ xs. length xs ≤ length dirty + 1) (sym h.0) (let less = fewer path (joined (folder_of path) dirty) in let more = joined_more (folder_of path) dirty in omega (arith, less, more))
+deletion_more d Barrier dirty dirty_after before after (folder, own, left, called) = subst (λ xs. length xs ≤ length dirty + 1) (sym left) (let less = fewer folder dirty in omega (arith, less))
+deletion_more d (Ended ending part) dirty dirty_after before after h = let same = ap length h.1 in omega (arith, same)
+deletion_more d (Kept path) dirty dirty_after before after h = let same = ap length h in omega (arith, same)
+deletion_more d (Troubled trouble) dirty dirty_after before after h = let same = ap length h in omega (arith, same)
+deletion_more d (Began part) dirty dirty_after before after h = let same = ap length h in omega (arith, same)
+deletion_more d (Chunk bytes) dirty dirty_after before after h = let same = ap length h in omega (arith, same)
+deletion_more d (Asked question) dirty dirty_after before after h = let same = ap length h in omega (arith, same)
+deletion_more d (Merges pair names) dirty dirty_after before after h = let same = ap length h in omega (arith, same)
+deletion_more d (Set path) dirty dirty_after before after h = let same = ap length h in omega (arith, same)
+deletion_more d (Placed path) dirty dirty_after before after h = let same = ap length h in omega (arith, same)
+deletion_more d (Made made) dirty dirty_after before after h = let same = ap length h in omega (arith, same)
+deletion_more d (Skipped path cause) dirty dirty_after before after h = let same = ap length h in omega (arith, same)
+deletion_more d (Cleaned part) dirty dirty_after before after h = let same = ap length h in omega (arith, same)
+
+work_more : (old new : Work) (did : Did) (dirty dirty_after : List Route) (before after : Option CallLog) → WorkLeaves old did new dirty dirty_after before after → length dirty_after ≤ length dirty + 1
+work_more (Copy c) (Copy new) did dirty dirty_after before after h = subst (λ xs. length xs ≤ length dirty + 1) (sym h) (one_more (copying.is_dirty c.folder) (copying.is_dirty new.folder) (folder_of c.target) dirty)
+work_more (CopyTree c) (CopyTree new) did dirty dirty_after before after h = subst (λ xs. length xs ≤ length dirty + 1) (sym h.list) (one_more h.was h.now h.folder dirty)
+work_more (CopyTree c) (Copy new) did dirty dirty_after before after h = absurd h
+work_more (CopyTree c) (Delete new) did dirty dirty_after before after h = absurd h
+work_more (CopyTree c) (Make new) did dirty dirty_after before after h = absurd h
+work_more (CopyTree c) (SetMode new) did dirty dirty_after before after h = absurd h
+work_more (Copy c) (CopyTree new) did dirty dirty_after before after h = absurd h
+work_more (Delete d) (CopyTree new) did dirty dirty_after before after h = absurd h
+work_more (Make m) (CopyTree new) did dirty dirty_after before after h = absurd h
+work_more (SetMode s) (CopyTree new) did dirty dirty_after before after h = absurd h
+work_more (Copy c) (Delete new) did dirty dirty_after before after h = absurd h
+work_more (Copy c) (Make new) did dirty dirty_after before after h = absurd h
+work_more (Delete d) (Make new) did dirty dirty_after before after h = absurd h
+work_more (Make m) (Copy new) did dirty dirty_after before after h = absurd h
+work_more (Make m) (Delete new) did dirty dirty_after before after h = absurd h
+work_more (Copy c) (SetMode new) did dirty dirty_after before after h = absurd h
+work_more (Delete d) (SetMode new) did dirty dirty_after before after h = absurd h
+work_more (Make m) (SetMode new) did dirty dirty_after before after h = absurd h
+work_more (SetMode s) (Copy new) did dirty dirty_after before after h = absurd h
+work_more (SetMode s) (Delete new) did dirty dirty_after before after h = absurd h
+work_more (SetMode s) (Make new) did dirty dirty_after before after h = absurd h
+work_more (SetMode s) (SetMode new) did dirty dirty_after before after h = subst (λ xs. length xs ≤ length dirty + 1) (sym h) (one_more (settings.is_dirty s.stage) (settings.is_dirty new.stage) s.path dirty)
+work_more (Make m) (Make new) did dirty dirty_after before after h = subst (λ xs. length xs ≤ length dirty + 1) (sym h) (one_more (makings.is_dirty m.stage) (makings.is_dirty new.stage) (folder_of m.path) dirty)
+work_more (Delete d) (Copy new) did dirty dirty_after before after h = absurd h
+work_more (Delete d) (Delete new) did dirty dirty_after before after h = deletion_more d did dirty dirty_after before after h
+
+leaves_more : (course : Course) (old new : Work) (did : Did) (dirty dirty_after : List Route) (before after : Option CallLog) → LeavesDirty course old did new dirty dirty_after before after → length dirty_after ≤ length dirty + 1
+leaves_more GoesOn old new did dirty dirty_after before after h = work_more old new did dirty dirty_after before after h
+leaves_more (InTrouble halt) old new did dirty dirty_after before after h = absurd h
+leaves_more (OwedSyncFailed cause) old new did dirty dirty_after before after h = absurd h
+leaves_more Asking old new did dirty dirty_after before after h = absurd h
+leaves_more (Skips cause) old new did dirty dirty_after before after h = let same = ap length h in omega (arith, same)
+leaves_more (Ends ending) old new did dirty dirty_after before after h = subst (λ d. length d ≤ length dirty + 1) (sym h.dirty_is) (tried_more did h.refusal h.folder dirty)
+
+-- the sync of what an ended job left dirty leaves the job where it stood, or waiting
+settled_falls : (closed : Bool) (job stepped : Running) (did : Did) (made : ℕ) (dirty dirty_after : List Route) (before after : Option CallLog) (f0 f1 : ℕ) → OwedSyncStep (step_made job stepped did made dirty dirty_after before after f0 f1)
+    → rank_with dirty_after (if_closed closed (if ends did then None else Some stepped)) < rank_with dirty (Some job)
+settled_falls closed job stepped did made dirty dirty_after before after f0 f1 s = by s.synced
+  where
+    by : SyncsOwed job s.path did stepped dirty dirty_after before after → rank_with dirty_after (if_closed closed (if ends did then None else Some stepped)) < rank_with dirty (Some job)
+    by (inl h) =
+        let less = one_fewer s.path dirty s.owed in
+        let count : length dirty_after ≡ length (without s.path dirty) = ap length h.dirty_is in
+        let goes : rank_at dirty job.course job.work ≡ rank_at dirty GoesOn job.work = ap (λ c. rank_at dirty c job.work) s.goes in
+        let on : rank_at dirty_after job.course job.work ≡ rank_at dirty_after GoesOn job.work = ap (λ c. rank_at dirty_after c job.work) s.goes in
+        let same : rank_at dirty_after stepped.course stepped.work ≡ rank_at dirty_after job.course job.work = ap (λ (j : Running). rank_at dirty_after j.course j.work) h.new_is in
+        rank_left closed job stepped did dirty dirty_after (omega (arith, less, count)) (λ going. omega (arith, less, count, goes, on, same))
+    by (inr h) =
+        let count : length dirty_after ≡ length dirty = ap length h.dirty_is in
+        let waits : rank_at dirty_after stepped.course stepped.work ≡ rank_at dirty_after (OwedSyncFailed h.trouble.cause) job.work = ap (λ (j : Running). rank_at dirty_after j.course j.work) h.new_is in
+        let goes : rank_at dirty job.course job.work ≡ rank_at dirty GoesOn job.work = ap (λ c. rank_at dirty c job.work) s.goes in
+        let low = s.waits in
+        rank_left closed job stepped did dirty dirty_after (omega (arith, count)) (λ going. omega (arith, count, waits, goes, low))
+
+pub run_falls : (unclaimed : Route → Type 0) (closed : Bool) (job stepped : Running) (did : Did) (made : ℕ) (dirty dirty_after : List Route) (before after : Option CallLog) (f0 f1 : ℕ)
+    → RunStep unclaimed (step_made job stepped did made dirty dirty_after before after f0 f1) → rank_with dirty_after (if_closed closed (if ends did then None else Some stepped)) < rank_with dirty (Some job)
+run_falls unclaimed closed job stepped did made dirty dirty_after before after f0 f1 (inl o) =
+    rank_left closed job stepped did dirty dirty_after (leaves_more job.course job.work stepped.work did dirty dirty_after before after o.leaves) o.falls
+run_falls unclaimed closed job stepped did made dirty dirty_after before after f0 f1 (inr s) = settled_falls closed job stepped did made dirty dirty_after before after f0 f1 s

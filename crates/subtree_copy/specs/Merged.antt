@@ -1,0 +1,44 @@
+-- A folder that is to be copied onto a folder: the two are merged by others, and the copy of it is over, before it has changed anything.
+use Rattle.std.specs.Prelude.{◌≡◌, ◌≤◌, ◌^◌, ℕ, Bool, true, false, List, [], length, Option}
+use Rattle.mc_text.specs.Routes.{Route}
+use Rattle.tree_trait.specs.Change.{CallLog}
+use Rattle.job_reports.specs.declared.job.Pair.{Pair}
+use Rattle.job_reports.specs.declared.report.Cause.{Cause}
+use Rattle.job_reports.specs.declared.report.Did.{Did}
+use Rattle.job_reports.specs.declared.report.Did.TheVariants.{Merges}
+use Rattle.folder_copy.specs.FolderCopying.{is_dirty}
+use Rattle.tree_copy.specs.declared.item.Item.TheVariants.{Next}
+use Rattle.tree_copy.specs.InPlace.{IsInPlace}
+use Rattle.tree_copy.specs.Reports.{changes}
+use Rattle.tree_copy.specs.Standing.{Seen, is_fresh}
+use Rattle.tree_copy.specs.Taking.{AreShort}
+use Rattle.subtree_copy.specs.Leaving.{owes_at_end}
+use Rattle.subtree_copy.specs.Standing.{SubtreeCopying, retries}
+use Rattle.subtree_copy.specs.SubtreeSteps.{SubtreeSkips, SubtreeSteps}
+use Rattle.subtree_copy.specs.Unbegun.{IsUnbegun}
+
+-- nothing is left to be copied, and nothing is owed
+pub record IsOver (c : Seen) : Type 0 where
+  pub none : c.item ≡ Next
+  pub around : c.levels.around ≡ []
+  pub names : c.levels.inner.names.names ≡ []
+  pub owes : owes_at_end c.levels.inner.copy.stage false ≡ false
+  pub clean : is_dirty c.levels.inner.copy.names ≡ false
+
+-- What is merged is what is copied itself, once, before anything was changed; what lies in it can be told, with its targets; and then the copy is over.
+pub record MergesTop (old : SubtreeCopying) (pair : Pair) (names : List (List ℕ)) (new : SubtreeCopying) : Type 0 where
+  pub fresh : is_fresh old.at.stage ≡ true
+  pub top : pair ≡ old.top
+  pub short : AreShort pair names
+  pub few : length names ≤ 2 ^ 64
+  pub begins : IsOver old.at → ⊥
+  pub over : IsOver new.at
+
+pub record MergedLaw : Type 0 where
+  pub merges : (free : Route → Bool) (old new : SubtreeCopying) (pair : Pair) (names : List (List ℕ)) (calls : ℕ) (dirty dirty_after : List Route) (before after : Option CallLog) (faults faults_after : ℕ)
+      → SubtreeSteps free old new (Merges pair names) calls dirty dirty_after before after faults faults_after → IsInPlace old.top old.at → IsUnbegun old.at → MergesTop old pair names new
+  -- a copy that is over stays so, and changes nothing
+  pub step : (free : Route → Bool) (old new : SubtreeCopying) (did : Did) (calls : ℕ) (dirty dirty_after : List Route) (before after : Option CallLog) (faults faults_after : ℕ)
+      → SubtreeSteps free old new did calls dirty dirty_after before after faults faults_after → IsOver old.at → IsOver new.at × (changes did ≡ false)
+  pub skip : (cause : Cause) (old new : SubtreeCopying) (did : Did) → SubtreeSkips cause old did new → IsOver old.at → IsOver new.at
+  pub retry : (c : SubtreeCopying) → IsOver c.at → (let again : SubtreeCopying = retries c in IsOver again.at)

@@ -1,0 +1,2 @@
+pub mod MakingFolders
+pub mod MakingRuns

@@ -1,0 +1,3 @@
+pub mod NewThings
+pub mod Makings
+pub mod MakingSteps
