@@ -19,11 +19,6 @@ pub record Levels : Type 0 where
   pub around : List Level
   pub left : ℕ
 
--- the folders around the one that is worked, the nearest first, and for how many more there is room
-pub record FoldersAround : Type 0 where
-  pub nearest : List Level
-  pub spare : ℕ
-
 -- the open folders, and for how many more there is room
 pub record Stacked : Type 0 where
   pub levels : Levels

@@ -5,6 +5,5 @@ mod around;
 mod level;
 mod stack;
 
-pub use around::Around;
 pub use level::Level;
 pub use stack::{LEVELS, Stack};

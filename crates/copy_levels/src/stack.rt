@@ -3,9 +3,9 @@ ghost use Rattle.std.specs.Prelude.{◌≡◌, ◌+◌, ◌<◌, ◌≤◌, ◌=
 ghost use Rattle.folder_copy.specs.FolderCopying.{is_dirty, is_ready};
 ghost use Rattle.folder_copy.specs.FolderSteps.{Skips, StepsOn, SyncTried};
 ghost use Rattle.subtree_walk.specs.Places.{is_empty, is_one_of};
-ghost use Rattle.copy_levels.specs.Levels.{IsLeft, LeavesClean, NearestSyncs, closed, coming, dirtied, emptied, entered, is_around_dirty, is_sync_next, made_levels, outermost, owed_at, owes, passed, target_around as target_of_nearest, with_copy};
+ghost use Rattle.copy_levels.specs.Levels.{IsLeft, LeavesClean, NearestSyncs, closed, coming, dirtied, emptied, entered, is_around_dirty, is_sync_next, made_levels, outermost, owed_at, owes, passed, target_around, with_copy};
 
-use crate::around::Around;
+use crate::around::{is_nearest_dirty, sync_nearest, target_of_nearest};
 use crate::level::Level;
 use folder_copy::{FolderCopy, FolderStep, NamesState, Stage};
 use job_reports::{Cause, Did, LastStepResult};
@@ -13,7 +13,7 @@ use mc_text::{Name, Names, NoMemory, Path};
 use std::alloc::Global;
 use std::marker::Model;
 use std::mem;
-use subtree_walk::Opened;
+use subtree_walk::{Around, Opened};
 use tree_trait::Tree;
 
 /// What is copied may lie so many levels below the folder that holds it: 256 below itself, and one.
@@ -23,7 +23,7 @@ pub const LEVELS: u32 = 257;
 #[derive(Debug, Drop)]
 pub struct Stack {
     inner: Level,
-    around: Around,
+    around: Around<Level>,
     left: u32,
 }
 
@@ -127,15 +127,15 @@ impl Stack {
     pub fn is_around_dirty(&self) -> bool
         ensures { result ≡ is_around_dirty self.now.levels.around }
     {
-        self.around.is_dirty()
+        is_nearest_dirty(&self.around)
     }
 
     /// The path of the target of the folder around.
     pub fn target_around(&self) -> &Path
         requires outer { is_empty self.now.levels.around ≡ false }
-        ensures { result.now ≡ target_of_nearest self.now.levels.around }
+        ensures { result.now ≡ target_around self.now.levels.around }
     {
-        self.around.target()
+        target_of_nearest(&self.around)
     }
 
     /// Whether a sync is next, which can't be skipped.
@@ -155,7 +155,7 @@ impl Stack {
             (T.contents tree.old) (T.contents tree.new) (T.fault_count tree.old) (T.fault_count tree.new) }
         ensures rest { self.new.levels ≡ record self.old.levels { around = self.new.levels.around } }
     {
-        self.around.sync(alloc, tree)
+        sync_nearest(&mut self.around, alloc, tree)
     }
 
     /// Makes room to go down a level.

@@ -1,7 +1,7 @@
 -- Where a walk stands, and where it stands once it goes on.
-use Rattle.std.specs.Prelude.{◌≡◌, ℕ, ◌+◌, ◌-◌, Bool, true, false, ◌||◌, List, [], ◌∷◌, drop, refl}
+use Rattle.std.specs.Prelude.{◌≡◌, ℕ, ◌+◌, ◌-◌, Bool, true, false, ◌||◌, List, [], ◌∷◌, drop, nat_eq, refl}
 use Rattle.std.specs.Coded.{Coded, code_by, coded×, coded_list, coded_ℕ}
-use Rattle.std.specs.List.{list_any}
+use Rattle.std.specs.List.{list_any, starts_with}
 use Rattle.std.specs.Str.{bytes_eq}
 use Rattle.mc_text.specs.Routes.{Route}
 
@@ -42,6 +42,10 @@ is_outermost place = is_empty place.around
 -- it is one of these names
 abbrev pub is_one_of : List ℕ → List (List ℕ) → Bool
 is_one_of name names = list_any (λ met. bytes_eq met name) names
+
+-- it begins as the name of a part does, with `.mc.`
+abbrev pub is_named_as_part : List ℕ → Bool
+is_named_as_part name = starts_with nat_eq name (46 ∷ 109 ∷ 99 ∷ 46 ∷ [])
 
 -- a folder of which nothing was met yet
 abbrev pub opened : Route → List (List ℕ) → OpenFolder

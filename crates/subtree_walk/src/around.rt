@@ -46,7 +46,7 @@ impl<F: Drop> Around<F> {
     }
 
     /// The nearest.
-    fn nearest(&self) -> Option<&F>
+    pub fn nearest(&self) -> Option<&F>
         ensures some { IfSome result (λ folder. self.now.nearest ≡ folder.now ∷ drop 1 self.now.nearest) }
         ensures none { IfNone result (self.now.nearest ≡ []) }
     {
@@ -70,9 +70,10 @@ impl<F: Drop> Around<F> {
         let _added = self.folders.push(folder);
     }
 
-    /// The nearest is taken.
+    /// The nearest is taken. Its room stays.
     pub fn take(&mut self) -> Option<F>
         ensures some { IfSome result (λ folder. self.old.nearest ≡ folder ∷ self.new.nearest) }
+        ensures room { IfSome result (λ _folder. 0 < self.new.spare) }
         ensures none { IfNone result ((self.old.nearest ≡ []) × (self.new.nearest ≡ [])) }
     {
         self.folders.pop()

@@ -1,6 +1,7 @@
 //! A folder whose children are met one by one.
 ghost use Rattle.std.specs.Prelude.{◌≡◌, ◌≤◌, ◌^◌, ◌||◌, [], ◌∷◌, drop, length, false, reverse, IfSome, IfNone};
-ghost use Rattle.subtree_walk.specs.Places.{is_one_of as one_of};
+ghost use Rattle.std.specs.List.{list_any};
+ghost use Rattle.subtree_walk.specs.Places.{is_named_as_part as named_as_part, is_one_of as one_of};
 
 use mc_text::{Name, Names, Path};
 use std::alloc::Global;
@@ -13,15 +14,21 @@ pub struct Opened {
     path: Path,
     names: Vec<Name>,
     spared: bool,
+    /// Whether one of the names may begin as the name of a part does. In most folders none does, and then no part's name has to be compared
+    /// with all that are yet to be met, as each part that is begun would have it. It costs one look at each name as the folder is opened.
+    may_have_parts: bool,
 }
 
 impl Model for Opened {
-    ghost use Rattle.std.specs.Prelude.{reverse};
-    ghost use Rattle.subtree_walk.specs.Places.{OpenFolder};
+    ghost use Rattle.std.specs.Prelude.{◌≡◌, false, reverse};
+    ghost use Rattle.std.specs.List.{list_any};
+    ghost use Rattle.subtree_walk.specs.Places.{OpenFolder, is_named_as_part};
 
     ghost Value = { OpenFolder };
 
     ghost view = { λ o. record { path = o.path; names = reverse o.names.items; spared = o.spared } };
+
+    ghost invariant = { λ o. o.may_have_parts ≡ false → list_any is_named_as_part o.names.items ≡ false };
 }
 
 impl Opened {
@@ -33,6 +40,7 @@ impl Opened {
             path: Path::root(alloc),
             names: Vec::new(alloc),
             spared: false,
+            may_have_parts: false,
         }
     }
 
@@ -43,10 +51,12 @@ impl Opened {
     {
         let mut names = names.0;
         names.reverse();
+        let may_have_parts = is_any_named_as_part(names.as_slice());
         Opened {
             path,
             names,
             spared: false,
+            may_have_parts,
         }
     }
 
@@ -66,10 +76,13 @@ impl Opened {
     }
 
     /// Whether this name is yet to be met.
-    #[tactic(auto, using(crate::proofs::Ahead::one_reversed))]
+    #[tactic(auto, using(crate::proofs::Ahead::one_reversed, crate::proofs::Ahead::none_named_so))]
     pub fn has(&self, name: &Name) -> bool
         ensures { result ≡ one_of name.now self.now.names }
     {
+        if !self.may_have_parts && is_named_as_part(name) {
+            return false;
+        }
         is_one_of(name, self.names.as_slice())
     }
 
@@ -106,6 +119,19 @@ fn is_one_of(name: &Name, names: &[Name]) -> bool
     ensures { result ≡ one_of name.now names.now }
 {
     names.iter().any(|met| met.same(name))
+}
+
+/// Whether the name begins as that of a part does.
+fn is_named_as_part(name: &Name) -> bool
+    ensures { result ≡ named_as_part name.now }
+{
+    name.text().as_bytes().starts_with(b".mc.")
+}
+
+fn is_any_named_as_part(names: &[Name]) -> bool
+    ensures { result ≡ list_any named_as_part names.now }
+{
+    names.iter().any(|name| is_named_as_part(name))
 }
 
 /// One of them. (The prover keeps no branch of a call.)
