@@ -72,7 +72,7 @@ work_stays (SetMode s) (Make new) part h = absurd h
 work_calls : (unclaimed : Route → Type 0) (replies : Replies) (old new : Work) (part : Option Route) (log : CallLog) (after : Option CallLog) → WorkCalls unclaimed replies old (Ended Finished part) new log after → after ≡ Some log
 work_calls unclaimed replies (Copy c) (Copy new) part log after h = h
 work_calls unclaimed replies (CopyTree c) (CopyTree new) part log after h =
-    (let g = h.goes in (finish_is_still g.free c new part h.calls h.dirty h.dirty_after (Some log) after g.since h.faults_after g.steps).1 log refl)
+    (let g = h.goes in (finish_is_still g.free replies c new part h.calls h.dirty h.dirty_after (Some log) after g.since h.faults_after g.steps).1 log refl)
 work_calls unclaimed replies (Delete d) new part log after h = h
 work_calls unclaimed replies (Make m) new part log after h = h
 work_calls unclaimed replies (SetMode s) new part log after h = h
@@ -91,38 +91,38 @@ no_change false folder dirty = refl
 
 -- no folder gets dirty or clean by it
 module _ (unclaimed : Route → Type 0) (part : Option Route) (calls : ℕ) (dirty dirty_after : List Route) (before after : Option CallLog) (f0 f1 : ℕ) where
-  work_list : (old new : Work) → WorkTells old (Ended Finished part) new → WorkLeaves old (Ended Finished part) new dirty dirty_after before after
-      → Walks unclaimed old new (Ended Finished part) calls dirty dirty_after before after f0 f1 → dirty_after ≡ dirty
-  work_list (Copy c) (Copy new) (stage, folder, none, is) leaves walks =
+  work_list : (replies : Replies) (old new : Work) → WorkTells old (Ended Finished part) new → WorkLeaves old (Ended Finished part) new dirty dirty_after before after
+      → Walks unclaimed replies old new (Ended Finished part) calls dirty dirty_after before after f0 f1 → dirty_after ≡ dirty
+  work_list replies (Copy c) (Copy new) (stage, folder, none, is) leaves walks =
       leaves ∙ (ap (λ (k : copying.Copying). folders.with_change (copying.is_dirty c.folder) (copying.is_dirty k.folder) (folder_of c.target) dirty) is
       ∙ no_change (copying.is_dirty c.folder) (folder_of c.target) dirty)
-  work_list (CopyTree c) (CopyTree new) tells leaves walks = (finish_is_still walks.free c new part calls dirty dirty_after before after walks.since f1 walks.steps).0
-  work_list (Delete d) (Delete new) tells leaves walks = leaves.1
-  work_list (Make m) (Make new) (done, none, is) leaves walks =
+  work_list replies (CopyTree c) (CopyTree new) tells leaves walks = (finish_is_still walks.free replies c new part calls dirty dirty_after before after walks.since f1 walks.steps).0
+  work_list replies (Delete d) (Delete new) tells leaves walks = leaves.1
+  work_list replies (Make m) (Make new) (done, none, is) leaves walks =
       leaves ∙ (ap (λ (k : makings.Making). folders.with_change (makings.is_dirty m.stage) (makings.is_dirty k.stage) (folder_of m.path) dirty) is
       ∙ no_change (makings.is_dirty m.stage) (folder_of m.path) dirty)
-  work_list (SetMode s) (SetMode new) (stage, none, is) leaves walks =
+  work_list replies (SetMode s) (SetMode new) (stage, none, is) leaves walks =
       leaves ∙ (ap (λ (k : settings.Setting). folders.with_change (settings.is_dirty s.stage) (settings.is_dirty k.stage) s.path dirty) is ∙ no_change (settings.is_dirty s.stage) s.path dirty)
-  work_list (Copy c) (CopyTree new) tells leaves walks = absurd tells
-  work_list (Copy c) (Delete new) tells leaves walks = absurd tells
-  work_list (Copy c) (Make new) tells leaves walks = absurd tells
-  work_list (Copy c) (SetMode new) tells leaves walks = absurd tells
-  work_list (CopyTree c) (Copy new) tells leaves walks = absurd tells
-  work_list (CopyTree c) (Delete new) tells leaves walks = absurd tells
-  work_list (CopyTree c) (Make new) tells leaves walks = absurd tells
-  work_list (CopyTree c) (SetMode new) tells leaves walks = absurd tells
-  work_list (Delete d) (Copy new) tells leaves walks = absurd tells
-  work_list (Delete d) (CopyTree new) tells leaves walks = absurd tells
-  work_list (Delete d) (Make new) tells leaves walks = absurd tells
-  work_list (Delete d) (SetMode new) tells leaves walks = absurd tells
-  work_list (Make m) (Copy new) tells leaves walks = absurd tells
-  work_list (Make m) (CopyTree new) tells leaves walks = absurd tells
-  work_list (Make m) (Delete new) tells leaves walks = absurd tells
-  work_list (Make m) (SetMode new) tells leaves walks = absurd tells
-  work_list (SetMode s) (Copy new) tells leaves walks = absurd tells
-  work_list (SetMode s) (CopyTree new) tells leaves walks = absurd tells
-  work_list (SetMode s) (Delete new) tells leaves walks = absurd tells
-  work_list (SetMode s) (Make new) tells leaves walks = absurd tells
+  work_list replies (Copy c) (CopyTree new) tells leaves walks = absurd tells
+  work_list replies (Copy c) (Delete new) tells leaves walks = absurd tells
+  work_list replies (Copy c) (Make new) tells leaves walks = absurd tells
+  work_list replies (Copy c) (SetMode new) tells leaves walks = absurd tells
+  work_list replies (CopyTree c) (Copy new) tells leaves walks = absurd tells
+  work_list replies (CopyTree c) (Delete new) tells leaves walks = absurd tells
+  work_list replies (CopyTree c) (Make new) tells leaves walks = absurd tells
+  work_list replies (CopyTree c) (SetMode new) tells leaves walks = absurd tells
+  work_list replies (Delete d) (Copy new) tells leaves walks = absurd tells
+  work_list replies (Delete d) (CopyTree new) tells leaves walks = absurd tells
+  work_list replies (Delete d) (Make new) tells leaves walks = absurd tells
+  work_list replies (Delete d) (SetMode new) tells leaves walks = absurd tells
+  work_list replies (Make m) (Copy new) tells leaves walks = absurd tells
+  work_list replies (Make m) (CopyTree new) tells leaves walks = absurd tells
+  work_list replies (Make m) (Delete new) tells leaves walks = absurd tells
+  work_list replies (Make m) (SetMode new) tells leaves walks = absurd tells
+  work_list replies (SetMode s) (Copy new) tells leaves walks = absurd tells
+  work_list replies (SetMode s) (CopyTree new) tells leaves walks = absurd tells
+  work_list replies (SetMode s) (Delete new) tells leaves walks = absurd tells
+  work_list replies (SetMode s) (Make new) tells leaves walks = absurd tells
 
 -- last steps end as was ordered
 wound_as : (ending how : Ending) (old new : Work) (part : Option Route) → WorkWinds ending old (Ended how part) new → how ≡ ending
@@ -159,7 +159,7 @@ module _ (unclaimed : Route → Type 0) (job new : Running) (part : Option Route
 
   -- what finishes does so on its way, and not in last steps
   by : (course : Course) → job.course ≡ course → TellsOn course job (Ended Finished part) new → IfKnown before (λ log. CallsOn unclaimed course job (Ended Finished part) new log after)
-      → LeavesDirty course job.work (Ended Finished part) new.work dirty dirty_after before after → WalksOn unclaimed course job.work new.work (Ended Finished part) calls dirty dirty_after before after f0 f1
+      → LeavesDirty course job.work (Ended Finished part) new.work dirty dirty_after before after → WalksOn unclaimed job.replies course job.work new.work (Ended Finished part) calls dirty dirty_after before after f0 f1
       → Finishes job new part dirty dirty_after before after
   by GoesOn is (work, tells, new_is) called leaves walks =
       let same : new.work ≡ work = ap (λ (r : Running). r.work) new_is in
@@ -172,7 +172,7 @@ module _ (unclaimed : Route → Type 0) (job new : Running) (part : Option Route
         skips = stays.2;
         replies = ap (λ (r : Running). r.replies) new_is;
         stays = stays.1;
-        list = work_list unclaimed part calls dirty dirty_after before after f0 f1 job.work new.work here leaves walks;
+        list = work_list unclaimed part calls dirty dirty_after before after f0 f1 job.replies job.work new.work here leaves walks;
         log = λ log known. work_calls unclaimed job.replies job.work new.work part log after (called log known);
       }
   by (InTrouble halt) is tells called leaves walks = absurd tells

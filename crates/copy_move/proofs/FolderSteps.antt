@@ -360,7 +360,7 @@ module _ (unclaimed : Route → Type 0) (did : Did) (calls : ℕ) (dirty dirty_a
             ∙ (ap (λ replies. let r : Running = record { id = job.id; work = work; course = course; replies = replies } in r) said ∙ ap (λ c. let r : Running = record job { work = work; course = c } in r) course_is));
         settled = λ now fresh. settled fresh;
         leaves = subst (λ c. LeavesDirty c job.work did work dirty dirty_after before after) (sym goes) s.leaves;
-        walks = subst (λ c. WalksOn unclaimed c job.work work did calls dirty dirty_after before after f0 f1) (sym goes) s.walks;
+        walks = subst (λ c. WalksOn unclaimed job.replies c job.work work did calls dirty dirty_after before after f0 f1) (sym goes) s.walks;
         winds = λ ending ends. absurd (ends_not ending (sym ends ∙ goes));
         falls = λ going. subst (λ c. rank_at dirty_after c work < rank_at dirty job.course job.work) (sym course_is) (subst (λ c. rank_at dirty_after (course_after did) work < rank_at dirty c job.work) (sym goes) (s.falls going));
       }
@@ -372,7 +372,7 @@ module _ (unclaimed : Route → Type 0) (did : Did) (calls : ℕ) (dirty dirty_a
     settled = λ goes fresh. absurd (ends_not ending (sym ends ∙ goes));
     leaves = subst (λ c. LeavesDirty c job.work did new.work dirty dirty_after before after) (sym ends)
         (record { refusal = w.left; folder = w.winds.folder; own = w.winds.own; dirty_is = w.winds.dirty_is; tried = w.winds.synced });
-    walks = subst (λ c. WalksOn unclaimed c job.work new.work did calls dirty dirty_after before after f0 f1) (sym ends) (w.left, w.winds.walks);
+    walks = subst (λ c. WalksOn unclaimed job.replies c job.work new.work did calls dirty dirty_after before after f0 f1) (sym ends) (w.left, w.winds.walks);
     winds = λ how is. subst (λ e. WindingStep e (step_made job new did calls dirty dirty_after before after f0 f1)) (same_ending ending how (sym ends ∙ is)) w;
     falls = λ going.
         subst (λ c. rank_at dirty_after c new.work < rank_at dirty job.course job.work) (sym (ap (λ (r : Running). r.course) w.new_is ∙ ends))
@@ -397,7 +397,7 @@ module _ (unclaimed : Route → Type 0) (contents : Option CallLog) (dirty : Lis
         };
         settled = λ goes fresh. absurd (skips_not cause (sym skips ∙ goes));
         leaves = subst (λ c. LeavesDirty c job.work did new.work dirty dirty contents contents) (sym skips) refl;
-        walks = subst (λ c. WalksOn unclaimed c job.work new.work did calls dirty dirty contents contents f f) (sym skips)
+        walks = subst (λ c. WalksOn unclaimed job.replies c job.work new.work did calls dirty dirty contents contents f f) (sym skips)
             (subst (λ (r : Running). SkipWalks cause job.work did r.work) (sym s.new_is) (let k = s.skips in k.walks));
         winds = λ ending ends. absurd (skips_no_end cause ending (sym skips ∙ ends));
         falls = λ going.
@@ -423,21 +423,21 @@ winding_step ending id old work course replies job did calls left dirty dirty_af
     subst (λ j. WindingStep ending (step_made j (record { id = id; work = work; course = course; replies = replies }) did calls dirty dirty_after before after f0 f1)) is record { left = left; winds = winds; new_is = refl }
 
 -- a step after looks at the tree, which may have met faults
-walks_later : (unclaimed : Route → Type 0) (old new : Work) (did : Did) (calls : ℕ) (dirty dirty_after : List Route) (before after : Option CallLog) (f0 f1 f2 : ℕ) → f0 ≤ f1 → Walks unclaimed old new did calls dirty dirty_after before after f1 f2 → Walks unclaimed old new did calls dirty dirty_after before after f0 f2
-walks_later unclaimed (Copy c) new did calls dirty dirty_after before after f0 f1 f2 later w = tt
-walks_later unclaimed (Make m) new did calls dirty dirty_after before after f0 f1 f2 later w = tt
-walks_later unclaimed (SetMode s) new did calls dirty dirty_after before after f0 f1 f2 later w = tt
-walks_later unclaimed (Delete d) (Copy new) did calls dirty dirty_after before after f0 f1 f2 later w = absurd w
-walks_later unclaimed (Delete d) (Make new) did calls dirty dirty_after before after f0 f1 f2 later w = absurd w
-walks_later unclaimed (Delete d) (SetMode new) did calls dirty dirty_after before after f0 f1 f2 later w = absurd w
-walks_later unclaimed (CopyTree c) (Copy new) did calls dirty dirty_after before after f0 f1 f2 later w = absurd w
-walks_later unclaimed (CopyTree c) (Delete new) did calls dirty dirty_after before after f0 f1 f2 later w = absurd w
-walks_later unclaimed (CopyTree c) (Make new) did calls dirty dirty_after before after f0 f1 f2 later w = absurd w
-walks_later unclaimed (CopyTree c) (SetMode new) did calls dirty dirty_after before after f0 f1 f2 later w = absurd w
-walks_later unclaimed (CopyTree c) (CopyTree new) did calls dirty dirty_after before after f0 f1 f2 later w =
+walks_later : (unclaimed : Route → Type 0) (replies : Replies) (old new : Work) (did : Did) (calls : ℕ) (dirty dirty_after : List Route) (before after : Option CallLog) (f0 f1 f2 : ℕ) → f0 ≤ f1 → Walks unclaimed replies old new did calls dirty dirty_after before after f1 f2 → Walks unclaimed replies old new did calls dirty dirty_after before after f0 f2
+walks_later unclaimed replies (Copy c) new did calls dirty dirty_after before after f0 f1 f2 later w = tt
+walks_later unclaimed replies (Make m) new did calls dirty dirty_after before after f0 f1 f2 later w = tt
+walks_later unclaimed replies (SetMode s) new did calls dirty dirty_after before after f0 f1 f2 later w = tt
+walks_later unclaimed replies (Delete d) (Copy new) did calls dirty dirty_after before after f0 f1 f2 later w = absurd w
+walks_later unclaimed replies (Delete d) (Make new) did calls dirty dirty_after before after f0 f1 f2 later w = absurd w
+walks_later unclaimed replies (Delete d) (SetMode new) did calls dirty dirty_after before after f0 f1 f2 later w = absurd w
+walks_later unclaimed replies (CopyTree c) (Copy new) did calls dirty dirty_after before after f0 f1 f2 later w = absurd w
+walks_later unclaimed replies (CopyTree c) (Delete new) did calls dirty dirty_after before after f0 f1 f2 later w = absurd w
+walks_later unclaimed replies (CopyTree c) (Make new) did calls dirty dirty_after before after f0 f1 f2 later w = absurd w
+walks_later unclaimed replies (CopyTree c) (SetMode new) did calls dirty dirty_after before after f0 f1 f2 later w = absurd w
+walks_later unclaimed replies (CopyTree c) (CopyTree new) did calls dirty dirty_after before after f0 f1 f2 later w =
     record { free = w.free; allows = w.allows; since = w.since; later = let more = w.later in omega (arith, later, more); steps = w.steps }
-walks_later unclaimed (Delete d) (CopyTree new) did calls dirty dirty_after before after f0 f1 f2 later w = absurd w
-walks_later unclaimed (Delete d) (Delete new) did calls dirty dirty_after before after f0 f1 f2 later (inl (worked, mid, spare, spare_after, s, passed)) = inl (
+walks_later unclaimed replies (Delete d) (CopyTree new) did calls dirty dirty_after before after f0 f1 f2 later w = absurd w
+walks_later unclaimed replies (Delete d) (Delete new) did calls dirty dirty_after before after f0 f1 f2 later (inl (worked, mid, spare, spare_after, s, passed)) = inl (
   worked,
   mid,
   spare,
@@ -461,7 +461,7 @@ walks_later unclaimed (Delete d) (Delete new) did calls dirty dirty_after before
   },
   passed,
 )
-walks_later unclaimed (Delete d) (Delete new) did calls dirty dirty_after before after f0 f1 f2 later (inr (spare, s, same)) = inr (
+walks_later unclaimed replies (Delete d) (Delete new) did calls dirty dirty_after before after f0 f1 f2 later (inr (spare, s, same)) = inr (
   spare,
   record {
     syncs = s.syncs;
@@ -489,8 +489,8 @@ own_later unclaimed job new did calls dirty dirty_after first before after f0 f1
   };
   settled = o.settled;
   leaves = o.leaves;
-  walks = subst (λ c. WalksOn unclaimed c job.work new.work did calls dirty dirty_after before after f0 f2) (sym goes)
-      (walks_later unclaimed job.work new.work did calls dirty dirty_after before after f0 f1 f2 later (subst (λ c. WalksOn unclaimed c job.work new.work did calls dirty dirty_after before after f1 f2) goes o.walks));
+  walks = subst (λ c. WalksOn unclaimed job.replies c job.work new.work did calls dirty dirty_after before after f0 f2) (sym goes)
+      (walks_later unclaimed job.replies job.work new.work did calls dirty dirty_after before after f0 f1 f2 later (subst (λ c. WalksOn unclaimed job.replies c job.work new.work did calls dirty dirty_after before after f1 f2) goes o.walks));
   winds = λ ending ends. absurd (ends_not ending (sym ends ∙ goes));
   falls = o.falls;
 }

@@ -2,6 +2,7 @@
 use Rattle.std.proofs.Common.{◌≡◌, ℕ, refl, sym, ◌∙◌, ap, subst, inl, inr, List, Option, Some, None}
 use Rattle.mc_text.specs.Routes.{Route}
 use Rattle.tree_trait.specs.Change.{CallLog}
+use Rattle.job_answers.specs.declared.replies.Replies.{Replies}
 use Rattle.job_reports.specs.declared.job.Pair.{Pair}
 use Rattle.job_reports.specs.declared.report.Did.{Did}
 use Rattle.job_reports.specs.declared.report.Did.TheVariants.{Barrier, Merges, Skipped, Troubled}
@@ -52,46 +53,46 @@ none_wound pair names ending (SetMode s) (SetMode new) w = w
 
 module _ (unclaimed : Route → Type 0) (pair : Pair) (names : List (List ℕ)) (calls : ℕ) (dirty dirty_after : List Route) (before after : Option CallLog) (f0 f1 : ℕ) where
   -- only what copies something whole merges
-  work_keeps : (old new : Work) → WorkTells old (Merges pair names) new → Walks unclaimed old new (Merges pair names) calls dirty dirty_after before after f0 f1 → Keeps old new dirty dirty_after before after
-  work_keeps (CopyTree c) (CopyTree new) t walks =
-      let still = merge_is_still walks.free c new pair names calls dirty dirty_after before after walks.since f1 walks.steps in
+  work_keeps : (replies : Replies) (old new : Work) → WorkTells old (Merges pair names) new → Walks unclaimed replies old new (Merges pair names) calls dirty dirty_after before after f0 f1 → Keeps old new dirty dirty_after before after
+  work_keeps replies (CopyTree c) (CopyTree new) t walks =
+      let still = merge_is_still walks.free replies c new pair names calls dirty dirty_after before after walks.since f1 walks.steps in
       let a = t.after in
       record { stays = a.part; skips = a.skips; list = still.0; log = still.1 }
-  work_keeps (Copy c) (Copy new) t walks = absurd t
-  work_keeps (Copy c) (CopyTree new) t walks = absurd t
-  work_keeps (Copy c) (Delete new) t walks = absurd t
-  work_keeps (Copy c) (Make new) t walks = absurd t
-  work_keeps (Copy c) (SetMode new) t walks = absurd t
-  work_keeps (CopyTree c) (Copy new) t walks = absurd t
-  work_keeps (CopyTree c) (Delete new) t walks = absurd t
-  work_keeps (CopyTree c) (Make new) t walks = absurd t
-  work_keeps (CopyTree c) (SetMode new) t walks = absurd t
-  work_keeps (Delete d) (Copy new) t walks = absurd t
-  work_keeps (Delete d) (CopyTree new) t walks = absurd t
-  work_keeps (Delete d) (Delete new) t walks = absurd t
-  work_keeps (Delete d) (Make new) t walks = absurd t
-  work_keeps (Delete d) (SetMode new) t walks = absurd t
-  work_keeps (Make m) (Copy new) t walks = absurd t
-  work_keeps (Make m) (CopyTree new) t walks = absurd t
-  work_keeps (Make m) (Delete new) t walks = absurd t
-  work_keeps (Make m) (Make new) t walks = absurd t
-  work_keeps (Make m) (SetMode new) t walks = absurd t
-  work_keeps (SetMode s) (Copy new) t walks = absurd t
-  work_keeps (SetMode s) (CopyTree new) t walks = absurd t
-  work_keeps (SetMode s) (Delete new) t walks = absurd t
-  work_keeps (SetMode s) (Make new) t walks = absurd t
-  work_keeps (SetMode s) (SetMode new) t walks = absurd t
+  work_keeps replies (Copy c) (Copy new) t walks = absurd t
+  work_keeps replies (Copy c) (CopyTree new) t walks = absurd t
+  work_keeps replies (Copy c) (Delete new) t walks = absurd t
+  work_keeps replies (Copy c) (Make new) t walks = absurd t
+  work_keeps replies (Copy c) (SetMode new) t walks = absurd t
+  work_keeps replies (CopyTree c) (Copy new) t walks = absurd t
+  work_keeps replies (CopyTree c) (Delete new) t walks = absurd t
+  work_keeps replies (CopyTree c) (Make new) t walks = absurd t
+  work_keeps replies (CopyTree c) (SetMode new) t walks = absurd t
+  work_keeps replies (Delete d) (Copy new) t walks = absurd t
+  work_keeps replies (Delete d) (CopyTree new) t walks = absurd t
+  work_keeps replies (Delete d) (Delete new) t walks = absurd t
+  work_keeps replies (Delete d) (Make new) t walks = absurd t
+  work_keeps replies (Delete d) (SetMode new) t walks = absurd t
+  work_keeps replies (Make m) (Copy new) t walks = absurd t
+  work_keeps replies (Make m) (CopyTree new) t walks = absurd t
+  work_keeps replies (Make m) (Delete new) t walks = absurd t
+  work_keeps replies (Make m) (Make new) t walks = absurd t
+  work_keeps replies (Make m) (SetMode new) t walks = absurd t
+  work_keeps replies (SetMode s) (Copy new) t walks = absurd t
+  work_keeps replies (SetMode s) (CopyTree new) t walks = absurd t
+  work_keeps replies (SetMode s) (Delete new) t walks = absurd t
+  work_keeps replies (SetMode s) (Make new) t walks = absurd t
+  work_keeps replies (SetMode s) (SetMode new) t walks = absurd t
 
   module _ (job new : Running) where
     owed : (path : Route) → SyncsOwed job path (Merges pair names) new dirty dirty_after before after → Finishes job new None dirty dirty_after before after
     owed path (inl s) = absurd (let e : Merges pair names ≡ Barrier = s.did_is in let f : ⊥ = cc in f)
     owed path (inr s) = absurd (let e : Merges pair names ≡ Troubled s.trouble = s.did_is in let f : ⊥ = cc in f)
 
-    by : (course : Course) → job.course ≡ course → TellsOn course job (Merges pair names) new → WalksOn unclaimed course job.work new.work (Merges pair names) calls dirty dirty_after before after f0 f1
+    by : (course : Course) → job.course ≡ course → TellsOn course job (Merges pair names) new → WalksOn unclaimed job.replies course job.work new.work (Merges pair names) calls dirty dirty_after before after f0 f1
         → Finishes job new None dirty dirty_after before after
     by GoesOn is (work, tells, new_is) walks =
         let same : new.work ≡ work = ap (λ (r : Running). r.work) new_is in
-        let keeps = work_keeps job.work new.work (subst (λ w. WorkTells job.work (Merges pair names) w) (sym same) tells) walks in
+        let keeps = work_keeps job.replies job.work new.work (subst (λ w. WorkTells job.work (Merges pair names) w) (sym same) tells) walks in
         record {
           goes = is;
           none = refl;

@@ -242,7 +242,7 @@ work_tells unclaimed replies (CopyTree c) did (Copy new) log after h = absurd h
 work_tells unclaimed replies (CopyTree c) did (Delete new) log after h = absurd h
 work_tells unclaimed replies (CopyTree c) did (Make new) log after h = absurd h
 work_tells unclaimed replies (CopyTree c) did (SetMode new) log after h = absurd h
-work_tells unclaimed replies (CopyTree c) did (CopyTree new) log after h = (let g = h.goes in known_law g.free c new did h.calls h.dirty h.dirty_after log after g.since h.faults_after g.steps)
+work_tells unclaimed replies (CopyTree c) did (CopyTree new) log after h = (let g = h.goes in known_law g.free replies c new did h.calls h.dirty h.dirty_after log after g.since h.faults_after g.steps)
 work_tells unclaimed replies (Delete d) did new log after h = deletion_tells did log after h
 work_tells unclaimed replies (Make m) did new log after h = making_tells m did log after h
 work_tells unclaimed replies (SetMode s) did new log after h = setting_tells s did log after h

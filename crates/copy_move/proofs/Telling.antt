@@ -330,10 +330,10 @@ tree_told id replies old new (Skipped path cause) t h = ap (λ w. Some (job_of i
 tree_told id replies old new (Troubled trouble) t h =
     ap (λ course. Some (job_of id replies (work_told id (CopyTree old)) course)) (in_trouble id (CopyTree old) trouble (bars_apart (is_tree_fresh old.at.stage) trouble.barrier (t.apart trouble refl)))
     ∙ ap (λ w. Some (job_of id replies w (InTrouble (halt_of trouble)))) (told_so id old new (Troubled trouble) t.after refl refl)
-tree_told id replies old new (Asked question) t h = absurd t.may
+tree_told id replies old new (Asked question) t h = ap (λ w. Some (job_of id replies w Asking)) (told_so id old new (Asked question) t.after refl refl)
 tree_told id replies old new (Merges pair names) t h = ap (λ w. Some (job_of id replies w GoesOn)) (told_so id old new (Merges pair names) t.after refl refl)
 tree_told id replies old new (Removed path) t h = absurd t.may
-tree_told id replies old new (Kept path) t h = absurd t.may
+tree_told id replies old new (Kept path) t h = ap (λ w. Some (job_of id replies w GoesOn)) (told_so id old new (Kept path) t.after refl refl)
 tree_told id replies old new (Ended ending part) t h = absurd cc
 
 tree_winds : (id : ℕ) (replies : Replies) (ending : Ending) (old new : SubtreeCopying) (did : Did) → IsWound ending old did new → ends did ≡ false

@@ -89,57 +89,59 @@ tree_begins job top can = record { can = can; steady = (let law = steady_law in 
 pub tree_retried : (c : SubtreeCopying) → IsGoing c → standing.IsGoing (retries c) → IsGoing (retries c)
 tree_retried c g can = record { can = can; steady = (let law = steady_law in law.retry c g.steady); unbegun = (let law = unbegun_law in law.retry c g.unbegun) }
 
-module _ (free : Route → Bool) (c new : SubtreeCopying) (did : Did) (calls : ℕ) (dirty dirty_after : List Route) (before after : Option CallLog) (f0 f1 : ℕ)
-    (s : SubtreeSteps free c new did calls dirty dirty_after before after f0 f1) (g : IsGoing c) where
+module _ (free : Route → Bool) (replies : Replies) (c new : SubtreeCopying) (did : Did) (calls : ℕ) (dirty dirty_after : List Route) (before after : Option CallLog) (f0 f1 : ℕ)
+    (s : SubtreeSteps free replies c new did calls dirty dirty_after before after f0 f1) (g : IsGoing c) where
   abbrev Makes : Did → Type 0
-  Makes d = SubtreeSteps free c new d calls dirty dirty_after before after f0 f1
+  Makes d = SubtreeSteps free replies c new d calls dirty dirty_after before after f0 f1
 
   pub tree_goes_on : standing.IsGoing new → IsGoing new
   tree_goes_on can = record {
     can = can;
-    steady = (let law = steady_law in law.step free c new did calls dirty dirty_after before after f0 f1 s g.steady);
-    unbegun = (let law = unbegun_law in law.step free c new did calls dirty dirty_after before after f0 f1 s g.can g.unbegun);
+    steady = (let law = steady_law in law.step free replies c new did calls dirty dirty_after before after f0 f1 s g.steady);
+    unbegun = (let law = unbegun_law in law.step free replies c new did calls dirty dirty_after before after f0 f1 s g.can g.unbegun);
   }
 
   after_it : IsAfter did c new
-  after_it = (let law = told_law in law.step free c new did calls dirty dirty_after before after f0 f1 s g.can)
+  after_it = (let law = told_law in law.step free replies c new did calls dirty dirty_after before after f0 f1 s g.can)
 
   tells : IsInPlace c.top c.at → Tells c did new
   tells place = record {
-    may = (let law = reporting_law in law.step free c new did calls dirty dirty_after before after f0 f1 s);
+    may = (let law = reporting_law in law.step free replies c new did calls dirty dirty_after before after f0 f1 s);
     after = after_it;
-    first = λ fresh. (let law = unbegun_law in law.first free c new did calls dirty dirty_after before after f0 f1 s g.unbegun fresh);
-    barred = λ trouble is. barrier_law free c new trouble calls dirty dirty_after before after f0 f1 (subst Makes is s) g.steady g.can;
+    first = λ fresh. (let law = unbegun_law in law.first free replies c new did calls dirty dirty_after before after f0 f1 s g.unbegun fresh);
+    barred = λ trouble is. barrier_law free replies c new trouble calls dirty dirty_after before after f0 f1 (subst Makes is s) g.steady g.can;
     apart = λ trouble is fresh.
-        (let law = unbegun_law in law.trouble free c new trouble calls dirty dirty_after before after f0 f1 (subst Makes is s) g.steady g.can g.unbegun (trouble_stays c new did trouble is after_it fresh));
-    kinds = λ path cause is. (let law = reporting_law in law.kinds free c new path cause calls dirty dirty_after before after f0 f1 (subst Makes is s));
-    merged = λ pair names is. (let law = merged_law in law.merges free c new pair names calls dirty dirty_after before after f0 f1 (subst Makes is s) place g.unbegun);
-    over = λ is. (let law = merged_law in law.step free c new did calls dirty dirty_after before after f0 f1 s is);
+        (let law = unbegun_law in law.trouble free replies c new trouble calls dirty dirty_after before after f0 f1 (subst Makes is s) g.steady g.can g.unbegun (trouble_stays c new did trouble is after_it fresh));
+    kinds = λ path cause is. (let law = reporting_law in law.kinds free replies c new path cause calls dirty dirty_after before after f0 f1 (subst Makes is s));
+    merged = λ pair names is. (let law = merged_law in law.merges free replies c new pair names calls dirty dirty_after before after f0 f1 (subst Makes is s) place g.unbegun);
+    kept = λ path is. (let law = merged_law in law.keeps free replies c new path calls dirty dirty_after before after f0 f1 (subst Makes is s) place g.unbegun);
+    asked = λ question is. (let law = merged_law in law.asks free replies c new question calls dirty dirty_after before after f0 f1 (subst Makes is s) place);
+    over = λ is. (let law = merged_law in law.step free replies c new did calls dirty dirty_after before after f0 f1 s is);
   }
 
   falls_on : (d : Did) → Makes d → ends d ≡ false → rank_on (course_after d) (CopyTree new) < work_rank (CopyTree c)
-  falls_on (Troubled trouble) m h = at_most (last_rank new.at) (rank c.at) (let law = trouble_law in law.step free c new trouble calls dirty dirty_after before after f0 f1 m g.steady g.can)
+  falls_on (Troubled trouble) m h = at_most (last_rank new.at) (rank c.at) (let law = trouble_law in law.step free replies c new trouble calls dirty dirty_after before after f0 f1 m g.steady g.can)
   falls_on (Ended ending part) m h = absurd (true≢false h)
-  falls_on (Began part) m h = above (rank new.at) (rank c.at) (rank_law free c new (Began part) calls dirty dirty_after before after f0 f1 m g.steady g.can refl)
-  falls_on (Chunk count) m h = above (rank new.at) (rank c.at) (rank_law free c new (Chunk count) calls dirty dirty_after before after f0 f1 m g.steady g.can refl)
-  falls_on (Asked question) m h = absurd (let law = reporting_law in law.step free c new (Asked question) calls dirty dirty_after before after f0 f1 m)
-  falls_on (Merges pair names) m h = above (rank new.at) (rank c.at) (rank_law free c new (Merges pair names) calls dirty dirty_after before after f0 f1 m g.steady g.can refl)
-  falls_on (Set path) m h = above (rank new.at) (rank c.at) (rank_law free c new (Set path) calls dirty dirty_after before after f0 f1 m g.steady g.can refl)
-  falls_on (Placed path) m h = above (rank new.at) (rank c.at) (rank_law free c new (Placed path) calls dirty dirty_after before after f0 f1 m g.steady g.can refl)
-  falls_on (Removed path) m h = above (rank new.at) (rank c.at) (rank_law free c new (Removed path) calls dirty dirty_after before after f0 f1 m g.steady g.can refl)
-  falls_on (Made path) m h = above (rank new.at) (rank c.at) (rank_law free c new (Made path) calls dirty dirty_after before after f0 f1 m g.steady g.can refl)
-  falls_on (Kept path) m h = above (rank new.at) (rank c.at) (rank_law free c new (Kept path) calls dirty dirty_after before after f0 f1 m g.steady g.can refl)
-  falls_on (Skipped path cause) m h = above (rank new.at) (rank c.at) (rank_law free c new (Skipped path cause) calls dirty dirty_after before after f0 f1 m g.steady g.can refl)
-  falls_on (Cleaned part) m h = above (rank new.at) (rank c.at) (rank_law free c new (Cleaned part) calls dirty dirty_after before after f0 f1 m g.steady g.can refl)
-  falls_on Barrier m h = above (rank new.at) (rank c.at) (rank_law free c new Barrier calls dirty dirty_after before after f0 f1 m g.steady g.can refl)
+  falls_on (Began part) m h = above (rank new.at) (rank c.at) (rank_law free replies c new (Began part) calls dirty dirty_after before after f0 f1 m g.steady g.can refl)
+  falls_on (Chunk count) m h = above (rank new.at) (rank c.at) (rank_law free replies c new (Chunk count) calls dirty dirty_after before after f0 f1 m g.steady g.can refl)
+  falls_on (Asked question) m h = at_most (last_rank new.at) (rank c.at) (let law = trouble_law in (law.ask free replies c new question calls dirty dirty_after before after f0 f1 m g.steady).1)
+  falls_on (Merges pair names) m h = above (rank new.at) (rank c.at) (rank_law free replies c new (Merges pair names) calls dirty dirty_after before after f0 f1 m g.steady g.can refl)
+  falls_on (Set path) m h = above (rank new.at) (rank c.at) (rank_law free replies c new (Set path) calls dirty dirty_after before after f0 f1 m g.steady g.can refl)
+  falls_on (Placed path) m h = above (rank new.at) (rank c.at) (rank_law free replies c new (Placed path) calls dirty dirty_after before after f0 f1 m g.steady g.can refl)
+  falls_on (Removed path) m h = above (rank new.at) (rank c.at) (rank_law free replies c new (Removed path) calls dirty dirty_after before after f0 f1 m g.steady g.can refl)
+  falls_on (Made path) m h = above (rank new.at) (rank c.at) (rank_law free replies c new (Made path) calls dirty dirty_after before after f0 f1 m g.steady g.can refl)
+  falls_on (Kept path) m h = above (rank new.at) (rank c.at) (rank_law free replies c new (Kept path) calls dirty dirty_after before after f0 f1 m g.steady g.can refl)
+  falls_on (Skipped path cause) m h = above (rank new.at) (rank c.at) (rank_law free replies c new (Skipped path cause) calls dirty dirty_after before after f0 f1 m g.steady g.can refl)
+  falls_on (Cleaned part) m h = above (rank new.at) (rank c.at) (rank_law free replies c new (Cleaned part) calls dirty dirty_after before after f0 f1 m g.steady g.can refl)
+  falls_on Barrier m h = above (rank new.at) (rank c.at) (rank_law free replies c new Barrier calls dirty dirty_after before after f0 f1 m g.steady g.can refl)
 
-  module _ (unclaimed : Route → Type 0) (replies : Replies) (allows : AllowsOnly unclaimed free) where
-    goes_from : (b : Option CallLog) → before ≡ b → Goes unclaimed c new did calls dirty dirty_after b after f0 f1
-    goes_from b is = record { free = free; allows = allows; since = f0; later = omega arith; steps = subst (λ x. SubtreeSteps free c new did calls dirty dirty_after x after f0 f1) is s }
+  module _ (unclaimed : Route → Type 0) (allows : AllowsOnly unclaimed free) where
+    goes_from : (b : Option CallLog) → before ≡ b → Goes unclaimed replies c new did calls dirty dirty_after b after f0 f1
+    goes_from b is = record { free = free; allows = allows; since = f0; later = omega arith; steps = subst (λ x. SubtreeSteps free replies c new did calls dirty dirty_after x after f0 f1) is s }
 
     pub tree_steps : IsInPlace c.top c.at → ChangesOwn c did dirty dirty_after → WorkSteps unclaimed replies (CopyTree c) (CopyTree new) did calls dirty dirty_after before after f0 f1
     tree_steps place own =
-        let k = count_law free c new did calls dirty dirty_after before after f0 f1 s in record {
+        let k = count_law free replies c new did calls dirty dirty_after before after f0 f1 s in record {
           tells = tells place;
           walks = goes_from before refl;
           called = λ log known. record { calls = calls; dirty = dirty; dirty_after = dirty_after; faults = f0; faults_after = f1; goes = goes_from (Some log) known };

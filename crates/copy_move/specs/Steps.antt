@@ -78,15 +78,15 @@ step_made old new did calls dirty dirty_after before after faults faults_after =
     record { old = old; new = new; did = did; calls = calls; dirty = dirty; dirty_after = dirty_after; before = before; after = after; faults = faults; faults_after = faults_after }
 
 -- what the machine of a deletion, or of the copy of what lies in something, does in a step of the work
-abbrev pub Walks : (Route → Type 0) → Work → Work → Did → ℕ → List Route → List Route → Option CallLog → Option CallLog → ℕ → ℕ → Type 0
-Walks unclaimed (Copy c) new did calls dirty dirty_after before after faults faults_after = ⊤
-Walks unclaimed (Make m) new did calls dirty dirty_after before after faults faults_after = ⊤
-Walks unclaimed (SetMode s) new did calls dirty dirty_after before after faults faults_after = ⊤
-Walks unclaimed (CopyTree c) (CopyTree new) did calls dirty dirty_after before after faults faults_after =
-    trees.Goes unclaimed c new did calls dirty dirty_after before after faults faults_after
-Walks unclaimed (CopyTree c) new did calls dirty dirty_after before after faults faults_after = ⊥
-Walks unclaimed (Delete d) (Delete new) did calls dirty dirty_after before after faults faults_after = Goes d new did calls dirty dirty_after before after faults faults_after
-Walks unclaimed (Delete d) new did calls dirty dirty_after before after faults faults_after = ⊥
+abbrev pub Walks : (Route → Type 0) → Replies → Work → Work → Did → ℕ → List Route → List Route → Option CallLog → Option CallLog → ℕ → ℕ → Type 0
+Walks unclaimed replies (Copy c) new did calls dirty dirty_after before after faults faults_after = ⊤
+Walks unclaimed replies (Make m) new did calls dirty dirty_after before after faults faults_after = ⊤
+Walks unclaimed replies (SetMode s) new did calls dirty dirty_after before after faults faults_after = ⊤
+Walks unclaimed replies (CopyTree c) (CopyTree new) did calls dirty dirty_after before after faults faults_after =
+    trees.Goes unclaimed replies c new did calls dirty dirty_after before after faults faults_after
+Walks unclaimed replies (CopyTree c) new did calls dirty dirty_after before after faults faults_after = ⊥
+Walks unclaimed replies (Delete d) (Delete new) did calls dirty dirty_after before after faults faults_after = Goes d new did calls dirty dirty_after before after faults faults_after
+Walks unclaimed replies (Delete d) new did calls dirty dirty_after before after faults faults_after = ⊥
 
 -- what it does where something is passed over
 abbrev pub SkipWalks : Cause → Work → Did → Work → Type 0
@@ -111,19 +111,19 @@ LastWalks ending (Make m) new did calls left dirty dirty_after before after faul
 LastWalks ending (SetMode s) new did calls left dirty dirty_after before after faults faults_after = ⊤
 
 -- what it does in a step of a job that goes so
-abbrev pub WalksOn : (Route → Type 0) → Course → Work → Work → Did → ℕ → List Route → List Route → Option CallLog → Option CallLog → ℕ → ℕ → Type 0
-WalksOn unclaimed GoesOn old new did calls dirty dirty_after before after faults faults_after = Walks unclaimed old new did calls dirty dirty_after before after faults faults_after
-WalksOn unclaimed (InTrouble halt) old new did calls dirty dirty_after before after faults faults_after = ⊥
-WalksOn unclaimed (OwedSyncFailed cause) old new did calls dirty dirty_after before after faults faults_after = ⊥
-WalksOn unclaimed Asking old new did calls dirty dirty_after before after faults faults_after = ⊥
-WalksOn unclaimed (Skips cause) old new did calls dirty dirty_after before after faults faults_after = SkipWalks cause old did new
-WalksOn unclaimed (Ends ending) old new did calls dirty dirty_after before after faults faults_after =
+abbrev pub WalksOn : (Route → Type 0) → Replies → Course → Work → Work → Did → ℕ → List Route → List Route → Option CallLog → Option CallLog → ℕ → ℕ → Type 0
+WalksOn unclaimed replies GoesOn old new did calls dirty dirty_after before after faults faults_after = Walks unclaimed replies old new did calls dirty dirty_after before after faults faults_after
+WalksOn unclaimed replies (InTrouble halt) old new did calls dirty dirty_after before after faults faults_after = ⊥
+WalksOn unclaimed replies (OwedSyncFailed cause) old new did calls dirty dirty_after before after faults faults_after = ⊥
+WalksOn unclaimed replies Asking old new did calls dirty dirty_after before after faults faults_after = ⊥
+WalksOn unclaimed replies (Skips cause) old new did calls dirty dirty_after before after faults faults_after = SkipWalks cause old did new
+WalksOn unclaimed replies (Ends ending) old new did calls dirty dirty_after before after faults faults_after =
     (left : Option TreeError) × LastWalks ending old new did calls left dirty dirty_after before after faults faults_after
 
 -- A piece of work, where this was answered, likewise. Fewer steps are left then, and at most three where it is refused.
 pub record WorkSteps (unclaimed : Route → Type 0) (replies : Replies) (old new : Work) (did : Did) (calls : ℕ) (dirty dirty_after : List Route) (before after : Option CallLog) (faults faults_after : ℕ) : Type 0 where
   pub tells : WorkTells old did new
-  pub walks : Walks unclaimed old new did calls dirty dirty_after before after faults faults_after
+  pub walks : Walks unclaimed replies old new did calls dirty dirty_after before after faults faults_after
   pub called : IfKnown before (λ log. WorkCalls unclaimed replies old did new log after)
   pub leaves : WorkLeaves old did new dirty dirty_after before after
   pub counted : IfKnown before (λ log. IfKnown after (HasMore log calls))
@@ -176,7 +176,7 @@ pub record OwnStep (unclaimed : Route → Type 0) (step : StepMade) : Type 0 whe
   pub own : StepsOn unclaimed step.old step.new step.did step.calls step.before step.after step.faults step.faults_after
   pub settled : step.old.course ≡ GoesOn → is_fresh step.old.work ≡ true → IfKnown step.before (λ log. NoneOwed (current log) step.old.work step.dirty)
   pub leaves : LeavesDirty step.old.course step.old.work step.did step.new.work step.dirty step.dirty_after step.before step.after
-  pub walks : WalksOn unclaimed step.old.course step.old.work step.new.work step.did step.calls step.dirty step.dirty_after step.before step.after step.faults step.faults_after
+  pub walks : WalksOn unclaimed step.old.replies step.old.course step.old.work step.new.work step.did step.calls step.dirty step.dirty_after step.before step.after step.faults step.faults_after
   pub winds : (ending : Ending) → step.old.course ≡ Ends ending → WindingStep ending step
   pub falls : ends step.did ≡ false → rank_with step.dirty_after (Some step.new) < rank_with step.dirty (Some step.old)
 

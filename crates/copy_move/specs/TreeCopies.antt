@@ -4,11 +4,13 @@ use Rattle.std.specs.Prelude.{◌≡◌, ◌≤◌, ℕ, Bool, true, false, List
 use Rattle.mc_text.specs.Routes.{Route}
 use Rattle.tree_trait.specs.Change.{CallLog}
 use Rattle.job_answers.specs.Skipping.{holds, kind_in}
+use Rattle.job_answers.specs.declared.replies.Replies.{Replies}
 use Rattle.job_answers.specs.declared.skips.Skips.{Skips}
 use Rattle.job_reports.specs.declared.job.Pair.{Pair}
+use Rattle.job_reports.specs.declared.question.Question.{Question}
 use Rattle.job_reports.specs.declared.report.Cause.{Cause}
 use Rattle.job_reports.specs.declared.report.Did.{Did}
-use Rattle.job_reports.specs.declared.report.Did.TheVariants.{Merges, Skipped, Troubled}
+use Rattle.job_reports.specs.declared.report.Did.TheVariants.{Asked, Kept, Merges, Skipped, Troubled}
 use Rattle.job_reports.specs.declared.report.Trouble.{Trouble}
 use Rattle.tree_copy.specs.declared.copy.Stage.{Stage}
 use Rattle.tree_copy.specs.declared.copy.Stage.TheVariants.{Going}
@@ -18,7 +20,7 @@ use Rattle.tree_copy.specs.Ending.{stays_if}
 use Rattle.tree_copy.specs.Falling.{IsSteady}
 use Rattle.tree_copy.specs.Reports.{changes}
 use Rattle.tree_copy.specs.Standing.{Seen, begun, is_fresh}
-use Rattle.subtree_copy.specs.Merged.{IsOver, MergesTop}
+use Rattle.subtree_copy.specs.Merged.{AsksTop, IsOver, KeepsTop, MergesTop}
 use Rattle.subtree_copy.specs.Reporting.{MayTell}
 use Rattle.subtree_copy.specs.Standing.{SubtreeCopying, at_barrier, named_of, part_of}
 use Rattle.subtree_copy.specs.Standing as standing
@@ -34,7 +36,8 @@ pub record IsGoing (c : SubtreeCopying) : Type 0 where
 
 -- What a step may report that goes on, and where the copy stands then. A trouble is at a barrier where the copy stands so after it, and never before the
 -- first change, which begins a part or makes a folder; what is passed over is in a trouble of a kind to which `Skip all` was answered. A folder is merged with one at
--- the target only before that change, and then the copy is over, which changes nothing.
+-- the target only before that change, and then the copy is over, which changes nothing. What is kept is what stands at the target. After a question
+-- the copy stands where it stood.
 pub record Tells (c : SubtreeCopying) (did : Did) (new : SubtreeCopying) : Type 0 where
   pub may : MayTell did
   pub after : IsAfter did c new
@@ -43,6 +46,8 @@ pub record Tells (c : SubtreeCopying) (did : Did) (new : SubtreeCopying) : Type 
   pub apart : (trouble : Trouble) → did ≡ Troubled trouble → is_fresh c.at.stage ≡ true → trouble.barrier ≡ false
   pub kinds : (path : Route) (cause : Cause) → did ≡ Skipped path cause → holds c.skips (kind_in cause) ≡ true
   pub merged : (pair : Pair) (names : List (List ℕ)) → did ≡ Merges pair names → MergesTop c pair names new
+  pub kept : (path : Route) → did ≡ Kept path → KeepsTop c path new
+  pub asked : (question : Question) → did ≡ Asked question → AsksTop c new
   pub over : IsOver c.at → IsOver new.at × (changes did ≡ false)
 
 -- what is left as it is: all that a history tells of the copy stays
@@ -54,21 +59,21 @@ abbrev pub AllowsOnly : (Route → Type 0) → (Route → Bool) → Type 0
 AllowsOnly unclaimed free = (path : Route) → free path ≡ true → unclaimed path
 
 -- What the machine does in a step, which may come after looks that met faults.
-pub record Goes (unclaimed : Route → Type 0) (old new : SubtreeCopying) (did : Did) (calls : ℕ) (dirty dirty_after : List Route) (before after : Option CallLog) (faults faults_after : ℕ) : Type 0 where
+pub record Goes (unclaimed : Route → Type 0) (replies : Replies) (old new : SubtreeCopying) (did : Did) (calls : ℕ) (dirty dirty_after : List Route) (before after : Option CallLog) (faults faults_after : ℕ) : Type 0 where
   pub free : Route → Bool
   pub allows : AllowsOnly unclaimed free
   pub since : ℕ
   pub later : faults ≤ since
-  pub steps : SubtreeSteps free old new did calls dirty dirty_after before after since faults_after
+  pub steps : SubtreeSteps free replies old new did calls dirty dirty_after before after since faults_after
 
 -- what a step says of the tree's calls: they are those of the machine
-pub record Calls (unclaimed : Route → Type 0) (c : SubtreeCopying) (did : Did) (new : SubtreeCopying) (log : CallLog) (after : Option CallLog) : Type 0 where
+pub record Calls (unclaimed : Route → Type 0) (replies : Replies) (c : SubtreeCopying) (did : Did) (new : SubtreeCopying) (log : CallLog) (after : Option CallLog) : Type 0 where
   pub calls : ℕ
   pub dirty : List Route
   pub dirty_after : List Route
   pub faults : ℕ
   pub faults_after : ℕ
-  pub goes : Goes unclaimed c new did calls dirty dirty_after (Some log) after faults faults_after
+  pub goes : Goes unclaimed replies c new did calls dirty dirty_after (Some log) after faults faults_after
 
 -- A copy as its history tells it: the one just begun, with its stage and its part, as one that stays, and with the kinds of troubles that it passes over.
 abbrev pub told_at : ℕ → Pair → Stage → Option Route → Skips → SubtreeCopying

@@ -46,7 +46,7 @@ impl Work {
     {
         match self {
             Work::Copy(copy) => step_copy(copy, alloc, tree, parts, dirty, replies),
-            Work::CopyTree(copy) => copy.step(alloc, tree, parts, dirty),
+            Work::CopyTree(copy) => copy.step(alloc, tree, parts, dirty, replies),
             Work::Delete(deletion) => deletion.step(alloc, tree, dirty),
             Work::Make(making) => step_making(making, alloc, tree, dirty),
             Work::SetMode(setting) => step_setting(setting, alloc, tree, dirty),

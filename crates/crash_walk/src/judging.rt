@@ -22,6 +22,7 @@ pub fn tell_left<T: Tree>(page: &mut Page, image: &mut T, scene: Scene) {
         Scene::Folder => tell_folder_deletion(page, image),
         Scene::Copy => tell_copy(page, image),
         Scene::Overwriting => tell_overwriting(page, image),
+        Scene::LinkOver => tell_link_over(page, image),
         Scene::LeftFolder => tell_deletion(page, image),
         Scene::LeftTarget => tell_copy(page, image),
         Scene::NewFolder => tell_new_folder(page, image, "/a/n"),
@@ -87,6 +88,22 @@ fn tell_overwriting<T: Tree>(page: &mut Page, image: &mut T) {
     tell_beside(page, image, "/t", "e");
 }
 
+fn tell_link_over<T: Tree>(page: &mut Page, image: &mut T) {
+    tell_target_link(page, image, "/t/l");
+    page.put(", the source ");
+    tell_link(page, image, "/s/l", "x");
+    page.put(", beside it ");
+    tell_beside(page, image, "/t", "l");
+}
+
+/// Whether the link stands where it is copied over a file, or the file.
+fn tell_target_link<T: Tree>(page: &mut Page, image: &mut T, path: &str) {
+    match what_link(page, image, path, "x") {
+        Standing::Whole => page.put("new"),
+        _ => tell_replaced(page, image, path),
+    }
+}
+
 /// Which of two files stands where one is copied over the other.
 fn tell_target<T: Tree>(page: &mut Page, image: &mut T, path: &str) {
     match what_stands(page, image, path, COPIED) {
@@ -137,11 +154,15 @@ fn if_nothing_in<T: Tree>(page: &mut Page, image: &mut T, path: &Path) -> Standi
 
 /// What stands where a link with this text is made, or was put.
 fn tell_link<T: Tree>(page: &mut Page, image: &mut T, path: &str, text: &str) {
-    let standing = match Path::parse(page.alloc(), path) {
+    let standing = what_link(page, image, path, text);
+    page.put(word_of(standing, "missing"));
+}
+
+fn what_link<T: Tree>(page: &mut Page, image: &mut T, path: &str, text: &str) -> Standing {
+    match Path::parse(page.alloc(), path) {
         Ok(path) => link_at(page, image, &path, text),
         Err(_error) => wanting(page),
-    };
-    page.put(word_of(standing, "missing"));
+    }
 }
 
 fn link_at<T: Tree>(page: &mut Page, image: &mut T, path: &Path, text: &str) -> Standing {

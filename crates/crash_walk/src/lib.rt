@@ -1,4 +1,4 @@
-//! Walks through every moment of twelve sessions, of which one deletes a file, one a folder, one copies a file, one copies it over another, one deletes two files of which
+//! Walks through every moment of thirteen sessions, of which one deletes a file, one a folder, one copies a file, one copies it over another, one copies a link over a file, one deletes two files of which
 //! the first is left unsynced, one copies a file whose target is left so, and deletes the source, one makes a folder, one makes
 //! two of which the first is left unsynced, one makes a link, one sets a file's mode, one those of two files of which the first is left
 //! unsynced, and one copies a folder with all that lies in it. It walks through the crash images of each: what is left then?
@@ -24,6 +24,7 @@ pub fn tell_walks(page: &mut Page) {
     tell_scene(page, Scene::Folder);
     tell_scene(page, Scene::Copy);
     tell_scene(page, Scene::Overwriting);
+    tell_scene(page, Scene::LinkOver);
     tell_scene(page, Scene::LeftFolder);
     tell_scene(page, Scene::LeftTarget);
     tell_scene(page, Scene::NewFolder);

@@ -11,6 +11,8 @@ pub enum Scene {
     Copy,
     /// It is copied over another file, which the answer to the question allows.
     Overwriting,
+    /// A link is copied over a file, which the answer to the question allows.
+    LinkOver,
     /// Two files are deleted. The sync after the first is refused, and so is that of its last steps; the second job makes it.
     LeftFolder,
     /// A file is copied. The sync after it came to its name is refused, and so is that of the last steps. The second job, which
@@ -38,6 +40,7 @@ impl Scene {
             Scene::Folder => "/a/d is deleted with /a/d/x",
             Scene::Copy => "/s/e is copied into /t",
             Scene::Overwriting => "/s/e is copied over /t/e",
+            Scene::LinkOver => "/s/l, a link, is copied over /t/l, a file",
             Scene::LeftFolder => "/a/x is deleted and /a not synced, then /a/y is deleted",
             Scene::LeftTarget => "/s/e is copied and /t not synced, then /s/e is deleted",
             Scene::NewFolder => "/a/n is made",
@@ -68,6 +71,7 @@ impl Scene {
             Scene::Overwriting => {
                 "folder /s 755\nfolder /t 755\nfile /s/e 640 hello\nfile /t/e 600 old"
             }
+            Scene::LinkOver => "folder /s 755\nfolder /t 755\nlink /s/l x\nfile /t/l 600 old",
             Scene::LeftTarget => "folder /s 755\nfolder /t 755\nfile /s/e 640 hello",
             Scene::NewFolder => "folder /a 755",
             Scene::LeftNewFolder => "folder /a 755",
@@ -97,6 +101,7 @@ impl Scene {
             Scene::Folder => Some(session("/a", "/a", DELETING)),
             Scene::Copy => Some(session("/s", "/t", COPYING)),
             Scene::Overwriting => Some(session("/s", "/t", OVERWRITING)),
+            Scene::LinkOver => Some(session("/s", "/t", OVERWRITING)),
             Scene::LeftFolder => Some(session("/a", "/a", DELETING_BOTH)),
             Scene::LeftTarget => Some(session("/s", "/t", COPYING_AND_DELETING)),
             Scene::NewFolder => Some(session("/a", "/a", MAKING)),
@@ -173,8 +178,8 @@ const COPYING_AND_DELETING: &[u8] = b"\x1b[B\x1b[15~\r\rb\x1b[19~\r\x1b[21~";
 
 /// The calls that are the sync after the renaming, and the one of the last steps. Before them comes the opening: for each panel a
 /// look at its path and a listing, and a look at the file; then three looks of the keys (at the file, at it again, and at the folder that
-/// was typed), five of the copy, and the part made, filled from what is read, synced and renamed.
-const REFUSED_TARGET_SYNCS: &[u64] = &[19, 20];
+/// was typed), three of the copy, and the part made, filled from what is read, synced and renamed.
+const REFUSED_TARGET_SYNCS: &[u64] = &[17, 18];
 
 /// F7, n, Enter, F10.
 const MAKING: &[u8] = b"\x1b[18~n\r\x1b[21~";

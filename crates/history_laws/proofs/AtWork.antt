@@ -1,5 +1,5 @@
 -- What has to be known of the file or link at work as a step begins: where its part stands, if it has one yet.
-use Rattle.std.specs.Prelude.{◌≡◌, ℕ, ⊤, true, false, List, ◌∷◌, Some, None}
+use Rattle.std.specs.Prelude.{◌≡◌, ◌⊎◌, ℕ, ⊤, true, false, List, [], ◌∷◌, Some, None}
 use Rattle.mc_text.specs.Routes.{Route}
 use Rattle.tree_trait.specs.declared.file_system.FileSystem.{FileSystem}
 use Rattle.tree_trait.specs.Change.{CallLog, current}
@@ -26,7 +26,7 @@ pub record IsAtWork (s : FileSystem) (up : Route) (rest : List (List ℕ)) (part
   pub apart : k ≡ n → ⊥
   pub leads : find s part ≡ Some i
   pub file : is_folder (node s i) ≡ false
-  pub free : find s target ≡ None
+  pub bare : (j : ℕ) → find s target ≡ Some j → is_folder (node s j) ≡ false
   -- neither is met later
   pub part_off : Among rest k → ⊥
   pub target_off : Among rest n → ⊥
@@ -35,6 +35,8 @@ pub record IsAtWork (s : FileSystem) (up : Route) (rest : List (List ℕ)) (part
 pub record HasItem (log : CallLog) (name : List ℕ) (l : Levels) (part target : Route) : Type 0 where
   pub work : IsAtWork (current log) l.inner.copy.target (let p : Levels = passed false l in coming name p.inner.names p.around) part target
   pub off : Among (coming name l.inner.names l.around) work.k → ⊥
+  -- what stands at the target is replaced only by what is copied itself
+  pub free : (find (current log) target ≡ None) ⊎ (l.around ≡ [])
 
 -- what is at work has its part, and comes to a target that is met next
 abbrev pub ItemKnown : CallLog → Seen → Item → Type 0

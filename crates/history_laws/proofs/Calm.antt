@@ -6,6 +6,7 @@ use Rattle.tree_trait.specs.Change.{CallLog, current}
 use Rattle.tree_trait.specs.CrashImages.{is_clean}
 use Rattle.tree_trait.specs.FileSystem.{find}
 use Rattle.tree_trait.specs.Shape.{IsTree}
+use Rattle.job_answers.specs.declared.replies.Replies.{Replies}
 use Rattle.job_reports.specs.declared.report.Cause.{Cause}
 use Rattle.job_reports.specs.declared.report.Did.{Did}
 use Rattle.file_copy.specs.Copying.{part_at}
@@ -70,8 +71,8 @@ PartCalm log (Stays part) = ⊤
 -- Where nothing stands all is calm, so it is at and below the target of a copy that begins. Each step, skip and retry keeps it of any path.
 pub record CalmLaw : Type 0 where
   pub free : (log : CallLog) (c : Seen) (path : Route) → find (current log) path ≡ None → IsCalm log c path
-  pub step : (free : Route → Bool) (old new : Seen) (did : Did) (calls : ℕ) (log now : CallLog) (faults faults_after : ℕ)
-      → CopySteps free old new did calls (Some log) (Some now) faults faults_after → IsTree (current log) → IsOfFiles log → CopyKnown log old → PartCalm log old.item
+  pub step : (free : Route → Bool) (replies : Replies) (old new : Seen) (did : Did) (calls : ℕ) (log now : CallLog) (faults faults_after : ℕ)
+      → CopySteps free replies old new did calls (Some log) (Some now) faults faults_after → IsTree (current log) → IsOfFiles log → CopyKnown log old → PartCalm log old.item
       → PartCalm now new.item × ((path : Route) → IsCalm log old path → IsCalm now new path)
   pub skip : (log : CallLog) (cause : Cause) (old new : Seen) (did : Did) → Skips cause old did new → PartCalm log old.item
       → PartCalm log new.item × ((path : Route) → IsCalm log old path → IsCalm log new path)

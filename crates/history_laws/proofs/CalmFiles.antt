@@ -13,12 +13,13 @@ use Rattle.job_reports.specs.declared.report.Did.TheVariants.{Began, Chunk, Plac
 use Rattle.job_reports.specs.declared.report.Ending.TheVariants.{Finished, Aborted, Killed, NoMemory}
 use Rattle.job_reports.proofs.CallAnswers.{done_call, some_log}
 use Rattle.job_reports.proofs.PermittedCalls.{IsMaking, making_passes}
-use Rattle.file_copy.specs.CopyCalls.{CopyCalls, CopyStops, making, part_mode, writing}
+use Rattle.file_copy.specs.CopyCalls.{making, part_mode, writing}
 use Rattle.file_copy.specs.Copying.{Copying, Tells, part_at, places_of}
 use Rattle.file_copy.specs.PartNames.{part_name}
 use Rattle.file_copy.specs.declared.stage.Stage.{Stage}
 use Rattle.file_copy.specs.declared.stage.Stage.TheVariants as at
 use Rattle.copy_levels.specs.Levels.{Levels}
+use Rattle.history_laws.proofs.FileMoves.{MoveCalls, MoveStops}
 use Rattle.history_laws.proofs.Resting.{IsOfFiles}
 use Rattle.history_laws.proofs.Calm.{IsCalmOr}
 use Rattle.history_laws.proofs.CalmChanges.{calm_made, calm_map}
@@ -54,10 +55,9 @@ module _ (unclaimed : Route → Type 0) (log now : CallLog) (files : IsOfFiles l
   with_part part is so = calm_map p now ((p ≡ part) ⊎ S) (AtPart f.stage p S) (to_part f.stage part p S is) so
 
   -- a trouble, by where the copy stands
-  stops : (stage : Stage) → f.stage ≡ stage → (why : Cause) (path : Option Route) → CopyStops unclaimed (places_of f) stage why path log (Some now) → IsCalmOr p now (AtPart f.stage p S)
-  stops at.Begin is why path (inl look) = same (some_log now log look.1)
-  stops at.Begin is why path (inr (inl taken)) = same (some_log now log taken.2)
-  stops at.Begin is why path (inr (inr (k, looked, free, run))) = calm_stop p (AtPart f.stage p S) log now (making (current log) (places_of f) k) why path (λ left. refl) run calm
+  stops : (stage : Stage) → f.stage ≡ stage → (why : Cause) (path : Option Route) → MoveStops unclaimed (places_of f) stage why path log (Some now) → IsCalmOr p now (AtPart f.stage p S)
+  stops at.Begin is why path (inl none) = same (some_log now log none)
+  stops at.Begin is why path (inr (k, free, run)) = calm_stop p (AtPart f.stage p S) log now (making (current log) (places_of f) k) why path (λ left. refl) run calm
   stops (at.Fill part said done) is why path (inl (less, inl read)) = same (some_log now log read.1)
   stops (at.Fill part said done) is why path (inl (less, inr write)) = with_part part (ap part_at is) (write_stops name l part f.target p S log now _ _ why path (ready part (ap part_at is)) write)
   stops (at.Fill part said done) is why path (inr (full, run)) = with_part part (ap part_at is) (placing_stops name l part f.target p S now log said.mode why path run (ready part (ap part_at is)))
@@ -71,7 +71,7 @@ module _ (unclaimed : Route → Type 0) (log now : CallLog) (files : IsOfFiles l
   none_left : (stage : Stage) → IsCalmOr p now S → IsCalmOr p now (AtPart stage p S)
   none_left stage so = calm_map p now S (AtPart stage p S) (λ s. inr s) so
 
-  pub file_calm : (moved : Copying) (did : Did) → Tells f did moved → CopyCalls unclaimed f did moved log (Some now) → IsCalmOr p now (AtPart moved.stage p S)
+  pub file_calm : (moved : Copying) (did : Did) → Tells f did moved → MoveCalls unclaimed f did moved log (Some now) → IsCalmOr p now (AtPart moved.stage p S)
   file_calm moved (Began part) (stage, (facts, new_is)) (looked, began_of, (k, part_is, first, rows)) =
       let d = done_call log (making (current log) (places_of f) k) now (row_done log now (making (current log) (places_of f) k) rows) in
       let mode : ℕ = part_mode (node (current log) (found (current log) f.source)).mode in

@@ -3,6 +3,7 @@ use Rattle.std.proofs.Common.{◌≡◌, ℕ, ◌≤◌, suc, zero, Bool, true, 
 use Rattle.std.proofs.lemmas.Bool.{both_ways, false≢true}
 use Rattle.mc_text.specs.Routes.{Route}
 use Rattle.tree_trait.specs.Change.{CallLog}
+use Rattle.job_answers.specs.declared.replies.Replies.{Replies}
 use Rattle.job_reports.specs.declared.report.Cause.{Cause}
 use Rattle.job_reports.specs.declared.report.Did.{Did}
 use Rattle.file_copy.specs.Copying as file
@@ -30,7 +31,8 @@ use Rattle.tree_copy.specs.Parts.{IsPartPlace}
 use Rattle.tree_copy.specs.Progress.{link_progress, progress}
 use Rattle.tree_copy.specs.Skipping.{SkipsAt, SkipsNamed, SkipsRest, retried_at}
 use Rattle.tree_copy.specs.Standing.{Seen}
-use Rattle.tree_copy.specs.Steps.{FileWorks, LeavesAll, LinkWorks, TakesNext, WorksOn, idle, link_begun, noted, settled}
+use Rattle.tree_copy.specs.Steps.{LeavesAll, LinkWorks, TakesNext, WorksOn, idle, link_begun, noted, settled}
+use Rattle.history_laws.proofs.FileMoves.{FileMoves, taken_moves, worked_moves}
 use Rattle.history_laws.proofs.AtWork.{ItemKnown}
 use Rattle.history_laws.proofs.Calm.{CalmLaw, IsCalm, IsSetAt, IsSetIn, MayWait, PartCalm, QuietModesLaw, filled_part, was_set}
 use Rattle.history_laws.proofs.FoldersEnd.{AllFilled, is_filled}
@@ -58,11 +60,11 @@ left_calm zero log old mid is calm = subst (λ (c : Seen). PartCalm log c.item) 
 left_calm (suc n) log old mid (last, all, none, one) calm = let r = one.returns in none_calm log mid.item (ap (λ (c : Seen). c.item) r.stands ∙ none)
 
 -- a link's part after a step
-module _ (free : Route → Bool) (old new : Seen) (did : Did) (log now : CallLog) (known : StepKnown log old) where
+module _ (free : Route → Bool) (replies : Replies) (old new : Seen) (did : Did) (log now : CallLog) (known : StepKnown log old) where
   abbrev Unclaimed : Route → Type 0
   Unclaimed = IsPartPlace free old
 
-  file_part : (f : Copying) → FileWorks Unclaimed f old new did (Some log) (Some now) → PartCalm now new.item
+  file_part : (f : Copying) → FileMoves Unclaimed f old new did (Some log) (Some now) → PartCalm now new.item
   file_part f w =
       let m = w.moved in
       subst (λ (c : Seen). PartCalm now c.item) (sym w.stands) (settled_calm now (progress m.stage) (File m) (noted did (file.is_dirty m.folder) (idle old)) refl tt)
@@ -76,20 +78,22 @@ module _ (free : Route → Bool) (old new : Seen) (did : Did) (log now : CallLog
   same : old.item ≡ Next → new.item ≡ old.item → PartCalm now new.item
   same none is = none_calm now new.item (is ∙ none)
 
-  next_part : old.item ≡ Next → is_around_dirty old.levels.around ≡ false → TakesNext Unclaimed old new did (Some log) (Some now) → PartCalm now new.item
+  next_part : old.item ≡ Next → is_around_dirty old.levels.around ≡ false → TakesNext Unclaimed replies old new did (Some log) (Some now) → PartCalm now new.item
   next_part none clean (inl s) = same none (ap (λ (c : Seen). c.item) s.stands)
-  next_part none clean (inr (inl t)) = file_part _ t.works
-  next_part none clean (inr (inr (inl t))) = link_part (link_begun t.pair t.part) (taken_link free old new did log now known clean t) (λ has. absurd (false≢true has)) t.works
+  next_part none clean (inr (inl t)) = file_part _ (taken_moves Unclaimed replies old new did (Some log) (Some now) t)
+  next_part none clean (inr (inr (inl t))) = link_part (link_begun t.pair t.part) (taken_link free replies old new did log now known clean t) (λ has. absurd (false≢true has)) t.works
   next_part none clean (inr (inr (inr (inl t)))) = same none (let w = t.works in ap (λ (c : Seen). c.item) w.stands)
   next_part none clean (inr (inr (inr (inr (inl t))))) = same none (ap (λ (c : Seen). c.item) t.stands)
-  next_part none clean (inr (inr (inr (inr (inr (next, inl (debt, ends))))))) = same none (ap (λ (c : Seen). c.item) ends.stands)
-  next_part none clean (inr (inr (inr (inr (inr (next, inr (debt, f, stays))))))) = same none (ap (λ (c : Seen). c.item) f.stands)
+  next_part none clean (inr (inr (inr (inr (inr (inl t)))))) = same none (ap (λ (c : Seen). c.item) t.stands)
+  next_part none clean (inr (inr (inr (inr (inr (inr (inl t))))))) = same none (ap (λ (c : Seen). c.item) t.stands)
+  next_part none clean (inr (inr (inr (inr (inr (inr (inr (next, inl (debt, ends))))))))) = same none (ap (λ (c : Seen). c.item) ends.stands)
+  next_part none clean (inr (inr (inr (inr (inr (inr (inr (next, inr (debt, f, stays))))))))) = same none (ap (λ (c : Seen). c.item) f.stands)
 
-  works_part : (item : Item) → old.item ≡ item → ItemKnown log old item → PartCalm log item → WorksOn item Unclaimed old new did (Some log) (Some now) → PartCalm now new.item
+  works_part : (item : Item) → old.item ≡ item → ItemKnown log old item → PartCalm log item → WorksOn item Unclaimed replies old new did (Some log) (Some now) → PartCalm now new.item
   works_part Next is item part (inl s) = same is (ap (λ (c : Seen). c.item) s.stands)
   works_part Next is item part (inr (clean, t)) = next_part is clean t
-  works_part (File f) is item part w = file_part f w
-  works_part (Link l) is item part w = link_part l (worked_link free old new did log now known l item) part w
+  works_part (File f) is item part w = file_part f (worked_moves Unclaimed f old new did (Some log) (Some now) w)
+  works_part (Link l) is item part w = link_part l (worked_link free replies old new did log now known l item) part w
   works_part (Stays left) is item part w = absurd w
 
 -- what is left, or taken anew, has the part that it had
@@ -198,12 +202,12 @@ module _ (log : CallLog) where
 pub calm_law : CalmLaw
 calm_law = record {
   free = λ log c path none. calm_free path log (MayWait c path) none;
-  step = λ free old new did calls log now f0 f1 s tree files known part.
-      let b = step_begins free old new did calls log now f0 f1 s tree files known in
+  step = λ free replies old new did calls log now f0 f1 s tree files known part.
+      let b = step_begins free replies old new did calls log now f0 f1 s tree files known in
       let mid = s.mid in
       let here = left_calm s.folders log old mid s.leaves part in (
-        works_part free mid new did log now b.0 mid.item refl b.1 here s.works,
-        λ path calm. works_calm path free mid new did log now b.0 (calm_map path log (MayWait old path) (MayWait mid path) (leaves_wait path s.folders old mid s.leaves) calm) mid.item refl b.1 here s.works,
+        works_part free replies mid new did log now b.0 mid.item refl b.1 here s.works,
+        λ path calm. works_calm path free replies mid new did log now b.0 (calm_map path log (MayWait old path) (MayWait mid path) (leaves_wait path s.folders old mid s.leaves) calm) mid.item refl b.1 here s.works,
       );
   skip = λ log cause old new did s part. skips_calm log old.item cause old new did refl part s;
   retry = λ log c part. retries_calm log c.item c refl part;

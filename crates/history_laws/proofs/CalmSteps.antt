@@ -3,6 +3,7 @@ use Rattle.std.proofs.Common.{◌≡◌, ◌⊎◌, ℕ, suc, zero, Bool, true, 
 use Rattle.std.proofs.lemmas.Bool.{false≢true}
 use Rattle.mc_text.specs.Routes.{Route}
 use Rattle.tree_trait.specs.Change.{CallLog, current}
+use Rattle.job_answers.specs.declared.replies.Replies.{Replies}
 use Rattle.job_reports.specs.CallRuns.{AllDone}
 use Rattle.job_reports.specs.declared.job.Pair.{Pair}
 use Rattle.job_reports.specs.declared.report.Did.{Did}
@@ -32,7 +33,8 @@ use Rattle.tree_copy.specs.Parts.{IsPartPlace}
 use Rattle.tree_copy.specs.Progress.{link_progress, progress}
 use Rattle.tree_copy.specs.Reports.{IsToldAs}
 use Rattle.tree_copy.specs.Standing.{Seen, after_report, target_name}
-use Rattle.tree_copy.specs.Steps.{FileWorks, FolderEnds, FolderMakes, LeavesAll, LinkWorks, SyncsAround, TakesNext, WorksOn, at_end, idle, link_begun, noted, settled}
+use Rattle.tree_copy.specs.Steps.{FolderEnds, FolderMakes, LeavesAll, LinkWorks, SyncsAround, TakesNext, WorksOn, at_end, idle, link_begun, noted, settled}
+use Rattle.history_laws.proofs.FileMoves.{FileMoves, taken_moves, worked_moves}
 use Rattle.history_laws.proofs.Resting.{stands_at}
 use Rattle.history_laws.proofs.AtWork.{ItemKnown}
 use Rattle.history_laws.proofs.Calm.{IsCalm, IsCalmOr, IsSetAt, IsSetIn, MayWait, PartCalm, filled_part, was_set}
@@ -110,7 +112,7 @@ module _ (p : Route) where
       let r = one.returns in
       inr (left_sets (closed last.levels) mid.levels r.left one.done (set_closed p last.levels (sets_alone last none (leaves_wait n old last all waits))))
 
-  module _ (free : Route → Bool) (old new : Seen) (did : Did) (log now : CallLog) (known : StepKnown log old) (calm : IsCalm log old p) where
+  module _ (free : Route → Bool) (replies : Replies) (old new : Seen) (did : Did) (log now : CallLog) (known : StepKnown log old) (calm : IsCalm log old p) where
     abbrev Unclaimed : Route → Type 0
     Unclaimed = IsPartPlace free old
 
@@ -123,7 +125,7 @@ module _ (p : Route) where
     same_log : (E : Type 0) → now ≡ log → IsCalmOr p log E → IsCalmOr p now E
     same_log E is so = subst (λ (x : CallLog). IsCalmOr p x E) (sym is) so
 
-    file_works : (f : Copying) → FileKnown Unclaimed log old.name old.levels f → (filled_part old.item ≡ Some p → part_at f.stage ≡ Some p) → FileWorks Unclaimed f old new did (Some log) (Some now) → Then
+    file_works : (f : Copying) → FileKnown Unclaimed log old.name old.levels f → (filled_part old.item ≡ Some p → part_at f.stage ≡ Some p) → FileMoves Unclaimed f old new did (Some log) (Some now) → Then
     file_works f about same w =
         let m = w.moved in
         let c = noted did (file.is_dirty m.folder) (idle old) in
@@ -233,22 +235,25 @@ module _ (p : Route) where
       ends : is_around_dirty old.levels.around ≡ false → FolderEnds (at_end old) new did (Some log) (Some now) → Then
       ends clean e = with_levels (after_report did old.stage) (with_copy e.moved old.levels) e.stands (ends_by clean e.moved e.report e.says e.tells (e.called log refl))
 
-      takes : is_around_dirty old.levels.around ≡ false → TakesNext Unclaimed old new did (Some log) (Some now) → Then
+      takes : is_around_dirty old.levels.around ≡ false → TakesNext Unclaimed replies old new did (Some log) (Some now) → Then
       takes clean (inl s) = as_new old s.stands (same_log (MayWait old p) (some_log now log s.same) calm)
-      takes clean (inr (inl t)) = file_works (file.begun old.job t.pair.source t.pair.target) (taken_file free old new did log now known clean t) (λ at. nothing_filled old.item p none at) t.works
+      takes clean (inr (inl t)) = file_works (file.begun old.job t.pair.source t.pair.target) (taken_file free replies old new did log now known clean t) (λ at. nothing_filled old.item p none at) (taken_moves Unclaimed replies old new did (Some log) (Some now) t)
       takes clean (inr (inr (inl t))) =
-          link_works (link_begun t.pair t.part) (taken_link free old new did log now known clean t) (λ has. absurd (false≢true has)) (λ at. nothing_filled old.item p none at) t.works
+          link_works (link_begun t.pair t.part) (taken_link free replies old new did log now known clean t) (λ has. absurd (false≢true has)) (λ at. nothing_filled old.item p none at) t.works
       takes clean (inr (inr (inr (inl t)))) = let n = next_of old old.levels.inner.names.names t.pair t.next in makes t.pair t.names t.mode (target_name old n.name) n.target_is t.works
       takes clean (inr (inr (inr (inr (inl t))))) =
           as_new (record old { levels = passed false old.levels }) t.stands (calm_map p now (Sets old) _ (λ set. inr (set_passed p false old.levels set)) (same_log (Sets old) (some_log now log t.same) alone))
-      takes clean (inr (inr (inr (inr (inr (next, inl (debt, e))))))) = ends clean e
-      takes clean (inr (inr (inr (inr (inr (next, inr (debt, f, same))))))) =
+      takes clean (inr (inr (inr (inr (inr (inl t)))))) =
+          as_new (record old { levels = passed false old.levels }) t.stands (calm_map p now (Sets old) _ (λ set. inr (set_passed p false old.levels set)) (same_log (Sets old) (some_log now log t.same) alone))
+      takes clean (inr (inr (inr (inr (inr (inr (inl t))))))) = as_new old t.stands (same_log (MayWait old p) (some_log now log t.same) calm)
+      takes clean (inr (inr (inr (inr (inr (inr (inr (next, inl (debt, e))))))))) = ends clean e
+      takes clean (inr (inr (inr (inr (inr (inr (inr (next, inr (debt, f, same))))))))) =
           as_new (at_end old) f.stands (calm_map p now (Sets old) _ (λ set. inr (set_closed p old.levels set)) (same_log (Sets old) (some_log now log same) alone))
 
-    pub works_calm : (item : Item) → old.item ≡ item → ItemKnown log old item → PartCalm log item → WorksOn item Unclaimed old new did (Some log) (Some now) → Then
+    pub works_calm : (item : Item) → old.item ≡ item → ItemKnown log old item → PartCalm log item → WorksOn item Unclaimed replies old new did (Some log) (Some now) → Then
     works_calm Next is item part (inl s) = around_calm is s
     works_calm Next is item part (inr (clean, t)) = takes is clean t
-    works_calm (File f) is item part w = file_works f (worked_file free old new did log now known f item) (λ at. sym (ap filled_part is) ∙ at) w
+    works_calm (File f) is item part w = file_works f (worked_file free replies old new did log now known f item) (λ at. sym (ap filled_part is) ∙ at) (worked_moves Unclaimed f old new did (Some log) (Some now) w)
     works_calm (Link l) is item part w =
-        link_works l (worked_link free old new did log now known l item) part (λ at. absurd (let e : (let o : Option Route = None in o) ≡ Some p = sym (ap filled_part is) ∙ at in let f : ⊥ = cc in f)) w
+        link_works l (worked_link free replies old new did log now known l item) part (λ at. absurd (let e : (let o : Option Route = None in o) ≡ Some p = sym (ap filled_part is) ∙ at in let f : ⊥ = cc in f)) w
     works_calm (Stays part_left) is item part w = absurd w

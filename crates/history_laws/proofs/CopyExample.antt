@@ -59,6 +59,8 @@ made_traced =
       no_trouble = λ trouble is. let f : ⊥ = cc in f;
       no_skip = λ path cause is. let f : ⊥ = cc in f;
       merged = λ pair names is. absurd (let f : ⊥ = cc in f);
+      kept = λ path is. absurd (let f : ⊥ = cc in f);
+      asked = λ question is. let f : ⊥ = cc in f;
       over = λ over. absurd (let e = over.names in let f : ⊥ = cc in f);
     }) makes (λ fresh. refl) (record { folder = []; own = refl; was = false; now = true; list = refl; synced = λ was now. absurd (false≢true was) })) refl refl refl
 
@@ -74,6 +76,8 @@ stands_traced =
       no_trouble = λ trouble is. let f : ⊥ = cc in f;
       no_skip = λ path cause is. let f : ⊥ = cc in f;
       merged = λ pair names is. absurd (let f : ⊥ = cc in f);
+      kept = λ path is. absurd (let f : ⊥ = cc in f);
+      asked = λ question is. let f : ⊥ = cc in f;
       over = λ over. absurd (let e = over.around in let f : ⊥ = cc in f);
     }) brings_in (λ fresh. absurd (false≢true fresh)) (record { folder = []; own = refl; was = true; now = false; list = refl; synced = λ was now. refl })) refl refl refl
 
@@ -89,6 +93,8 @@ given_traced =
       no_trouble = λ trouble is. let f : ⊥ = cc in f;
       no_skip = λ path cause is. let f : ⊥ = cc in f;
       merged = λ pair names is. absurd (let f : ⊥ = cc in f);
+      kept = λ path is. absurd (let f : ⊥ = cc in f);
+      asked = λ question is. let f : ⊥ = cc in f;
       over = λ over. absurd (let e = over.around in let f : ⊥ = cc in f);
     }) gives (λ fresh. refl) (record { folder = target; own = refl; was = false; now = true; list = refl; synced = λ was now. absurd (false≢true was) })) refl refl refl
 
@@ -104,6 +110,8 @@ synced_traced =
       no_trouble = λ trouble is. let f : ⊥ = cc in f;
       no_skip = λ path cause is. let f : ⊥ = cc in f;
       merged = λ pair names is. absurd (let f : ⊥ = cc in f);
+      kept = λ path is. absurd (let f : ⊥ = cc in f);
+      asked = λ question is. let f : ⊥ = cc in f;
       over = λ over. absurd (let e = over.around in let f : ⊥ = cc in f);
     }) syncs (λ fresh. absurd (false≢true fresh)) (record { folder = target; own = refl; was = true; now = false; list = refl; synced = λ was now. refl })) refl refl refl
 
@@ -119,6 +127,8 @@ finished_traced =
       no_trouble = λ trouble is. let f : ⊥ = cc in f;
       no_skip = λ path cause is. let f : ⊥ = cc in f;
       merged = λ pair names is. absurd (let f : ⊥ = cc in f);
+      kept = λ path is. absurd (let f : ⊥ = cc in f);
+      asked = λ question is. let f : ⊥ = cc in f;
       over = λ over. absurd (let e = over.around in let f : ⊥ = cc in f);
     }) finishes (λ fresh. refl) (record { folder = []; own = refl; was = false; now = false; list = refl; synced = λ was now. absurd (false≢true was) })) refl refl refl
 

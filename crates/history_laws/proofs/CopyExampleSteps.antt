@@ -18,7 +18,8 @@ use Rattle.job_reports.specs.declared.report.Cause.{Cause}
 use Rattle.job_reports.specs.declared.report.Trouble.{Trouble}
 use Rattle.job_reports.specs.declared.job.Pair.{Pair}
 use Rattle.job_reports.specs.declared.report.Did.{Did}
-use Rattle.job_reports.specs.declared.report.Did.TheVariants.{Made, Set, Skipped, Barrier, Merges, Troubled, Ended}
+use Rattle.job_reports.specs.declared.question.Question.{Question}
+use Rattle.job_reports.specs.declared.report.Did.TheVariants.{Made, Set, Asked, Kept, Skipped, Barrier, Merges, Troubled, Ended}
 use Rattle.job_reports.specs.declared.report.Ending.TheVariants.{Finished}
 use Rattle.folder_copy.specs.FolderCopying.{FolderCopying, copying}
 use Rattle.folder_copy.specs.FolderSteps.{FolderCalls}
@@ -34,7 +35,7 @@ use Rattle.tree_copy.specs.Steps.{Counts, at_end}
 use Rattle.tree_copy.specs.Taking.{IsTaken}
 use Rattle.tree_copy.specs.declared.copy.Stage.TheVariants.{Going}
 use Rattle.tree_copy.specs.declared.looking.Taken.TheVariants as taken
-use Rattle.subtree_copy.specs.Merged.{IsOver, MergesTop}
+use Rattle.subtree_copy.specs.Merged.{IsOver, KeepsTop, MergesTop}
 use Rattle.subtree_copy.specs.Reporting.{ChangesOwn, MayTell}
 use Rattle.subtree_copy.specs.Standing.{SubtreeCopying, started}
 use Rattle.subtree_copy.specs.SubtreeSteps.{SubtreeSteps, step_result}
@@ -141,7 +142,7 @@ counts did calls before now more few none = record { counted = more_known before
 
 -- a step in which no folder is left
 abbrev pub IsStep : SubtreeCopying → SubtreeCopying → Did → ℕ → List Route → List Route → CallLog → CallLog → Type 0
-IsStep old new did calls dirty dirty_after before now = SubtreeSteps anywhere old new did calls dirty dirty_after (let o : Option CallLog = Some before in o) (let o : Option CallLog = Some now in o) 0 0
+IsStep old new did calls dirty dirty_after before now = SubtreeSteps anywhere no_replies old new did calls dirty dirty_after (let o : Option CallLog = Some before in o) (let o : Option CallLog = Some now in o) 0 0
 
 -- the folder is made
 pub makes : IsStep begins has_made (Made target) 1 [] ([] ∷ []) (log []) made_log
@@ -164,7 +165,7 @@ makes = record {
           mode = 0o555;
           next = refl;
           reach = (omega arith, omega arith, omega arith);
-          is = known_is (log []) (λ l. IsTaken (current l) pair (taken.Folder [] 0o555)) ((refl, refl), refl, (refl, lists), refl);
+          is = known_is (log []) (λ l. IsTaken (current l) true no_replies pair (taken.Folder [] 0o555)) ((refl, refl), refl, (refl, lists), refl);
           in_order = tt;
           works = record {
             few = omega arith;
@@ -235,7 +236,7 @@ gives = record {
       leaves = refl;
       works = inr (
         refl,
-        inr (inr (inr (inr (inr (
+        inr (inr (inr (inr (inr (inr (inr (
           refl,
           inl (
             refl,
@@ -249,7 +250,7 @@ gives = record {
               stands = refl;
             },
           ),
-        ))))),
+        ))))))),
       );
       counts = counts (Set target) 1 stands_log given_log refl (omega arith) (λ h. h);
     };
@@ -275,7 +276,7 @@ syncs = record {
       leaves = refl;
       works = inr (
         refl,
-        inr (inr (inr (inr (inr (
+        inr (inr (inr (inr (inr (inr (inr (
           refl,
           inl (
             refl,
@@ -289,7 +290,7 @@ syncs = record {
               stands = refl;
             },
           ),
-        ))))),
+        ))))))),
       );
       counts = counts Barrier 1 given_log synced_log refl (omega arith) (λ h. h);
     };
@@ -313,7 +314,7 @@ finishes = record {
       folders = 0;
       mid = around.at;
       leaves = refl;
-      works = inr (refl, inr (inr (inr (inr (inr (refl, inr (refl, record { last = refl; says = refl; stands = refl }, refl)))))));
+      works = inr (refl, inr (inr (inr (inr (inr (inr (inr (refl, inr (refl, record { last = refl; says = refl; stands = refl }, refl)))))))));
       counts = counts (Ended Finished None) 0 synced_log synced_log refl (omega arith) (λ h. h);
     };
     list = refl;
@@ -324,7 +325,7 @@ finishes = record {
 }
 
 pub goes : (old new : SubtreeCopying) (did : Did) (calls : ℕ) (dirty dirty_after : List Route) (before now : CallLog) → IsStep old new did calls dirty dirty_after before now
-    → Goes IsUnclaimed old new did calls dirty dirty_after (let o : Option CallLog = Some before in o) (let o : Option CallLog = Some now in o) 0 0
+    → Goes IsUnclaimed no_replies old new did calls dirty dirty_after (let o : Option CallLog = Some before in o) (let o : Option CallLog = Some now in o) 0 0
 goes old new did calls dirty dirty_after before now step = record { free = anywhere; allows = λ path allowed. refl; since = 0; later = omega arith; steps = step }
 
 -- a report of work that was done
@@ -336,6 +337,8 @@ pub record IsDone (old new : SubtreeCopying) (did : Did) : Type 0 where
   pub no_trouble : (trouble : Trouble) → did ≡ Troubled trouble → ⊥
   pub no_skip : (path : Route) (cause : Cause) → did ≡ Skipped path cause → ⊥
   pub merged : (pair : Pair) (names : List (List ℕ)) → did ≡ Merges pair names → MergesTop old pair names new
+  pub kept : (path : Route) → did ≡ Kept path → KeepsTop old path new
+  pub asked : (question : Question) → did ≡ Asked question → ⊥
   pub over : IsOver old.at → IsOver new.at × (changes did ≡ false)
 
 pub works : (old new : SubtreeCopying) (did : Did) (calls : ℕ) (dirty dirty_after : List Route) (before now : CallLog) → IsDone old new did → IsStep old new did calls dirty dirty_after before now
@@ -351,6 +354,8 @@ works old new did calls dirty dirty_after before now done step clean leaves = re
       apart = λ trouble is. absurd (done.no_trouble trouble is);
       kinds = λ path cause is. absurd (done.no_skip path cause is);
       merged = done.merged;
+      kept = done.kept;
+      asked = λ question is. absurd (done.asked question is);
       over = done.over;
     },
     ap (λ course. (let r : Running = record { id = 1; work = CopyTree new; course = course; replies = no_replies } in r)) (sym done.on),

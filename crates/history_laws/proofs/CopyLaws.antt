@@ -4,6 +4,7 @@ use Rattle.std.specs.Prelude.{◌≡◌, ℕ, Bool, false, List, [], ◌∷◌, 
 use Rattle.mc_text.specs.Routes.{Route}
 use Rattle.tree_trait.specs.Change.{CallLog, current}
 use Rattle.tree_trait.specs.Shape.{IsTree}
+use Rattle.job_answers.specs.declared.replies.Replies.{Replies}
 use Rattle.job_reports.specs.declared.report.Cause.{Cause}
 use Rattle.job_reports.specs.declared.report.Did.{Did}
 use Rattle.copy_levels.specs.Levels.{is_around_dirty}
@@ -36,8 +37,8 @@ BeginningLaw = (log : CallLog) (job : ℕ) (source target : Named) → IsFilling
 -- Each step keeps it, whatever its calls are answered.
 abbrev pub StepLaw : Type 0
 StepLaw =
-    (free : Route → Bool) (old new : Seen) (did : Did) (calls : ℕ) (log now : CallLog) (faults faults_after : ℕ)
-    → CopySteps free old new did calls (Some log) (Some now) faults faults_after → IsTree (current log) → IsOfFiles log → CopyKnown log old → CopyKnown now new
+    (free : Route → Bool) (replies : Replies) (old new : Seen) (did : Did) (calls : ℕ) (log now : CallLog) (faults faults_after : ℕ)
+    → CopySteps free replies old new did calls (Some log) (Some now) faults faults_after → IsTree (current log) → IsOfFiles log → CopyKnown log old → CopyKnown now new
 
 -- So do a skip and a retry, which call nothing.
 pub record SkipLaw : Type 0 where

@@ -28,7 +28,9 @@ use Rattle.tree_copy.specs.Progress.{link_progress, progress}
 use Rattle.tree_copy.specs.Skipping.{SkipsAt, SkipsNamed, retried_at}
 use Rattle.tree_copy.specs.Reports.{IsToldAs}
 use Rattle.tree_copy.specs.Standing.{Seen, after_report, due_at}
-use Rattle.tree_copy.specs.Steps.{FileWorks, FolderMakes, LeavesAll, LinkWorks, SyncsAround, TakesNext, WorksOn, at_end, idle, link_begun, noted, settled}
+use Rattle.tree_copy.specs.Steps.{FolderMakes, LeavesAll, LinkWorks, SyncsAround, TakesNext, WorksOn, at_end, idle, link_begun, noted, settled}
+use Rattle.job_answers.specs.declared.replies.Replies.{Replies}
+use Rattle.history_laws.proofs.FileMoves.{FileMoves, taken_moves, worked_moves}
 use Rattle.history_laws.proofs.FoldersEnd.{AllFilled, EndLaw, EndsLast, IsOver, is_filled, is_open}
 
 -- the same folders are open, and the innermost is filled still
@@ -118,11 +120,11 @@ leaves_end (suc n) old mid (last, all, none, one) ends =
     let around : AllFilled (mid.levels.inner ∷ mid.levels.around) = subst AllFilled left.was k.around in
     record { open_still = filled_open mid.levels.inner.copy.stage around.0; inner = λ over. absurd (true≢false (sym around.0 ∙ over)); around = around.1 }
 
-module _ (unclaimed : Route → Type 0) (old new : Seen) (did : Did) (before after : Option CallLog) (ends : EndsLast old) where
+module _ (unclaimed : Route → Type 0) (replies : Replies) (old new : Seen) (did : Did) (before after : Option CallLog) (ends : EndsLast old) where
   kept : (IsOver old → ⊥) → SameEnds old.levels new.levels → EndsLast new
   kept busy s = same_ends old new (filled_if old ends busy) ends.around s
 
-  file_ends : (f : Copying) → (IsOver old → ⊥) → FileWorks unclaimed f old new did before after → EndsLast new
+  file_ends : (f : Copying) → (IsOver old → ⊥) → FileMoves unclaimed f old new did before after → EndsLast new
   file_ends f busy w = kept busy (let m = w.moved in as_new old _ new w.stands (noted_ends (progress m.stage) (File m) did (file.is_dirty m.folder) (idle old)))
 
   link_ends : (l : LinkCopying) → (IsOver old → ⊥) → LinkWorks l old new did before after → EndsLast new
@@ -140,16 +142,19 @@ module _ (unclaimed : Route → Type 0) (old new : Seen) (did : Did) (before aft
   makes_ends : (pair : Pair) (names : List (List ℕ)) (mode : ℕ) → (IsOver old → ⊥) → FolderMakes pair names mode old new did before after → EndsLast new
   makes_ends pair names mode busy w = subst EndsLast (sym w.stands) (let m = w.moved in made_ends pair names m m.stage refl (filled_if old ends busy))
 
-  takes_ends : old.item ≡ Next → TakesNext unclaimed old new did before after → EndsLast new
+  takes_ends : old.item ≡ Next → TakesNext unclaimed replies old new did before after → EndsLast new
   takes_ends none (inl s) = subst EndsLast (sym s.stands) ends
-  takes_ends none (inr (inl t)) = file_ends (file.begun old.job t.pair.source t.pair.target) (λ over. met_not old.levels.inner.names.names old t.pair t.next over.last) t.works
+  takes_ends none (inr (inl t)) = file_ends (file.begun old.job t.pair.source t.pair.target) (λ over. met_not old.levels.inner.names.names old t.pair t.next over.last) (taken_moves unclaimed replies old new did before after t)
   takes_ends none (inr (inr (inl t))) = link_ends (link_begun t.pair t.part) (λ over. met_not old.levels.inner.names.names old t.pair t.next over.last) t.works
   takes_ends none (inr (inr (inr (inl t)))) = makes_ends t.pair t.names t.mode (λ over. met_not old.levels.inner.names.names old t.pair t.next over.last) t.works
   takes_ends none (inr (inr (inr (inr (inl t))))) =
       kept (λ over. met_not old.levels.inner.names.names old t.pair t.next over.last) (as_new old (record old { levels = passed false old.levels }) new t.stands (record { stage = refl; around = refl }))
-  takes_ends none (inr (inr (inr (inr (inr (next, inl (debt, e))))))) =
+  takes_ends none (inr (inr (inr (inr (inr (inl t)))))) =
+      kept (λ over. met_not old.levels.inner.names.names old t.pair t.next over.last) (as_new old (record old { levels = passed false old.levels }) new t.stands (record { stage = refl; around = refl }))
+  takes_ends none (inr (inr (inr (inr (inr (inr (inl t))))))) = subst EndsLast (sym t.stands) ends
+  takes_ends none (inr (inr (inr (inr (inr (inr (inr (next, inl (debt, e))))))))) =
       over_ends old new (ap (λ (c : Seen). is_open c.levels.inner.copy.stage) e.stands ∙ end_open (let c = at_end old in c.levels.inner.copy) e.moved e.report did e.tells e.says (closing_open old.levels.inner.copy.stage ends.open_still)) (ap (λ (c : Seen). c.item) e.stands ∙ none) (ap (λ (c : Seen). c.levels.inner.names.names) e.stands ∙ end_last old.levels.inner.names.names old next) (ap (λ (c : Seen). c.levels.around) e.stands) ends.around
-  takes_ends none (inr (inr (inr (inr (inr (next, inr (debt, f, same))))))) =
+  takes_ends none (inr (inr (inr (inr (inr (inr (inr (next, inr (debt, f, same))))))))) =
       over_ends old new (ap (λ (c : Seen). is_open c.levels.inner.copy.stage) f.stands ∙ closing_open old.levels.inner.copy.stage ends.open_still) (ap (λ (c : Seen). c.item) f.stands ∙ none) (ap (λ (c : Seen). c.levels.inner.names.names) f.stands ∙ end_last old.levels.inner.names.names old next) (ap (λ (c : Seen). c.levels.around) f.stands) ends.around
 
   syncs_ends : old.item ≡ Next → SyncsAround old new did before after → EndsLast new
@@ -157,10 +162,10 @@ module _ (unclaimed : Route → Type 0) (old new : Seen) (did : Did) (before aft
       let was : AllFilled (s.outer ∷ s.around) = subst AllFilled s.was ends.around in
       subst EndsLast (sym s.stands) (record { open_still = ends.open_still; inner = λ ended. (let over = ends.inner ended in record { none = over.none; last = over.last }); around = was })
 
-  works_ends : (item : Item) → old.item ≡ item → WorksOn item unclaimed old new did before after → EndsLast new
+  works_ends : (item : Item) → old.item ≡ item → WorksOn item unclaimed replies old new did before after → EndsLast new
   works_ends Next is (inl s) = syncs_ends is s
   works_ends Next is (inr takes) = takes_ends is takes.1
-  works_ends (File f) is w = file_ends f (λ over. let e : File f ≡ Next = sym is ∙ over.none in let x : ⊥ = cc in x) w
+  works_ends (File f) is w = file_ends f (λ over. let e : File f ≡ Next = sym is ∙ over.none in let x : ⊥ = cc in x) (worked_moves unclaimed f old new did before after w)
   works_ends (Link l) is w = link_ends l (λ over. let e : Link l ≡ Next = sym is ∙ over.none in let x : ⊥ = cc in x) w
   works_ends (Stays part) is w = absurd w
 
@@ -196,8 +201,8 @@ retries_end (Stays part) c is ends = ends
 pub end_law : EndLaw
 end_law = record {
   begins = λ job source target. record { open_still = refl; inner = λ over. absurd (true≢false over); around = tt };
-  step = λ free old new did calls before after f0 f1 s ends.
-      let mid = s.mid in works_ends (IsPartPlace free mid) mid new did before after (leaves_end s.folders old mid s.leaves ends) mid.item refl s.works;
+  step = λ free replies old new did calls before after f0 f1 s ends.
+      let mid = s.mid in works_ends (IsPartPlace free mid) replies mid new did before after (leaves_end s.folders old mid s.leaves ends) mid.item refl s.works;
   skip = λ cause old new did s ends. skips_end cause old new did ends old.item refl s;
   retry = λ c ends. retries_end c.item c refl ends;
 }

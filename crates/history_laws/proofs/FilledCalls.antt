@@ -17,13 +17,14 @@ use Rattle.tree_trait.proofs.Visible.{same_path-true}
 use Rattle.tree_trait.proofs.Walking.{last_place, passed_walk, removable}
 use Rattle.job_reports.proofs.CallAnswers.{IsDoneCall, done_call, some_log}
 use Rattle.job_reports.proofs.PermittedCalls.{making_passes}
+use Rattle.history_laws.proofs.Untouched.{IsBare}
 use Rattle.history_laws.proofs.FilledFolders.{IsFilling, IsOff, filling_made, filling_placed, filling_quiet, filling_removed}
 
 -- the path is none of what is yet to be met in this folder
 abbrev pub IsNoneOf : Route → List (List ℕ) → Route → Type 0
 IsNoneOf up coming path = (k : List ℕ) → path ≡ k ∷ up → Among coming k → ⊥
 
--- a part, which is no folder, is placed beside itself, where nothing stands
+-- a part, which is no folder, is placed beside itself, where no folder stands
 pub record PlacesBeside (s : FileSystem) (up : Route) (coming : List (List ℕ)) (from to : Route) : Type 0 where
   pub folder : Route
   pub part : List ℕ
@@ -34,7 +35,7 @@ pub record PlacesBeside (s : FileSystem) (up : Route) (coming : List (List ℕ))
   pub apart : part ≡ target → ⊥
   pub leads : find s (part ∷ folder) ≡ Some i
   pub file : is_folder (node s i) ≡ false
-  pub free : find s (target ∷ folder) ≡ None
+  pub bare : IsBare s (target ∷ folder)
   pub part_off : IsNoneOf up coming from
   pub target_off : IsNoneOf up coming to
 
@@ -119,14 +120,15 @@ module _ (log now : CallLog) (tree : IsTree (current log)) (up : Route) (coming 
           let l = last_place (current log) p.target p.folder v.0 v.1 in
           let f = found (current log) p.folder in
           let part_leads = sym (ap (option_and_then (λ k. lookup (current log).names k p.part)) l.folder) ∙ p.leads in
-          let target_free = sym (ap (option_and_then (λ k. lookup (current log).names k p.target)) l.folder) ∙ p.free in
+          let target_bare : (j : ℕ) → lookup (current log).names f p.target ≡ Some j → is_folder (node (current log) j) ≡ false =
+          λ j leads. p.bare j (ap (option_and_then (λ k. lookup (current log).names k p.target)) l.folder ∙ leads) in
           let change : change_of (current log) (Rename from to) d.time ≡ Moves f p.part f p.target p.i (find (current log) (p.target ∷ p.folder)) =
           ap (λ r. change_of (current log) (Rename r to) d.time) p.from_is
           ∙ (ap (λ r. change_of (current log) (Rename (p.part ∷ p.folder) r) d.time) p.to_is
           ∙ (ap (λ b. cond b Nothing (Moves f p.part f p.target (found (current log) (p.part ∷ p.folder)) (find (current log) (p.target ∷ p.folder)))) (other_path p.part p.target p.folder p.apart)
           ∙ ap (λ k. Moves f p.part f p.target k (find (current log) (p.target ∷ p.folder))) (ap (λ o. unwrap_or o 0) p.leads))) in
           subst (λ (l : CallLog). IsFilling l up coming) (sym (d.is ∙ ap (with_change log) change))
-          (filling_placed log tree p.folder f l.folder p.part p.i part_leads p.file p.target (find (current log) (p.target ∷ p.folder)) target_free up coming
+          (filling_placed log tree p.folder f l.folder p.part p.i part_leads p.file p.target (find (current log) (p.target ∷ p.folder)) target_bare up coming
           (off_of p.folder up p.target coming to p.to_is p.target_off) (off_of p.folder up p.part coming from p.from_is p.part_off) filling)
 
   -- a call that was done

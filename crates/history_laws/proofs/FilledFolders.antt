@@ -178,7 +178,7 @@ module _ (log : CallLog) (tree : IsTree (current log)) (q : Route) (g : ℕ) (at
         calm = λ m among. waits_in now (k ∷ q) new m new_at ∙ calm_new m;
       }
 
-  -- a part is placed where nothing stands, or removed
+  -- a part is placed where no folder stands, or removed
   module _ (part : List ℕ) (i : ℕ) (leads : lookup (current log).names g part ≡ Some i) (file : is_folder (node (current log) i) ≡ false) where
     part_at : find (current log) (part ∷ q) ≡ Some i
     part_at = rw at leads
@@ -196,15 +196,26 @@ module _ (log : CallLog) (tree : IsTree (current log)) (q : Route) (g : ℕ) (at
         let j_is : j ≡ i = some_is i j (sym here ∙ found) in
         both_ways _ file (subst (λ n. is_folder (node (current log) n) ≡ true) j_is folder)
 
-    module _ (target : List ℕ) (replaced : Option ℕ) (free : lookup (current log).names g target ≡ None) where
+    module _ (target : List ℕ) (replaced : Option ℕ) (bare : (j : ℕ) → lookup (current log).names g target ≡ Some j → is_folder (node (current log) j) ≡ false) where
       abbrev moves : Change
       moves = Moves g part g target i replaced
+
+      -- no folder stands at the target, or below it
+      not_target : (o : Option ℕ) → lookup (current log).names g target ≡ o → (p : Route) (f : ℕ) (rest : Route) → find (current log) p ≡ Some f → is_folder (node (current log) f) ≡ true → p ≡ rest ++ target ∷ q → ⊥
+      not_target None free p f rest stands folder is = not_there p f rest target stands free is
+      not_target (Some j) leads_there p f [] stands folder is =
+          let target_at : find (current log) (target ∷ q) ≡ Some j = rw at leads_there in
+          let same : f ≡ j = some_is j f (sym target_at ∙ (ap (find (current log)) (sym is) ∙ stands)) in
+          both_ways _ (bare j leads_there) (subst (λ n. is_folder (node (current log) n) ≡ true) same folder)
+      not_target (Some j) leads_there p f (name ∷ rest) stands folder is =
+          let target_at : find (current log) (target ∷ q) ≡ Some j = rw at leads_there in
+          some_none f (sym stands ∙ (ap (find (current log)) is ∙ none_below_file (current log) tree (target ∷ q) j target_at (bare j leads_there) name rest))
 
       stays_placed : (p : Route) (f : ℕ) → find (current log) p ≡ Some f → is_folder (node (current log) f) ≡ true → find (current (with_change log moves)) p ≡ Some f
       stays_placed p f stands folder = elim (find_same log moves p) [
         | inl same ↦ same ∙ stands
         | inr under ↦ elim (under_moved log tree q g at part target i replaced p under) [
-          | inl u ↦ absurd (not_there p f u.0 target stands free u.1)
+          | inl u ↦ absurd (not_target (lookup (current log).names g target) refl p f u.0 stands folder u.1)
           | inr u ↦ absurd (not_part p f u.0 stands folder u.1)
         ]
       ]
@@ -213,7 +224,7 @@ module _ (log : CallLog) (tree : IsTree (current log)) (q : Route) (g : ℕ) (at
       placed_apart h m j said found folder = elim (said_two (same_name g target h m) (same_name g part h m) (Some i) None said) [
         | inl same ↦
             let e = same_name-true g h target m same in
-            some_none j (sym found ∙ subst (λ n. lookup (current log).names n m ≡ None) e.0 (subst (λ n. lookup (current log).names g n ≡ None) e.1 free))
+            both_ways _ (bare j (subst (λ n. lookup (current log).names g n ≡ Some j) (sym e.1) (subst (λ n. lookup (current log).names n m ≡ Some j) (sym e.0) found))) folder
         | inr same ↦ part_apart h m j same found folder
       ]
 

@@ -2,14 +2,9 @@
 use Rattle.std.proofs.Common.{◌≡◌, ℕ, ◌<◌, ◌≤◌, ◌+◌, Bool, true, false, List, [], ◌∷◌, ◌++◌, length, take, drop, refl, sym, ◌∙◌, ap, subst, inl, inr, Option, Some, None, arith}
 use Rattle.std.specs.Prelude.{is_some, ◌==◌, ◌||◌, not, unwrap_or}
 use Rattle.std.proofs.lemmas.Bool.{false_from_ne_true, or_cases, or_left}
-use Rattle.mc_text.specs.declared.kind.Kind.{Kind}
 use Rattle.mc_text.specs.declared.kind.Kind.TheVariants.{File}
-use Rattle.mc_text.specs.declared.kind.Kind.TheVariants as kind
 use Rattle.mc_text.specs.Routes.{Route, is_prefix, same_path}
 use Rattle.tree_trait.specs.declared.file_system.Node.{Node}
-use Rattle.tree_trait.specs.declared.file_system.FileSystem.{FileSystem}
-use Rattle.tree_trait.specs.Calls.{Stat}
-use Rattle.tree_trait.specs.Refusals.{folder_kind, is_folder, refusal_of}
 use Rattle.tree_trait.specs.FileSystem.{find, node}
 use Rattle.tree_trait.specs.Change.{Change, Makes, Writes, CallLog, current, with_change, found, overwritten}
 use Rattle.tree_trait.specs.CrashImages.{Among}
@@ -26,15 +21,13 @@ use Rattle.file_copy.specs.declared.stage.FolderState.TheVariants.{Synced, Dirty
 use Rattle.file_copy.specs.declared.stage.SourceFacts.{SourceFacts}
 use Rattle.file_copy.specs.declared.stage.Stage.TheVariants.{Fill}
 use Rattle.file_copy.specs.CopyCalls.{making, next_bytes, part_mode, room_for, writing}
-use Rattle.file_copy.specs.AskedCopies.{IsReadyOver, IsReplaceable}
-use Rattle.file_copy.specs.Copying.{Copying, Places, places_of, is_dirty}
-use Rattle.job_answers.specs.declared.replies.Replies.{Replies}
+use Rattle.file_copy.specs.Copying.{Copying, places_of, is_dirty}
 use Rattle.job_reports.specs.Paths.{folder_of}
-use Rattle.file_copy.specs.Looking.{IsReady, AreFactsOf, file_at}
+use Rattle.file_copy.specs.Looking.{AreFactsOf}
 use Rattle.file_copy.specs.PartNames.{IsFirstFree, part_name}
 use Rattle.job_reports.proofs.CallAnswers.{IsDoneCall}
 use Rattle.file_copy.proofs.FilledParts.{Holds, written_on}
-use Rattle.job_reports.proofs.PermittedCalls.{IsMaking, making_passes, stat_missing}
+use Rattle.job_reports.proofs.PermittedCalls.{IsMaking, making_passes}
 use Rattle.copy_move.specs.declared.work.Work.TheVariants.{Copy}
 use Rattle.copy_move.specs.declared.run.Course.TheVariants.{GoesOn}
 use Rattle.tree_deletion.specs.Folders.{joined}
@@ -45,9 +38,10 @@ use Rattle.history_laws.proofs.Calming.{written_known}
 use Rattle.history_laws.proofs.FilledFolders.{IsFilling, met_found}
 use Rattle.history_laws.proofs.Intact.{prefix_way}
 use Rattle.history_laws.proofs.Knowing.{IsCalmIn, IsKept, IsKnown, Said, settled_marks}
-use Rattle.history_laws.proofs.JobKnows.{HasName, HasPart, IsAsFound, IsBare, IsFilled, NoneOn, WorkKnows, bare_free, calm_in, found_bare, none_of_part, none_waits, part_settled, way_sure}
+use Rattle.history_laws.proofs.JobKnows.{HasName, HasPart, IsAsFound, IsBare, IsFilled, NoneOn, WorkKnows, calm_in, found_bare, none_of_part, none_waits, part_settled, way_sure}
 use Rattle.history_laws.proofs.Changing.{none_below_file}
 use Rattle.history_laws.proofs.Quiet.{kind_same}
+pub use Rattle.history_laws.proofs.OpenTargets.{IsOpen, open_free, open_over}
 use Rattle.history_laws.proofs.MakingParts.{MakesPart, made_known, marks_new, new_node, off_part, part_leads, part_node, with_part}
 use Rattle.history_laws.proofs.Resting.{IsSureFolder, folder_at, folder_at_of, stands_at, sure_path}
 use Rattle.history_laws.proofs.PartNodes.{other_node, part_on, part_there, written_node}
@@ -59,36 +53,6 @@ pub making_stands : (log now : CallLog) (c : Copying) (k : ℕ) → IsDoneCall l
 making_stands log now c k d =
     let passes = making_passes (current log) (part_name c.job k) (folder_of c.target) (part_mode (node (current log) (found (current log) c.source)).mode) d.permits in
     folder_at_of (current log) (folder_of c.target) (found (current log) (folder_of c.target)) passes.folder passes.holds
-
--- a file stands at the source, and at the target nothing, or no folder
-pub record IsOpen (s : FileSystem) (p : Places) : Type 0 where
-  pub source : refusal_of s (Stat p.source) ≡ None
-  pub file : (file_at s p.source).kind ≡ File
-  pub bare : IsBare s p.target
-
--- so it is where nothing stands at the target
-pub open_free : (s : FileSystem) (p : Places) → IsReady s p → IsOpen s p
-open_free s p ready = record { source = ready.source; file = ready.file; bare = bare_free s p.target (stat_missing s p.target ready.target) }
-
-no_folder : (k : Kind) → IsReplaceable k → folder_kind k ≡ false
-no_folder kind.File h = refl
-no_folder kind.Link h = refl
-no_folder kind.Folder h = absurd h
-no_folder kind.Other h = absurd h
-
--- and where something stands there that may be replaced
-pub open_over : (s : FileSystem) (p : Places) (replies : Replies) → IsReadyOver s p replies → IsOpen s p
-open_over s p replies ready = record {
-  source = ready.source;
-  file = ready.file;
-  bare = λ i at. elim ready.target [
-    | inl missing ↦ bare_free s p.target (stat_missing s p.target missing) i at
-    | inr d ↦
-        let decided = d.1 in
-        let target = decided.of_target in
-        ap (λ j. is_folder (node s j)) (sym (ap (λ o. unwrap_or o 0) at)) ∙ (ap folder_kind (sym target.kind) ∙ no_folder decided.target.kind decided.replaceable)
-  ];
-}
 
 -- What is known of a file's folder and target where nothing was changed in that folder yet: the folder isn't in doubt, no mode waits in it, and
 -- where no folder stands at the target it is as it was found.

@@ -6,7 +6,7 @@ use Rattle.std.proofs.lemmas.Bool.{false≢true, true≢false, both_ways, false_
 use Rattle.mc_text.specs.Routes.{Route, is_prefix, same_path}
 use Rattle.tree_trait.specs.Shape.{IsTree}
 use Rattle.crash_law.proofs.Tops.{not_longer}
-use Rattle.tree_trait.specs.FileSystem.{find, visible_tree}
+use Rattle.tree_trait.specs.FileSystem.{find, visible_tree, node}
 use Rattle.tree_trait.specs.Change.{CallLog, current}
 use Rattle.tree_trait.specs.CrashImages.{Among, all_settled, is_clean}
 use Rattle.crash_law.specs.Guarded.{Marks}
@@ -39,6 +39,7 @@ use Rattle.history_laws.specs.Owed.{FinishedLaw, IsNoMatter, is_own_path}
 use Rattle.history_laws.specs.Staying.{may_change}
 use Rattle.session_history.specs.Named.{has_changed, named_parts}
 use Rattle.history_laws.specs.Traces.{IsTraced, IsUnclaimed, Stand, WorkLeads}
+use Rattle.tree_trait.specs.Refusals.{is_folder}
 use Rattle.history_laws.proofs.Below.{lies_below}
 use Rattle.history_laws.proofs.Histories.{IsReached, traced_reached}
 use Rattle.history_laws.proofs.Owing.{calm_at, calm_there, owed_modes, owed_names}
@@ -233,20 +234,23 @@ module _ (opening now : CallLog) (newest : List Entry) (stand : Stand) (path : R
 
   module _ (c : SubtreeCopying) (left : TreeLeft (told_of opening now newest seen.part) seen.marks now c) where
     -- no mode waits of anything else in the folder that holds the target
-    beside_calm : (name : List ℕ) → path ≡ name ∷ folder_of c.top.target → (name ∷ folder_of c.top.target ≡ c.top.target → ⊥) → (Among (named_parts newest) path → ⊥) → (IsMountInDoubt now path → ⊥) → node_waits now path ≡ false
+    beside_calm : (name : List ℕ) → path ≡ name ∷ folder_of c.top.target → ((i : ℕ) → find (current now) path ≡ Some i → name ∷ folder_of c.top.target ≡ c.top.target → is_folder (node (current now) i) ≡ false) → (Among (named_parts newest) path → ⊥) → (IsMountInDoubt now path → ⊥) → node_waits now path ≡ false
     beside_calm name is other unnamed no_mount = elim left.around [
       | inl calm ↦ own_calm unnamed no_mount (ap (λ q. calm_told newest (folder_of q)) is ∙ calm)
       | inr but ↦ false_from_ne_true (node_waits now path) (λ waits.
-          both_ways _ (calm_at opening now newest stand path tree settled traced unnamed (λ i at. but.1 name i other (ap (find (current now)) (sym is) ∙ at)) (false_from_ne_true _ (λ begins. no_mount (record { begins = begins; waits = waits })))) waits)
+          both_ways _ (calm_at opening now newest stand path tree settled traced unnamed (λ i at. but.1 name i (other i at) (ap (find (current now)) (sym is) ∙ at)) (false_from_ne_true _ (λ begins. no_mount (record { begins = begins; waits = waits })))) waits)
     ]
 
-    -- nor of the target, and of what lies in it
-    within_calm : (rest : Route) → path ≡ rest ++ c.top.target → node_waits now path ≡ false
+    -- nor of what lies below the target, and of the target, unless no folder stands there
+    within_calm : (rest : Route) → path ≡ rest ++ c.top.target → (node_waits now path ≡ false) ⊎ ((rest ≡ []) × ((i : ℕ) → find (current now) path ≡ Some i → is_folder (node (current now) i) ≡ false))
     within_calm rest is = by (find (current now) path) refl
       where
-        by : (o : Option ℕ) → find (current now) path ≡ o → node_waits now path ≡ false
-        by None at = ap (λ x. option_map_or (λ i. not (is_clean i now.changes)) x false) at
-        by (Some i) at = ap (λ x. option_map_or (λ i. not (is_clean i now.changes)) x false) at ∙ ap not (left.calm rest i (ap (find (current now)) (sym is) ∙ at))
+        by : (o : Option ℕ) → find (current now) path ≡ o → (node_waits now path ≡ false) ⊎ ((rest ≡ []) × ((i : ℕ) → find (current now) path ≡ Some i → is_folder (node (current now) i) ≡ false))
+        by None at = inl (ap (λ x. option_map_or (λ i. not (is_clean i now.changes)) x false) at)
+        by (Some i) at = elim (left.calm rest i (ap (find (current now)) (sym is) ∙ at)) [
+          | inl clean ↦ inl (ap (λ x. option_map_or (λ i. not (is_clean i now.changes)) x false) at ∙ ap not clean)
+          | inr b ↦ inr (b.0, λ j also. subst (λ k. is_folder (node (current now) k) ≡ false) (let e : Some i ≡ Some j = sym at ∙ also in cc) b.1)
+        ]
 
     none_waits : (Among (named_parts newest) path → ⊥) → (IsMountInDoubt now path → ⊥) → (p : Route) → path ≡ p → may_change (item_in (CopyTree c)) (folder_of p) ≡ true → node_waits now path ≡ false
     none_waits unnamed no_mount [] is own = false_from_ne_true (node_waits now path) (λ waits. no_mount (record {
@@ -255,14 +259,19 @@ module _ (opening now : CallLog) (newest : List Entry) (stand : Stand) (path : R
     }))
     none_waits unnamed no_mount (name ∷ up) is own = elim (or_cases (same_path up (folder_of c.top.target)) (is_prefix c.top.target up) own) [
       | inl here ↦ by_name (same_path (name ∷ up) c.top.target) refl (same_path-true up (folder_of c.top.target) here)
-      | inr within ↦ (let w = prefix_way c.top.target up within in within_calm (name ∷ w.0) (is ∙ ap (λ q. (let r : Route = name ∷ q in r)) w.1))
+      | inr within ↦
+          let w = prefix_way c.top.target up within in
+          elim (within_calm (name ∷ w.0) (is ∙ ap (λ q. (let r : Route = name ∷ q in r)) w.1)) [ inl none ↦ none | inr b ↦ absurd (let e : (name ∷ w.0) ≡ [] = b.0 in let f : ⊥ = cc in f) ]
     ]
       where
         by_name : (b : Bool) → same_path (name ∷ up) c.top.target ≡ b → up ≡ folder_of c.top.target → node_waits now path ≡ false
-        by_name true same here = within_calm [] (is ∙ same_path-true (name ∷ up) c.top.target same)
+        by_name true same here = elim (within_calm [] (is ∙ same_path-true (name ∷ up) c.top.target same)) [
+          | inl none ↦ none
+          | inr b ↦ beside_calm name (is ∙ ap (λ q. (let r : Route = name ∷ q in r)) here) (λ i at same_name. b.1 i at) unnamed no_mount
+        ]
         by_name false off here =
             let there : name ∷ up ≡ name ∷ folder_of c.top.target = ap (λ q. (let r : Route = name ∷ q in r)) here in
-            beside_calm name (is ∙ there) (λ same. both_ways _ off (subst (λ q. same_path q c.top.target ≡ true) (sym (there ∙ same)) (same_path-self c.top.target))) unnamed no_mount
+            beside_calm name (is ∙ there) (λ i at same. absurd (both_ways _ off (subst (λ q. same_path q c.top.target ≡ true) (sym (there ∙ same)) (same_path-self c.top.target)))) unnamed no_mount
 
     names_none : (p : Route) → may_change (item_in (CopyTree c)) (folder_of p) ≡ true → name_waits now p ≡ false
     names_none [] within = refl
@@ -290,11 +299,11 @@ whole_left told dirty dirty_after marks log now job new part c is on knows tidy 
     let w = works.walks in
     let known : TreeKnown told dirty marks log GoesOn c = subst (λ x. WorkKnows told dirty marks log GoesOn x) is (subst (λ x. WorkKnows told dirty marks log x job.work) on knows) in
     by w.0 w.1 w.2 known (subst (λ x. TidyFolder x dirty) is tidy) new.work
-    (subst (λ x. WalksOn IsUnclaimed GoesOn x new.work (Ended Finished part) w.0 dirty dirty_after (Some log) (Some now) w.1 w.2) is
-    (subst (λ x. WalksOn IsUnclaimed x job.work new.work (Ended Finished part) w.0 dirty dirty_after (Some log) (Some now) w.1 w.2) on w.3))
+    (subst (λ x. WalksOn IsUnclaimed job.replies GoesOn x new.work (Ended Finished part) w.0 dirty dirty_after (Some log) (Some now) w.1 w.2) is
+    (subst (λ x. WalksOn IsUnclaimed job.replies x job.work new.work (Ended Finished part) w.0 dirty dirty_after (Some log) (Some now) w.1 w.2) on w.3))
   where
-    by : (calls f0 f1 : ℕ) → TreeKnown told dirty marks log GoesOn c → is_fresh_tree c.at.stage ≡ false → (work : Work) → Walks IsUnclaimed (CopyTree c) work (Ended Finished part) calls dirty dirty_after (Some log) (Some now) f0 f1 → TreeLeft told marks log c
-    by calls f0 f1 known begun (CopyTree x) goes = tree_done told dirty dirty_after marks log now c x part known begun goes.free calls goes.since f1 goes.steps
+    by : (calls f0 f1 : ℕ) → TreeKnown told dirty marks log GoesOn c → is_fresh_tree c.at.stage ≡ false → (work : Work) → Walks IsUnclaimed job.replies (CopyTree c) work (Ended Finished part) calls dirty dirty_after (Some log) (Some now) f0 f1 → TreeLeft told marks log c
+    by calls f0 f1 known begun (CopyTree x) goes = tree_done told dirty dirty_after marks log now c x part known begun goes.free job.replies calls goes.since f1 goes.steps
     by calls f0 f1 known begun (Copy x) goes = absurd goes
     by calls f0 f1 known begun (Delete x) goes = absurd goes
     by calls f0 f1 known begun (Make x) goes = absurd goes

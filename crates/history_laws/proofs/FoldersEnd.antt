@@ -3,6 +3,7 @@
 use Rattle.std.specs.Prelude.{◌≡◌, ℕ, ⊤, Bool, true, false, List, [], ◌∷◌, Option}
 use Rattle.mc_text.specs.Routes.{Route}
 use Rattle.tree_trait.specs.Change.{CallLog}
+use Rattle.job_answers.specs.declared.replies.Replies.{Replies}
 use Rattle.job_reports.specs.declared.report.Cause.{Cause}
 use Rattle.job_reports.specs.declared.report.Did.{Did}
 use Rattle.folder_copy.specs.declared.stage.Stage.{Stage}
@@ -44,7 +45,7 @@ pub record EndsLast (c : Seen) : Type 0 where
 -- It is so of a copy that begins, and each step, skip and retry keeps it.
 pub record EndLaw : Type 0 where
   pub begins : (job : ℕ) (source target : Named) → EndsLast (begun job source target)
-  pub step : (free : Route → Bool) (old new : Seen) (did : Did) (calls : ℕ) (before after : Option CallLog) (faults faults_after : ℕ)
-      → CopySteps free old new did calls before after faults faults_after → EndsLast old → EndsLast new
+  pub step : (free : Route → Bool) (replies : Replies) (old new : Seen) (did : Did) (calls : ℕ) (before after : Option CallLog) (faults faults_after : ℕ)
+      → CopySteps free replies old new did calls before after faults faults_after → EndsLast old → EndsLast new
   pub skip : (cause : Cause) (old new : Seen) (did : Did) → Skips cause old did new → EndsLast old → EndsLast new
   pub retry : (c : Seen) → EndsLast c → EndsLast (retried c)

@@ -31,7 +31,9 @@ use Rattle.tree_copy.specs.InPlace.{AreMoved, owed_of}
 use Rattle.tree_copy.specs.Progress.{link_progress, progress}
 use Rattle.tree_copy.specs.Skipping.{SkipsAt, SkipsNamed, SkipsRest, retried_at}
 use Rattle.tree_copy.specs.Standing.{Seen}
-use Rattle.tree_copy.specs.Steps.{FileWorks, FolderEnds, LeavesAll, LinkWorks, SyncsAround, TakesFolder, TakesNext, WorksOn, at_end, idle, link_begun, noted, settled}
+use Rattle.tree_copy.specs.Steps.{FolderEnds, LeavesAll, LinkWorks, SyncsAround, TakesFolder, TakesNext, WorksOn, at_end, idle, link_begun, noted, settled}
+use Rattle.job_answers.specs.declared.replies.Replies.{Replies}
+use Rattle.history_laws.proofs.FileMoves.{FileMoves, taken_moves, worked_moves}
 use Rattle.history_laws.proofs.TreeSteps.{closing_not}
 use Rattle.history_laws.proofs.OwedModes.{AllOwe, OwedModes, OwesSource, ShowsTree}
 
@@ -121,13 +123,13 @@ module _ (v : View) where
 
   -- the copy of a file or a link at work is no folder's
   module _ (unclaimed : Route → Type 0) (old new : Seen) (did : Did) (before after : Option CallLog) (h : OwedModes v old) where
-    pub file_owes : (f : Copying) → FileWorks unclaimed f old new did before after → OwedModes v new
+    pub file_owes : (f : Copying) → FileMoves unclaimed f old new did before after → OwedModes v new
     file_owes f w = let m = w.moved in subst (OwedModes v) (sym w.stands) (settled_owe (progress m.stage) (File m) (noted did (file.is_dirty m.folder) (idle old)) (owe_dirtied (file.is_dirty m.folder) old.levels h))
 
     pub link_owes : (l : LinkCopying) → LinkWorks l old new did before after → OwedModes v new
     link_owes l w = let m = w.moved in subst (OwedModes v) (sym w.stands) (settled_owe (link_progress m.stage) (Link m) (noted did (link.is_dirty m.folder) (idle old)) (owe_dirtied (link.is_dirty m.folder) old.levels h))
 
-  module _ (unclaimed : Route → Type 0) (old new : Seen) (did : Did) (log now : CallLog) (shows : ShowsTree v log) (h : OwedModes v old) where
+  module _ (unclaimed : Route → Type 0) (replies : Replies) (old new : Seen) (did : Did) (log now : CallLog) (shows : ShowsTree v log) (h : OwedModes v old) where
     stays : new ≡ old → OwedModes v new
     stays is = subst (OwedModes v) (sym is) h
 
@@ -144,7 +146,7 @@ module _ (v : View) where
     made_at pair names mode moved report tells source (at.Close owed) is = h
     made_at pair names mode moved report tells source at.Done is = h
 
-    makes_owe : TakesFolder old new did (Some log) (Some now) → OwedModes v new
+    makes_owe : TakesFolder replies old new did (Some log) (Some now) → OwedModes v new
     makes_owe t =
         let w = t.works in
         let is = t.is log refl in
@@ -158,24 +160,26 @@ module _ (v : View) where
         let f = folder_owed (let c = at_end old in c.levels.inner.copy) e.moved e.report e.tells (closing_not old.levels.inner.copy.stage made) in
         subst (OwedModes v) (sym e.stands) (owe_inner (let c = at_end old in c.levels.inner) (level old.levels.inner.names e.moved) old.levels.around (λ o. as_owed (let c = at_end old in c.levels.inner) (level old.levels.inner.names e.moved) f.0 f.1 o) (closed_owe old h))
 
-    takes_owe : ((other : ℕ) → old.levels.inner.copy.stage ≡ at.Make other → ⊥) → TakesNext unclaimed old new did (Some log) (Some now) → OwedModes v new
+    takes_owe : ((other : ℕ) → old.levels.inner.copy.stage ≡ at.Make other → ⊥) → TakesNext unclaimed replies old new did (Some log) (Some now) → OwedModes v new
     takes_owe made (inl s) = stays s.stands
-    takes_owe made (inr (inl t)) = file_owes unclaimed old new did (Some log) (Some now) h (file.begun old.job t.pair.source t.pair.target) t.works
+    takes_owe made (inr (inl t)) = file_owes unclaimed old new did (Some log) (Some now) h (file.begun old.job t.pair.source t.pair.target) (taken_moves unclaimed replies old new did (Some log) (Some now) t)
     takes_owe made (inr (inr (inl t))) = link_owes unclaimed old new did (Some log) (Some now) h (link_begun t.pair t.part) t.works
     takes_owe made (inr (inr (inr (inl t)))) = makes_owe t
     takes_owe made (inr (inr (inr (inr (inl t))))) = subst (OwedModes v) (sym t.stands) (owe_passed false old.levels h)
-    takes_owe made (inr (inr (inr (inr (inr (next, inl (debt, e))))))) = ends_owe made e
-    takes_owe made (inr (inr (inr (inr (inr (next, inr (debt, f, same))))))) = subst (OwedModes v) (sym f.stands) (closed_owe old h)
+    takes_owe made (inr (inr (inr (inr (inr (inl t)))))) = subst (OwedModes v) (sym t.stands) (owe_passed false old.levels h)
+    takes_owe made (inr (inr (inr (inr (inr (inr (inl t))))))) = stays t.stands
+    takes_owe made (inr (inr (inr (inr (inr (inr (inr (next, inl (debt, e))))))))) = ends_owe made e
+    takes_owe made (inr (inr (inr (inr (inr (inr (inr (next, inr (debt, f, same))))))))) = subst (OwedModes v) (sym f.stands) (closed_owe old h)
 
     syncs_owe : SyncsAround old new did (Some log) (Some now) → OwedModes v new
     syncs_owe s =
         let was : AllOwe v old.levels.inner (s.outer ∷ s.around) = subst (AllOwe v old.levels.inner) s.was h in
         subst (OwedModes v) (sym s.stands) (was.0, owe_inner s.outer (level s.outer.names (record s.outer.copy { names = s.names })) s.around (λ o. o) was.1)
 
-    pub works_owe : ((other : ℕ) → old.levels.inner.copy.stage ≡ at.Make other → ⊥) → (item : Item) → WorksOn item unclaimed old new did (Some log) (Some now) → OwedModes v new
+    pub works_owe : ((other : ℕ) → old.levels.inner.copy.stage ≡ at.Make other → ⊥) → (item : Item) → WorksOn item unclaimed replies old new did (Some log) (Some now) → OwedModes v new
     works_owe made Next (inl s) = syncs_owe s
     works_owe made Next (inr takes) = takes_owe made takes.1
-    works_owe made (File f) w = file_owes unclaimed old new did (Some log) (Some now) h f w
+    works_owe made (File f) w = file_owes unclaimed old new did (Some log) (Some now) h f (worked_moves unclaimed f old new did (Some log) (Some now) w)
     works_owe made (Link l) w = link_owes unclaimed old new did (Some log) (Some now) h l w
     works_owe made (Stays part) w = absurd w
 

@@ -1,12 +1,12 @@
 -- The part of a file at work, after a step of the file's copy.
-use Rattle.std.proofs.Common.{◌≡◌, ℕ, List, [], ◌∷◌, refl, sym, ◌∙◌, ap, subst, inl, inr, Option, Some, None}
+use Rattle.std.proofs.Common.{◌≡◌, ◌⊎◌, ℕ, List, [], ◌∷◌, refl, sym, ◌∙◌, ap, subst, inl, inr, Option, Some, None}
 use Rattle.mc_text.specs.Routes.{Route}
 use Rattle.mc_text.specs.declared.kind.Kind.TheVariants as kind
 use Rattle.tree_trait.specs.declared.file_system.Node.{Node}
 use Rattle.tree_trait.specs.Calls.{RemoveFile}
 use Rattle.tree_trait.specs.Change.{Change, Makes, CallLog, current, found, with_change}
 use Rattle.tree_trait.specs.CrashImages.{says}
-use Rattle.tree_trait.specs.FileSystem.{node}
+use Rattle.tree_trait.specs.FileSystem.{node, find}
 use Rattle.tree_trait.specs.Shape.{IsTree}
 use Rattle.job_reports.specs.Paths.{folder_of}
 use Rattle.job_reports.specs.declared.report.Cause.{Cause}
@@ -14,8 +14,8 @@ use Rattle.job_reports.specs.declared.report.Did.{Did}
 use Rattle.job_reports.specs.declared.report.Did.TheVariants.{Began, Chunk, Placed, Removed, Made, Set, Kept, Skipped, Cleaned, Barrier, Asked, Merges, Troubled, Ended}
 use Rattle.job_reports.specs.declared.report.Ending.TheVariants.{Finished, Aborted, Killed, NoMemory}
 use Rattle.job_reports.proofs.CallAnswers.{done_call, some_log}
-use Rattle.job_reports.proofs.PermittedCalls.{IsMaking, making_passes, stat_missing}
-use Rattle.file_copy.specs.CopyCalls.{CopyCalls, CopyStops, making, part_mode, writing}
+use Rattle.job_reports.proofs.PermittedCalls.{IsMaking, making_passes}
+use Rattle.file_copy.specs.CopyCalls.{making, part_mode, writing}
 use Rattle.file_copy.specs.Copying.{Copying, Tells, after_clean, part_at, places_of}
 use Rattle.file_copy.specs.PartNames.{IsShort, part_name}
 use Rattle.file_copy.specs.declared.stage.Next.{Next as Follows}
@@ -26,6 +26,7 @@ use Rattle.copy_levels.specs.Levels.{Levels}
 use Rattle.tree_copy.specs.Parts.{IsShortPart}
 use Rattle.tree_copy.specs.Progress.{progress}
 use Rattle.tree_copy.specs.declared.progress.Progress.TheVariants.{UnderWay, Decided}
+use Rattle.history_laws.proofs.FileMoves.{MoveCalls, MoveStops}
 use Rattle.history_laws.proofs.AtWork.{HasItem}
 use Rattle.history_laws.proofs.ItemParts.{IsMetNext, has_made}
 use Rattle.history_laws.proofs.QuietRuns.{kept_stop, part_stops, row_done}
@@ -47,7 +48,7 @@ module _ (unclaimed : Route → Type 0) (log now : CallLog) (name : List ℕ) (l
   quiet_has part x c tree none h = has_quiet name l part f.target x c tree none h
 
   -- a trouble of a file whose part stands
-  stops : (stage : Stage) → f.stage ≡ stage → (why : Cause) (path : Option Route) → CopyStops unclaimed (places_of f) stage why path log (Some now) → progress stage ≡ UnderWay → (part : Route) → part_at stage ≡ Some part → Has now part
+  stops : (stage : Stage) → f.stage ≡ stage → (why : Cause) (path : Option Route) → MoveStops unclaimed (places_of f) stage why path log (Some now) → progress stage ≡ UnderWay → (part : Route) → part_at stage ≡ Some part → Has now part
   stops at.Begin is why path calls going part stands = absurd (let e : ⊥ = cc in e)
   stops (at.Fill p said done) is why path (inl (less, inl read)) going part stands = subst (λ (x : CallLog). Has x part) (sym (some_log now log read.1)) (known.item part (ap part_at is ∙ stands))
   stops (at.Fill p said done) is why path (inl (less, inr write)) going part stands =
@@ -58,7 +59,7 @@ module _ (unclaimed : Route → Type 0) (log now : CallLog) (name : List ℕ) (l
   stops (at.Left p) is why path none going part stands = absurd none
   stops at.Decided is why path run going part stands = absurd (let e : ⊥ = cc in e)
 
-  pub file_item : (moved : Copying) (did : Did) → (f.stage ≡ at.Begin → IsMetNext name l f.target) → IsShortPart (part_at moved.stage) → Tells f did moved → CopyCalls unclaimed f did moved log (Some now) → progress moved.stage ≡ UnderWay
+  pub file_item : (moved : Copying) (did : Did) → (f.stage ≡ at.Begin → IsMetNext name l f.target × ((find (current log) f.target ≡ None) ⊎ (l.around ≡ []))) → IsShortPart (part_at moved.stage) → Tells f did moved → MoveCalls unclaimed f did moved log (Some now) → progress moved.stage ≡ UnderWay
       → (part : Route) → part_at moved.stage ≡ Some part → Has now part
   file_item moved (Began part) met short (stage, (facts, new_is)) (looked, began_of, (k, part_is, first, rows)) going p stands =
       let same : Some part ≡ Some p = sym (ap (λ (c : Copying). part_at c.stage) new_is) ∙ stands in
@@ -71,8 +72,8 @@ module _ (unclaimed : Route → Type 0) (log now : CallLog) (name : List ℕ) (l
       let open_to = first.free in
       subst (Has now) (sym (p_is ∙ part_is)) (subst (λ r. Has now (part_name f.job k ∷ r)) (sym known.within)
       (has_made name l log now (part_name f.job k) made f.target known.tree (subst (λ r. IsMaking (current log) (part_name f.job k) r) known.within passes)
-      (subst (λ r. now ≡ with_change log (Makes (found (current log) r) (part_name f.job k) made)) known.within d.is) refl (known.begins stage k first begun_short) (met stage)
-      (λ same. open_to.apart (ap (λ r. part_name f.job k ∷ r) known.within ∙ same)) (stat_missing (current log) f.target looked.target)))
+      (subst (λ r. now ≡ with_change log (Makes (found (current log) r) (part_name f.job k) made)) known.within d.is) refl (known.begins stage k first begun_short) (met stage).0
+      (λ same. open_to.apart (ap (λ r. part_name f.job k ∷ r) known.within ∙ same)) looked.bare (met stage).1))
   file_item moved (Chunk count) met short (part, facts, done, stage, least, most, fits, new_is) (part_now, facts_now, done_now, stage_now, count_is, rows) going p stands =
       let call = writing (current log) (places_of f) part_now facts_now done_now in
       let d = done_call log call now (row_done log now call rows) in

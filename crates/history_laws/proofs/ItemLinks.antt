@@ -1,6 +1,6 @@
 -- The part of a link at work, after a step of the link's copy.
 use Rattle.std.specs.Prelude.{pos}
-use Rattle.std.proofs.Common.{◌≡◌, ℕ, List, [], ◌∷◌, refl, sym, ◌∙◌, ap, subst, Option, Some, None, arith}
+use Rattle.std.proofs.Common.{◌≡◌, ◌⊎◌, ℕ, List, [], ◌∷◌, refl, sym, ◌∙◌, ap, subst, Option, Some, None, arith}
 use Rattle.mc_text.specs.Routes.{Route}
 use Rattle.mc_text.specs.declared.kind.Kind.TheVariants as kind
 use Rattle.tree_trait.specs.declared.file_system.Node.{Node}
@@ -31,6 +31,7 @@ use Rattle.history_laws.proofs.ItemParts.{IsMetNext, has_made}
 use Rattle.history_laws.proofs.QuietRuns.{kept_stop, row_done}
 use Rattle.history_laws.proofs.TreeLinks.{LinkKnown}
 use Rattle.history_laws.proofs.TreeRuns.{has_quiet}
+use Rattle.history_laws.proofs.Untouched.{IsBare}
 
 not_at_work : (stage : Stage) → link_progress stage ≡ UnderWay → stage ≡ at.Decided → ⊥
 not_at_work stage going is = (let e : Decided ≡ UnderWay = sym (ap link_progress is) ∙ going in let f : ⊥ = cc in f)
@@ -50,11 +51,12 @@ no_row log now cause.PartTaken path h = h
 no_row log now cause.TooLong path h = h
 no_row log now (cause.Changed said got) path h = h
 
--- What is known of the target as a link's part is made: it is met next, free, and another than the part.
+-- What is known of the target as a link's part is made: it is met next, and another than the part; nothing stands there, or what is copied itself replaces it.
 pub record IsOpenTo (log : CallLog) (name : List ℕ) (l : Levels) (part target : Route) : Type 0 where
   pub met : IsMetNext name l target
   pub apart : part ≡ target → ⊥
-  pub free : find (current log) target ≡ None
+  pub bare : IsBare (current log) target
+  pub free : (find (current log) target ≡ None) ⊎ (l.around ≡ [])
 
 module _ (log now : CallLog) (name : List ℕ) (l : Levels) (c : LinkCopying) (known : LinkKnown log name l c) where
   abbrev Has : CallLog → Type 0
@@ -81,7 +83,7 @@ module _ (log now : CallLog) (name : List ℕ) (l : Levels) (c : LinkCopying) (k
       let made : Node = record { kind = kind.Link; bytes = text; mode = 0; mtime = pos 0; unnamed = 0 } in
       let is : now ≡ with_change log (Makes (found (current log) l.inner.copy.target) b.0 made) = subst (λ r. now ≡ with_change log (change_of (current log) (MakeLink r text) d.time)) b.1 d.is in
       subst (λ r. HasItem now name l r c.target) (sym b.1)
-      (has_made name l log now b.0 made c.target known.tree (making_passes (current log) b.0 l.inner.copy.target 0 permits) is refl b.2 open_to.met (λ same. open_to.apart (b.1 ∙ same)) open_to.free)
+      (has_made name l log now b.0 made c.target known.tree (making_passes (current log) b.0 l.inner.copy.target 0 permits) is refl b.2 open_to.met (λ same. open_to.apart (b.1 ∙ same)) open_to.bare open_to.free)
 
   rows_at : (stage : Stage) → c.stage ≡ stage → AllDone log (next_call (current log) c c.stage) (Some now) → AllDone log (next_call (current log) c stage) (Some now)
   rows_at stage is rows = subst (λ x. AllDone log (next_call (current log) c x) (Some now)) is rows

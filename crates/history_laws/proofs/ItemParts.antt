@@ -1,5 +1,5 @@
 -- A part that was made stands beside the target that is met next.
-use Rattle.std.proofs.Common.{◌≡◌, ℕ, false, List, ◌∷◌, refl, sym, ◌∙◌, ap, subst, None}
+use Rattle.std.proofs.Common.{◌≡◌, ◌⊎◌, ℕ, false, List, [], ◌∷◌, refl, sym, ◌∙◌, ap, subst, inl, inr, None}
 use Rattle.mc_text.specs.Routes.{Route}
 use Rattle.tree_trait.specs.declared.file_system.Node.{Node}
 use Rattle.tree_trait.specs.Change.{Makes, CallLog, current, found, with_change}
@@ -10,7 +10,8 @@ use Rattle.tree_trait.specs.Shape.{IsTree}
 use Rattle.job_reports.proofs.PermittedCalls.{IsMaking}
 use Rattle.copy_levels.specs.Levels.{Levels, coming, passed}
 use Rattle.history_laws.proofs.AtWork.{HasItem}
-use Rattle.history_laws.proofs.PartMade.{made_beside, made_is, made_leads}
+use Rattle.history_laws.proofs.PartMade.{made_bare, made_beside, made_is, made_leads}
+use Rattle.history_laws.proofs.Untouched.{IsBare}
 use Rattle.history_laws.proofs.TreeKnows.{fewer_coming}
 
 module _ (name : List ℕ) (l : Levels) where
@@ -28,8 +29,8 @@ module _ (name : List ℕ) (l : Levels) where
     pub once : Among rest n → ⊥
 
   pub has_made : (log now : CallLog) (k : List ℕ) (made : Node) (target : Route) → IsTree (current log) → IsMaking (current log) k up → now ≡ with_change log (Makes (found (current log) up) k made) → is_folder made ≡ false
-      → (Among (coming name l.inner.names l.around) k → ⊥) → IsMetNext target → (k ∷ up ≡ target → ⊥) → find (current log) target ≡ None → HasItem now name l (k ∷ up) target
-  has_made log now k made target tree making is bare off met apart free =
+      → (Among (coming name l.inner.names l.around) k → ⊥) → IsMetNext target → (k ∷ up ≡ target → ⊥) → IsBare (current log) target → (find (current log) target ≡ None) ⊎ (l.around ≡ []) → HasItem now name l (k ∷ up) target
+  has_made log now k made target tree making is bare off met apart bare_there free =
       let differs : k ≡ met.n → ⊥ = λ same. apart (ap (λ m. m ∷ up) same ∙ sym met.is) in
       subst (λ (x : CallLog). HasItem x name l (k ∷ up) target) (sym is) record {
         work = record {
@@ -41,10 +42,14 @@ module _ (name : List ℕ) (l : Levels) where
           apart = differs;
           leads = made_leads log tree k up made making;
           file = ap is_folder (made_is log tree k up made making) ∙ bare;
-          free = subst (λ r. find (current (with_change log (Makes (found (current log) up) k made))) r ≡ None) (sym met.is)
-              (made_beside log tree k up made making met.n differs (subst (λ r. find (current log) r ≡ None) met.is free));
+          bare = subst (λ r. IsBare (current (with_change log (Makes (found (current log) up) k made))) r) (sym met.is)
+              (made_bare log tree k up made making met.n differs (subst (λ r. IsBare (current log) r) met.is bare_there));
           part_off = λ among. off (fewer_coming name l.inner.names (let p : Levels = passed false l in p.inner.names) l.around refl k among);
           target_off = met.once;
         };
         off = off;
+        free = elim free [
+          | inl none ↦ inl (ap (find (current (with_change log (Makes (found (current log) up) k made)))) met.is ∙ (made_beside log tree k up made making met.n differs ∙ (ap (find (current log)) (sym met.is) ∙ none)))
+          | inr outermost ↦ inr outermost
+        ];
       }

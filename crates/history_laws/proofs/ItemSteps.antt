@@ -1,12 +1,12 @@
 -- What is known of the file or link at work, after each step, skip and retry of a copy.
-use Rattle.std.proofs.Common.{◌≡◌, ℕ, Bool, true, false, List, [], ◌∷◌, refl, sym, ◌∙◌, ap, subst, inl, inr, Some}
+use Rattle.std.proofs.Common.{◌≡◌, ◌⊎◌, None, ℕ, Bool, true, false, List, [], ◌∷◌, refl, sym, ◌∙◌, ap, subst, inl, inr, Some}
 use Rattle.mc_text.specs.Routes.{Route}
 use Rattle.tree_trait.specs.Change.{CallLog, current}
+use Rattle.job_answers.specs.declared.replies.Replies.{Replies}
 use Rattle.job_reports.specs.Paths.{folder_of}
 use Rattle.job_reports.specs.declared.job.Pair.{Pair}
 use Rattle.job_reports.specs.declared.report.Cause.{Cause}
 use Rattle.job_reports.specs.declared.report.Did.{Did}
-use Rattle.job_reports.proofs.PermittedCalls.{stat_missing}
 use Rattle.file_copy.specs.Copying as file
 use Rattle.file_copy.specs.Copying.{Copying, part_at, skipped as file_skipped, taken_anew as file_anew}
 use Rattle.file_copy.specs.CopySteps.{Skips as FileSkips}
@@ -27,8 +27,11 @@ use Rattle.tree_copy.specs.Parts.{IsPartPlace}
 use Rattle.tree_copy.specs.Progress.{link_progress, progress}
 use Rattle.tree_copy.specs.Skipping.{Skips, SkipsAt, SkipsNamed, SkipsRest, retried, retried_at}
 use Rattle.tree_copy.specs.Standing.{Seen, due_at, target_name}
-use Rattle.tree_copy.specs.Steps.{FileWorks, GoesOn, LinkWorks, TakesFile, TakesLink, TakesNext, WorksOn, idle, link_begun, noted, settled}
+use Rattle.tree_copy.specs.Steps.{GoesOn, LinkWorks, TakesFile, TakesLink, TakesNext, WorksOn, idle, is_top, link_begun, noted, settled}
 use Rattle.tree_copy.proofs.InPlaces.{file_paths, link_paths}
+use Rattle.tree_trait.specs.FileSystem.{find}
+use Rattle.history_laws.proofs.OpenTargets.{taken_bare, taken_free}
+use Rattle.history_laws.proofs.FileMoves.{FileMoves, taken_moves, worked_moves}
 use Rattle.history_laws.proofs.AtWork.{HasItem, ItemKnown}
 use Rattle.history_laws.proofs.ItemFiles.{file_item}
 use Rattle.history_laws.proofs.ItemLinks.{IsOpenTo, link_item}
@@ -43,8 +46,8 @@ none_known log c is = subst (ItemKnown log c) (sym is) tt
 
 -- it is known where the folder that is worked gets dirty
 dirty_item : (now : CallLog) (name : List ℕ) (changed : Bool) (l : Levels) (part target : Route) → HasItem now name l part target → HasItem now name (dirtied changed l) part target
-dirty_item now name true l part target h = record { work = h.work; off = h.off }
-dirty_item now name false l part target h = record { work = h.work; off = h.off }
+dirty_item now name true l part target h = record { work = h.work; off = h.off; free = h.free }
+dirty_item now name false l part target h = record { work = h.work; off = h.off; free = h.free }
 
 dirty_folder : (changed : Bool) (l : Levels) → (let d : Levels = dirtied changed l in d.inner.copy.target) ≡ l.inner.copy.target
 dirty_folder true l = refl
@@ -62,11 +65,11 @@ settled_item now UnderWay item c none known = known refl
 settled_item now Decided item c none known = none_known now (settled Decided item c) none
 settled_item now Anew item c none known = none_known now c none
 
-module _ (free : Route → Bool) (old new : Seen) (did : Did) (log now : CallLog) (known : StepKnown log old) where
+module _ (free : Route → Bool) (replies : Replies) (old new : Seen) (did : Did) (log now : CallLog) (known : StepKnown log old) where
   abbrev Unclaimed : Route → Type 0
   Unclaimed = IsPartPlace free old
 
-  file_after : (f : Copying) → FileKnown Unclaimed log old.name old.levels f → (f.stage ≡ file_stage.Begin → IsMetNext old.name old.levels f.target) → FileWorks Unclaimed f old new did (Some log) (Some now) → ItemKnown now new new.item
+  file_after : (f : Copying) → FileKnown Unclaimed log old.name old.levels f → (f.stage ≡ file_stage.Begin → IsMetNext old.name old.levels f.target × ((find (current log) f.target ≡ None) ⊎ (old.levels.around ≡ []))) → FileMoves Unclaimed f old new did (Some log) (Some now) → ItemKnown now new new.item
   file_after f about met w =
       let moved = w.moved in
       let same = file_paths f moved did w.tells in
@@ -100,36 +103,38 @@ module _ (free : Route → Bool) (old new : Seen) (did : Did) (log now : CallLog
       let n = next_of old old.levels.inner.names.names pair next in
       record { n = target_name old n.name; is = n.target_is; once = known.once n.name n.rest n.names_are }
 
-  takes_file : is_around_dirty old.levels.around ≡ false → TakesFile Unclaimed old new did (Some log) (Some now) → ItemKnown now new new.item
-  takes_file clean t = file_after (file.begun old.job t.pair.source t.pair.target) (taken_file free old new did log now known clean t) (λ is. met_next t.pair t.next) t.works
+  takes_file : is_around_dirty old.levels.around ≡ false → TakesFile Unclaimed replies old new did (Some log) (Some now) → ItemKnown now new new.item
+  takes_file clean t = file_after (file.begun old.job t.pair.source t.pair.target) (taken_file free replies old new did log now known clean t) (λ is. (met_next t.pair t.next, taken_free (current log) old.levels.around replies t.pair (t.is log refl).2)) (taken_moves Unclaimed replies old new did (Some log) (Some now) t)
 
-  takes_link : is_around_dirty old.levels.around ≡ false → TakesLink Unclaimed old new did (Some log) (Some now) → ItemKnown now new new.item
+  takes_link : is_around_dirty old.levels.around ≡ false → TakesLink Unclaimed replies old new did (Some log) (Some now) → ItemKnown now new new.item
   takes_link clean t =
       let n = next_of old old.levels.inner.names.names t.pair t.next in
       let chosen = t.chosen log refl in
       let first = chosen.2 in
       let open_to = first.free in
       let is = t.is log refl in
-      link_after (link_begun t.pair t.part) (taken_link free old new did log now known clean t) (ap folder_of n.target_is)
-      (λ stage. record { met = met_next t.pair t.next; apart = λ same. open_to.apart (sym chosen.1 ∙ same); free = stat_missing (current log) t.pair.target is.1 }) t.works
+      link_after (link_begun t.pair t.part) (taken_link free replies old new did log now known clean t) (ap folder_of n.target_is)
+      (λ stage. record { met = met_next t.pair t.next; apart = λ same. open_to.apart (sym chosen.1 ∙ same); bare = taken_bare (current log) (is_top old) replies t.pair is.1; free = taken_free (current log) old.levels.around replies t.pair is.1 }) t.works
 
-  takes_next : old.item ≡ Next → is_around_dirty old.levels.around ≡ false → TakesNext Unclaimed old new did (Some log) (Some now) → ItemKnown now new new.item
+  takes_next : old.item ≡ Next → is_around_dirty old.levels.around ≡ false → TakesNext Unclaimed replies old new did (Some log) (Some now) → ItemKnown now new new.item
   takes_next none clean (inl s) = none_known now new (ap (λ (c : Seen). c.item) s.stands ∙ none)
   takes_next none clean (inr (inl t)) = takes_file clean t
   takes_next none clean (inr (inr (inl t))) = takes_link clean t
   takes_next none clean (inr (inr (inr (inl t)))) = (let w = t.works in none_known now new (ap (λ (c : Seen). c.item) w.stands ∙ none))
   takes_next none clean (inr (inr (inr (inr (inl t))))) = none_known now new (ap (λ (c : Seen). c.item) t.stands ∙ none)
-  takes_next none clean (inr (inr (inr (inr (inr (next, inl (debt, ends))))))) = none_known now new (ap (λ (c : Seen). c.item) ends.stands ∙ none)
-  takes_next none clean (inr (inr (inr (inr (inr (next, inr (debt, f, same))))))) = none_known now new (ap (λ (c : Seen). c.item) f.stands ∙ none)
+  takes_next none clean (inr (inr (inr (inr (inr (inl t)))))) = none_known now new (ap (λ (c : Seen). c.item) t.stands ∙ none)
+  takes_next none clean (inr (inr (inr (inr (inr (inr (inl t))))))) = none_known now new (ap (λ (c : Seen). c.item) t.stands ∙ none)
+  takes_next none clean (inr (inr (inr (inr (inr (inr (inr (next, inl (debt, ends))))))))) = none_known now new (ap (λ (c : Seen). c.item) ends.stands ∙ none)
+  takes_next none clean (inr (inr (inr (inr (inr (inr (inr (next, inr (debt, f, same))))))))) = none_known now new (ap (λ (c : Seen). c.item) f.stands ∙ none)
 
-  goes_on : old.item ≡ Next → GoesOn Unclaimed old new did (Some log) (Some now) → ItemKnown now new new.item
+  goes_on : old.item ≡ Next → GoesOn Unclaimed replies old new did (Some log) (Some now) → ItemKnown now new new.item
   goes_on none (inl s) = none_known now new (ap (λ (c : Seen). c.item) s.stands ∙ none)
   goes_on none (inr (clean, takes)) = takes_next none clean takes
 
-  pub works_item : (item : Item) → old.item ≡ item → ItemKnown log old item → WorksOn item Unclaimed old new did (Some log) (Some now) → ItemKnown now new new.item
+  pub works_item : (item : Item) → old.item ≡ item → ItemKnown log old item → WorksOn item Unclaimed replies old new did (Some log) (Some now) → ItemKnown now new new.item
   works_item Next none item w = goes_on none w
-  works_item (File f) is item w = file_after f (worked_file free old new did log now known f item) (λ begin. absurd (begun_not f.stage item.1 begin)) w
-  works_item (Link l) is item w = link_after l (worked_link free old new did log now known l item) item.2 (λ make. absurd (made_not l.stage item.1 make)) w
+  works_item (File f) is item w = file_after f (worked_file free replies old new did log now known f item) (λ begin. absurd (begun_not f.stage item.1 begin)) (worked_moves Unclaimed f old new did (Some log) (Some now) w)
+  works_item (Link l) is item w = link_after l (worked_link free replies old new did log now known l item) item.2 (λ make. absurd (made_not l.stage item.1 make)) w
   works_item (Stays part) is item w = absurd w
 
 -- A skip and a retry leave the part where it stands.

@@ -72,17 +72,17 @@ module _ (told : Said) (dirty dirty_after : List Route) (marks : Marks) (log now
       skips_tree told dirty marks log course GoesOn cause c new (Skipped path cause) going (λ trouble is on. let f : ⊥ = cc in f) walks k
 
   -- what the machine of the work did
-  abbrev WorkWalks : Course → Work → Did → Work → Type 0
-  WorkWalks course old did new = (count : ℕ) × (f0 : ℕ) × (f1 : ℕ) × WalksOn IsUnclaimed course old new did count dirty dirty_after (Some log) (Some now) f0 f1
+  abbrev WorkWalks : Replies → Course → Work → Did → Work → Type 0
+  WorkWalks replies course old did new = (count : ℕ) × (f0 : ℕ) × (f1 : ℕ) × WalksOn IsUnclaimed replies course old new did count dirty dirty_after (Some log) (Some now) f0 f1
 
   work_tells : (replies : Replies) (old new : Work) (did : Did) → WorkKnows told dirty marks log GoesOn old → WorkTells old did new → WorkCalls IsUnclaimed replies old did new log (Some now)
-      → (is_fresh old ≡ true → NoneOwed (current log) old dirty) → WorkLeaves old did new dirty dirty_after (Some log) (Some now) → WorkWalks GoesOn old did new
+      → (is_fresh old ≡ true → NoneOwed (current log) old dirty) → WorkLeaves old did new dirty dirty_after (Some log) (Some now) → WorkWalks replies GoesOn old did new
       → Steps told dirty dirty_after marks log now kept did (course_after did) old new
   work_tells replies (Copy c) (Copy new) did knows tells calls settled leaves walks = asked_tells told dirty dirty_after marks log now kept c IsUnclaimed replies new did knows tells calls (λ fresh. begins_owed told dirty marks log c.target kept knows.0 (none_on (current log) (Copy c) dirty (settled fresh))) leaves
   work_tells replies (Delete d) (Delete new) did knows tells calls settled leaves walks = deletion_tells told dirty dirty_after marks log now kept d new did knows tells calls settled leaves
   work_tells replies (Make w) (Make new) did knows tells calls settled leaves walks = making_tells told dirty dirty_after marks log now kept w new did knows tells calls (λ fresh. none_on (current log) (Make w) dirty (settled fresh)) leaves
   work_tells replies (SetMode s) (SetMode new) did knows tells calls settled leaves walks = setting_tells told dirty dirty_after marks log now kept s new did knows tells calls settled leaves
-  work_tells replies (CopyTree c) (CopyTree new) did knows tells calls settled leaves (count, f0, f1, goes) = tree_tells told dirty dirty_after marks log now kept c new did knows tells settled goes.free count goes.since f1 goes.steps
+  work_tells replies (CopyTree c) (CopyTree new) did knows tells calls settled leaves (count, f0, f1, goes) = tree_tells told dirty dirty_after marks log now kept c new did knows tells settled goes.free replies count goes.since f1 goes.steps
   work_tells replies (Copy c) (Delete new) did knows tells calls settled leaves walks = absurd tells
   work_tells replies (Copy c) (Make new) did knows tells calls settled leaves walks = absurd tells
   work_tells replies (Delete d) (Copy new) did knows tells calls settled leaves walks = absurd tells
@@ -104,52 +104,52 @@ module _ (told : Said) (dirty dirty_after : List Route) (marks : Marks) (log now
   work_tells replies (Make w) (CopyTree new) did knows tells calls settled leaves walks = absurd tells
   work_tells replies (Make w) (Delete new) did knows tells calls settled leaves walks = absurd tells
 
-  work_winds : (ending : Ending) (old new : Work) (did : Did) → WorkKnows told dirty marks log (Ends ending) old → WorkWinds ending old did new → WorkLastCalls old did log (Some now)
-      → LeavesDirty (Ends ending) old did new dirty dirty_after (Some log) (Some now) → WorkWalks (Ends ending) old did new → Steps told dirty dirty_after marks log now kept did (Ends ending) old new
-  work_winds ending (Copy c) (Copy new) did knows winds calls leaves walks =
+  work_winds : (replies : Replies) (ending : Ending) (old new : Work) (did : Did) → WorkKnows told dirty marks log (Ends ending) old → WorkWinds ending old did new → WorkLastCalls old did log (Some now)
+      → LeavesDirty (Ends ending) old did new dirty dirty_after (Some log) (Some now) → WorkWalks replies (Ends ending) old did new → Steps told dirty dirty_after marks log now kept did (Ends ending) old new
+  work_winds replies ending (Copy c) (Copy new) did knows winds calls leaves walks =
       copy_winds told dirty dirty_after marks log now kept c new ending did leaves.refusal knows winds (leaves.tried log refl) calls
       (leaves.dirty_is ∙ ap (λ f. after_try did leaves.refusal f dirty) (same_path-true leaves.folder (folder_of c.target) leaves.own))
-  work_winds ending (Delete d) (Delete new) did knows winds calls leaves walks =
+  work_winds replies ending (Delete d) (Delete new) did knows winds calls leaves walks =
       deletion_winds told dirty dirty_after marks log now kept d new ending did leaves.refusal leaves.folder knows winds (leaves.tried log refl) calls leaves.dirty_is
-  work_winds ending (Make m) (Make new) did knows winds calls leaves walks =
+  work_winds replies ending (Make m) (Make new) did knows winds calls leaves walks =
       making_winds told dirty dirty_after marks log now kept m new ending did leaves.refusal knows winds (leaves.tried log refl) calls
       (leaves.dirty_is ∙ ap (λ f. after_try did leaves.refusal f dirty) (same_path-true leaves.folder (folder_of m.path) leaves.own))
-  work_winds ending (SetMode s) (SetMode new) did knows winds calls leaves walks =
+  work_winds replies ending (SetMode s) (SetMode new) did knows winds calls leaves walks =
       setting_winds told dirty dirty_after marks log now kept s new ending did leaves.refusal knows winds (leaves.tried log refl) calls
       (leaves.dirty_is ∙ ap (λ f. after_try did leaves.refusal f dirty) (same_path-true leaves.folder s.path leaves.own))
-  work_winds ending (Copy c) (Delete new) did knows winds calls leaves walks = absurd winds
-  work_winds ending (Copy c) (Make new) did knows winds calls leaves walks = absurd winds
-  work_winds ending (Delete d) (Copy new) did knows winds calls leaves walks = absurd winds
-  work_winds ending (Delete d) (Make new) did knows winds calls leaves walks = absurd winds
-  work_winds ending (Make m) (Copy new) did knows winds calls leaves walks = absurd winds
-  work_winds ending (SetMode s) (Copy new) did knows winds calls leaves walks = absurd winds
-  work_winds ending (CopyTree s) (Copy new) did knows winds calls leaves walks = absurd winds
-  work_winds ending (SetMode s) (CopyTree new) did knows winds calls leaves walks = absurd winds
-  work_winds ending (SetMode s) (Delete new) did knows winds calls leaves walks = absurd winds
-  work_winds ending (CopyTree s) (Delete new) did knows winds calls leaves walks = absurd winds
-  work_winds ending (SetMode s) (Make new) did knows winds calls leaves walks = absurd winds
-  work_winds ending (CopyTree s) (Make new) did knows winds calls leaves walks = absurd winds
-  work_winds ending (Copy c) (SetMode new) did knows winds calls leaves walks = absurd winds
-  work_winds ending (Copy c) (CopyTree new) did knows winds calls leaves walks = absurd winds
-  work_winds ending (CopyTree c) (SetMode new) did knows winds calls leaves walks = absurd winds
-  work_winds ending (Delete d) (SetMode new) did knows winds calls leaves walks = absurd winds
-  work_winds ending (Delete d) (CopyTree new) did knows winds calls leaves walks = absurd winds
-  work_winds ending (Make m) (SetMode new) did knows winds calls leaves walks = absurd winds
-  work_winds ending (Make m) (CopyTree new) did knows winds calls leaves walks = absurd winds
-  work_winds ending (Make m) (Delete new) did knows winds calls leaves walks = absurd winds
-  work_winds ending (CopyTree c) (CopyTree new) did knows winds calls leaves (count, f0, f1, (tells, last)) = tree_winds told dirty dirty_after marks log now kept ending c new knows did count tells f0 f1 winds last calls leaves
+  work_winds replies ending (Copy c) (Delete new) did knows winds calls leaves walks = absurd winds
+  work_winds replies ending (Copy c) (Make new) did knows winds calls leaves walks = absurd winds
+  work_winds replies ending (Delete d) (Copy new) did knows winds calls leaves walks = absurd winds
+  work_winds replies ending (Delete d) (Make new) did knows winds calls leaves walks = absurd winds
+  work_winds replies ending (Make m) (Copy new) did knows winds calls leaves walks = absurd winds
+  work_winds replies ending (SetMode s) (Copy new) did knows winds calls leaves walks = absurd winds
+  work_winds replies ending (CopyTree s) (Copy new) did knows winds calls leaves walks = absurd winds
+  work_winds replies ending (SetMode s) (CopyTree new) did knows winds calls leaves walks = absurd winds
+  work_winds replies ending (SetMode s) (Delete new) did knows winds calls leaves walks = absurd winds
+  work_winds replies ending (CopyTree s) (Delete new) did knows winds calls leaves walks = absurd winds
+  work_winds replies ending (SetMode s) (Make new) did knows winds calls leaves walks = absurd winds
+  work_winds replies ending (CopyTree s) (Make new) did knows winds calls leaves walks = absurd winds
+  work_winds replies ending (Copy c) (SetMode new) did knows winds calls leaves walks = absurd winds
+  work_winds replies ending (Copy c) (CopyTree new) did knows winds calls leaves walks = absurd winds
+  work_winds replies ending (CopyTree c) (SetMode new) did knows winds calls leaves walks = absurd winds
+  work_winds replies ending (Delete d) (SetMode new) did knows winds calls leaves walks = absurd winds
+  work_winds replies ending (Delete d) (CopyTree new) did knows winds calls leaves walks = absurd winds
+  work_winds replies ending (Make m) (SetMode new) did knows winds calls leaves walks = absurd winds
+  work_winds replies ending (Make m) (CopyTree new) did knows winds calls leaves walks = absurd winds
+  work_winds replies ending (Make m) (Delete new) did knows winds calls leaves walks = absurd winds
+  work_winds replies ending (CopyTree c) (CopyTree new) did knows winds calls leaves (count, f0, f1, (tells, last)) = tree_winds told dirty dirty_after marks log now kept ending c new knows did count tells f0 f1 winds last calls leaves
 
   abbrev pub Leads : Running → Did → Running → Type 0
   Leads job did new = Comes told (said_after now did job.work told) dirty_after log now (KnowsAfter did (said_after now did job.work told) dirty_after now new.course new.work)
 
   by_course : (job new : Running) (did : Did) (course : Course) → job.course ≡ course → WorkKnows told dirty marks log course job.work → TellsOn course job did new
       → CallsOn IsUnclaimed course job did new log (Some now) → (course ≡ GoesOn → is_fresh job.work ≡ true → NoneOwed (current log) job.work dirty)
-      → LeavesDirty course job.work did new.work dirty dirty_after (Some log) (Some now) → WorkWalks course job.work did new.work → Leads job did new
+      → LeavesDirty course job.work did new.work dirty dirty_after (Some log) (Some now) → WorkWalks job.replies course job.work did new.work → Leads job did new
   by_course job new did GoesOn is knows (work, tells, new_is) calls settled leaves walks =
       subst (λ (x : Running). Leads job did x) (sym new_is)
       (work_tells job.replies job.work work did knows tells (subst (λ (x : Running). WorkCalls IsUnclaimed job.replies job.work did x.work log (Some now)) new_is calls) (settled refl)
       (subst (λ (x : Running). WorkLeaves job.work did x.work dirty dirty_after (Some log) (Some now)) new_is leaves)
-      (subst (λ (x : Running). WorkWalks GoesOn job.work did x.work) new_is walks))
+      (subst (λ (x : Running). WorkWalks job.replies GoesOn job.work did x.work) new_is walks))
   by_course job new did (InTrouble halt) is knows tells calls settled leaves walks = absurd tells
   by_course job new did (OwedSyncFailed why) is knows tells calls settled leaves walks = absurd tells
   by_course job new did Asking is knows tells calls settled leaves walks = absurd tells
@@ -163,8 +163,8 @@ module _ (told : Said) (dirty dirty_after : List Route) (marks : Marks) (log now
       (work_course told dirty marks log (Skips why) (InTrouble unreported_skip) job.work (λ e. absurd (let f : ⊥ = cc in f)) (λ on. refl) knows) leaves (some_log now log calls)))
   by_course job new did (Ends ending) is knows (work, winds, new_is) calls settled leaves walks =
       subst (λ (x : Running). Leads job did x) (sym (new_is ∙ ap (λ c. (let x : Running = record job { work = work; course = c } in x)) is))
-      (work_winds ending job.work work did knows winds calls (subst (λ (x : Running). LeavesDirty (Ends ending) job.work did x.work dirty dirty_after (Some log) (Some now)) new_is leaves)
-      (subst (λ (x : Running). WorkWalks (Ends ending) job.work did x.work) new_is walks))
+      (work_winds job.replies ending job.work work did knows winds calls (subst (λ (x : Running). LeavesDirty (Ends ending) job.work did x.work dirty dirty_after (Some log) (Some now)) new_is leaves)
+      (subst (λ (x : Running). WorkWalks job.replies (Ends ending) job.work did x.work) new_is walks))
 
   pub work_leads : (job new : Running) (did : Did) → WorkKnows told dirty marks log job.course job.work → WorkLeads job did new dirty dirty_after log now → Leads job did new
   work_leads job new did knows w = by_course job new did job.course refl knows w.tells w.called w.settled w.leaves w.walks

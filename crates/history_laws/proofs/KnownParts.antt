@@ -87,7 +87,7 @@ pub record HasLink (said : Said) (marks : Marks) (s : FileSystem) (target part :
   pub name : List ℕ
   pub beside : part ≡ name ∷ folder_of target
   pub apart : part ≡ target → ⊥
-  pub untouched : IsUntouched marks s target
+  pub found : IsAsFound marks s target
 
 -- the part is what a copy of its source, which is a link, has to be
 pub record IsLinkOf (s : FileSystem) (source part : Route) (i : ℕ) : Type 0 where
@@ -178,7 +178,7 @@ module _ (log : CallLog) (marks : Marks) where
     name = h.name;
     beside = h.beside;
     apart = h.apart;
-    untouched = untouched_settled target h.untouched;
+    found = found_settled target h.found;
   }
 
   pub link_knows_settled : (told : Said) (dirty : List Route) (source target part : Route) → LinkKnows told dirty marks (current log) source target part → LinkKnows told dirty (settled_marks log marks) (current log) source target part
@@ -270,7 +270,7 @@ module _ (told other : Said) (part_same : other.part ≡ told.part) (folders_sam
       name = h.name;
       beside = h.beside;
       apart = h.apart;
-      untouched = h.untouched;
+      found = h.found;
     });
     copies = k.copies;
   }

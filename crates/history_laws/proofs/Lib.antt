@@ -1,5 +1,8 @@
 pub mod AmongParts
 pub mod AtWork
+pub mod BareItems
+pub mod BareSteps
+pub mod BareTargets
 pub mod Beginnings
 pub mod Below
 pub mod Calm
@@ -26,6 +29,7 @@ pub mod EndSteps
 pub mod Example
 pub mod ExampleParts
 pub mod FileLeads
+pub mod FileMoves
 pub mod FilledCalls
 pub mod FilledFolders
 pub mod Filling
@@ -73,6 +77,7 @@ pub mod NameRuns
 pub mod NameSteps
 pub mod Names
 pub mod OpenFolders
+pub mod OpenTargets
 pub mod OwedModes
 pub mod Owing
 pub mod PartMade

@@ -1,11 +1,11 @@
 -- The part of a link is whole as it is made: of its node nothing waits, so it isn't loose.
 use Rattle.std.proofs.Common.{◌≡◌, ℕ, Bool, true, false, not, ◌&&◌, ◌||◌, List, ◌∷◌, refl, sym, ◌∙◌, ap, None, arith}
-use Rattle.std.specs.Prelude.{◌==◌}
+use Rattle.std.specs.Prelude.{◌==◌, is_some}
 use Rattle.std.proofs.lemmas.Bool.{true≢false, eq-eqb, false_from_ne_true, or_left}
 use Rattle.mc_text.specs.Routes.{Route, same_path}
 use Rattle.mc_text.specs.declared.kind.Kind.TheVariants.{Link}
 use Rattle.tree_trait.specs.declared.file_system.Node.{Node}
-use Rattle.tree_trait.specs.FileSystem.{node}
+use Rattle.tree_trait.specs.FileSystem.{node, find}
 use Rattle.tree_trait.specs.Refusals.{folder_kind, is_folder}
 use Rattle.tree_trait.specs.Change.{Makes, CallLog, current, with_change}
 use Rattle.tree_trait.specs.CrashImages.{Among, is_clean}
@@ -13,7 +13,9 @@ use Rattle.tree_trait.proofs.Visible.{same_path-true}
 use Rattle.crash_law.specs.Guarded.{Marks}
 use Rattle.crash_law.proofs.Leading.{clean_more}
 use Rattle.job_reports.specs.Paths.{folder_of}
-use Rattle.history_laws.proofs.JobKnows.{as_found, IsUntouched}
+use Rattle.crash_law.proofs.Guarding.{found_there}
+use Rattle.history_laws.proofs.Untouched.{IsAsFound}
+use Rattle.history_laws.proofs.Quiet.{kind_same}
 pub use Rattle.history_laws.proofs.KnownParts.{HasLink, link_settled}
 use Rattle.history_laws.proofs.Knowing.{IsCalmIn, IsKept, IsKnown, Said}
 use Rattle.history_laws.proofs.MakingParts.{MakesPart, made_known, marks_new, new_node, off_part, part_leads, part_node, with_part}
@@ -32,7 +34,7 @@ whole_link told marks log target part text i has clean = record {
   name = has.name;
   beside = has.beside;
   apart = has.apart;
-  found = as_found marks (current log) target has.untouched;
+  found = has.found;
 }
 
 no_more : (a b : Bool) → b ≡ true → (a && not b) ≡ false
@@ -42,7 +44,7 @@ no_more false b h = refl
 
 -- a link is made beside its target, by a job whose item is in this folder, and that may change these folders
 module _ (told : Said) (dirty dirty_after : List Route) (marks : Marks) (log : CallLog) (kept : IsKept told dirty marks log) (folder : Route) (own : Route → Bool) (target : Route) (name : List ℕ) (f : ℕ) (made : Node)
-    (m : MakesPart told log name (folder_of target) f) (link : made.kind ≡ Link) (apart : (name ∷ folder_of target) ≡ target → ⊥) (untouched : IsUntouched marks (current log) target) where
+    (m : MakesPart told log name (folder_of target) f) (link : made.kind ≡ Link) (apart : (name ∷ folder_of target) ≡ target → ⊥) (as_it_was : IsAsFound marks (current log) target) where
   abbrev up : Route
   up = folder_of target
 
@@ -80,6 +82,9 @@ module _ (told : Said) (dirty dirty_after : List Route) (marks : Marks) (log : C
   apart_of : same_path target part ≡ false
   apart_of = false_from_ne_true _ (λ same. apart (sym (same_path-true target part same)))
 
+  off : find (current after) target ≡ find (current log) target
+  off = off_part told dirty dirty_after marks log kept.known name up f made m bare new_mode target apart_of
+
   node_made : node (current after) n ≡ made
   node_made = part_node told dirty dirty_after marks log kept.known name up f made m bare new_mode
 
@@ -94,9 +99,11 @@ module _ (told : Said) (dirty dirty_after : List Route) (marks : Marks) (log : C
     name = name;
     beside = refl;
     apart = apart;
-    untouched = record {
-      out = ap (λ b. b || marks.aside target) apart_of ∙ untouched.out;
-      free = off_part told dirty dirty_after marks log kept.known name up f made m bare new_mode target apart_of ∙ untouched.free;
-      was = untouched.was;
+    found = record {
+      bare = λ j at.
+          let before = sym off ∙ at in
+          kind_same log (Makes f name made) j (found_there (current log) kept.known.guarded.tree target j before) ∙ as_it_was.bare j before;
+      was = λ out. as_it_was.was (sym (ap (λ b. b || marks.aside target) apart_of) ∙ out) ∙ sym off;
+      stood = λ is. ap is_some off ∙ as_it_was.stood (sym (ap (λ b. b || marks.aside target) apart_of) ∙ is);
     };
   }

@@ -5,6 +5,7 @@ use Rattle.mc_text.specs.Routes.{Route}
 use Rattle.tree_trait.specs.Change.{CallLog}
 use Rattle.tree_trait.specs.CrashImages.{Among}
 use Rattle.job_answers.specs.declared.skips.Skips.{Skips as Kinds}
+use Rattle.job_answers.specs.declared.replies.Replies.{Replies}
 use Rattle.job_reports.specs.declared.job.Pair.{Pair}
 use Rattle.job_reports.specs.declared.report.Cause.{Cause}
 use Rattle.job_reports.specs.declared.report.Did.{Did}
@@ -35,7 +36,7 @@ use Rattle.tree_copy.specs.Progress.{link_progress, progress}
 use Rattle.tree_copy.specs.Reports.{IsToldAs}
 use Rattle.tree_copy.specs.Skipping as machine
 use Rattle.tree_copy.specs.Standing.{Seen, after_report}
-use Rattle.tree_copy.specs.Steps.{FileWorks, FolderEnds, FolderMakes, LeavesAll, LinkWorks, SyncsAround, TakesNext, WorksOn, at_end, idle, noted, settled}
+use Rattle.tree_copy.specs.Steps.{FolderEnds, FolderMakes, LeavesAll, LinkWorks, SyncsAround, TakesNext, WorksOn, at_end, idle, noted, settled}
 use Rattle.tree_copy.proofs.InPlaces.{folder_paths}
 use Rattle.subtree_copy.specs.Leaving.{may_leave}
 use Rattle.subtree_copy.specs.Marks.{brings_in, brings_made, folder_worked, is_dirty_after, is_left_dirty, was_dirty}
@@ -43,6 +44,7 @@ use Rattle.subtree_copy.specs.Passing.{OrPassedOver}
 use Rattle.subtree_copy.specs.SubtreeSteps.{ListSteps, step_result}
 use Rattle.subtree_copy.proofs.Listed.{of_around, of_inner}
 use Rattle.subtree_copy.proofs.Targets.{works_at_once}
+use Rattle.history_laws.proofs.FileMoves.{FileMoves, taken_moves, worked_moves}
 use Rattle.history_laws.proofs.FoldersLie.{AreNested}
 use Rattle.history_laws.proofs.DirtyListed.{AreApart, AreListed, IsListed, ListLaw, MarksListed}
 use Rattle.history_laws.proofs.Listings.{below_listed, worked_listed}
@@ -122,7 +124,7 @@ module _ (old new : Seen) (did : Did) (dirty dirty_after : List Route) (before a
       (worked_listed (is_dirty inner.copy.names) (is_left_dirty did new) inner.copy.target dirty new.levels.inner old.levels.around same.1 (left_marks did new) (inner_listed dirty inner old.levels.around h) apart
       (around_listed dirty inner old.levels.around h)))
 
-  file_listed : (unclaimed : Route → Type 0) (f : Copying) → brings_made old ≡ false → FileWorks unclaimed f old new did before after → MarksListed dirty_after new
+  file_listed : (unclaimed : Route → Type 0) (f : Copying) → brings_made old ≡ false → FileMoves unclaimed f old new did before after → MarksListed dirty_after new
   file_listed unclaimed f brings w =
       let m = w.moved in same_listed brings (now_same old _ new w.stands (settled_same (progress m.stage) (File m) did (file.is_dirty m.folder) (idle old)))
 
@@ -165,14 +167,16 @@ module _ (old new : Seen) (did : Did) (dirty dirty_after : List Route) (before a
   ends_listed : brings_made old ≡ false → FolderEnds (at_end old) new did before after → MarksListed dirty_after new
   ends_listed brings e = same_listed brings (now_same old _ new e.stands (refl, (folder_paths (let c = at_end old in c.levels.inner.copy) e.moved e.report e.tells).1))
 
-  takes_listed : (unclaimed : Route → Type 0) → brings_made old ≡ false → TakesNext unclaimed old new did before after → MarksListed dirty_after new
-  takes_listed unclaimed brings (inl s) = same_listed brings (now_same old old new s.stands (refl, refl))
-  takes_listed unclaimed brings (inr (inl t)) = file_listed unclaimed _ brings t.works
-  takes_listed unclaimed brings (inr (inr (inl t))) = link_listed _ brings t.works
-  takes_listed unclaimed brings (inr (inr (inr (inl t)))) = makes_listed t.pair t.names t.mode brings t.works
-  takes_listed unclaimed brings (inr (inr (inr (inr (inl t))))) = same_listed brings (now_same old (record old { levels = passed false old.levels }) new t.stands (refl, refl))
-  takes_listed unclaimed brings (inr (inr (inr (inr (inr (next, inl (debt, e))))))) = ends_listed brings e
-  takes_listed unclaimed brings (inr (inr (inr (inr (inr (next, inr (debt, f, same))))))) = same_listed brings (now_same old (at_end old) new f.stands (refl, refl))
+  takes_listed : (unclaimed : Route → Type 0) (replies : Replies) → brings_made old ≡ false → TakesNext unclaimed replies old new did before after → MarksListed dirty_after new
+  takes_listed unclaimed replies brings (inl s) = same_listed brings (now_same old old new s.stands (refl, refl))
+  takes_listed unclaimed replies brings (inr (inl t)) = file_listed unclaimed _ brings (taken_moves unclaimed replies old new did before after t)
+  takes_listed unclaimed replies brings (inr (inr (inl t))) = link_listed _ brings t.works
+  takes_listed unclaimed replies brings (inr (inr (inr (inl t)))) = makes_listed t.pair t.names t.mode brings t.works
+  takes_listed unclaimed replies brings (inr (inr (inr (inr (inl t))))) = same_listed brings (now_same old (record old { levels = passed false old.levels }) new t.stands (refl, refl))
+  takes_listed unclaimed replies brings (inr (inr (inr (inr (inr (inl t)))))) = same_listed brings (now_same old (record old { levels = passed false old.levels }) new t.stands (refl, refl))
+  takes_listed unclaimed replies brings (inr (inr (inr (inr (inr (inr (inl t))))))) = same_listed brings (now_same old old new t.stands (refl, refl))
+  takes_listed unclaimed replies brings (inr (inr (inr (inr (inr (inr (inr (next, inl (debt, e))))))))) = ends_listed brings e
+  takes_listed unclaimed replies brings (inr (inr (inr (inr (inr (inr (inr (next, inr (debt, f, same))))))))) = same_listed brings (now_same old (at_end old) new f.stands (refl, refl))
 
   -- the folder around was synced
   syncs_listed : brings_made old ≡ true → SyncsAround old new did before after → MarksListed dirty_after new
@@ -195,19 +199,19 @@ module _ (old new : Seen) (did : Did) (dirty dirty_after : List Route) (before a
             (around_listed dirty outer s.around marked.1)),
       )
 
-  works_listed : (unclaimed : Route → Type 0) (item : Item) → old.item ≡ item → WorksOn item unclaimed old new did before after → MarksListed dirty_after new
-  works_listed unclaimed Next is (inl s) = syncs_listed (ap (λ (i : Item). brings_in i old.levels) is ∙ s.dirty) s
-  works_listed unclaimed Next is (inr (clean, t)) = takes_listed unclaimed (ap (λ (i : Item). brings_in i old.levels) is ∙ clean) t
-  works_listed unclaimed (File f) is w = file_listed unclaimed f (ap (λ (i : Item). brings_in i old.levels) is) w
-  works_listed unclaimed (Link l) is w = link_listed l (ap (λ (i : Item). brings_in i old.levels) is) w
-  works_listed unclaimed (Stays part) is w = absurd w
+  works_listed : (unclaimed : Route → Type 0) (replies : Replies) (item : Item) → old.item ≡ item → WorksOn item unclaimed replies old new did before after → MarksListed dirty_after new
+  works_listed unclaimed replies Next is (inl s) = syncs_listed (ap (λ (i : Item). brings_in i old.levels) is ∙ s.dirty) s
+  works_listed unclaimed replies Next is (inr (clean, t)) = takes_listed unclaimed replies (ap (λ (i : Item). brings_in i old.levels) is ∙ clean) t
+  works_listed unclaimed replies (File f) is w = file_listed unclaimed f (ap (λ (i : Item). brings_in i old.levels) is) (worked_moves unclaimed f old new did before after w)
+  works_listed unclaimed replies (Link l) is w = link_listed l (ap (λ (i : Item). brings_in i old.levels) is) w
+  works_listed unclaimed replies (Stays part) is w = absurd w
 
 -- a step with the list
-list_listed : (free : Route → Bool) (old new : Seen) (result : StepResult) (dirty dirty_after : List Route) (before after : Option CallLog) (f0 f1 : ℕ) → ListSteps free old new result dirty dirty_after before after f0 f1 → may_leave old ≡ false
+list_listed : (free : Route → Bool) (replies : Replies) (old new : Seen) (result : StepResult) (dirty dirty_after : List Route) (before after : Option CallLog) (f0 f1 : ℕ) → ListSteps free replies old new result dirty dirty_after before after f0 f1 → may_leave old ≡ false
     → AreApart old → MarksListed dirty old → MarksListed dirty_after new
-list_listed free old new result dirty dirty_after before after f0 f1 (inl s) settled_at apart h = subst (λ d. MarksListed d new) (sym s.list) (subst (MarksListed dirty) (sym s.stays) h)
-list_listed free old new result dirty dirty_after before after f0 f1 (inr s) settled_at apart h =
-    works_listed old new result.did dirty dirty_after before after s.list apart h (IsPartPlace free old) old.item refl (works_at_once free old new result.did result.calls before after f0 f1 s.steps settled_at)
+list_listed free replies old new result dirty dirty_after before after f0 f1 (inl s) settled_at apart h = subst (λ d. MarksListed d new) (sym s.list) (subst (MarksListed dirty) (sym s.stays) h)
+list_listed free replies old new result dirty dirty_after before after f0 f1 (inr s) settled_at apart h =
+    works_listed old new result.did dirty dirty_after before after s.list apart h (IsPartPlace free old) replies old.item refl (works_at_once free replies old new result.did result.calls before after f0 f1 s.steps settled_at)
 
 -- what is left, or taken anew
 module _ (dirty : List Route) where
@@ -254,10 +258,10 @@ module _ (dirty : List Route) where
 pub list_law : ListLaw
 list_law = record {
   begins = λ job top dirty marked. (let f : ⊥ = cc in absurd f);
-  step = λ free old new did calls dirty dirty_after before after f0 f1 s apart h.
+  step = λ free replies old new did calls dirty dirty_after before after f0 f1 s apart h.
       let l = s.leaves in
       let k = leaves_listed dirty l.0 old.at s.mid l.1 apart h in
-      passes_listed dirty_after old.skips s.worked s.moved new.at (step_result did calls) s.passes (list_listed free s.mid s.moved s.worked dirty dirty_after before after f0 f1 s.works s.settled k.0 k.1);
+      passes_listed dirty_after old.skips s.worked s.moved new.at (step_result did calls) s.passes (list_listed free replies s.mid s.moved s.worked dirty dirty_after before after f0 f1 s.works s.settled k.0 k.1);
   skip = λ cause old new did dirty s h. skips_listed dirty old.at.item cause old.at new.at did s.skips h;
   retry = λ c dirty h. retries_listed dirty c.at.item c.at h;
 }

@@ -11,6 +11,7 @@ use Rattle.tree_trait.specs.FileSystem.{Value, View, find, node, value, value_at
 use Rattle.tree_trait.specs.Refusals.{refusal_of}
 use Rattle.tree_trait.specs.Shape.{IsTree}
 use Rattle.tree_trait.proofs.Walking.{stat-found}
+use Rattle.job_answers.specs.declared.replies.Replies.{Replies}
 use Rattle.job_reports.specs.CallRuns.{AllDone}
 use Rattle.job_reports.specs.declared.job.Pair.{Pair}
 use Rattle.job_reports.specs.declared.report.Did.{Did}
@@ -74,7 +75,7 @@ module _ (log now : CallLog) (tree : IsTree (current log)) where
   unfolding folder_of_mode
   made_as_said top pair mode v moved shows there mode_is path is = ap (λ p. made_by (Some (Copies top.source top.target)) p v) (sym is) ∙ said_made top pair mode v moved shows there mode_is
 
-  module _ (free : Route → Bool) (top : Pair) (old new : Seen) (path : Route) (v : View) (known : StepKnown log old) (in_place : IsInPlace top old) (shows : (p : Route) → value_at (current log) p ≡ (v p).value) where
+  module _ (free : Route → Bool) (replies : Replies) (top : Pair) (old new : Seen) (path : Route) (v : View) (known : StepKnown log old) (in_place : IsInPlace top old) (shows : (p : Route) → value_at (current log) p ≡ (v p).value) where
     abbrev Is : Type 0
     Is = value_at (current now) path ≡ Some (made_by (Some (Copies top.source top.target)) path v)
 
@@ -89,7 +90,7 @@ module _ (log now : CallLog) (tree : IsTree (current log)) where
     told_made Closed is = absurd is
     told_made (Troubled trouble) is = absurd (let e : common.Made path ≡ common.Troubled trouble = is in let f : ⊥ = cc in f)
 
-    folder_made : TakesFolder old new did (Some log) (Some now) → Is
+    folder_made : TakesFolder replies old new did (Some log) (Some now) → Is
     folder_made t =
         let w = t.works in
         let is = t.is log refl in
@@ -103,18 +104,20 @@ module _ (log now : CallLog) (tree : IsTree (current log)) where
         (made_value (target_name old n.name) old.levels.inner.copy.target t.pair.target (folder_mode t.mode) n.target_is rows
         ∙ ap (λ x. Some x) (sym (said_made top t.pair t.mode v moved shows (stat-found (current log) t.pair.source source.0) is.3)))
 
-    made_in : TakesNext (IsPartPlace free old) old new did (Some log) (Some now) → Is
+    made_in : TakesNext (IsPartPlace free old) replies old new did (Some log) (Some now) → Is
     made_in (inl s) = absurd (let e : common.Made path ≡ common.Troubled s.trouble = s.says in let f : ⊥ = cc in f)
     made_in (inr (inl t)) = (let w = t.works in absurd w.tells)
     made_in (inr (inr (inl t))) = (let w = t.works in absurd w.tells)
     made_in (inr (inr (inr (inl t)))) = folder_made t
     made_in (inr (inr (inr (inr (inl t))))) = absurd (let e : common.Made path ≡ common.Merges t.pair t.names = t.says in let f : ⊥ = cc in f)
-    made_in (inr (inr (inr (inr (inr (next, inl (debt, e))))))) =
+    made_in (inr (inr (inr (inr (inr (inl t)))))) = absurd (let e : common.Made path ≡ common.Kept t.pair.target = t.says in let f : ⊥ = cc in f)
+    made_in (inr (inr (inr (inr (inr (inr (inl t))))))) = absurd (let e : common.Made path ≡ common.Asked t.question = t.says in let f : ⊥ = cc in f)
+    made_in (inr (inr (inr (inr (inr (inr (inr (next, inl (debt, e))))))))) =
         let tells = subst (λ r. Tells (let c = at_end old in c.levels.inner.copy) r e.moved) (told_made e.report e.says) e.tells in
         absurd (closing_not old.levels.inner.copy.stage known.made tells.0 tells.1)
-    made_in (inr (inr (inr (inr (inr (next, inr (debt, f, same))))))) = absurd (let e : common.Made path ≡ _ = f.says in let x : ⊥ = cc in x)
+    made_in (inr (inr (inr (inr (inr (inr (inr (next, inr (debt, f, same))))))))) = absurd (let e : common.Made path ≡ _ = f.says in let x : ⊥ = cc in x)
 
-    made_by_work : (item : Item) → WorksOn item (IsPartPlace free old) old new did (Some log) (Some now) → Is
+    made_by_work : (item : Item) → WorksOn item (IsPartPlace free old) replies old new did (Some log) (Some now) → Is
     made_by_work Next (inl s) =
         let tells = subst (λ r. Tells (at_sync s.outer.copy) r (record (at_sync s.outer.copy) { names = s.names })) (told_made s.report s.says) s.tells in
         absurd (let stage = tells.1 in let f : ⊥ = cc in f)
@@ -124,7 +127,7 @@ module _ (log now : CallLog) (tree : IsTree (current log)) where
     made_by_work (Stays part) w = absurd w
 
 pub made_law : MadeLaw
-made_law free top old new path calls log now f0 f1 v s tree files known in_place shows =
-    let b = step_begins free old new (common.Made path) calls log now f0 f1 s tree files known in
+made_law free replies top old new path calls log now f0 f1 v s tree files known in_place shows =
+    let b = step_begins free replies old new (common.Made path) calls log now f0 f1 s tree files known in
     let mid = s.mid in
-    made_by_work log now tree free top mid new path v b.0 (leaves_all top s.folders old mid s.leaves in_place) shows mid.item s.works
+    made_by_work log now tree free replies top mid new path v b.0 (leaves_all top s.folders old mid s.leaves in_place) shows mid.item s.works

@@ -18,7 +18,7 @@ use Rattle.job_reports.specs.declared.report.Did.TheVariants.{Began, Chunk, Plac
 use Rattle.job_reports.specs.declared.report.Ending.TheVariants.{Finished, Aborted, Killed, NoMemory}
 use Rattle.job_reports.proofs.CallAnswers.{done_call, some_log}
 use Rattle.job_reports.proofs.PermittedCalls.{IsMaking, making_passes}
-use Rattle.file_copy.specs.CopyCalls.{CopyCalls, CopyStops, making, part_mode, writing}
+use Rattle.file_copy.specs.CopyCalls.{making, part_mode, writing}
 use Rattle.file_copy.specs.Copying as file
 use Rattle.file_copy.specs.Copying.{Copying, part_at, places_of}
 use Rattle.file_copy.specs.PartNames.{part_name}
@@ -31,6 +31,7 @@ use Rattle.link_copy.specs.declared.stage.Stage.{Stage as LinkStage}
 use Rattle.link_copy.specs.declared.stage.Stage.TheVariants as link_stage
 use Rattle.folder_copy.specs.FolderCopying.{is_dirty}
 use Rattle.copy_levels.specs.Levels.{Levels, dirtied}
+use Rattle.history_laws.proofs.FileMoves.{MoveCalls, MoveStops}
 use Rattle.history_laws.proofs.Resting.{IsOfFiles}
 use Rattle.history_laws.proofs.AtWork.{HasItem}
 use Rattle.history_laws.proofs.CalmChanges.{some_same}
@@ -72,10 +73,9 @@ module _ (name : List ℕ) (up : Route) (log now : CallLog) (files : IsOfFiles l
     work_at : (moved : Copying) (part : Route) (is_at : part_at f.stage ≡ Some part) → Ready name up top l part f.target E (after moved) (worked_here up (file.is_dirty moved.folder) l (marked part is_at)) (marked_dirtied up (file.is_dirty moved.folder) l) log
     work_at moved part is_at = ready part f.target (after moved) (worked_here up (file.is_dirty moved.folder) l (marked part is_at)) (marked_dirtied up (file.is_dirty moved.folder) l) known.tree (known.item part is_at)
 
-    stops : (stage : FileStage) → f.stage ≡ stage → (why : Cause) (path : Option Route) → CopyStops unclaimed (places_of f) stage why path log (Some now) → Then E
-    stops file_stage.Begin is why path (inl look) = same (some_log now log look.1)
-    stops file_stage.Begin is why path (inr (inl taken)) = same (some_log now log taken.2)
-    stops file_stage.Begin is why path (inr (inr (k, looked, free, run))) = stop_waits name up E log now (making (current log) (places_of f) k) why path known.tree run h
+    stops : (stage : FileStage) → f.stage ≡ stage → (why : Cause) (path : Option Route) → MoveStops unclaimed (places_of f) stage why path log (Some now) → Then E
+    stops file_stage.Begin is why path (inl none) = same (some_log now log none)
+    stops file_stage.Begin is why path (inr (k, free, run)) = stop_waits name up E log now (making (current log) (places_of f) k) why path known.tree run h
     stops (file_stage.Fill part said done) is why path (inl (less, inl read)) = same (some_log now log read.1)
     stops (file_stage.Fill part said done) is why path (inl (less, inr write)) = stop_waits name up E log now (writing (current log) (places_of f) part said done) why path known.tree write h
     stops (file_stage.Fill part said done) is why path (inr (full, run)) = placing_stop name up E log now said.mode part f.target why path known.tree run h
@@ -83,7 +83,7 @@ module _ (name : List ℕ) (up : Route) (log now : CallLog) (files : IsOfFiles l
     stops (file_stage.Left part) is why path none = absurd none
     stops file_stage.Decided is why path run = stop_waits name up E log now (SyncFolder (folder_of f.target)) why path known.tree run h
 
-    pub file_names : (moved : Copying) (did : Did) → file.Tells f did moved → CopyCalls unclaimed f did moved log (Some now) → Then (after moved)
+    pub file_names : (moved : Copying) (did : Did) → file.Tells f did moved → MoveCalls unclaimed f did moved log (Some now) → Then (after moved)
     file_names moved (Began part) (stage, (facts, new_is)) (looked, began_of, (k, part_is, first, rows)) =
         let d = done_call log (making (current log) (places_of f) k) now (row_done log now (making (current log) (places_of f) k) rows) in
         let mode : ℕ = part_mode (node (current log) (found (current log) f.source)).mode in

@@ -26,7 +26,9 @@ use Rattle.tree_copy.specs.Parts.{IsPartPlace}
 use Rattle.tree_copy.specs.Progress.{link_progress, progress}
 use Rattle.tree_copy.specs.Skipping.{SkipsAt, SkipsNamed, SkipsRest, retried_at}
 use Rattle.tree_copy.specs.Standing.{Seen}
-use Rattle.tree_copy.specs.Steps.{FileWorks, LeavesAll, LinkWorks, TakesNext, WorksOn, idle, link_begun, noted, settled}
+use Rattle.tree_copy.specs.Steps.{LeavesAll, LinkWorks, TakesNext, WorksOn, idle, link_begun, noted, settled}
+use Rattle.job_answers.specs.declared.replies.Replies.{Replies}
+use Rattle.history_laws.proofs.FileMoves.{FileMoves, taken_moves, worked_moves}
 use Rattle.history_laws.proofs.Names.{IsMarked, IsMarkedAt, NamesLaw, WaitsMarked, WorkedMarked}
 use Rattle.history_laws.proofs.NameChanges.{waits_map}
 use Rattle.history_laws.proofs.NameMarks.{Marked, dirty_if, dirty_stays, mark_inner}
@@ -92,8 +94,8 @@ link_under l moved (Asked question) tells going = absurd tells
 link_under l moved (Merges pair names) tells going = absurd tells
 link_under l moved (Skipped path why) tells going = absurd tells
 
-module _ (unclaimed : Route → Type 0) (old new : Seen) (did : Did) (before after : Option CallLog) where
-  file_marked : (f : Copying) → (progress f.stage ≡ UnderWay → is_dirty old.levels.inner.copy.names ≡ true) → FileWorks unclaimed f old new did before after → IsMarked new
+module _ (unclaimed : Route → Type 0) (replies : Replies) (old new : Seen) (did : Did) (before after : Option CallLog) where
+  file_marked : (f : Copying) → (progress f.stage ≡ UnderWay → is_dirty old.levels.inner.copy.names ≡ true) → FileMoves unclaimed f old new did before after → IsMarked new
   file_marked f dirty w =
       let m = w.moved in
       let c = noted did (file.is_dirty m.folder) (idle old) in
@@ -114,19 +116,21 @@ module _ (unclaimed : Route → Type 0) (old new : Seen) (did : Did) (before aft
   same : old.item ≡ Next → new.item ≡ old.item → IsMarked new
   same none is = none_marked new.item new.levels.inner (is ∙ none)
 
-  takes_marked : old.item ≡ Next → TakesNext unclaimed old new did before after → IsMarked new
+  takes_marked : old.item ≡ Next → TakesNext unclaimed replies old new did before after → IsMarked new
   takes_marked none (inl s) = same none (ap (λ (c : Seen). c.item) s.stands)
-  takes_marked none (inr (inl t)) = file_marked (file.begun old.job t.pair.source t.pair.target) (λ going. absurd (let f : ⊥ = cc in f)) t.works
+  takes_marked none (inr (inl t)) = file_marked (file.begun old.job t.pair.source t.pair.target) (λ going. absurd (let f : ⊥ = cc in f)) (taken_moves unclaimed replies old new did before after t)
   takes_marked none (inr (inr (inl t))) = link_marked (link_begun t.pair t.part) (λ going. absurd (let f : ⊥ = cc in f)) t.works
   takes_marked none (inr (inr (inr (inl t)))) = same none (let w = t.works in ap (λ (c : Seen). c.item) w.stands)
   takes_marked none (inr (inr (inr (inr (inl t))))) = same none (ap (λ (c : Seen). c.item) t.stands)
-  takes_marked none (inr (inr (inr (inr (inr (next, inl (debt, e))))))) = same none (ap (λ (c : Seen). c.item) e.stands)
-  takes_marked none (inr (inr (inr (inr (inr (next, inr (debt, f, stays))))))) = same none (ap (λ (c : Seen). c.item) f.stands)
+  takes_marked none (inr (inr (inr (inr (inr (inl t)))))) = same none (ap (λ (c : Seen). c.item) t.stands)
+  takes_marked none (inr (inr (inr (inr (inr (inr (inl t))))))) = same none (ap (λ (c : Seen). c.item) t.stands)
+  takes_marked none (inr (inr (inr (inr (inr (inr (inr (next, inl (debt, e))))))))) = same none (ap (λ (c : Seen). c.item) e.stands)
+  takes_marked none (inr (inr (inr (inr (inr (inr (inr (next, inr (debt, f, stays))))))))) = same none (ap (λ (c : Seen). c.item) f.stands)
 
-  works_marked : (item : Item) → old.item ≡ item → IsMarked old → WorksOn item unclaimed old new did before after → IsMarked new
+  works_marked : (item : Item) → old.item ≡ item → IsMarked old → WorksOn item unclaimed replies old new did before after → IsMarked new
   works_marked Next is marked (inl s) = same is (ap (λ (c : Seen). c.item) s.stands)
   works_marked Next is marked (inr takes) = takes_marked is takes.1
-  works_marked (File f) is marked w = file_marked f (λ going. subst (λ i. WorkedMarked i old.levels.inner) is marked) w
+  works_marked (File f) is marked w = file_marked f (λ going. subst (λ i. WorkedMarked i old.levels.inner) is marked) (worked_moves unclaimed f old new did before after w)
   works_marked (Link l) is marked w = link_marked l (λ going. subst (λ i. WorkedMarked i old.levels.inner) is marked) w
   works_marked (Stays part) is marked w = absurd w
 
@@ -179,12 +183,12 @@ module _ (log : CallLog) where
 pub names_law : NamesLaw
 names_law = record {
   begins = λ job source target. tt;
-  step = λ free old new did calls log now f0 f1 s tree files known ends marked.
-      let b = step_begins free old new did calls log now f0 f1 s tree files known in
+  step = λ free replies old new did calls log now f0 f1 s tree files known ends marked.
+      let b = step_begins free replies old new did calls log now f0 f1 s tree files known in
       let mid = s.mid in
       let here = left_marked s.folders old mid s.leaves marked in (
-        works_marked (IsPartPlace free mid) mid new did (Some log) (Some now) mid.item refl here s.works,
-        λ name up h. works_names name up free mid new did log now b.0 (waits_map name up log (Marked up old.levels) (Marked up mid.levels) (leaves_marks name up s.folders old mid s.leaves ends) h) mid.item refl b.1 here s.works,
+        works_marked (IsPartPlace free mid) replies mid new did (Some log) (Some now) mid.item refl here s.works,
+        λ name up h. works_names name up free replies mid new did log now b.0 (waits_map name up log (Marked up old.levels) (Marked up mid.levels) (leaves_marks name up s.folders old mid s.leaves ends) h) mid.item refl b.1 here s.works,
       );
   skip = λ log cause old new did s marked. skips_marked log old.item cause old new did refl marked s;
   retry = λ log c marked. retries_marked log c.item c refl marked;

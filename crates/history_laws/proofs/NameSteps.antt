@@ -4,6 +4,7 @@ use Rattle.mc_text.specs.Routes.{Route}
 use Rattle.tree_trait.specs.Calls.{MakeFolder, SetMode, SyncFolder}
 use Rattle.tree_trait.specs.Change.{CallLog, change_of, current, with_change}
 use Rattle.tree_trait.specs.Refusals.{refusal_of}
+use Rattle.job_answers.specs.declared.replies.Replies.{Replies}
 use Rattle.job_reports.specs.CallRuns.{AllDone, RunStops}
 use Rattle.job_reports.specs.declared.job.Pair.{Pair}
 use Rattle.job_reports.specs.declared.report.Cause.{Cause}
@@ -33,7 +34,8 @@ use Rattle.tree_copy.specs.Parts.{IsPartPlace}
 use Rattle.tree_copy.specs.Progress.{link_progress, progress}
 use Rattle.tree_copy.specs.Reports.{IsToldAs}
 use Rattle.tree_copy.specs.Standing.{Seen, after_report, target_name}
-use Rattle.tree_copy.specs.Steps.{FileWorks, LeavesAll, LinkWorks, TakesNext, WorksOn, at_end, idle, link_begun, noted, settled}
+use Rattle.tree_copy.specs.Steps.{LeavesAll, LinkWorks, TakesNext, WorksOn, at_end, idle, link_begun, noted, settled}
+use Rattle.history_laws.proofs.FileMoves.{FileMoves, taken_moves, worked_moves}
 use Rattle.history_laws.proofs.AtWork.{ItemKnown}
 use Rattle.history_laws.proofs.FoldersEnd.{EndsLast}
 use Rattle.history_laws.proofs.Names.{IsMarked, IsMarkedAt, IsMarkedIn, WorkedMarked}
@@ -73,7 +75,7 @@ module _ (name : List ℕ) (up : Route) where
       let before = leaves_end n old last all ends in
       left_marks (closed last.levels) mid.levels r.left (not_owing last.levels.inner.copy.stage last.levels.inner.copy.names before.open_still one.done) (marked_closed up last.levels (leaves_marks n old last all ends h))
 
-  module _ (free : Route → Bool) (old new : Seen) (did : Did) (log now : CallLog) (known : StepKnown log old) (h : WaitsIf name up log (Marks old)) where
+  module _ (free : Route → Bool) (replies : Replies) (old new : Seen) (did : Did) (log now : CallLog) (known : StepKnown log old) (h : WaitsIf name up log (Marks old)) where
     abbrev Unclaimed : Route → Type 0
     Unclaimed = IsPartPlace free old
 
@@ -86,7 +88,7 @@ module _ (name : List ℕ) (up : Route) where
     as_new : (c : Seen) → new ≡ c → WaitsIf name up now (Marks c) → Then
     as_new c is so = subst (λ (x : Seen). WaitsIf name up now (Marked up x.levels)) (sym is) so
 
-    file_works : (f : Copying) → FileKnown Unclaimed log old.name old.levels f → ((part : Route) → part_at f.stage ≡ Some part → is_dirty old.levels.inner.copy.names ≡ true) → FileWorks Unclaimed f old new did (Some log) (Some now) → Then
+    file_works : (f : Copying) → FileKnown Unclaimed log old.name old.levels f → ((part : Route) → part_at f.stage ≡ Some part → is_dirty old.levels.inner.copy.names ≡ true) → FileMoves Unclaimed f old new did (Some log) (Some now) → Then
     file_works f about marked w =
         let m = w.moved in
         let c = noted did (file.is_dirty m.folder) (idle old) in
@@ -194,23 +196,26 @@ module _ (name : List ℕ) (up : Route) where
       around_by names (folder_did.Set path) (mode, stage, path_is, new_is) rows = absurd (let f : ⊥ = cc in f)
       around_by names folder_did.Closed (stage, synced, new_is) is = absurd (let f : ⊥ = cc in f)
 
-    takes : TakesNext Unclaimed old new did (Some log) (Some now) → is_around_dirty old.levels.around ≡ false → Then
+    takes : TakesNext Unclaimed replies old new did (Some log) (Some now) → is_around_dirty old.levels.around ≡ false → Then
     takes (inl s) clean = as_new old s.stands (same (Marks old) (some_log now log s.same) h)
-    takes (inr (inl t)) clean = file_works (file.begun old.job t.pair.source t.pair.target) (taken_file free old new did log now known clean t) (λ part at. absurd (let f : ⊥ = cc in f)) t.works
-    takes (inr (inr (inl t))) clean = link_works (link_begun t.pair t.part) (taken_link free old new did log now known clean t) t.works
+    takes (inr (inl t)) clean = file_works (file.begun old.job t.pair.source t.pair.target) (taken_file free replies old new did log now known clean t) (λ part at. absurd (let f : ⊥ = cc in f)) (taken_moves Unclaimed replies old new did (Some log) (Some now) t)
+    takes (inr (inr (inl t))) clean = link_works (link_begun t.pair t.part) (taken_link free replies old new did log now known clean t) t.works
     takes (inr (inr (inr (inl t)))) clean =
         let n = next_of old old.levels.inner.names.names t.pair t.next in
         let w = t.works in
         with_levels (after_report did old.stage) (let m = w.moved in made_levels m.stage (opened t.pair.source t.names) m old.levels) w.stands (made_by t.pair t.names t.mode (target_name old n.name) n.target_is w.moved w.report w.tells (w.called log refl))
     takes (inr (inr (inr (inr (inl t))))) clean =
         as_new (record old { levels = passed false old.levels }) t.stands (waits_map name up now (Marks old) _ (marked_passed up false old.levels) (same (Marks old) (some_log now log t.same) h))
-    takes (inr (inr (inr (inr (inr (next, inl (debt, e))))))) clean = with_levels (after_report did old.stage) (with_copy e.moved old.levels) e.stands (ends_by e.moved e.report e.says e.tells (e.called log refl))
-    takes (inr (inr (inr (inr (inr (next, inr (debt, f, stays))))))) clean =
+    takes (inr (inr (inr (inr (inr (inl t)))))) clean =
+        as_new (record old { levels = passed false old.levels }) t.stands (waits_map name up now (Marks old) _ (marked_passed up false old.levels) (same (Marks old) (some_log now log t.same) h))
+    takes (inr (inr (inr (inr (inr (inr (inl t))))))) clean = as_new old t.stands (same (Marks old) (some_log now log t.same) h)
+    takes (inr (inr (inr (inr (inr (inr (inr (next, inl (debt, e))))))))) clean = with_levels (after_report did old.stage) (with_copy e.moved old.levels) e.stands (ends_by e.moved e.report e.says e.tells (e.called log refl))
+    takes (inr (inr (inr (inr (inr (inr (inr (next, inr (debt, f, stays))))))))) clean =
         as_new (at_end old) f.stands (waits_map name up now (Marks old) _ (marked_closed up old.levels) (same (Marks old) (some_log now log stays) h))
 
-    pub works_names : (item : Item) → old.item ≡ item → ItemKnown log old item → IsMarked old → WorksOn item Unclaimed old new did (Some log) (Some now) → Then
+    pub works_names : (item : Item) → old.item ≡ item → ItemKnown log old item → IsMarked old → WorksOn item Unclaimed replies old new did (Some log) (Some now) → Then
     works_names Next is item marked (inl s) = with_levels (after_report did old.stage) (with_state s.outer s.around s.was s.names) s.stands (around_by s.outer s.around s.was s.names s.report s.tells (s.called log refl))
     works_names Next is item marked (inr (clean, t)) = takes t clean
-    works_names (File f) is item marked w = file_works f (worked_file free old new did log now known f item) (λ part at. subst (λ i. WorkedMarked i old.levels.inner) is marked) w
-    works_names (Link l) is item marked w = link_works l (worked_link free old new did log now known l item) w
+    works_names (File f) is item marked w = file_works f (worked_file free replies old new did log now known f item) (λ part at. subst (λ i. WorkedMarked i old.levels.inner) is marked) (worked_moves Unclaimed f old new did (Some log) (Some now) w)
+    works_names (Link l) is item marked w = link_works l (worked_link free replies old new did log now known l item) w
     works_names (Stays part) is item marked w = absurd w

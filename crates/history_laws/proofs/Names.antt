@@ -3,6 +3,7 @@ use Rattle.std.specs.Prelude.{◌≡◌, ◌⊎◌, ℕ, ⊤, Bool, true, List, 
 use Rattle.mc_text.specs.Routes.{Route}
 use Rattle.tree_trait.specs.Change.{CallLog, current}
 use Rattle.tree_trait.specs.Shape.{IsTree}
+use Rattle.job_answers.specs.declared.replies.Replies.{Replies}
 use Rattle.job_reports.specs.declared.report.Cause.{Cause}
 use Rattle.job_reports.specs.declared.report.Did.{Did}
 use Rattle.folder_copy.specs.FolderCopying.{is_dirty}
@@ -43,8 +44,8 @@ IsMarked c = WorkedMarked c.item c.levels.inner
 -- It is so of a copy that begins that it is marked; and each step, skip and retry keeps both, of any name of any folder.
 pub record NamesLaw : Type 0 where
   pub begins : (job : ℕ) (source target : Named) → IsMarked (begun job source target)
-  pub step : (free : Route → Bool) (old new : Seen) (did : Did) (calls : ℕ) (log now : CallLog) (faults faults_after : ℕ)
-      → CopySteps free old new did calls (Some log) (Some now) faults faults_after → IsTree (current log) → IsOfFiles log → CopyKnown log old → EndsLast old → IsMarked old
+  pub step : (free : Route → Bool) (replies : Replies) (old new : Seen) (did : Did) (calls : ℕ) (log now : CallLog) (faults faults_after : ℕ)
+      → CopySteps free replies old new did calls (Some log) (Some now) faults faults_after → IsTree (current log) → IsOfFiles log → CopyKnown log old → EndsLast old → IsMarked old
       → IsMarked new × ((name : List ℕ) (up : Route) → WaitsMarked log old name up → WaitsMarked now new name up)
   pub skip : (log : CallLog) (cause : Cause) (old new : Seen) (did : Did) → Skips cause old did new → IsMarked old
       → IsMarked new × ((name : List ℕ) (up : Route) → WaitsMarked log old name up → WaitsMarked log new name up)

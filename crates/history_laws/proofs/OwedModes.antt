@@ -4,6 +4,7 @@ use Rattle.mc_text.specs.Routes.{Route}
 use Rattle.tree_trait.specs.Change.{CallLog, current}
 use Rattle.tree_trait.specs.FileSystem.{Value, View, value_at}
 use Rattle.tree_trait.specs.Shape.{IsTree}
+use Rattle.job_answers.specs.declared.replies.Replies.{Replies}
 use Rattle.job_reports.specs.Jobs.{Copies}
 use Rattle.job_reports.specs.declared.job.Pair.{Pair}
 use Rattle.job_reports.specs.declared.report.Cause.{Cause}
@@ -38,8 +39,8 @@ OwedModes v c = AllOwe v c.levels.inner c.levels.around
 -- view that shows the same at and below the source.
 pub record OwedModeLaw : Type 0 where
   pub begins : (v : View) (job : ℕ) (source target : Named) → OwedModes v (begun job source target)
-  pub step : (free : Route → Bool) (old new : Seen) (did : Did) (calls : ℕ) (log now : CallLog) (faults faults_after : ℕ) (v : View)
-      → CopySteps free old new did calls (Some log) (Some now) faults faults_after → IsTree (current log) → IsOfFiles log → CopyKnown log old → ShowsTree v log → OwedModes v old → OwedModes v new
+  pub step : (free : Route → Bool) (replies : Replies) (old new : Seen) (did : Did) (calls : ℕ) (log now : CallLog) (faults faults_after : ℕ) (v : View)
+      → CopySteps free replies old new did calls (Some log) (Some now) faults faults_after → IsTree (current log) → IsOfFiles log → CopyKnown log old → ShowsTree v log → OwedModes v old → OwedModes v new
   pub skip : (cause : Cause) (old new : Seen) (did : Did) (v : View) → Skips cause old did new → OwedModes v old → OwedModes v new
   pub retry : (c : Seen) (v : View) → OwedModes v c → OwedModes v (retried c)
   pub other : (top : Pair) (c : Seen) (v w : View) → IsInPlace top c → ((rest : Route) → (w (rest ++ top.source)).value ≡ (v (rest ++ top.source)).value) → OwedModes v c → OwedModes w c
@@ -47,6 +48,6 @@ pub record OwedModeLaw : Type 0 where
 -- So a folder that is given its mode shows what the history makes of what it showed before.
 abbrev pub SetLaw : Type 0
 SetLaw =
-    (free : Route → Bool) (top : Pair) (old new : Seen) (path : Route) (calls : ℕ) (log now : CallLog) (faults faults_after : ℕ) (v : View)
-    → CopySteps free old new (Set path) calls (Some log) (Some now) faults faults_after → IsTree (current log) → IsOfFiles log → CopyKnown log old → IsInPlace top old
+    (free : Route → Bool) (replies : Replies) (top : Pair) (old new : Seen) (path : Route) (calls : ℕ) (log now : CallLog) (faults faults_after : ℕ) (v : View)
+    → CopySteps free replies old new (Set path) calls (Some log) (Some now) faults faults_after → IsTree (current log) → IsOfFiles log → CopyKnown log old → IsInPlace top old
     → ShowsTree v log → OwedModes v old → value_at (current now) path ≡ (set_by (Some (Copies top.source top.target)) path v path).value

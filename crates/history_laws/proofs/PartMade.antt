@@ -1,15 +1,16 @@
--- A part that was made stands, and what is free beside it stays so.
-use Rattle.std.proofs.Common.{◌≡◌, ℕ, List, [], ◌∷◌, ◌++◌, length, refl, sym, ◌∙◌, ap, inl, inr, Option, Some, None, cond}
+-- A part that was made stands, and what stands beside it stays, or is free still.
+use Rattle.std.proofs.Common.{◌≡◌, ℕ, false, List, [], ◌∷◌, ◌++◌, length, refl, sym, ◌∙◌, ap, inl, inr, Option, Some, None, cond}
 use Rattle.mc_text.specs.Routes.{Route}
 use Rattle.tree_trait.specs.declared.file_system.FileSystem.{FileSystem}
 use Rattle.tree_trait.specs.declared.file_system.Node.{Node}
 use Rattle.tree_trait.specs.Change.{Change, Makes, CallLog, current, found, with_change}
 use Rattle.tree_trait.specs.FileSystem.{find, node}
+use Rattle.tree_trait.specs.Refusals.{is_folder}
 use Rattle.tree_trait.specs.Shape.{IsTree}
 use Rattle.tree_trait.proofs.Finding.{same_name-self}
 use Rattle.tree_trait.proofs.Steady.{at as node_at}
 use Rattle.crash_law.specs.Guarded.{IsUnder}
-use Rattle.crash_law.proofs.Guarding.{find_same, said}
+use Rattle.crash_law.proofs.Guarding.{find_same, folder_kept, found_there, said}
 use Rattle.crash_law.proofs.Leading.{current_more}
 use Rattle.crash_law.proofs.Tops.{not_longer, under_made}
 use Rattle.job_reports.proofs.PermittedCalls.{IsMaking}
@@ -47,8 +48,15 @@ module _ (log : CallLog) (tree : IsTree (current log)) (k : List ℕ) (up : Rout
   beside n [] apart is = apart (let e : n ≡ k = cc in sym e)
   beside n (name ∷ rest) apart is = not_longer rest k up (let e : up ≡ rest ++ k ∷ up = cc in e)
 
-  pub made_beside : (n : List ℕ) → (k ≡ n → ⊥) → find (current log) (n ∷ up) ≡ None → find (current after) (n ∷ up) ≡ None
-  made_beside n apart free = elim (find_same log makes (n ∷ up)) [
-    | inl same ↦ same ∙ free
+  pub made_beside : (n : List ℕ) → (k ≡ n → ⊥) → find (current after) (n ∷ up) ≡ find (current log) (n ∷ up)
+  made_beside n apart = elim (find_same log makes (n ∷ up)) [
+    | inl same ↦ same
     | inr under ↦ let u = under_made log tree up f making.folder k made (n ∷ up) under in absurd (beside n u.0 apart u.1)
   ]
+
+  -- and no folder stands there where none did
+  pub made_bare : (n : List ℕ) → (k ≡ n → ⊥) → ((j : ℕ) → find (current log) (n ∷ up) ≡ Some j → is_folder (node (current log) j) ≡ false)
+      → (j : ℕ) → find (current after) (n ∷ up) ≡ Some j → is_folder (node (current after) j) ≡ false
+  made_bare n apart bare j at =
+      let before = sym (made_beside n apart) ∙ at in
+      ap (λ (s : FileSystem). is_folder (node s j)) (current_more log makes) ∙ (folder_kept (current log) makes j (found_there (current log) tree (n ∷ up) j before) ∙ bare j before)

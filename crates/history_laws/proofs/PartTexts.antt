@@ -6,6 +6,7 @@ use Rattle.tree_trait.specs.declared.file_system.FileSystem.{FileSystem}
 use Rattle.tree_trait.specs.Change.{CallLog, current}
 use Rattle.tree_trait.specs.FileSystem.{find, node}
 use Rattle.tree_trait.specs.Shape.{IsTree}
+use Rattle.job_answers.specs.declared.replies.Replies.{Replies}
 use Rattle.job_reports.specs.declared.report.Cause.{Cause}
 use Rattle.job_reports.specs.declared.report.Did.{Did}
 use Rattle.link_copy.specs.LinkCopying.{has_part}
@@ -30,7 +31,7 @@ TextKnown log (Stays part) = ⊤
 
 -- Each step, skip and retry keeps it so, whatever the calls are answered; at its begin a copy has no part.
 pub record TextLaw : Type 0 where
-  pub step : (free : Route → Bool) (old new : Seen) (did : Did) (calls : ℕ) (log now : CallLog) (faults faults_after : ℕ)
-      → CopySteps free old new did calls (Some log) (Some now) faults faults_after → IsTree (current log) → TextKnown log old.item → TextKnown now new.item
+  pub step : (free : Route → Bool) (replies : Replies) (old new : Seen) (did : Did) (calls : ℕ) (log now : CallLog) (faults faults_after : ℕ)
+      → CopySteps free replies old new did calls (Some log) (Some now) faults faults_after → IsTree (current log) → TextKnown log old.item → TextKnown now new.item
   pub skip : (log : CallLog) (cause : Cause) (old new : Seen) (did : Did) → Skips cause old did new → TextKnown log old.item → TextKnown log new.item
   pub retry : (log : CallLog) (c : Seen) → TextKnown log c.item → (let again : Seen = retried c in TextKnown log again.item)

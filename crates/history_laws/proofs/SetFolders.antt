@@ -10,6 +10,7 @@ use Rattle.tree_trait.specs.FileSystem.{Spot, Value, View, find, node, value, va
 use Rattle.tree_trait.specs.Shape.{IsTree}
 use Rattle.crash_law.specs.Guarded.{with_mode}
 use Rattle.crash_law.proofs.Guarding.{found_there, same_quiet}
+use Rattle.job_answers.specs.declared.replies.Replies.{Replies}
 use Rattle.job_reports.specs.CallRuns.{AllDone}
 use Rattle.job_reports.specs.Jobs.{Copies}
 use Rattle.job_reports.specs.declared.job.Pair.{Pair}
@@ -76,7 +77,7 @@ module _ (log now : CallLog) (tree : IsTree (current log)) (v : View) (shows : S
   told top source target mode i moved leads o =
       ap (λ (s : Spot). s.value) (put_at v target (option_map (with_mode_of (v (moved_from top.source top.target target)).value) (v target).value)) ∙ value_set top source target mode i moved leads o
 
-  module _ (free : Route → Bool) (top : Pair) (old new : Seen) (path : Route) (known : StepKnown log old) (in_place : IsInPlace top old) (owed : OwedModes v old) where
+  module _ (free : Route → Bool) (replies : Replies) (top : Pair) (old new : Seen) (path : Route) (known : StepKnown log old) (in_place : IsInPlace top old) (owed : OwedModes v old) where
     abbrev Is : Type 0
     Is = value_at (current now) path ≡ (set_by (Some (Copies top.source top.target)) path v path).value
 
@@ -124,7 +125,7 @@ module _ (log now : CallLog) (tree : IsTree (current log)) (v : View) (shows : S
             (given old.levels.inner.copy.target mode there.i there.at (subst (λ x. AllDone log (next_call c.target x c.names) (Some now)) stage rows)
             ∙ sym (told top old.levels.inner.copy.source old.levels.inner.copy.target mode there.i moved there.at o))
 
-    set_in : is_around_dirty old.levels.around ≡ false → TakesNext (IsPartPlace free old) old new did (Some log) (Some now) → Is
+    set_in : is_around_dirty old.levels.around ≡ false → TakesNext (IsPartPlace free old) replies old new did (Some log) (Some now) → Is
     set_in clean (inl s) = absurd (let e : common.Set path ≡ common.Troubled s.trouble = s.says in let f : ⊥ = cc in f)
     set_in clean (inr (inl t)) = (let w = t.works in absurd w.tells)
     set_in clean (inr (inr (inl t))) = (let w = t.works in absurd w.tells)
@@ -133,10 +134,12 @@ module _ (log now : CallLog) (tree : IsTree (current log)) (v : View) (shows : S
         let tells = subst (λ r. Tells (copying t.pair.source t.pair.target (at.Make t.mode) Synced) r w.moved) (told_set w.report w.says) w.tells in
         absurd (let e = tells.1 in let f : ⊥ = cc in f)
     set_in clean (inr (inr (inr (inr (inl t))))) = absurd (let e : common.Set path ≡ common.Merges t.pair t.names = t.says in let f : ⊥ = cc in f)
-    set_in clean (inr (inr (inr (inr (inr (next, inl (debt, e))))))) = folder_set clean e
-    set_in clean (inr (inr (inr (inr (inr (next, inr (debt, f, same))))))) = absurd (let e : common.Set path ≡ _ = f.says in let x : ⊥ = cc in x)
+    set_in clean (inr (inr (inr (inr (inr (inl t)))))) = absurd (let e : common.Set path ≡ common.Kept t.pair.target = t.says in let f : ⊥ = cc in f)
+    set_in clean (inr (inr (inr (inr (inr (inr (inl t))))))) = absurd (let e : common.Set path ≡ common.Asked t.question = t.says in let f : ⊥ = cc in f)
+    set_in clean (inr (inr (inr (inr (inr (inr (inr (next, inl (debt, e))))))))) = folder_set clean e
+    set_in clean (inr (inr (inr (inr (inr (inr (inr (next, inr (debt, f, same))))))))) = absurd (let e : common.Set path ≡ _ = f.says in let x : ⊥ = cc in x)
 
-    set_by_work : (item : Item) → WorksOn item (IsPartPlace free old) old new did (Some log) (Some now) → Is
+    set_by_work : (item : Item) → WorksOn item (IsPartPlace free old) replies old new did (Some log) (Some now) → Is
     set_by_work Next (inl s) =
         let tells = subst (λ r. Tells (at_sync s.outer.copy) r (record (at_sync s.outer.copy) { names = s.names })) (told_set s.report s.says) s.tells in
         absurd (let stage = tells.1 in let f : ⊥ = cc in f)
@@ -146,18 +149,18 @@ module _ (log now : CallLog) (tree : IsTree (current log)) (v : View) (shows : S
     set_by_work (Stays part) w = absurd w
 
 pub set_law : SetLaw
-set_law free top old new path calls log now f0 f1 v s tree files known in_place shows owed =
-    let b = step_begins free old new (common.Set path) calls log now f0 f1 s tree files known in
+set_law free replies top old new path calls log now f0 f1 v s tree files known in_place shows owed =
+    let b = step_begins free replies old new (common.Set path) calls log now f0 f1 s tree files known in
     let mid = s.mid in
-    set_by_work log now tree v shows free top mid new path b.0 (leaves_all top s.folders old mid s.leaves in_place) (leaves_owe v s.folders old mid s.leaves owed) mid.item s.works
+    set_by_work log now tree v shows free replies top mid new path b.0 (leaves_all top s.folders old mid s.leaves in_place) (leaves_owe v s.folders old mid s.leaves owed) mid.item s.works
 
 pub owed_mode_law : OwedModeLaw
 owed_mode_law = record {
   begins = λ v job source target mode is. absurd (let f : ⊥ = cc in f);
-  step = λ free old new did calls log now f0 f1 v s tree files known shows owed.
-      let b = step_begins free old new did calls log now f0 f1 s tree files known in
+  step = λ free replies old new did calls log now f0 f1 v s tree files known shows owed.
+      let b = step_begins free replies old new did calls log now f0 f1 s tree files known in
       let k = b.0 in
-      let mid = s.mid in works_owe v (IsPartPlace free mid) mid new did log now shows (leaves_owe v s.folders old mid s.leaves owed) k.made mid.item s.works;
+      let mid = s.mid in works_owe v (IsPartPlace free mid) replies mid new did log now shows (leaves_owe v s.folders old mid s.leaves owed) k.made mid.item s.works;
   skip = λ cause old new did v s owed. skips_owe v cause old new did owed old.item s;
   retry = λ c v owed. retries_owe v c.item c owed;
   other = λ top c v w in_place same owed. other_owes top v w same c.levels.inner c.levels.around in_place.levels owed;

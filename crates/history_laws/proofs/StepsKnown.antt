@@ -4,6 +4,7 @@ use Rattle.std.specs.Prelude.{if◌then◌else◌, map}
 use Rattle.mc_text.specs.Routes.{Route}
 use Rattle.tree_trait.specs.Change.{CallLog, current}
 use Rattle.tree_trait.specs.CrashImages.{Among}
+use Rattle.job_answers.specs.declared.replies.Replies.{Replies}
 use Rattle.file_copy.specs.Copying as file
 use Rattle.file_copy.specs.Copying.{Copying}
 use Rattle.link_copy.specs.LinkCopying as link
@@ -20,7 +21,8 @@ use Rattle.tree_copy.specs.Parts.{IsPartPlace, ahead}
 use Rattle.tree_copy.specs.Progress.{link_progress, progress}
 use Rattle.tree_copy.specs.Standing.{Seen, target_name}
 use Rattle.tree_trait.specs.Shape.{IsTree}
-use Rattle.tree_copy.specs.Steps.{CopySteps, FileWorks, LeavesAll, LinkWorks, TakesNext, WorksOn, idle, link_begun, noted, settled}
+use Rattle.tree_copy.specs.Steps.{CopySteps, LeavesAll, LinkWorks, TakesNext, WorksOn, idle, link_begun, noted, settled}
+use Rattle.history_laws.proofs.FileMoves.{FileMoves, taken_moves, worked_moves}
 use Rattle.history_laws.proofs.Changing.{folder_anchored}
 use Rattle.history_laws.proofs.Resting.{IsOfFiles, stands_at, sure_path}
 use Rattle.history_laws.proofs.AtWork.{ItemKnown}
@@ -70,8 +72,8 @@ settled_name UnderWay item c = refl
 settled_name Decided item c = refl
 settled_name Anew item c = refl
 
-module _ (unclaimed : Route → Type 0) (old new : Seen) (did : Did) (before after : Option CallLog) where
-  file_name : (f : Copying) → FileWorks unclaimed f old new did before after → new.name ≡ old.name
+module _ (unclaimed : Route → Type 0) (replies : Replies) (old new : Seen) (did : Did) (before after : Option CallLog) where
+  file_name : (f : Copying) → FileMoves unclaimed f old new did before after → new.name ≡ old.name
   file_name f w =
       let moved = w.moved in
       ap (λ (c : Seen). c.name) w.stands ∙ settled_name (progress moved.stage) (File moved) (noted did (file.is_dirty moved.folder) (idle old))
@@ -81,26 +83,28 @@ module _ (unclaimed : Route → Type 0) (old new : Seen) (did : Did) (before aft
       let moved = w.moved in
       ap (λ (c : Seen). c.name) w.stands ∙ settled_name (link_progress moved.stage) (Link moved) (noted did (link.is_dirty moved.folder) (idle old))
 
-  next_name : TakesNext unclaimed old new did before after → new.name ≡ old.name
+  next_name : TakesNext unclaimed replies old new did before after → new.name ≡ old.name
   next_name (inl s) = ap (λ (c : Seen). c.name) s.stands
-  next_name (inr (inl t)) = file_name (file.begun old.job t.pair.source t.pair.target) t.works
+  next_name (inr (inl t)) = file_name (file.begun old.job t.pair.source t.pair.target) (taken_moves unclaimed replies old new did before after t)
   next_name (inr (inr (inl t))) = link_name (link_begun t.pair t.part) t.works
   next_name (inr (inr (inr (inl t)))) = (let w = t.works in ap (λ (c : Seen). c.name) w.stands)
   next_name (inr (inr (inr (inr (inl t))))) = ap (λ (c : Seen). c.name) t.stands
-  next_name (inr (inr (inr (inr (inr (next, inl (debt, ends))))))) = ap (λ (c : Seen). c.name) ends.stands
-  next_name (inr (inr (inr (inr (inr (next, inr (debt, f, same))))))) = ap (λ (c : Seen). c.name) f.stands
+  next_name (inr (inr (inr (inr (inr (inl t)))))) = ap (λ (c : Seen). c.name) t.stands
+  next_name (inr (inr (inr (inr (inr (inr (inl t))))))) = ap (λ (c : Seen). c.name) t.stands
+  next_name (inr (inr (inr (inr (inr (inr (inr (next, inl (debt, ends))))))))) = ap (λ (c : Seen). c.name) ends.stands
+  next_name (inr (inr (inr (inr (inr (inr (inr (next, inr (debt, f, same))))))))) = ap (λ (c : Seen). c.name) f.stands
 
-  pub works_name : (item : Item) → WorksOn item unclaimed old new did before after → new.name ≡ old.name
+  pub works_name : (item : Item) → WorksOn item unclaimed replies old new did before after → new.name ≡ old.name
   works_name Next (inl s) = ap (λ (c : Seen). c.name) s.stands
   works_name Next (inr takes) = next_name takes.1
-  works_name (File f) w = file_name f w
+  works_name (File f) w = file_name f (worked_moves unclaimed f old new did before after w)
   works_name (Link l) w = link_name l w
   works_name (Stays part) w = absurd w
 
 -- what is known as a step begins, once the folders are left that owe nothing
-begins_at : (free : Route → Bool) (old new : Seen) (did : Did) (calls : ℕ) (log now : CallLog) (faults faults_after : ℕ) (s : CopySteps free old new did calls (Some log) (Some now) faults faults_after) → IsTree (current log) → IsOfFiles log
+begins_at : (free : Route → Bool) (replies : Replies) (old new : Seen) (did : Did) (calls : ℕ) (log now : CallLog) (faults faults_after : ℕ) (s : CopySteps free replies old new did calls (Some log) (Some now) faults faults_after) → IsTree (current log) → IsOfFiles log
     → CopyKnown log old → StepKnown log s.mid × AreLaid (let m : Seen = s.mid in m.name) (let m : Seen = s.mid in m.levels.inner) (let m : Seen = s.mid in m.levels.around) × ItemKnown log s.mid (let m : Seen = s.mid in m.item)
-begins_at free old new did calls log now faults faults_after s tree files (known, item) =
+begins_at free replies old new did calls log now faults faults_after s tree files (known, item) =
     let mid = s.mid in
     let k = leaves_all s.folders log old mid s.leaves known in
     let place = placed_of mid.name mid.levels.inner mid.levels.around k.1 in (
@@ -116,17 +120,17 @@ begins_at free old new did calls log now faults faults_after s tree files (known
       item_left s.folders log old mid s.leaves item,
     )
 
-pub step_begins : (free : Route → Bool) (old new : Seen) (did : Did) (calls : ℕ) (log now : CallLog) (faults faults_after : ℕ) (s : CopySteps free old new did calls (Some log) (Some now) faults faults_after) → IsTree (current log) → IsOfFiles log
+pub step_begins : (free : Route → Bool) (replies : Replies) (old new : Seen) (did : Did) (calls : ℕ) (log now : CallLog) (faults faults_after : ℕ) (s : CopySteps free replies old new did calls (Some log) (Some now) faults faults_after) → IsTree (current log) → IsOfFiles log
     → CopyKnown log old → StepKnown log s.mid × ItemKnown log s.mid (let m : Seen = s.mid in m.item)
-step_begins free old new did calls log now faults faults_after s tree files known = let b = begins_at free old new did calls log now faults faults_after s tree files known in (b.0, b.2)
+step_begins free replies old new did calls log now faults faults_after s tree files known = let b = begins_at free replies old new did calls log now faults faults_after s tree files known in (b.0, b.2)
 
 pub step_law : StepLaw
-step_law free old new did calls log now faults faults_after s tree files known =
+step_law free replies old new did calls log now faults faults_after s tree files known =
     let mid = s.mid in
-    let b = begins_at free old new did calls log now faults faults_after s tree files known in
-    let levels = copy_step free old new did calls log now faults faults_after s b.0 b.2 in
-    let laid = laid_works (IsPartPlace free mid) mid new did (Some log) (Some now) b.1 mid.item s.works in
-    (subst (KnownAs now new) (sym (works_name (IsPartPlace free mid) mid new did (Some log) (Some now) mid.item s.works)) (levels, laid), works_item free mid new did log now b.0 mid.item refl b.2 s.works)
+    let b = begins_at free replies old new did calls log now faults faults_after s tree files known in
+    let levels = copy_step free replies old new did calls log now faults faults_after s b.0 b.2 in
+    let laid = laid_works (IsPartPlace free mid) replies mid new did (Some log) (Some now) b.1 mid.item s.works in
+    (subst (KnownAs now new) (sym (works_name (IsPartPlace free mid) replies mid new did (Some log) (Some now) mid.item s.works)) (levels, laid), works_item free replies mid new did log now b.0 mid.item refl b.2 s.works)
 
 -- the name that is met next, as it is at its target
 pub among_next : (c : Seen) (name : List ℕ) (names : List (List ℕ)) → c.levels.inner.names.names ≡ name ∷ names → Among (ahead c) (target_name c name)

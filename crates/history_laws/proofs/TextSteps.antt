@@ -21,7 +21,9 @@ use Rattle.tree_copy.specs.Parts.{IsPartPlace}
 use Rattle.tree_copy.specs.Progress.{link_progress, progress}
 use Rattle.tree_copy.specs.Skipping.{SkipsAt, SkipsNamed, retried_at}
 use Rattle.tree_copy.specs.Standing.{Seen}
-use Rattle.tree_copy.specs.Steps.{FileWorks, LeavesAll, LinkWorks, TakesNext, WorksOn, idle, link_begun, noted, settled}
+use Rattle.tree_copy.specs.Steps.{LeavesAll, LinkWorks, TakesNext, WorksOn, idle, link_begun, noted, settled}
+use Rattle.job_answers.specs.declared.replies.Replies.{Replies}
+use Rattle.history_laws.proofs.FileMoves.{FileMoves, taken_moves, worked_moves}
 use Rattle.history_laws.proofs.PartTexts.{TextKnown, TextLaw}
 use Rattle.history_laws.proofs.LinkTexts.{text_after}
 
@@ -38,8 +40,8 @@ pub text_left : (n : ℕ) (log : CallLog) (old mid : Seen) → LeavesAll n old m
 text_left zero log old mid is known = subst (λ (c : Seen). TextKnown log c.item) (sym is) known
 text_left (suc n) log old mid (last, all, none, one) known = let r = one.returns in none_known log mid.item (ap (λ (c : Seen). c.item) r.stands ∙ none)
 
-module _ (unclaimed : Route → Type 0) (old new : Seen) (did : Did) (log now : CallLog) (tree : IsTree (current log)) where
-  file_text : (f : Copying) → FileWorks unclaimed f old new did (Some log) (Some now) → TextKnown now new.item
+module _ (unclaimed : Route → Type 0) (replies : Replies) (old new : Seen) (did : Did) (log now : CallLog) (tree : IsTree (current log)) where
+  file_text : (f : Copying) → FileMoves unclaimed f old new did (Some log) (Some now) → TextKnown now new.item
   file_text f w =
       let m = w.moved in
       subst (λ (c : Seen). TextKnown now c.item) (sym w.stands) (settled_text now (progress m.stage) (File m) (noted did (file.is_dirty m.folder) (idle old)) refl tt)
@@ -53,19 +55,21 @@ module _ (unclaimed : Route → Type 0) (old new : Seen) (did : Did) (log now : 
   same : old.item ≡ Next → new.item ≡ old.item → TextKnown now new.item
   same none is = none_known now new.item (is ∙ none)
 
-  next_text : old.item ≡ Next → TakesNext unclaimed old new did (Some log) (Some now) → TextKnown now new.item
+  next_text : old.item ≡ Next → TakesNext unclaimed replies old new did (Some log) (Some now) → TextKnown now new.item
   next_text none (inl s) = same none (ap (λ (c : Seen). c.item) s.stands)
-  next_text none (inr (inl t)) = file_text (file.begun old.job t.pair.source t.pair.target) t.works
+  next_text none (inr (inl t)) = file_text (file.begun old.job t.pair.source t.pair.target) (taken_moves unclaimed replies old new did (Some log) (Some now) t)
   next_text none (inr (inr (inl t))) = link_text_after (link_begun t.pair t.part) (λ has. absurd (false≢true has)) t.works
   next_text none (inr (inr (inr (inl t)))) = same none (let w = t.works in ap (λ (c : Seen). c.item) w.stands)
   next_text none (inr (inr (inr (inr (inl t))))) = same none (ap (λ (c : Seen). c.item) t.stands)
-  next_text none (inr (inr (inr (inr (inr (next, inl (debt, ends))))))) = same none (ap (λ (c : Seen). c.item) ends.stands)
-  next_text none (inr (inr (inr (inr (inr (next, inr (debt, f, stays))))))) = same none (ap (λ (c : Seen). c.item) f.stands)
+  next_text none (inr (inr (inr (inr (inr (inl t)))))) = same none (ap (λ (c : Seen). c.item) t.stands)
+  next_text none (inr (inr (inr (inr (inr (inr (inl t))))))) = same none (ap (λ (c : Seen). c.item) t.stands)
+  next_text none (inr (inr (inr (inr (inr (inr (inr (next, inl (debt, ends))))))))) = same none (ap (λ (c : Seen). c.item) ends.stands)
+  next_text none (inr (inr (inr (inr (inr (inr (inr (next, inr (debt, f, stays))))))))) = same none (ap (λ (c : Seen). c.item) f.stands)
 
-  works_text : (item : Item) → old.item ≡ item → WorksOn item unclaimed old new did (Some log) (Some now) → TextKnown log item → TextKnown now new.item
+  works_text : (item : Item) → old.item ≡ item → WorksOn item unclaimed replies old new did (Some log) (Some now) → TextKnown log item → TextKnown now new.item
   works_text Next is (inl s) known = same is (ap (λ (c : Seen). c.item) s.stands)
   works_text Next is (inr takes) known = next_text is takes.1
-  works_text (File f) is w known = file_text f w
+  works_text (File f) is w known = file_text f (worked_moves unclaimed f old new did (Some log) (Some now) w)
   works_text (Link l) is w known = link_text_after l known w
   works_text (Stays part) is w known = absurd w
 
@@ -113,9 +117,9 @@ retried_text log (Stays part) c is known = subst (TextKnown log) (sym is) tt
 
 pub text_law : TextLaw
 text_law = record {
-  step = λ free old new did calls log now f0 f1 s tree known.
+  step = λ free replies old new did calls log now f0 f1 s tree known.
       let mid = s.mid in
-      works_text (IsPartPlace free mid) mid new did log now tree mid.item refl s.works (text_left s.folders log old mid s.leaves known);
+      works_text (IsPartPlace free mid) replies mid new did log now tree mid.item refl s.works (text_left s.folders log old mid s.leaves known);
   skip = λ log cause old new did s known. skips_text log cause old new did old.item refl s known;
   retry = λ log c known. retried_text log c.item c refl known;
 }

@@ -1,13 +1,14 @@
 -- What is known of a copy of folders before the machine makes its step, once folders that owe nothing were left; and what the steps come to that change no
 -- name: syncs, calls that are refused, and the end.
 use Rattle.std.proofs.Common.{◌≡◌, ◌⊎◌, ℕ, Bool, true, false, List, refl, sym, ◌∙◌, ap, subst, inl, inr, Some, None}
-use Rattle.mc_text.specs.Routes.{Route, is_prefix}
+use Rattle.mc_text.specs.Routes.{Route}
 use Rattle.tree_trait.specs.declared.file_system.FileSystem.{FileSystem}
 use Rattle.tree_trait.specs.Change.{Nothing, CallLog, current, with_change}
 use Rattle.crash_law.specs.Guarded.{Marks}
 use Rattle.job_reports.specs.declared.report.Ending.TheVariants.{Finished}
 use Rattle.job_reports.specs.declared.report.Did.{Did}
-use Rattle.job_reports.specs.declared.report.Did.TheVariants.{Barrier, Merges, Troubled, Ended}
+use Rattle.job_answers.specs.declared.replies.Replies.{Replies}
+use Rattle.job_reports.specs.declared.report.Did.TheVariants.{Asked, Barrier, Kept, Merges, Troubled, Ended}
 use Rattle.job_reports.proofs.CallAnswers.{some_log}
 use Rattle.job_reports.specs.declared.report.Trouble.{Trouble}
 use Rattle.folder_copy.specs.FolderCopying as folder
@@ -18,13 +19,13 @@ use Rattle.copy_levels.specs.Levels.{is_around_dirty}
 use Rattle.tree_deletion.specs.Folders.{with_change as change_list}
 use Rattle.tree_copy.specs.Reports.{IsToldAs}
 use Rattle.tree_copy.specs.Standing.{Seen, after_report, is_fresh}
-use Rattle.tree_copy.specs.Steps.{Finishes, FolderEnds, LeavesAll, SyncsAround, TakesMerged, at_end}
+use Rattle.tree_copy.specs.Steps.{Finishes, FolderEnds, LeavesAll, SyncsAround, TakesAsked, TakesKept, TakesMerged, at_end}
 use Rattle.tree_copy.specs.declared.item.Item.TheVariants.{Next}
 use Rattle.subtree_copy.specs.Marks.{folder_worked, is_dirty_after, was_dirty}
 use Rattle.subtree_copy.specs.Standing.{SubtreeCopying}
 use Rattle.subtree_copy.specs.Unbegun.{MayBegin}
 use Rattle.copy_move.specs.Settling.{NoneOwed}
-use Rattle.copy_move.specs.declared.run.Course.TheVariants.{GoesOn}
+use Rattle.copy_move.specs.declared.run.Course.TheVariants.{Asking, GoesOn}
 use Rattle.copy_move.specs.declared.work.Work.TheVariants.{CopyTree}
 use Rattle.copy_move.specs.Jobs.{course_after}
 use Rattle.history_laws.proofs.Knowing.{IsKept, Said, settled_marks}
@@ -33,7 +34,7 @@ use Rattle.history_laws.proofs.OwedModes.{OwedModes}
 use Rattle.history_laws.proofs.TreeCalls.{around_comes, idle_refused, refused_end, synced_end}
 use Rattle.history_laws.proofs.TreeGoing.{LogHas}
 use Rattle.history_laws.proofs.TreeLeads.{log_has}
-use Rattle.history_laws.proofs.TreeKnown.{AroundKnows, IsCalmBut, ItemHas, TreeHas, TreeStands, around_settled}
+use Rattle.history_laws.proofs.TreeKnown.{AroundKnows, IsCalmBut, ItemHas, TreeHas, TreeStands, around_settled, LiesOutside}
 
 -- The machine's step begins here; and a copy that has changed nothing changes something only where nothing is owed.
 pub record Before (told : Said) (dirty : List Route) (marks : Marks) (log : CallLog) (c : SubtreeCopying) (mid : Seen) : Type 0 where
@@ -45,9 +46,9 @@ pub record Before (told : Said) (dirty : List Route) (marks : Marks) (log : Call
   pub begun : is_fresh c.at.stage ≡ false → TreeHas told marks log c
   pub owed : is_fresh c.at.stage ≡ true → NoneOwed (current log) (CopyTree c) dirty
 
--- What is known once something was changed: the source lies elsewhere, and what the machine knows of the log as the step began.
+-- What is known once something was changed: the source doesn't lie below the target, and what the machine knows of the log as the step began.
 abbrev pub Had : CallLog → SubtreeCopying → Type 0
-Had log c = (is_prefix c.top.target c.top.source ≡ false) × LogHas c.top log c.at
+Had log c = LiesOutside c.top × LogHas c.top log c.at
 
 pub had_begun : (told : Said) (dirty : List Route) (marks : Marks) (log : CallLog) (c : SubtreeCopying) (mid : Seen) → Before told dirty marks log c mid → is_fresh c.at.stage ≡ false → Had log c
 had_begun told dirty marks log c mid b some = let h = b.begun some in (h.outside, log_has told dirty marks log c b.stands h)
@@ -101,16 +102,32 @@ module _ (told : Said) (dirty dirty_after : List Route) (marks : Marks) (log now
   pub idle_quiet : (trouble : Trouble) (new : Seen) → new.item ≡ Next → dirty_after ≡ dirty → (now ≡ log) ⊎ (now ≡ with_change log Nothing) → Comes_to (Troubled trouble) new
   idle_quiet trouble new still list how = idle_trouble trouble new still (quiet_known new still list how)
 
-  -- two folders are merged: none is made
-  pub merges : (did : Did) (new : Seen) → TakesMerged mid new did (Some log) (Some now) → dirty_after ≡ dirty → Comes_to did new
-  merges did new t list = subst (λ d. Comes_to d new) (sym t.says) (by (quiet_known new still list (inl (some_log now log t.same))))
-    where
-      still : new.item ≡ Next
-      still = ap (λ (x : Seen). x.item) t.stands ∙ none
+  -- where no call is made, and what is known of the part goes on to be known
+  unmoved : (did : Did) (new : Seen) → new.item ≡ Next → dirty_after ≡ dirty → now ≡ log → ((m : Marks) → Idle new m (current now) → Then told dirty_after log now c did new m)
+      → Comes told told dirty_after log now (Then told dirty_after log now c did new)
+  unmoved did new still list same then =
+      comes_map told told dirty_after log now (λ m. Idle new m (current now)) (Then told dirty_after log now c did new) (λ m k idle. then m idle) (quiet_known new still list (inl same))
 
-      by : Comes told told dirty_after log now (λ m. Idle new m (current now)) → Comes_to (Merges t.pair t.names) new
-      by come = comes_map told told dirty_after log now (λ m. Idle new m (current now)) (Then told dirty_after log now c (Merges t.pair t.names) new)
-          (λ m k idle. record { part = subst (λ i. ItemHas told dirty_after m (current now) GoesOn i) (sym still) idle.0; around = idle.1; had = λ some. had_begun told dirty marks log c mid b some; modes = λ h. h }) come
+  -- two folders are merged: none is made
+  pub merges : (replies : Replies) (did : Did) (new : Seen) → TakesMerged replies mid new did (Some log) (Some now) → dirty_after ≡ dirty → Comes_to did new
+  merges replies did new t list =
+      let still : new.item ≡ Next = ap (λ (x : Seen). x.item) t.stands ∙ none in
+      subst (λ d. Comes_to d new) (sym t.says) (unmoved (Merges t.pair t.names) new still list (some_log now log t.same)
+      (λ m idle. record { part = subst (λ i. ItemHas told dirty_after m (current now) GoesOn i) (sym still) idle.0; around = idle.1; had = λ some. had_begun told dirty marks log c mid b some; modes = λ h. h }))
+
+  -- what stands at the target is kept
+  pub keeps : (replies : Replies) (did : Did) (new : Seen) → TakesKept replies mid new did (Some log) (Some now) → dirty_after ≡ dirty → Comes_to did new
+  keeps replies did new t list =
+      let still : new.item ≡ Next = ap (λ (x : Seen). x.item) t.stands ∙ none in
+      subst (λ d. Comes_to d new) (sym t.says) (unmoved (Kept (let p = t.pair in p.target)) new still list (some_log now log t.same)
+      (λ m idle. record { part = subst (λ i. ItemHas told dirty_after m (current now) GoesOn i) (sym still) idle.0; around = idle.1; had = λ some. had_begun told dirty marks log c mid b some; modes = λ h. h }))
+
+  -- it is asked whether it is replaced
+  pub asks : (replies : Replies) (did : Did) (new : Seen) → TakesAsked replies mid new did (Some log) (Some now) → dirty_after ≡ dirty → Comes_to did new
+  asks replies did new t list =
+      let still : new.item ≡ Next = ap (λ (x : Seen). x.item) t.stands ∙ none in
+      subst (λ d. Comes_to d new) (sym t.says) (unmoved (Asked t.question) new still list (some_log now log t.same)
+      (λ m idle. record { part = subst (λ i. ItemHas told dirty_after m (current now) Asking i) (sym still) idle.0; around = idle.1; had = λ some. had_begun told dirty marks log c mid b some; modes = λ h. h }))
 
   -- a sync, once something was changed
   pub idle_barrier : (new : Seen) → new.item ≡ Next → is_fresh c.at.stage ≡ false → Comes told told dirty_after log now (λ m. Idle new m (current now)) → Comes_to Barrier new

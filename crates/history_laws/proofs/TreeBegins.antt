@@ -1,14 +1,13 @@
 -- Where a copy of folders makes its next thing: what is known of the folders that it may change, at its first change too.
 use Rattle.std.proofs.Common.{◌≡◌, ◌⊎◌, ℕ, suc, zero, Bool, true, false, ◌||◌, List, [], ◌∷◌, ◌++◌, length, refl, sym, ◌∙◌, ap, subst, inl, inr, Option, Some, None, arith}
 use Rattle.std.specs.Prelude.{if◌then◌else◌}
-use Rattle.std.proofs.lemmas.Bool.{both_ways, false_from_ne_true, or_cases, or_left, or_right}
+use Rattle.std.proofs.lemmas.Bool.{both_ways, or_cases, or_left, or_right}
 use Rattle.std.proofs.lemmas.List.{length-append}
 use Rattle.mc_text.specs.Routes.{Route, is_prefix, same_path}
-use Rattle.tree_trait.specs.FileSystem.{find, starts_mount}
+use Rattle.tree_trait.specs.FileSystem.{find, starts_mount, node}
 use Rattle.tree_trait.specs.Change.{CallLog, current}
 use Rattle.tree_trait.proofs.Visible.{same_path-self, same_path-true}
 use Rattle.crash_law.specs.Guarded.{Marks}
-use Rattle.crash_law.proofs.Tops.{none_below}
 use Rattle.job_reports.specs.Jobs.{Copies}
 use Rattle.job_reports.specs.Paths.{folder_of}
 use Rattle.job_reports.specs.declared.job.Pair.{Pair}
@@ -27,6 +26,10 @@ use Rattle.subtree_copy.specs.Unbegun.{IsOutside}
 use Rattle.copy_move.specs.Settling.{NoneOwed}
 use Rattle.copy_move.specs.declared.work.Work.TheVariants.{CopyTree}
 use Rattle.history_laws.specs.Staying.{may_change}
+use Rattle.tree_trait.specs.Refusals.{is_folder}
+use Rattle.history_laws.proofs.Changing.{some_is}
+use Rattle.history_laws.proofs.TreeKnown.{LiesOutside}
+use Rattle.history_laws.proofs.BareTargets.{StandsBare, none_below_open}
 use Rattle.history_laws.proofs.Calm.{filled_part, was_set}
 use Rattle.history_laws.proofs.CalmLaws.{filled_unset, quiet_modes_law}
 use Rattle.history_laws.proofs.EndSteps.{filled_if, met_not}
@@ -43,17 +46,17 @@ use Rattle.history_laws.proofs.TreeLeads.{first_has, log_has}
 use Rattle.history_laws.proofs.TreeSteps.{next_of}
 use Rattle.history_laws.proofs.Untouched.{NoneOn, none_on, way_sure}
 
--- a thing that is taken up: it stands, nothing stands at its target, and the folder that is to hold that stands
+-- a thing that is taken up: it stands, nothing stands at its target, or a file or a link, and the folder that is to hold that stands
 pub record Meets (log : CallLog) (pair : Pair) : Type 0 where
   pub stands : folder_at (current log) (folder_of pair.target) ≡ true
-  pub free : find (current log) pair.target ≡ None
+  pub open_to : (find (current log) pair.target ≡ None) ⊎ StandsBare (current log) pair.target
   pub n : ℕ
   pub source : find (current log) pair.source ≡ Some n
 
 -- What is known where a thing is made: of the log as the step began, and once folders were left; the folder that holds the target is on the disk, and in no
 -- folder that the copy may change a mode waits.
 pub record MayChange (marks : Marks) (log : CallLog) (c : SubtreeCopying) (mid : Seen) : Type 0 where
-  pub outside : is_prefix c.top.target c.top.source ≡ false
+  pub outside : LiesOutside c.top
   pub has : LogHas c.top log c.at
   pub here : LogHas c.top log mid
   pub firm : IsSureFolder log (folder_of c.top.target)
@@ -103,8 +106,11 @@ module _ (told : Said) (dirty : List Route) (marks : Marks) (log : CallLog) (kep
     unset : was_set mid.levels.inner.copy.stage mid.levels.inner.copy.names ≡ false
     unset = filled_unset mid.levels.inner.copy.stage mid.levels.inner.copy.names (filled_if mid here.ends (λ over. met_not mid.levels.inner.names.names mid pair next over.last))
 
-    below : (rest : Route) (i : ℕ) → find (current log) (rest ++ top.target) ≡ Some i → marks.modes i ≡ None
-    below rest i at = (let law = quiet_modes_law in law.elsewhere told dirty marks log mid (rest ++ top.target) i kept here.ends (no_part (rest ++ top.target)) unset (here.calm rest) at)
+    below : (rest : Route) (i : ℕ) → find (current log) (rest ++ top.target) ≡ Some i → (marks.modes i ≡ None) ⊎ ((rest ≡ []) × StandsBare (current log) top.target)
+    below rest i at = elim (here.calm rest) [
+      | inl calm ↦ inl (let law = quiet_modes_law in law.elsewhere told dirty marks log mid (rest ++ top.target) i kept here.ends (no_part (rest ++ top.target)) unset calm at)
+      | inr b ↦ inr (b.0, b.1)
+    ]
 
     around : IsCalmIn marks (current log) up
     around = elim h.around [
@@ -114,8 +120,13 @@ module _ (told : Said) (dirty : List Route) (marks : Marks) (log : CallLog) (kep
       where
         by : IsCalmBut marks (current log) top.target → (name : List ℕ) (i : ℕ) → find (current log) (name ∷ up) ≡ Some i → (b : Bool) → same_path (name ∷ up) top.target ≡ b
             → (marks.modes i ≡ None) ⊎ (starts_mount (current log) i ≡ true)
-        by but name i at true same = inl (below [] i (ap (find (current log)) (sym (same_path-true (name ∷ up) top.target same)) ∙ at))
-        by but name i at false apart = but name i (λ is. both_ways _ apart (subst (λ q. same_path q top.target ≡ true) (sym is) (same_path-self top.target))) at
+        by but name i at true same =
+            let here_at : find (current log) top.target ≡ Some i = ap (find (current log)) (sym (same_path-true (name ∷ up) top.target same)) ∙ at in
+            elim (below [] i here_at) [
+              | inl none ↦ inl none
+              | inr b ↦ (let stood = b.1 in but name i (λ is. subst (λ j. is_folder (node (current log) j) ≡ false) (sym (some_is stood.i i (sym stood.leads ∙ here_at))) stood.bare) at)
+            ]
+        by but name i at false apart = but name i (λ is. absurd (both_ways _ apart (subst (λ q. same_path q top.target ≡ true) (sym is) (same_path-self top.target)))) at
 
     begun_may : MayChange marks log c mid
     begun_may = record {
@@ -125,7 +136,9 @@ module _ (told : Said) (dirty : List Route) (marks : Marks) (log : CallLog) (kep
       firm = kept.known.stand up h.folder;
       calm = λ p own. elim (or_cases (same_path p up) (is_prefix top.target p) own) [
         | inl same ↦ subst (IsCalmIn marks (current log)) (sym (same_path-true p up same)) around
-        | inr within ↦ let way = prefix_way top.target p within in λ k i at. inl (below (k ∷ way.0) i (ap (find (current log)) (sym (ap (λ (q : Route). k ∷ q) way.1)) ∙ at))
+        | inr within ↦
+            let way = prefix_way top.target p within in
+            λ k i at. elim (below (k ∷ way.0) i (ap (find (current log)) (sym (ap (λ (q : Route). k ∷ q) way.1)) ∙ at)) [ inl none ↦ inl none | inr b ↦ absurd (let e : (k ∷ way.0) ≡ [] = b.0 in let f : ⊥ = cc in f) ]
       ];
     }
 
@@ -159,21 +172,20 @@ module _ (told : Said) (dirty : List Route) (marks : Marks) (log : CallLog) (kep
         let sum = length-append m.rest top.target in
         m.from ∙ ap (λ q. q ++ top.source) (none_empty m.rest (omega (arith, long, sum)))
 
-    free : find (current log) top.target ≡ None
-    free = ap (find (current log)) (sym target_is) ∙ meets.free
+    open_there : (find (current log) top.target ≡ None) ⊎ StandsBare (current log) top.target
+    open_there = subst (λ q. (find (current log) q ≡ None) ⊎ StandsBare (current log) q) target_is meets.open_to
 
     around_there : IsFolderAt (current log) up
     around_there = stands_at (current log) up (ap (λ q. folder_at (current log) (folder_of q)) (sym target_is) ∙ meets.stands)
 
-    apart : is_prefix top.target top.source ≡ false
-    apart = false_from_ne_true _ (λ within.
-        let way = prefix_way top.target top.source within in
-        none_some meets.n (sym (ap (find (current log)) way.1 ∙ none_below log way.0 top.target free) ∙ (ap (find (current log)) (sym source_is) ∙ meets.source)))
+    apart : LiesOutside top
+    apart name rest within =
+        none_some meets.n (sym (ap (find (current log)) within ∙ none_below_open log kept.known.guarded.tree top.target open_there name rest) ∙ (ap (find (current log)) (sym source_is) ∙ meets.source))
 
     fresh_may : MayChange marks log c mid
     fresh_may =
         let t = around_there in
-        let has = first_has told dirty marks log kept c stands fresh owed t.i t.at t.folder free in
+        let has = first_has told dirty marks log kept c stands fresh owed t.i t.at t.folder open_there in
         record {
           outside = apart;
           has = has;
@@ -184,7 +196,7 @@ module _ (told : Said) (dirty : List Route) (marks : Marks) (log : CallLog) (kep
           };
           calm = λ p own. elim (or_cases (same_path p up) (is_prefix top.target p) own) [
             | inl here ↦ subst (IsCalmIn marks (current log)) (sym (same_path-true p up here)) (calm_in told dirty marks log kept up none_there)
-            | inr within ↦ let way = prefix_way top.target p within in λ k i at. none_some i (sym (ap (find (current log)) (ap (λ (q : Route). k ∷ q) way.1) ∙ none_below log (k ∷ way.0) top.target free) ∙ at)
+            | inr within ↦ let way = prefix_way top.target p within in λ k i at. none_some i (sym (ap (find (current log)) (ap (λ (q : Route). k ∷ q) way.1) ∙ none_below_open log kept.known.guarded.tree top.target open_there k way.0) ∙ at)
           ];
         }
 

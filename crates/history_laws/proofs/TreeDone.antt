@@ -1,10 +1,11 @@
--- What a copy of folders that is finished has left: nothing at or below its target waits, nor anything in the folder that holds it.
-use Rattle.std.proofs.Common.{◌≡◌, ℕ, Bool, true, false, List, [], ◌∷◌, ◌++◌, refl, sym, ◌∙◌, ap, subst, inl, inr, Option, Some}
+-- What a copy of folders that is finished has left: nothing at or below its target waits, but of a file or a link that stood there before, nor anything in the folder that holds it.
+use Rattle.std.proofs.Common.{◌≡◌, ◌⊎◌, ℕ, Bool, true, false, List, [], ◌∷◌, ◌++◌, refl, sym, ◌∙◌, ap, subst, inl, inr, Option, Some}
 use Rattle.mc_text.specs.Routes.{Route}
-use Rattle.tree_trait.specs.FileSystem.{find}
+use Rattle.tree_trait.specs.FileSystem.{find, node}
 use Rattle.tree_trait.specs.Change.{CallLog, current}
 use Rattle.tree_trait.specs.CrashImages.{is_clean}
 use Rattle.crash_law.specs.Guarded.{Marks}
+use Rattle.job_answers.specs.declared.replies.Replies.{Replies}
 use Rattle.job_reports.specs.declared.report.Cause.{Cause}
 use Rattle.job_reports.specs.declared.report.Did.{Did}
 use Rattle.job_reports.specs.declared.report.Did.TheVariants.{Ended}
@@ -23,6 +24,7 @@ use Rattle.tree_copy.specs.declared.item.Item.{Item}
 use Rattle.tree_copy.specs.declared.item.Item.TheVariants.{Next, File, Link, Stays}
 use Rattle.copy_move.specs.declared.run.Course.TheVariants.{GoesOn}
 use Rattle.history_laws.specs.Doubt.{name_waits}
+use Rattle.tree_trait.specs.Refusals.{is_folder}
 use Rattle.history_laws.proofs.Knowing.{Said}
 use Rattle.history_laws.proofs.TreeEnds.{IsAtEnd, ended_calm, ended_names, ends_here}
 use Rattle.history_laws.proofs.TreeGoing.{LogHas, leaves_has}
@@ -31,7 +33,7 @@ use Rattle.history_laws.proofs.TreeLeads.{log_has}
 
 pub record TreeLeft (told : Said) (marks : Marks) (log : CallLog) (c : SubtreeCopying) : Type 0 where
   pub names : (name : List ℕ) (up : Route) → is_own c up ≡ true → name_waits log (name ∷ up) ≡ false
-  pub calm : (rest : Route) (i : ℕ) → find (current log) (rest ++ c.top.target) ≡ Some i → is_clean i log.changes ≡ true
+  pub calm : (rest : Route) (i : ℕ) → find (current log) (rest ++ c.top.target) ≡ Some i → (is_clean i log.changes ≡ true) ⊎ ((rest ≡ []) × (is_folder (node (current log) i) ≡ false))
   pub around : AroundKnows told marks (current log) c
 
 -- what is passed over is no end
@@ -55,7 +57,7 @@ skips_no_end (Link l) cause old new part (moved, inr s, stands) = absurd (let e 
 skips_no_end (Stays left) cause old new part s = absurd s
 
 module _ (told : Said) (dirty dirty_after : List Route) (marks : Marks) (log now : CallLog) (c new : SubtreeCopying) (part : Option Route) (known : TreeKnown told dirty marks log GoesOn c) (begun : is_fresh c.at.stage ≡ false)
-    (free : Route → Bool) (calls f0 f1 : ℕ) (s : SubtreeSteps free c new (Ended Finished part) calls dirty dirty_after (Some log) (Some now) f0 f1) where
+    (free : Route → Bool) (replies : Replies) (calls f0 f1 : ℕ) (s : SubtreeSteps free replies c new (Ended Finished part) calls dirty dirty_after (Some log) (Some now) f0 f1) where
   -- folders that owe nothing are left, and the machine is at its end
   record Ends : Type 0 where
     pub last : Seen
@@ -68,7 +70,7 @@ module _ (told : Said) (dirty dirty_after : List Route) (marks : Marks) (log now
   here : LogHas c.top log s.mid
   here = (let l = s.leaves in leaves_has c.top log l.0 c.at s.mid l.1 stands)
 
-  worked : (did : Did) → did ≡ Ended Finished part → ListSteps free s.mid s.moved s.worked dirty dirty_after (Some log) (Some now) f0 f1 → (let w = s.worked in w.did) ≡ did → Ends
+  worked : (did : Did) → did ≡ Ended Finished part → ListSteps free replies s.mid s.moved s.worked dirty dirty_after (Some log) (Some now) f0 f1 → (let w = s.worked in w.did) ≡ did → Ends
   worked did is (inl short) told_is = absurd (let e = sym is ∙ (sym told_is ∙ ap (λ (r : StepResult). r.did) short.says) in let f : ⊥ = cc in f)
   worked did is (inr m) told_is =
       let steps = m.steps in
@@ -76,8 +78,8 @@ module _ (told : Said) (dirty dirty_after : List Route) (marks : Marks) (log now
       record {
         last = steps.mid;
         has = at_last;
-        end = ends_here c.top log steps.mid at_last (IsPartPlace free steps.mid) s.moved part (Some log) (Some now) (let l : Seen = steps.mid in l.item) refl
-            (subst (λ d. WorksOn (let l : Seen = steps.mid in l.item) (IsPartPlace free steps.mid) steps.mid s.moved d (Some log) (Some now)) (told_is ∙ is) steps.works);
+        end = ends_here c.top log steps.mid at_last (IsPartPlace free steps.mid) replies s.moved part (Some log) (Some now) (let l : Seen = steps.mid in l.item) refl
+            (subst (λ d. WorksOn (let l : Seen = steps.mid in l.item) (IsPartPlace free steps.mid) replies steps.mid s.moved d (Some log) (Some now)) (told_is ∙ is) steps.works);
       }
 
   ends : Ends

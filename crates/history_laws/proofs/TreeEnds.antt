@@ -1,8 +1,8 @@
 -- As a copy of folders ends nothing waits at or below its target: no name in its folders, and no change of what stands there.
-use Rattle.std.proofs.Common.{◌≡◌, ℕ, true, false, List, [], ◌∷◌, ◌++◌, sym, ◌∙◌, ap, subst, inl, inr, Option, Some, None}
+use Rattle.std.proofs.Common.{◌≡◌, ◌⊎◌, ℕ, true, false, List, [], ◌∷◌, ◌++◌, sym, ◌∙◌, ap, subst, inl, inr, Option, Some, None}
 use Rattle.std.proofs.lemmas.Bool.{both_ways, false_from_ne_true, false≢true}
 use Rattle.mc_text.specs.Routes.{Route}
-use Rattle.tree_trait.specs.FileSystem.{find}
+use Rattle.tree_trait.specs.FileSystem.{find, node}
 use Rattle.tree_trait.specs.Change.{CallLog, current}
 use Rattle.tree_trait.specs.CrashImages.{is_clean}
 use Rattle.job_reports.specs.Paths.{folder_of}
@@ -23,8 +23,11 @@ use Rattle.tree_copy.specs.Steps.{TakesNext, WorksOn}
 use Rattle.tree_copy.specs.declared.item.Item.{Item}
 use Rattle.tree_copy.specs.declared.item.Item.TheVariants.{Next, File, Link, Stays}
 use Rattle.history_laws.specs.Doubt.{name_waits}
+use Rattle.tree_trait.specs.Refusals.{is_folder}
+use Rattle.job_answers.specs.declared.replies.Replies.{Replies}
+use Rattle.history_laws.proofs.BareTargets.{IsCalmFrom}
 use Rattle.history_laws.proofs.AtWork.{ItemKnown}
-use Rattle.history_laws.proofs.Calm.{IsSetIn, filled_part, was_set}
+use Rattle.history_laws.proofs.Calm.{IsSetIn, filled_part, was_set, MayWait}
 use Rattle.history_laws.proofs.FileLeads.{not_decided}
 use Rattle.history_laws.proofs.NameMarks.{not_owing}
 use Rattle.history_laws.proofs.Names.{IsMarkedIn}
@@ -46,21 +49,23 @@ no_end (folder_did.Troubled trouble) part is = absurd (let e : common.Ended Fini
 
 module _ (top : Pair) (log : CallLog) (c : Seen) (h : LogHas top log c) where
   -- where the machine tells its end
-  module _ (unclaimed : Route → Type 0) (new : Seen) (part : Option Route) (before after : Option CallLog) where
-    ends_next : c.item ≡ Next → TakesNext unclaimed c new (common.Ended Finished part) before after → IsAtEnd c
+  module _ (unclaimed : Route → Type 0) (replies : Replies) (new : Seen) (part : Option Route) (before after : Option CallLog) where
+    ends_next : c.item ≡ Next → TakesNext unclaimed replies c new (common.Ended Finished part) before after → IsAtEnd c
     ends_next none (inl s) = absurd (let e : common.Ended Finished part ≡ common.Troubled s.trouble = s.says in let f : ⊥ = cc in f)
-    ends_next none (inr (inl t)) = (let w = t.works in let tells = w.tells in absurd (let e = tells.0 in let f : ⊥ = cc in f))
+    ends_next none (inr (inl t)) = (let w = t.works in absurd w.tells)
     ends_next none (inr (inr (inl t))) = (let w = t.works in absurd w.tells)
     ends_next none (inr (inr (inr (inl t)))) = (let w = t.works in no_end w.report part w.says)
     ends_next none (inr (inr (inr (inr (inl t))))) = absurd (let e : common.Ended Finished part ≡ common.Merges t.pair t.names = t.says in let f : ⊥ = cc in f)
-    ends_next none (inr (inr (inr (inr (inr (due, inl (debt, e))))))) = no_end e.report part e.says
-    ends_next none (inr (inr (inr (inr (inr (due, inr (debt, f, same))))))) = record {
+    ends_next none (inr (inr (inr (inr (inr (inl t)))))) = absurd (let e : common.Ended Finished part ≡ common.Kept t.pair.target = t.says in let f : ⊥ = cc in f)
+    ends_next none (inr (inr (inr (inr (inr (inr (inl t))))))) = absurd (let e : common.Ended Finished part ≡ common.Asked t.question = t.says in let f : ⊥ = cc in f)
+    ends_next none (inr (inr (inr (inr (inr (inr (inr (due, inl (debt, e))))))))) = no_end e.report part e.says
+    ends_next none (inr (inr (inr (inr (inr (inr (inr (due, inr (debt, f, same))))))))) = record {
       none = none;
       outermost = f.last;
       clean = false_from_ne_true _ (λ dirty. let ends = h.ends in not_owing c.levels.inner.copy.stage c.levels.inner.copy.names ends.open_still debt dirty);
     }
 
-    pub ends_here : (item : Item) → c.item ≡ item → WorksOn item unclaimed c new (common.Ended Finished part) before after → IsAtEnd c
+    pub ends_here : (item : Item) → c.item ≡ item → WorksOn item unclaimed replies c new (common.Ended Finished part) before after → IsAtEnd c
     ends_here Next is (inl s) = no_end s.report part s.says
     ends_here Next is (inr (clean, takes)) = ends_next is takes
     ends_here (File f) is w =
@@ -86,12 +91,20 @@ module _ (top : Pair) (log : CallLog) (c : Seen) (h : LogHas top log c) where
   no_part : (item : Item) (path : Route) → item ≡ Next → filled_part item ≡ Some path → ⊥
   no_part item path none is = (let e : (let o : Option Route = None in o) ≡ Some path = sym (ap filled_part none) ∙ is in let f : ⊥ = cc in f)
 
-  -- nor does a change of what stands at or below the target
-  pub ended_calm : IsAtEnd c → (rest : Route) (i : ℕ) → find (current log) (rest ++ top.target) ≡ Some i → is_clean i log.changes ≡ true
-  ended_calm end rest i leads = elim (h.calm rest i leads) [
-    | inl clean ↦ clean
-    | inr (inl part) ↦ absurd (no_part c.item (rest ++ top.target) end.none part)
-    | inr (inr set) ↦
-        let at_top = subst (λ (around : List Level). IsSetIn (rest ++ top.target) c.levels.inner around) end.outermost set in
-        absurd (none_set c.levels.inner.copy.stage c.levels.inner.copy.names end.clean at_top.1)
-  ]
+  -- nor does a change of what stands at or below the target, but of a file or a link at the target that stood there before
+  pub ended_calm : IsAtEnd c → (rest : Route) (i : ℕ) → find (current log) (rest ++ top.target) ≡ Some i → (is_clean i log.changes ≡ true) ⊎ ((rest ≡ []) × (is_folder (node (current log) i) ≡ false))
+  ended_calm end rest i leads = by (h.calm rest)
+    where
+      clean : (is_clean i log.changes ≡ true) ⊎ MayWait c (rest ++ top.target) → is_clean i log.changes ≡ true
+      clean (inl still) = still
+      clean (inr (inl part)) = absurd (no_part c.item (rest ++ top.target) end.none part)
+      clean (inr (inr set)) =
+          let at_top = subst (λ (around : List Level). IsSetIn (rest ++ top.target) c.levels.inner around) end.outermost set in
+          absurd (none_set c.levels.inner.copy.stage c.levels.inner.copy.names end.clean at_top.1)
+
+      same_node : (j : ℕ) → rest ≡ [] → find (current log) top.target ≡ Some j → j ≡ i
+      same_node j is stood = (let e : Some j ≡ Some i = sym stood ∙ (ap (find (current log)) (sym (ap (λ q. q ++ top.target) is)) ∙ leads) in cc)
+
+      by : IsCalmFrom log c top.target rest → (is_clean i log.changes ≡ true) ⊎ ((rest ≡ []) × (is_folder (node (current log) i) ≡ false))
+      by (inl calm) = inl (clean (calm i leads))
+      by (inr (is, stood, apart)) = inr (is, subst (λ j. is_folder (node (current log) j) ≡ false) (same_node stood.i is stood.leads) stood.bare)

@@ -11,7 +11,7 @@ use Rattle.job_reports.specs.declared.report.Cause.{Cause}
 use Rattle.job_reports.specs.declared.report.Did.{Did}
 use Rattle.job_reports.specs.declared.report.Did.TheVariants.{Began, Chunk, Placed, Removed, Made, Set, Kept, Skipped, Cleaned, Barrier, Asked, Merges, Troubled, Ended}
 use Rattle.job_reports.proofs.CallAnswers.{some_log}
-use Rattle.file_copy.specs.CopyCalls.{CopyCalls, CopyStops, making, writing}
+use Rattle.file_copy.specs.CopyCalls.{making, writing}
 use Rattle.file_copy.specs.Copying as file
 use Rattle.file_copy.specs.Copying.{Copying, Tells, after_clean, part_at, places_of}
 use Rattle.file_copy.specs.PartNames.{IsFirstFree, IsShort, part_name, part_path}
@@ -26,6 +26,7 @@ use Rattle.tree_copy.specs.Parts.{IsShortPart}
 use Rattle.tree_copy.specs.Progress.{progress}
 use Rattle.tree_copy.specs.Standing.{Seen}
 use Rattle.tree_copy.specs.Steps.{after_file, idle, noted, settled}
+use Rattle.history_laws.proofs.FileMoves.{MoveCalls, MoveStops}
 use Rattle.history_laws.proofs.FilledCalls.{IsNoneOf}
 use Rattle.history_laws.proofs.AtWork.{HasItem}
 use Rattle.history_laws.proofs.OpenFolders.{LevelsKnow}
@@ -105,10 +106,9 @@ module _ (unclaimed : Route → Type 0) (log now : CallLog) (name : List ℕ) (l
   ready part is = let item = known.item part is in record { tree = known.tree; known = levels_passed log name false l known.levels; work = item.work }
 
   -- a trouble, by where the copy stands
-  stops : (stage : Stage) → f.stage ≡ stage → (why : Cause) (path : Option Route) → CopyStops unclaimed (places_of f) stage why path log (Some now) → Stays
-  stops at.Begin is why path (inl look) = same (some_log now log look.1)
-  stops at.Begin is why path (inr (inl taken)) = same (some_log now log taken.2)
-  stops at.Begin is why path (inr (inr (k, looked, free, run))) = refused (making (current log) (places_of f) k) why path run
+  stops : (stage : Stage) → f.stage ≡ stage → (why : Cause) (path : Option Route) → MoveStops unclaimed (places_of f) stage why path log (Some now) → Stays
+  stops at.Begin is why path (inl none) = same (some_log now log none)
+  stops at.Begin is why path (inr (k, free, run)) = refused (making (current log) (places_of f) k) why path run
   stops (at.Fill part said done) is why path (inl (less, inl read)) = same (some_log now log read.1)
   stops (at.Fill part said done) is why path (inl (less, inr write)) = refused (writing (current log) (places_of f) part said done) why path write
   stops (at.Fill part said done) is why path (inr (full, run)) = part_stops (λ (x : CallLog). LevelsKnow x name l) (λ from c tree none is. levels_quiet from c tree none name l is) log now known.tree said.mode part f.target why path run known.levels
@@ -116,7 +116,7 @@ module _ (unclaimed : Route → Type 0) (log now : CallLog) (name : List ℕ) (l
   stops (at.Left part) is why path none = absurd none
   stops at.Decided is why path run = refused (SyncFolder (folder_of f.target)) why path run
 
-  pub file_step : (moved : Copying) (did : Did) (old new : Seen) → old.levels ≡ l → IsShortPart (part_at moved.stage) → Tells f did moved → CopyCalls unclaimed f did moved log (Some now) → new ≡ after_file did moved (idle old)
+  pub file_step : (moved : Copying) (did : Did) (old new : Seen) → old.levels ≡ l → IsShortPart (part_at moved.stage) → Tells f did moved → MoveCalls unclaimed f did moved log (Some now) → new ≡ after_file did moved (idle old)
       → LevelsKnow now name new.levels
   file_step moved (Began part) old new levels_are short (stage, (facts, new_is)) (looked, began_of, (k, part_is, free, rows)) stands =
       file_then now name moved (Began part) old new UnderWay (ap (λ (c : Copying). progress c.stage) new_is) stands (subst (LevelsKnow now name) (sym levels_are)

@@ -2,9 +2,9 @@
 use Rattle.std.proofs.Common.{◌≡◌, ◌⊎◌, ℕ, Bool, true, false, List, ◌∷◌, ◌++◌, refl, sym, ◌∙◌, ap, subst, inl, inr, Option, Some, None, cond}
 use Rattle.std.specs.Prelude.{if◌then◌else◌}
 use Rattle.std.proofs.lemmas.Bool.{both_ways}
-use Rattle.mc_text.specs.Routes.{Route, is_prefix}
+use Rattle.mc_text.specs.Routes.{Route}
 use Rattle.tree_trait.specs.declared.file_system.FileSystem.{FileSystem}
-use Rattle.tree_trait.specs.FileSystem.{View, find, starts_mount}
+use Rattle.tree_trait.specs.FileSystem.{View, find, starts_mount, node}
 use Rattle.tree_trait.specs.Shape.{IsTree}
 use Rattle.tree_trait.specs.Change.{Change, Nothing, Syncs, CallLog, current, with_change}
 use Rattle.tree_trait.specs.CrashImages.{alters, is_clean, says}
@@ -24,8 +24,11 @@ use Rattle.subtree_copy.specs.Unbegun.{IsUnbegun}
 use Rattle.job_answers.specs.declared.skips.Skips.{Skips as Kinds}
 use Rattle.copy_move.specs.declared.run.Course.{Course}
 use Rattle.copy_move.specs.declared.run.Course.TheVariants.{GoesOn, Asking, InTrouble, OwedSyncFailed, Skips, Ends}
+use Rattle.tree_trait.specs.Refusals.{is_folder}
+use Rattle.job_reports.specs.declared.job.Pair.{Pair}
+use Rattle.history_laws.proofs.BareTargets.{IsCalmFrom, bare_quiet}
 use Rattle.history_laws.proofs.AtWork.{ItemKnown}
-use Rattle.history_laws.proofs.Calm.{IsCalm, IsCalmOr, MayWait, PartCalm}
+use Rattle.history_laws.proofs.Calm.{IsCalmOr, MayWait, PartCalm}
 use Rattle.history_laws.proofs.CalmChanges.{calm_quiet}
 use Rattle.history_laws.proofs.CopyLaws.{CopyKnown}
 use Rattle.history_laws.proofs.DirtyListed.{MarksListed}
@@ -62,9 +65,9 @@ abbrev pub LeavesPart : Said → FileSystem → Option Route → Type 0
 LeavesPart told s None = told.part ≡ None
 LeavesPart told s (Some part) = IsLeftPart told s part
 
--- in the folder that holds the target no mode waits but that of the target
+-- in the folder that holds the target no mode waits but that of a folder at the target
 abbrev pub IsCalmBut : Marks → FileSystem → Route → Type 0
-IsCalmBut marks s target = (name : List ℕ) (i : ℕ) → (name ∷ folder_of target ≡ target → ⊥) → find s (name ∷ folder_of target) ≡ Some i → (marks.modes i ≡ None) ⊎ (starts_mount s i ≡ true)
+IsCalmBut marks s target = (name : List ℕ) (i : ℕ) → (name ∷ folder_of target ≡ target → is_folder (node s i) ≡ false) → find s (name ∷ folder_of target) ≡ Some i → (marks.modes i ≡ None) ⊎ (starts_mount s i ≡ true)
 
 -- The history says that none waits there; or the target was given its mode, and nothing is at work any more.
 abbrev pub AroundKnows : Said → Marks → FileSystem → SubtreeCopying → Type 0
@@ -79,15 +82,19 @@ pub record TreeStands (dirty : List Route) (c : SubtreeCopying) : Type 0 where
   pub marked : IsMarked c.at
   pub listed : MarksListed dirty c.at
 
--- what is known once something was changed: the source doesn't lie at or below the target; and of the open folders, of the file or link at work, of what
+-- the source doesn't lie below the target
+abbrev pub LiesOutside : Pair → Type 0
+LiesOutside top = (name : List ℕ) (rest : Route) → top.source ≡ name ∷ rest ++ top.target → ⊥
+
+-- what is known once something was changed: the source doesn't lie below the target; and of the open folders, of the file or link at work, of what
 -- lies at and below the target, and of the folder around
 pub record TreeHas (told : Said) (marks : Marks) (log : CallLog) (c : SubtreeCopying) : Type 0 where
-  pub outside : is_prefix c.top.target c.top.source ≡ false
+  pub outside : LiesOutside c.top
   pub levels : LevelsKnow log c.at.name c.at.levels
   pub item : ItemKnown log c.at c.at.item
   pub text : TextKnown log c.at.item
   pub whole : PartCalm log c.at.item
-  pub calm : (rest : Route) → IsCalm log c.at (rest ++ c.top.target)
+  pub calm : (rest : Route) → IsCalmFrom log c.at c.top.target rest
   pub names : (name : List ℕ) (up : Route) → is_own c up ≡ true → WaitsMarked log c.at name up
   pub modes : OwedModes told.tree c.at
   pub folder : told.folders (folder_of c.top.target) ≡ true
@@ -217,7 +224,10 @@ module _ (told : Said) (dirty : List Route) (marks : Marks) (log : CallLog) (tre
     item = known_still t.at t.at.item h.item;
     text = text_still t.at.item h.text;
     whole = part_still t.at.item h.whole;
-    calm = λ rest. calm_still (rest ++ t.top.target) (MayWait t.at (rest ++ t.top.target)) (h.calm rest);
+    calm = λ rest. elim (h.calm rest) [
+      | inl calm ↦ inl (calm_still (rest ++ t.top.target) (MayWait t.at (rest ++ t.top.target)) calm)
+      | inr b ↦ inr (b.0, bare_quiet t.top.target log c tree none b.1, b.2)
+    ];
     names = λ name up own. waits_quiet name up log c (IsMarkedIn up t.at.levels.inner t.at.levels.around) (IsMarkedIn up t.at.levels.inner t.at.levels.around) (h.names name up own) none (λ e. e);
     modes = h.modes;
     folder = h.folder;

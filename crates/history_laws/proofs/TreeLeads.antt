@@ -1,6 +1,6 @@
 -- What a step of a copy of folders comes to: what is known then of the copy, where it is known of its part and of the folder around. Its first change is
 -- made where nothing is owed, and there all is known as it begins.
-use Rattle.std.proofs.Common.{◌≡◌, ℕ, Bool, true, false, List, [], ◌∷◌, ◌++◌, sym, ◌∙◌, ap, subst, inl, inr, Some, None}
+use Rattle.std.proofs.Common.{◌≡◌, refl, ◌⊎◌, ℕ, Bool, true, false, List, [], ◌∷◌, ◌++◌, sym, ◌∙◌, ap, subst, inl, inr, Some, None}
 use Rattle.std.specs.Option.{option_map_or}
 use Rattle.std.proofs.lemmas.Bool.{both_ways, or_cases}
 use Rattle.mc_text.specs.Routes.{Route, is_prefix, same_path}
@@ -9,7 +9,7 @@ use Rattle.tree_trait.specs.Refusals.{is_folder}
 use Rattle.tree_trait.specs.Change.{CallLog, current}
 use Rattle.tree_trait.proofs.Visible.{same_path-true}
 use Rattle.crash_law.specs.Guarded.{Marks}
-use Rattle.crash_law.proofs.Tops.{none_below}
+use Rattle.job_answers.specs.declared.replies.Replies.{Replies}
 use Rattle.job_reports.specs.Paths.{folder_of}
 use Rattle.job_reports.specs.declared.job.Pair.{Pair}
 use Rattle.job_reports.specs.declared.report.Did.{Did}
@@ -27,8 +27,9 @@ use Rattle.copy_move.specs.Settling.{NoneOwed}
 use Rattle.copy_move.specs.declared.run.Course.{Course}
 use Rattle.copy_move.specs.declared.work.Work.TheVariants.{CopyTree}
 use Rattle.history_laws.specs.Doubt.{is_pending, name_waits}
+use Rattle.history_laws.proofs.BareTargets.{IsApart, IsCalmFrom, StandsBare, none_below_open}
 use Rattle.history_laws.proofs.AtWork.{ItemKnown}
-use Rattle.history_laws.proofs.Calm.{IsCalm, PartCalm}
+use Rattle.history_laws.proofs.Calm.{PartCalm}
 use Rattle.history_laws.proofs.CalmLaws.{calm_law}
 use Rattle.history_laws.proofs.FilledFolders.{IsFilling, filling_begins}
 use Rattle.history_laws.proofs.Intact.{prefix_way}
@@ -39,7 +40,7 @@ use Rattle.history_laws.proofs.OpenFolders.{AroundKnow, InnerKnows, LevelsKnow}
 use Rattle.history_laws.proofs.OwedModes.{OwedModes}
 use Rattle.history_laws.proofs.PartTexts.{TextKnown}
 use Rattle.history_laws.proofs.TreeGoing.{LogHas, log_goes, steps_stand}
-use Rattle.history_laws.proofs.TreeKnown.{AroundKnows, ItemHas, TreeHas, TreeKnown, TreeStands, copy_known}
+use Rattle.history_laws.proofs.TreeKnown.{AroundKnows, ItemHas, TreeHas, TreeKnown, TreeStands, copy_known, LiesOutside}
 use Rattle.history_laws.proofs.Untouched.{NoneOn, none_on, none_waits}
 
 -- what is known of the log once something was changed
@@ -54,9 +55,9 @@ log_has told dirty marks log c stands h = record {
   names = h.names;
 }
 
--- It is known, too, where the first change may be made: nothing is owed, the folder stands, and nothing stands at the target.
+-- It is known, too, where the first change may be made: nothing is owed, the folder stands, and nothing stands at the target, or a file or a link.
 module _ (told : Said) (dirty : List Route) (marks : Marks) (log : CallLog) (kept : IsKept told dirty marks log) (c : SubtreeCopying) (stands : TreeStands dirty c) (fresh : is_fresh c.at.stage ≡ true)
-    (owed : NoneOwed (current log) (CopyTree c) dirty) (f : ℕ) (at : find (current log) (folder_of c.top.target) ≡ Some f) (folder : is_folder (node (current log) f) ≡ true) (free : find (current log) c.top.target ≡ None) where
+    (owed : NoneOwed (current log) (CopyTree c) dirty) (f : ℕ) (at : find (current log) (folder_of c.top.target) ≡ Some f) (folder : is_folder (node (current log) f) ≡ true) (open_to : (find (current log) c.top.target ≡ None) ⊎ StandsBare (current log) c.top.target) where
   abbrev up : Route
   up = folder_of c.top.target
 
@@ -80,7 +81,23 @@ module _ (told : Said) (dirty : List Route) (marks : Marks) (log : CallLog) (kep
     | inl here ↦ subst (λ p. name_waits log (name ∷ p) ≡ false) (sym (same_path-true q up here)) (none_waits told dirty marks log up kept.known none name)
     | inr within ↦
         let way = prefix_way c.top.target q within in
-        ap (λ o. option_map_or (λ g. is_pending g name log.changes) o false) (ap (find (current log)) way.1 ∙ none_below log way.0 c.top.target free)
+        subst (λ p. name_waits log (name ∷ p) ≡ false) (sym way.1) (none_in way.0)
+  ]
+    where
+      none_at : (find (current log) c.top.target ≡ None) ⊎ StandsBare (current log) c.top.target → name_waits log (name ∷ c.top.target) ≡ false
+      none_at (inl free) = ap (λ o. option_map_or (λ g. is_pending g name log.changes) o false) free
+      none_at (inr b) = ap (λ o. option_map_or (λ g. is_pending g name log.changes) o false) b.leads ∙ kept.known.files.bare b.i name b.bare
+
+      none_in : (rest : Route) → name_waits log (name ∷ rest ++ c.top.target) ≡ false
+      none_in [] = none_at open_to
+      none_in (more ∷ rest) = ap (λ o. option_map_or (λ g. is_pending g name log.changes) o false) (none_below_open log kept.known.guarded.tree c.top.target open_to more rest)
+
+  -- what stands below the target is calm, since nothing does, and so is what stands there, if nothing does
+  calm_first : (rest : Route) → IsCalmFrom log c.at c.top.target rest
+  calm_first (more ∷ rest) = inl (let law = calm_law in law.free log c.at (more ∷ rest ++ c.top.target) (none_below_open log kept.known.guarded.tree c.top.target open_to more rest))
+  calm_first [] = elim open_to [
+    | inl free ↦ inl (let law = calm_law in law.free log c.at c.top.target free)
+    | inr b ↦ inr (refl, b, (let outside = stands.unbegun fresh in subst (λ i. IsApart i c.top.target) (sym outside.none) tt))
   ]
 
   pub first_has : LogHas c.top log c.at
@@ -96,33 +113,33 @@ module _ (told : Said) (dirty : List Route) (marks : Marks) (log : CallLog) (kep
         marked = stands.marked;
         text = subst (λ i. TextKnown log i) (sym outside.none) tt;
         whole = subst (λ i. PartCalm log i) (sym outside.none) tt;
-        calm = λ rest. (let law = calm_law in law.free log c.at (rest ++ c.top.target) (none_below log rest c.top.target free));
+        calm = calm_first;
         names = λ name q own waits. absurd (both_ways _ (none_own name q own) waits);
       }
 
-module _ (told : Said) (dirty dirty_after : List Route) (marks : Marks) (log now : CallLog) (kept : IsKept told dirty marks log) (c new : SubtreeCopying) (did : Did) (free : Route → Bool) (count f0 f1 : ℕ)
-    (s : SubtreeSteps free c new did count dirty dirty_after (Some log) (Some now) f0 f1) (stands : TreeStands dirty c) (name : HasName c.top.target) (told_so : IsAfter did c new) where
+module _ (told : Said) (dirty dirty_after : List Route) (marks : Marks) (log now : CallLog) (kept : IsKept told dirty marks log) (c new : SubtreeCopying) (did : Did) (free : Route → Bool) (replies : Replies) (count f0 f1 : ℕ)
+    (s : SubtreeSteps free replies c new did count dirty dirty_after (Some log) (Some now) f0 f1) (stands : TreeStands dirty c) (name : HasName c.top.target) (told_so : IsAfter did c new) where
   name_then : HasName new.top.target
   name_then = subst (λ (top : Pair). HasName top.target) (sym told_so.top) name
 
   -- once something was changed
-  pub tree_then : is_prefix c.top.target c.top.source ≡ false → LogHas c.top log c.at → (after : Said) (course : Course) (m : Marks) → OwedModes after.tree new.at → after.folders (folder_of c.top.target) ≡ true → ItemHas after dirty_after m (current now) course new.at.item
+  pub tree_then : LiesOutside c.top → LogHas c.top log c.at → (after : Said) (course : Course) (m : Marks) → OwedModes after.tree new.at → after.folders (folder_of c.top.target) ≡ true → ItemHas after dirty_after m (current now) course new.at.item
       → AroundKnows after m (current now) new → TreeKnown after dirty_after m now course new
   tree_then outside has after course m modes folder part around =
-      let has_now = log_goes free c new did count dirty dirty_after log now f0 f1 s kept.known.guarded.tree kept.known.files has in
+      let has_now = log_goes free replies c new did count dirty dirty_after log now f0 f1 s kept.known.guarded.tree kept.known.files has in
       let copy = has_now.copy in
       record {
         name = name_then;
         part = part;
         goes = λ on. record {
-          stands = steps_stand free c new did count dirty dirty_after log now f0 f1 s told_so.stage has_now.marked stands;
+          stands = steps_stand free replies c new did count dirty dirty_after log now f0 f1 s told_so.stage has_now.marked stands;
           begun = λ some. record {
-            outside = subst (λ (top : Pair). is_prefix top.target top.source ≡ false) (sym told_so.top) outside;
+            outside = subst LiesOutside (sym told_so.top) outside;
             levels = copy.0.0;
             item = copy.1;
             text = has_now.text;
             whole = has_now.whole;
-            calm = λ rest. subst (λ (top : Pair). IsCalm now new.at (rest ++ top.target)) (sym told_so.top) (has_now.calm rest);
+            calm = λ rest. subst (λ (top : Pair). IsCalmFrom now new.at top.target rest) (sym told_so.top) (has_now.calm rest);
             names = λ n q own. has_now.names n q (subst (λ (top : Pair). is_of (folder_of top.target) top.target q ≡ true) told_so.top own);
             modes = modes;
             folder = subst (λ (top : Pair). after.folders (folder_of top.target) ≡ true) (sym told_so.top) folder;
@@ -136,12 +153,12 @@ module _ (told : Said) (dirty dirty_after : List Route) (marks : Marks) (log now
   tree_fresh was still after course m part =
       let law = unbegun_law in
       let before = stands.unbegun was in
-      let outside = law.step free c new did count dirty dirty_after (Some log) (Some now) f0 f1 s (subst IsWorkable (sym before.none) tt) stands.unbegun still in
+      let outside = law.step free replies c new did count dirty dirty_after (Some log) (Some now) f0 f1 s (subst IsWorkable (sym before.none) tt) stands.unbegun still in
       record {
         name = name_then;
         part = part;
         goes = λ on. record {
-          stands = steps_stand free c new did count dirty dirty_after log now f0 f1 s told_so.stage (subst (λ i. WorkedMarked i new.at.levels.inner) (sym outside.none) tt) stands;
+          stands = steps_stand free replies c new did count dirty dirty_after log now f0 f1 s told_so.stage (subst (λ i. WorkedMarked i new.at.levels.inner) (sym outside.none) tt) stands;
           begun = λ some. absurd (both_ways _ some still);
         };
       }

@@ -6,6 +6,7 @@ use Rattle.tree_trait.specs.FileSystem.{Spot}
 use Rattle.crash_law.specs.Guarded.{Marks}
 use Rattle.job_answers.specs.Skipping.{passed_cause}
 use Rattle.job_answers.specs.declared.skips.Skips.{Skips as Kinds}
+use Rattle.job_answers.specs.declared.replies.Replies.{Replies}
 use Rattle.job_reports.specs.CallRuns.{AllDone}
 use Rattle.job_reports.specs.declared.report.Cause.{Cause}
 use Rattle.job_reports.specs.declared.report.Did.{Did}
@@ -31,10 +32,11 @@ use Rattle.subtree_copy.specs.Marks.{folder_worked, is_dirty_after, is_left_dirt
 use Rattle.subtree_copy.specs.Standing.{SubtreeCopying}
 use Rattle.subtree_copy.specs.Unbegun.{MayBegin}
 use Rattle.copy_move.specs.declared.run.Course.TheVariants.{GoesOn}
+use Rattle.history_laws.proofs.FileMoves.{worked_moves}
 use Rattle.history_laws.proofs.GivenModes.{file_owes, link_owes, works_owe}
 use Rattle.history_laws.proofs.Knowing.{IsKept, Said}
 use Rattle.history_laws.proofs.OwedModes.{OwedModes}
-use Rattle.history_laws.proofs.TreeBefore.{Before, Result, ends_refused, ends_synced, finishes, is_begun, merges, stops_before, syncs_around}
+use Rattle.history_laws.proofs.TreeBefore.{asks, keeps, Before, Result, ends_refused, ends_synced, finishes, is_begun, merges, stops_before, syncs_around}
 use Rattle.history_laws.proofs.TreeBegins.{none_left}
 use Rattle.history_laws.proofs.TreeKnown.{ItemHas}
 use Rattle.history_laws.proofs.TreeListed.{list_joins, list_stays}
@@ -87,7 +89,7 @@ skip_says (Link l) cause old new did (moved, inl s, stands) = inl (_, cause, s.0
 skip_says (Link l) cause old new did (moved, inr room, stands) = inr (_, room.0)
 skip_says (Stays part) cause old new did s = absurd s
 
-module _ (told : Said) (dirty dirty_after : List Route) (marks : Marks) (log now : CallLog) (kept : IsKept told dirty marks log) (c : SubtreeCopying) (mid : Seen) (b : Before told dirty marks log c mid) (laid : LaidIn mid) (free : Route → Bool)
+module _ (told : Said) (dirty dirty_after : List Route) (marks : Marks) (log now : CallLog) (kept : IsKept told dirty marks log) (c : SubtreeCopying) (mid : Seen) (b : Before told dirty marks log c mid) (laid : LaidIn mid) (free : Route → Bool) (replies : Replies)
     (did : Did) (new : Seen) (list : dirty_after ≡ change_list (was_dirty mid) (is_dirty_after mid did new) (folder_worked mid) dirty) (first : is_fresh c.at.stage ≡ true → MayBegin did) where
   abbrev Comes_to : Did → Type 0
   Comes_to d = Result told dirty dirty_after log now c d new
@@ -124,26 +126,34 @@ module _ (told : Said) (dirty dirty_after : List Route) (marks : Marks) (log now
           (let placed = placed_of mid.name mid.levels.inner mid.levels.around laid in absurd (closing_not mid.levels.inner.copy.stage placed.made mode stage))
       by folder_did.Closed is tells rows = absurd is
 
-  takes : mid.item ≡ Next → is_around_dirty mid.levels.around ≡ false → TakesNext (IsPartPlace free mid) mid new did (Some log) (Some now) → Comes_to did
+  takes : mid.item ≡ Next → is_around_dirty mid.levels.around ≡ false → TakesNext (IsPartPlace free mid) replies mid new did (Some log) (Some now) → Comes_to did
   takes none clean (inl s) =
       subst Comes_to (sym s.says)
       (stops_before told dirty dirty_after marks log now kept c mid b none s.trouble new s.stands
       (list_stays told dirty dirty_after marks log now kept c mid b none clean free did new list
       (ap (λ d. is_left_dirty d new) s.says ∙ ap (λ (x : Seen). folder.is_dirty x.levels.inner.copy.names) s.stands)) (some_log now log s.same))
-  takes none clean (inr (inl t)) = takes_file told dirty dirty_after marks log now kept c mid b none clean free did new t list
-  takes none clean (inr (inr (inl t))) = takes_link told dirty dirty_after marks log now kept c mid b none clean free did new t list
-  takes none clean (inr (inr (inr (inl t)))) = takes_folder told dirty dirty_after marks log now kept c mid b none clean free did new t list
+  takes none clean (inr (inl t)) = takes_file told dirty dirty_after marks log now kept c mid b none clean free replies did new t list
+  takes none clean (inr (inr (inl t))) = takes_link told dirty dirty_after marks log now kept c mid b none clean free replies did new t list
+  takes none clean (inr (inr (inr (inl t)))) = takes_folder told dirty dirty_after marks log now kept c mid b none clean free replies did new t list
   takes none clean (inr (inr (inr (inr (inl t))))) =
-      merges told dirty dirty_after marks log now kept c mid b none did new t
+      merges told dirty dirty_after marks log now kept c mid b none replies did new t
       (list_stays told dirty dirty_after marks log now kept c mid b none clean free did new list
       (ap (λ d. is_left_dirty d new) t.says ∙ ap (λ (x : Seen). folder.is_dirty x.levels.inner.copy.names) t.stands))
-  takes none clean (inr (inr (inr (inr (inr (next, inl (debt, e))))))) = ends_at none clean e
-  takes none clean (inr (inr (inr (inr (inr (next, inr (debt, f, same))))))) =
+  takes none clean (inr (inr (inr (inr (inr (inl t)))))) =
+      keeps told dirty dirty_after marks log now kept c mid b none replies did new t
+      (list_stays told dirty dirty_after marks log now kept c mid b none clean free did new list
+      (ap (λ d. is_left_dirty d new) t.says ∙ ap (λ (x : Seen). folder.is_dirty x.levels.inner.copy.names) t.stands))
+  takes none clean (inr (inr (inr (inr (inr (inr (inl t))))))) =
+      asks told dirty dirty_after marks log now kept c mid b none replies did new t
+      (list_stays told dirty dirty_after marks log now kept c mid b none clean free did new list
+      (ap (λ d. is_left_dirty d new) t.says ∙ ap (λ (x : Seen). folder.is_dirty x.levels.inner.copy.names) t.stands))
+  takes none clean (inr (inr (inr (inr (inr (inr (inr (next, inl (debt, e))))))))) = ends_at none clean e
+  takes none clean (inr (inr (inr (inr (inr (inr (inr (next, inr (debt, f, same))))))))) =
       finishes told dirty dirty_after marks log now kept c mid b none did new f
       (list_stays told dirty dirty_after marks log now kept c mid b none clean free did new list
       (ap (λ d. is_left_dirty d new) f.says ∙ ap (λ (x : Seen). folder.is_dirty x.levels.inner.copy.names) f.stands)) (some_log now log same)
 
-  pub works : (item : Item) → mid.item ≡ item → WorksOn item (IsPartPlace free mid) mid new did (Some log) (Some now) → Comes_to did
+  pub works : (item : Item) → mid.item ≡ item → WorksOn item (IsPartPlace free mid) replies mid new did (Some log) (Some now) → Comes_to did
   works Next none (inl s) = syncs_around told dirty dirty_after marks log now kept c mid b none did new first list s
   works Next none (inr (clean, t)) = takes none clean t
   works (File f) is w = works_file told dirty dirty_after marks log now kept c mid b (some_of (λ none. let e : File f ≡ Next = sym is ∙ none in let x : ⊥ = cc in x)) f is (IsPartPlace free mid) did new w list
@@ -151,12 +161,12 @@ module _ (told : Said) (dirty dirty_after : List Route) (marks : Marks) (log now
   works (Stays part) is w = absurd w
 
   -- the modes that are owed, as the history told them before
-  pub owes : (item : Item) → mid.item ≡ item → WorksOn item (IsPartPlace free mid) mid new did (Some log) (Some now) → OwedModes told.tree mid → OwedModes told.tree new
+  pub owes : (item : Item) → mid.item ≡ item → WorksOn item (IsPartPlace free mid) replies mid new did (Some log) (Some now) → OwedModes told.tree mid → OwedModes told.tree new
   owes Next none w owed =
       let part : told.part ≡ None = subst (λ i. ItemHas told dirty marks (current log) GoesOn i) none b.part in
       let placed = placed_of mid.name mid.levels.inner mid.levels.around laid in
-      works_owe told.tree (IsPartPlace free mid) mid new did log now
+      works_owe told.tree (IsPartPlace free mid) replies mid new did log now
       (λ p. ap (λ (s : Spot). s.value) (kept.known.shows p (λ is. let e : (let o : Option Route = None in o) ≡ Some p = sym part ∙ is in let x : ⊥ = cc in x))) owed placed.made Next w
-  owes (File f) is w owed = file_owes told.tree (IsPartPlace free mid) mid new did (Some log) (Some now) owed f w
+  owes (File f) is w owed = file_owes told.tree (IsPartPlace free mid) mid new did (Some log) (Some now) owed f (worked_moves (IsPartPlace free mid) f mid new did (Some log) (Some now) w)
   owes (Link l) is w owed = link_owes told.tree (IsPartPlace free mid) mid new did (Some log) (Some now) owed l w
   owes (Stays part) is w owed = absurd w

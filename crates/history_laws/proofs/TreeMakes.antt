@@ -12,6 +12,7 @@ use Rattle.tree_trait.specs.FileSystem.{Spot, Value, find, value}
 use Rattle.tree_trait.proofs.Visible.{same_path-self, same_path-true}
 use Rattle.tree_trait.proofs.Walking.{stat-found}
 use Rattle.crash_law.specs.Guarded.{Marks}
+use Rattle.job_answers.specs.declared.replies.Replies.{Replies}
 use Rattle.job_reports.specs.CallRuns.{AllDone}
 use Rattle.job_reports.specs.Jobs.{Copies}
 use Rattle.job_reports.specs.Paths.{folder_of}
@@ -25,7 +26,7 @@ use Rattle.copy_levels.specs.Levels.{Levels, is_around_dirty, made_levels}
 use Rattle.tree_deletion.specs.Folders.{joined, with_change as change_list}
 use Rattle.tree_copy.specs.Parts.{ahead}
 use Rattle.tree_copy.specs.Standing.{Seen, after_report, target_name}
-use Rattle.tree_copy.specs.Steps.{TakesFolder}
+use Rattle.tree_copy.specs.Steps.{TakesFolder, is_top}
 use Rattle.tree_copy.specs.declared.item.Item.TheVariants.{Next}
 use Rattle.subtree_copy.specs.Marks.{folder_worked, is_dirty_after, is_left_dirty, was_dirty}
 use Rattle.subtree_copy.specs.Standing.{SubtreeCopying}
@@ -66,7 +67,7 @@ use Rattle.history_laws.proofs.MakingThings.{marks_born, new_node, thing_made_kn
 use Rattle.history_laws.proofs.TreeCalls.{folder_refused}
 
 module _ (told : Said) (dirty dirty_after : List Route) (marks : Marks) (log now : CallLog) (kept : IsKept told dirty marks log) (c : SubtreeCopying) (mid : Seen) (b : Before told dirty marks log c mid) (none : mid.item ≡ Next)
-    (clean : is_around_dirty mid.levels.around ≡ false) (free : Route → Bool) where
+    (clean : is_around_dirty mid.levels.around ≡ false) (free : Route → Bool) (replies : Replies) where
   abbrev Comes_to : Did → Seen → Type 0
   Comes_to did new = Result told dirty dirty_after log now c did new
 
@@ -82,7 +83,7 @@ module _ (told : Said) (dirty dirty_after : List Route) (marks : Marks) (log now
   no_part_at : (p : Route) → told.part ≡ Some p → ⊥
   no_part_at p is = let e : (let o : Option Route = None in o) ≡ Some p = sym part_none ∙ is in let f : ⊥ = cc in f
 
-  module _ (did : Did) (new : Seen) (t : TakesFolder mid new did (Some log) (Some now)) (list : Listed did new) where
+  module _ (did : Did) (new : Seen) (t : TakesFolder replies mid new did (Some log) (Some now)) (list : Listed did new) where
     abbrev pair : Pair
     pair = t.pair
 
@@ -138,16 +139,19 @@ module _ (told : Said) (dirty dirty_after : List Route) (marks : Marks) (log now
       then : now ≡ with_change log makes
       then = d.is
 
-      looked : IsTaken (current log) t.pair (taken.Folder t.names t.mode)
+      looked : IsTaken (current log) (is_top mid) replies t.pair (taken.Folder t.names t.mode)
       looked = t.is log refl
 
       source_at : find (current log) source ≡ Some (found (current log) source)
       source_at = stat-found (current log) source looked.0.0
 
+      target_free : find (current log) target ≡ None
+      target_free = stat_missing (current log) target looked.1
+
       meets : Meets log t.pair
       meets = record {
         stands = ap (λ q. folder_at (current log) (folder_of q)) met.target_is ∙ folder_at_of (current log) up g passes.folder passes.holds;
-        free = stat_missing (current log) target looked.1;
+        open_to = inl target_free;
         n = found (current log) source;
         source = source_at;
       }
@@ -162,7 +166,7 @@ module _ (told : Said) (dirty dirty_after : List Route) (marks : Marks) (log now
       made_path = name ∷ up
 
       was_free : find (current log) made_path ≡ None
-      was_free = ap (find (current log)) (sym met.target_is) ∙ meets.free
+      was_free = ap (find (current log)) (sym met.target_is) ∙ target_free
 
       untouched : IsUntouched marks (current log) made_path
       untouched = met_untouched told dirty marks log up (ahead mid) name kept filling (among_next mid met.name met.rest met.names_are) was_free
@@ -236,7 +240,7 @@ module _ (told : Said) (dirty dirty_after : List Route) (marks : Marks) (log now
             modes = λ h. free_owes told.tree after.tree made_path (λ p off. put_off told.tree made_path (Some what) p off) (ap (λ (s : Spot). s.value) nothing_told) new.levels.inner new.levels.around h;
           })))
 
-  pub takes_folder : (did : Did) (new : Seen) (t : TakesFolder mid new did (Some log) (Some now)) → Listed did new → Comes_to did new
+  pub takes_folder : (did : Did) (new : Seen) (t : TakesFolder replies mid new did (Some log) (Some now)) → Listed did new → Comes_to did new
   takes_folder did new t list = (let w = t.works in by w.report w.says w.tells (w.called log refl))
     where
       by : (report : FolderDid) → IsToldAs report did → folder.Tells (let p = t.pair in folder.copying p.source p.target (at.Make t.mode) Synced) report (let w = t.works in w.moved) → FolderCalls (let p = t.pair in folder.copying p.source p.target (at.Make t.mode) Synced) report log (Some now) → Comes_to did new

@@ -1,23 +1,23 @@
 -- The mode that a copied folder is to be given is that of its source, as the history shows it once a step is told: no step changes what stands at the
 -- source of a folder that is owed one.
-use Rattle.std.proofs.Common.{◌≡◌, ℕ, ◌<◌, ◌≤◌, Bool, true, false, List, [], ◌∷◌, ◌++◌, length, refl, sym, ◌∙◌, ap, subst, Option, Some, None, arith}
-use Rattle.std.proofs.lemmas.Bool.{both_ways}
+use Rattle.std.proofs.Common.{◌≡◌, ℕ, ◌<◌, Bool, true, false, List, [], ◌∷◌, ◌++◌, length, refl, sym, ◌∙◌, ap, Option, Some, None, arith}
 use Rattle.std.proofs.lemmas.List.{length-append}
-use Rattle.mc_text.specs.Routes.{Route, is_prefix, same_path}
+use Rattle.mc_text.specs.Routes.{Route, same_path}
 use Rattle.tree_trait.specs.FileSystem.{Value, View}
 use Rattle.tree_trait.proofs.Visible.{same_path-true}
 use Rattle.job_reports.specs.declared.job.Pair.{Pair}
 use Rattle.copy_levels.specs.declared.level.Level.{Level}
 use Rattle.tree_copy.specs.InPlace.{AreMoved, owed_of}
+use Rattle.history_laws.proofs.TreeKnown.{LiesOutside}
 use Rattle.history_laws.proofs.FoldersLie.{AreNested}
-use Rattle.history_laws.proofs.Intact.{prefix_append}
 use Rattle.history_laws.proofs.OwedModes.{AllOwe, OwesSource}
 
 -- A path is said to be below both: so the higher of them lies below the other.
-pub prefix_of_longer : (less more source target : Route) → less ++ source ≡ more ++ target → length less ≤ length more → is_prefix target source ≡ true
-prefix_of_longer [] more source target same few = subst (λ p. is_prefix target p ≡ true) (sym same) (prefix_append target more)
-prefix_of_longer (name ∷ less) [] source target same few = absurd (omega (arith, few))
-prefix_of_longer (name ∷ less) (other ∷ more) source target same few = prefix_of_longer less more source target (let e : less ++ source ≡ more ++ target = cc in e) (omega (arith, few))
+below_longer : (less more source target : Route) → less ++ source ≡ more ++ target → length less < length more → (name : List ℕ) × (rest : Route) × (source ≡ name ∷ rest ++ target)
+below_longer [] [] source target same few = absurd (omega (arith, few))
+below_longer [] (name ∷ more) source target same few = (name, more, same)
+below_longer (name ∷ less) [] source target same few = absurd (omega (arith, few))
+below_longer (name ∷ less) (other ∷ more) source target same few = below_longer less more source target (let e : less ++ source ≡ more ++ target = cc in e) (omega (arith, few))
 
 module _ (v w : View) (path : Route) (off : (p : Route) → same_path p path ≡ false → w p ≡ v p) where
   -- what is owed holds of a view that shows the same but at this path, which isn't the source
@@ -41,7 +41,7 @@ module _ (v w : View) (path : Route) (off : (p : Route) → same_path p path ≡
     free_owes inner (outer ∷ around) h = (still_owes inner (not_there inner h.0) h.0, free_owes outer around h.1)
 
   -- it lies deeper below the target than these folders
-  module _ (top : Pair) (outside : is_prefix top.target top.source ≡ false) (rest : Route) (path_is : path ≡ rest ++ top.target) where
+  module _ (top : Pair) (outside : LiesOutside top) (rest : Route) (path_is : path ≡ rest ++ top.target) where
     lower : (l : Level) (m : Route) → l.copy.source ≡ m ++ top.source → l.copy.target ≡ m ++ top.target → length l.copy.target < length path → same_path l.copy.source path ≡ false
     lower l m from to less = by (same_path l.copy.source path) refl
       where
@@ -53,7 +53,8 @@ module _ (v w : View) (path : Route) (off : (p : Route) → same_path p path ≡
             let b = ap (λ (q : Route). length q) to in
             let c = length-append rest top.target in
             let d = length-append m top.target in
-            absurd (both_ways _ outside (prefix_of_longer m rest top.source top.target there (omega (arith, less, a, b, c, d))))
+            let under = below_longer m rest top.source top.target there (omega (arith, less, a, b, c, d)) in
+            absurd (outside under.0 under.1 under.2)
 
     pub lower_owes : (l : Level) (around : List Level) → AreNested l.copy.target around → length l.copy.target < length path → AreMoved top l around → AllOwe v l around → AllOwe w l around
     lower_owes l [] nested less moved h = λ mode is. absurd (let e : (let o : Option ℕ = None in o) ≡ Some mode = sym moved.keeps ∙ is in let f : ⊥ = cc in f)

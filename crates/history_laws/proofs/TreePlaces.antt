@@ -30,7 +30,9 @@ use Rattle.job_reports.specs.declared.report.Did.{Did}
 use Rattle.copy_levels.specs.Levels.{IsLeft, Levels, closed, coming, dirtied, emptied, entered, level, made_levels, passed, with_copy}
 use Rattle.tree_copy.specs.Progress.{link_progress, progress}
 use Rattle.tree_copy.specs.Standing.{Seen, target_name}
-use Rattle.tree_copy.specs.Steps.{FileWorks, GoesOn, LinkWorks, TakesNext, WorksOn, idle, link_begun, noted, settled}
+use Rattle.tree_copy.specs.Steps.{GoesOn, LinkWorks, TakesNext, WorksOn, idle, link_begun, noted, settled}
+use Rattle.job_answers.specs.declared.replies.Replies.{Replies}
+use Rattle.history_laws.proofs.FileMoves.{FileMoves, taken_moves, worked_moves}
 use Rattle.history_laws.proofs.OpenFolders.{later}
 use Rattle.history_laws.proofs.FoldersLie.{AreLaid, AreNested, IsOnce, IsPlaced}
 use Rattle.history_laws.proofs.TreeSteps.{closing_not, next_of}
@@ -170,22 +172,22 @@ module _ (name : List ℕ) where
         }) k.2,
       )
 
-module _ (unclaimed : Route → Type 0) (old new : Seen) (did : Did) (before after : Option CallLog) (h : AreLaid old.name old.levels.inner old.levels.around) where
+module _ (unclaimed : Route → Type 0) (replies : Replies) (old new : Seen) (did : Did) (before after : Option CallLog) (h : AreLaid old.name old.levels.inner old.levels.around) where
   abbrev Then : Type 0
   Then = AreLaid old.name new.levels.inner new.levels.around
 
   stays_laid : new ≡ old → Then
   stays_laid is = subst (λ (c : Seen). AreLaid old.name c.levels.inner c.levels.around) (sym is) h
 
-  laid_file : (f : Copying) → FileWorks unclaimed f old new did before after → Then
+  laid_file : (f : Copying) → FileMoves unclaimed f old new did before after → Then
   laid_file f w = subst (λ (c : Seen). AreLaid old.name c.levels.inner c.levels.around) (sym w.stands) (laid_settled old.name (progress w.moved.stage) (File w.moved) did (file.is_dirty w.moved.folder) (idle old) h)
 
   laid_link : (l : LinkCopying) → LinkWorks l old new did before after → Then
   laid_link l w = subst (λ (c : Seen). AreLaid old.name c.levels.inner c.levels.around) (sym w.stands) (laid_settled old.name (link_progress w.moved.stage) (Link w.moved) did (link.is_dirty w.moved.folder) (idle old) h)
 
-  laid_next : TakesNext unclaimed old new did before after → Then
+  laid_next : TakesNext unclaimed replies old new did before after → Then
   laid_next (inl s) = stays_laid s.stands
-  laid_next (inr (inl t)) = laid_file (file.begun old.job t.pair.source t.pair.target) t.works
+  laid_next (inr (inl t)) = laid_file (file.begun old.job t.pair.source t.pair.target) (taken_moves unclaimed replies old new did before after t)
   laid_next (inr (inr (inl t))) = laid_link (link_begun t.pair t.part) t.works
   laid_next (inr (inr (inr (inl t)))) =
       let next = next_of old old.levels.inner.names.names t.pair t.next in
@@ -193,19 +195,21 @@ module _ (unclaimed : Route → Type 0) (old new : Seen) (did : Did) (before aft
       subst (λ (c : Seen). AreLaid old.name c.levels.inner c.levels.around) (sym w.stands)
       (laid_made old.name t.pair t.names t.mode w.moved w.report (target_name old next.name) old.levels t.in_order next.target_is w.tells h)
   laid_next (inr (inr (inr (inr (inl t))))) = subst (λ (c : Seen). AreLaid old.name c.levels.inner c.levels.around) (sym t.stands) (laid_passed old.name false old.levels h)
-  laid_next (inr (inr (inr (inr (inr (next, inl (debt, e))))))) =
+  laid_next (inr (inr (inr (inr (inr (inl t)))))) = subst (λ (c : Seen). AreLaid old.name c.levels.inner c.levels.around) (sym t.stands) (laid_passed old.name false old.levels h)
+  laid_next (inr (inr (inr (inr (inr (inr (inl t))))))) = stays_laid t.stands
+  laid_next (inr (inr (inr (inr (inr (inr (inr (next, inl (debt, e))))))))) =
       subst (λ (c : Seen). AreLaid old.name c.levels.inner c.levels.around) (sym e.stands) (laid_ends old.name (closed old.levels) e.moved e.report e.tells (laid_closed old.name old.levels h))
-  laid_next (inr (inr (inr (inr (inr (next, inr (debt, f, same))))))) = subst (λ (c : Seen). AreLaid old.name c.levels.inner c.levels.around) (sym f.stands) (laid_closed old.name old.levels h)
+  laid_next (inr (inr (inr (inr (inr (inr (inr (next, inr (debt, f, same))))))))) = subst (λ (c : Seen). AreLaid old.name c.levels.inner c.levels.around) (sym f.stands) (laid_closed old.name old.levels h)
 
-  laid_goes : GoesOn unclaimed old new did before after → Then
+  laid_goes : GoesOn unclaimed replies old new did before after → Then
   laid_goes (inl s) =
       subst (λ (c : Seen). AreLaid old.name c.levels.inner c.levels.around) (sym s.stands)
       (laid_around old.name old.levels s.outer (level s.outer.names (record s.outer.copy { names = s.names })) s.around s.was refl refl refl h)
   laid_goes (inr s) = laid_next s.1
 
   -- so a step leaves them
-  pub laid_works : (item : Item) → WorksOn item unclaimed old new did before after → Then
+  pub laid_works : (item : Item) → WorksOn item unclaimed replies old new did before after → Then
   laid_works Next w = laid_goes w
-  laid_works (File f) w = laid_file f w
+  laid_works (File f) w = laid_file f (worked_moves unclaimed f old new did before after w)
   laid_works (Link l) w = laid_link l w
   laid_works (Stays part) w = absurd w

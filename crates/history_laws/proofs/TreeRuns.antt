@@ -53,7 +53,7 @@ placing_may s up q rest names part target w where_is = record {
   apart = w.apart;
   leads = subst (λ r. find s r ≡ Some w.i) w.part_is w.leads;
   file = w.file;
-  free = subst (λ r. find s r ≡ None) w.target_is w.free;
+  bare = subst (λ r. (j : ℕ) → find s r ≡ Some j → is_folder (node s j) ≡ false) w.target_is w.bare;
   part_off = subst (λ r. IsNoneOf q names r) (sym w.part_is) (off w.k w.part_off);
   target_off = subst (λ r. IsNoneOf q names r) (sym w.target_is) (off w.n w.target_off);
 }
@@ -76,7 +76,9 @@ at_work_quiet log c up rest part target tree none w = record {
   apart = w.apart;
   leads = same_quiet log c (none (length (current log).nodes)) part ∙ w.leads;
   file = ap (λ (s : FileSystem). is_folder (node s w.i)) (current_more log c) ∙ (folder_kept (current log) c w.i (found_there (current log) tree part w.i w.leads) ∙ w.file);
-  free = same_quiet log c (none (length (current log).nodes)) target ∙ w.free;
+  bare = λ j at.
+      let before = sym (same_quiet log c (none (length (current log).nodes)) target) ∙ at in
+      ap (λ (s : FileSystem). is_folder (node s j)) (current_more log c) ∙ (folder_kept (current log) c j (found_there (current log) tree target j before) ∙ w.bare j before);
   part_off = w.part_off;
   target_off = w.target_off;
 }
@@ -84,7 +86,11 @@ at_work_quiet log c up rest part target tree none w = record {
 pub has_quiet : (name : List ℕ) (l : Levels) (part target : Route) (log : CallLog) (c : Change) → IsTree (current log) → ((n g : ℕ) (m : List ℕ) → says c n g m ≡ None) → HasItem log name l part target
     → HasItem (with_change log c) name l part target
 unfolding at_work_quiet
-has_quiet name l part target log c tree none h = record { work = at_work_quiet log c l.inner.copy.target (let p : Levels = passed false l in coming name p.inner.names p.around) part target tree none h.work; off = h.off }
+has_quiet name l part target log c tree none h = record {
+  work = at_work_quiet log c l.inner.copy.target (let p : Levels = passed false l in coming name p.inner.names p.around) part target tree none h.work;
+  off = h.off;
+  free = elim h.free [ inl free ↦ inl (same_quiet log c (none (length (current log).nodes)) target ∙ free) | inr outermost ↦ inr outermost ];
+}
 
 -- What is known of open folders, in which a file or a link is at work.
 module _ (name : List ℕ) (l : Levels) (clean : is_around_dirty l.around ≡ false) (nested : AreNested l.inner.copy.target l.around) where

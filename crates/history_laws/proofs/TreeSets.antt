@@ -12,7 +12,7 @@ use Rattle.tree_trait.specs.FileSystem.{Spot, Value, find, node, value}
 use Rattle.tree_trait.proofs.Finding.{find-once}
 use Rattle.tree_trait.proofs.Visible.{same_path-self, same_path-true}
 use Rattle.crash_law.specs.Guarded.{Marks, with_mode}
-use Rattle.crash_law.proofs.Guarding.{same_quiet}
+use Rattle.crash_law.proofs.Guarding.{same_quiet, found_there}
 use Rattle.job_reports.specs.CallRuns.{AllDone}
 use Rattle.job_reports.specs.Paths.{folder_of}
 use Rattle.job_reports.specs.declared.job.Pair.{Pair}
@@ -36,6 +36,7 @@ use Rattle.subtree_copy.specs.Standing.{SubtreeCopying}
 use Rattle.copy_move.specs.declared.run.Course.TheVariants.{GoesOn}
 use Rattle.copy_move.specs.declared.work.Work.TheVariants.{CopyTree}
 use Rattle.history_laws.specs.Replayed.{moved_from, with_mode_of}
+use Rattle.tree_trait.specs.Refusals.{is_folder}
 use Rattle.history_laws.proofs.Calm.{IsCalm, filled_part, was_set}
 use Rattle.history_laws.proofs.CalmLaws.{quiet_modes_law}
 use Rattle.history_laws.proofs.Deleted.{put_at, put_off}
@@ -46,7 +47,7 @@ use Rattle.history_laws.proofs.GivenModes.{closed_owe, inner_owes, leaves_owe}
 use Rattle.history_laws.proofs.Knowing.{IsKept, IsKnown, Said, settled_marks}
 use Rattle.history_laws.proofs.OpenFolders.{AroundKnow, LevelsKnow}
 use Rattle.history_laws.proofs.OwedModes.{AllOwe, OwedModes, OwesSource}
-use Rattle.history_laws.proofs.Quiet.{starts_same}
+use Rattle.history_laws.proofs.Quiet.{starts_same, kind_same}
 use Rattle.history_laws.proofs.QuietRuns.{row_done}
 use Rattle.history_laws.proofs.Resting.{IsFolderAt, IsSureFolder, stands_at}
 use Rattle.history_laws.proofs.SetFolders.{value_set}
@@ -154,7 +155,18 @@ module _ (told : Said) (dirty dirty_after : List Route) (marks : Marks) (log now
     no_mode =
         let law = quiet_modes_law in
         law.elsewhere told dirty marks log mid up i kept has.ends (no_item up) (unset_yet mid.levels.inner.copy.stage mid.levels.inner.copy.names mode stage)
-        (subst (λ q. IsCalm log mid q) (sym moved.to) (has.calm moved.rest)) stands.at
+        (subst (λ q. IsCalm log mid q) (sym moved.to) calm_up) stands.at
+      where
+        -- a folder stands there
+        calm_up : IsCalm log mid (moved.rest ++ top.target)
+        calm_up = elim (has.calm moved.rest) [
+          | inl calm ↦ calm
+          | inr b ↦
+              let stood = b.1 in
+              let here : find (current log) up ≡ Some stood.i = ap (find (current log)) (moved.to ∙ ap (λ q. q ++ top.target) b.0) ∙ stood.leads in
+              let same : stood.i ≡ i = (let e : Some stood.i ≡ Some i = sym here ∙ stands.at in cc) in
+              absurd (both_ways _ stood.bare (subst (λ j. is_folder (node (current log) j) ≡ true) (sym same) stands.folder))
+        ]
 
     abbrev after : Said
     after = said_after now (Set up) (CopyTree c) told
@@ -215,7 +227,7 @@ module _ (told : Said) (dirty dirty_after : List Route) (marks : Marks) (log now
     but_before = elim (b.around some) [ inl calm ↦ (λ name j other at. kept.known.calm (folder_of top.target) calm name j at) | inr but ↦ but.1 ]
 
     but_then : IsCalmBut m (current (with_change log change)) top.target
-    but_then name j other at = elim (but_before name j other here) [
+    but_then name j other at = elim (but_before name j (λ is. sym still_kind ∙ other is) here) [
       | inl still ↦ inl (still_none told after dirty dirty_after marks log up i mode kept sets m new_marks.1 j apart still)
       | inr begins ↦ inr (starts_same log change j ∙ begins)
     ]
@@ -223,10 +235,13 @@ module _ (told : Said) (dirty dirty_after : List Route) (marks : Marks) (log now
         here : find (current log) (name ∷ folder_of top.target) ≡ Some j
         here = sym (same_quiet log change (λ g k. refl) (name ∷ folder_of top.target)) ∙ at
 
+        still_kind : is_folder (node (current (with_change log change)) j) ≡ is_folder (node (current log) j)
+        still_kind = kind_same log change j (found_there (current log) kept.known.guarded.tree (name ∷ folder_of top.target) j here)
+
         apart : j ≡ i → ⊥
         apart same =
             let is : name ∷ folder_of top.target ≡ up = find-once (current log) kept.known.guarded.tree (name ∷ folder_of top.target) up i (here ∙ ap (λ k. Some k) same) stands.at in
-            other (is ∙ beside_is moved.rest top.target up name mid.name in_place.name moved.to is)
+            both_ways _ (sym still_kind ∙ other (is ∙ beside_is moved.rest top.target up name mid.name in_place.name moved.to is)) (subst (λ k. is_folder (node (current log) k) ≡ true) (sym same) stands.folder)
 
     around_then : AroundKnows after (settled_marks now m) (current now) (record c { at = new })
     around_then = elim (b.around some) [

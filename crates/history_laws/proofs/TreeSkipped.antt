@@ -38,6 +38,7 @@ use Rattle.subtree_copy.proofs.Begun.{begins_held}
 use Rattle.subtree_copy.proofs.Unbegun.{unbegun_law}
 use Rattle.copy_move.specs.declared.run.Course.{Course}
 use Rattle.copy_move.specs.declared.run.Course.TheVariants.{GoesOn}
+use Rattle.history_laws.proofs.BareSteps.{retry_bare, skip_bare}
 use Rattle.history_laws.proofs.CalmLaws.{calm_law}
 use Rattle.history_laws.proofs.EndSteps.{end_law}
 use Rattle.history_laws.proofs.KnownParts.{may_fill, FileKnows, HasName, LinkKnows, StageKnows, file_course, stage_anew, stage_skipped}
@@ -180,7 +181,7 @@ module _ (told : Said) (dirty : List Route) (marks : Marks) (log : CallLog) wher
           item = copy.1;
           text = (let law = text_law in law.skip log cause old.at at did skips h.text);
           whole = calm.0;
-          calm = λ rest. calm.1 (rest ++ old.top.target) (h.calm rest);
+          calm = λ rest. elim (h.calm rest) [ inl still ↦ inl (calm.1 (rest ++ old.top.target) still) | inr b ↦ inr (b.0, b.1, skip_bare old.top.target cause old.at at did skips b.2) ];
           names = λ name up own. names.1 name up (h.names name up own);
           modes = (let law = owed_mode_law in law.skip cause old.at at did told.tree skips h.modes);
           folder = h.folder;
@@ -240,7 +241,7 @@ module _ (told : Said) (dirty : List Route) (marks : Marks) (log : CallLog) wher
           item = copy.1;
           text = (let law = text_law in law.retry log c.at h.text);
           whole = calm.0;
-          calm = λ rest. calm.1 (rest ++ c.top.target) (h.calm rest);
+          calm = λ rest. elim (h.calm rest) [ inl still ↦ inl (calm.1 (rest ++ c.top.target) still) | inr b ↦ inr (b.0, b.1, retry_bare c.top.target c.at b.2) ];
           names = λ name up own. names.1 name up (h.names name up own);
           modes = (let law = owed_mode_law in law.retry c.at told.tree h.modes);
           folder = h.folder;

@@ -4,6 +4,7 @@ use Rattle.mc_text.specs.Routes.{Route}
 use Rattle.tree_trait.specs.Change.{CallLog, current}
 use Rattle.tree_trait.specs.CrashImages.{Among}
 use Rattle.tree_trait.specs.Shape.{IsTree}
+use Rattle.job_answers.specs.declared.replies.Replies.{Replies}
 use Rattle.job_reports.specs.Paths.{folder_of}
 use Rattle.job_reports.specs.declared.job.Pair.{Pair}
 use Rattle.job_reports.proofs.CallAnswers.{some_log}
@@ -27,7 +28,8 @@ use Rattle.tree_copy.specs.Parts.{IsPartPlace, ahead}
 use Rattle.tree_copy.specs.Standing.{Seen, due_at, pair_of, target_name}
 use Rattle.tree_copy.specs.Progress.{link_progress, progress}
 use Rattle.tree_copy.specs.declared.progress.Progress.TheVariants.{Anew, UnderWay}
-use Rattle.tree_copy.specs.Steps.{CopySteps, FileWorks, GoesOn, LinkWorks, TakesFile, TakesFolder, TakesLink, TakesNext, WorksOn, at_end, link_begun}
+use Rattle.tree_copy.specs.Steps.{CopySteps, GoesOn, LinkWorks, TakesFile, TakesFolder, TakesLink, TakesNext, WorksOn, at_end, link_begun}
+use Rattle.history_laws.proofs.FileMoves.{FileMoves, taken_moves, worked_moves}
 use Rattle.history_laws.proofs.Resting.{IsOfFiles}
 use Rattle.history_laws.proofs.AtWork.{ItemKnown}
 use Rattle.history_laws.proofs.OpenFolders.{LevelsKnow, later}
@@ -71,14 +73,14 @@ pub next_of : (c : Seen) (names : List (List ℕ)) (pair : Pair) → due_at name
 next_of c [] pair is = absurd (let f : ⊥ = cc in f)
 next_of c (name ∷ rest) pair is = record { name = name; rest = rest; names_are = refl; target_is = (let same : pair ≡ pair_of c name = cc in ap (λ (p : Pair). p.target) same) }
 
-module _ (free : Route → Bool) (old new : Seen) (did : Did) (log now : CallLog) (known : StepKnown log old) where
+module _ (free : Route → Bool) (replies : Replies) (old new : Seen) (did : Did) (log now : CallLog) (known : StepKnown log old) where
   abbrev Unclaimed : Route → Type 0
   Unclaimed = IsPartPlace free old
 
   abbrev Stay : Type 0
   Stay = LevelsKnow now old.name new.levels
 
-  file_works : (f : Copying) → FileKnown Unclaimed log old.name old.levels f → FileWorks Unclaimed f old new did (Some log) (Some now) → Stay
+  file_works : (f : Copying) → FileKnown Unclaimed log old.name old.levels f → FileMoves Unclaimed f old new did (Some log) (Some now) → Stay
   file_works f file w = file_step Unclaimed log now old.name old.levels f file w.moved did old new refl w.short w.tells (w.called log refl) w.stands
 
   link_works : (l : LinkCopying) → LinkKnown log old.name old.levels l → LinkWorks l old new did (Some log) (Some now) → Stay
@@ -93,7 +95,7 @@ module _ (free : Route → Bool) (old new : Seen) (did : Did) (log now : CallLog
   same_log is = subst (λ (x : CallLog). LevelsKnow x old.name old.levels) (sym is) known.levels
 
   -- a file is taken up
-  pub taken_file : is_around_dirty old.levels.around ≡ false → (t : TakesFile Unclaimed old new did (Some log) (Some now)) → FileKnown Unclaimed log old.name old.levels (file.begun old.job t.pair.source t.pair.target)
+  pub taken_file : is_around_dirty old.levels.around ≡ false → (t : TakesFile Unclaimed replies old new did (Some log) (Some now)) → FileKnown Unclaimed log old.name old.levels (file.begun old.job t.pair.source t.pair.target)
   taken_file clean t =
       let next = next_of old old.levels.inner.names.names t.pair t.next in
       let within : folder_of t.pair.target ≡ old.levels.inner.copy.target = ap folder_of next.target_is in
@@ -108,7 +110,7 @@ module _ (free : Route → Bool) (old new : Seen) (did : Did) (log now : CallLog
       }
 
   -- a link is
-  pub taken_link : is_around_dirty old.levels.around ≡ false → (t : TakesLink Unclaimed old new did (Some log) (Some now)) → LinkKnown log old.name old.levels (link_begun t.pair t.part)
+  pub taken_link : is_around_dirty old.levels.around ≡ false → (t : TakesLink Unclaimed replies old new did (Some log) (Some now)) → LinkKnown log old.name old.levels (link_begun t.pair t.part)
   taken_link clean t =
       let next = next_of old old.levels.inner.names.names t.pair t.next in
       let within : folder_of t.pair.target ≡ old.levels.inner.copy.target = ap folder_of next.target_is in
@@ -139,36 +141,39 @@ module _ (free : Route → Bool) (old new : Seen) (did : Did) (log now : CallLog
       record { tree = known.tree; clean = clean; nested = known.nested; levels = known.levels; item = item; begins = λ is. absurd (made_not l.stage going is) }
 
   -- a folder is
-  takes_folder : is_around_dirty old.levels.around ≡ false → TakesFolder old new did (Some log) (Some now) → Stay
+  takes_folder : is_around_dirty old.levels.around ≡ false → TakesFolder replies old new did (Some log) (Some now) → Stay
   takes_folder clean t =
       let next = next_of old old.levels.inner.names.names t.pair t.next in
       folder_makes log now old.name old.levels (record { tree = known.tree; files = known.files; nested = known.nested; levels = known.levels }) clean (target_name old next.name) (known.once next.name next.rest next.names_are)
       t.pair t.names t.mode old new did refl next.target_is t.works
 
-  takes_next : is_around_dirty old.levels.around ≡ false → TakesNext Unclaimed old new did (Some log) (Some now) → Stay
+  takes_next : is_around_dirty old.levels.around ≡ false → TakesNext Unclaimed replies old new did (Some log) (Some now) → Stay
   takes_next clean (inl s) = subst (λ (x : Seen). LevelsKnow now old.name x.levels) (sym s.stands) (same_log (some_log now log s.same))
-  takes_next clean (inr (inl t)) = file_works (file.begun old.job t.pair.source t.pair.target) (taken_file clean t) t.works
+  takes_next clean (inr (inl t)) = file_works (file.begun old.job t.pair.source t.pair.target) (taken_file clean t) (taken_moves Unclaimed replies old new did (Some log) (Some now) t)
   takes_next clean (inr (inr (inl t))) = link_works (link_begun t.pair t.part) (taken_link clean t) t.works
   takes_next clean (inr (inr (inr (inl t)))) = takes_folder clean t
   takes_next clean (inr (inr (inr (inr (inl t))))) =
       subst (λ (x : Seen). LevelsKnow now old.name x.levels) (sym t.stands) (levels_passed now old.name false old.levels (same_log (some_log now log t.same)))
-  takes_next clean (inr (inr (inr (inr (inr (next, inl (debt, ends))))))) =
+  takes_next clean (inr (inr (inr (inr (inr (inl t)))))) =
+      subst (λ (x : Seen). LevelsKnow now old.name x.levels) (sym t.stands) (levels_passed now old.name false old.levels (same_log (some_log now log t.same)))
+  takes_next clean (inr (inr (inr (inr (inr (inr (inl t))))))) = subst (λ (x : Seen). LevelsKnow now old.name x.levels) (sym t.stands) (same_log (some_log now log t.same))
+  takes_next clean (inr (inr (inr (inr (inr (inr (inr (next, inl (debt, ends))))))))) =
       folder_ends log now old.name (closed old.levels) (record { tree = known.tree; files = known.files; nested = known.nested; levels = closed_levels log old.name old.levels known.levels }) clean
       (closing_not old.levels.inner.copy.stage known.made) (at_end old) new did refl ends
-  takes_next clean (inr (inr (inr (inr (inr (next, inr (debt, f, same))))))) =
+  takes_next clean (inr (inr (inr (inr (inr (inr (inr (next, inr (debt, f, same))))))))) =
       subst (λ (x : Seen). LevelsKnow now old.name x.levels) (sym f.stands) (closed_levels now old.name old.levels (same_log (some_log now log same)))
 
-  goes_on : GoesOn Unclaimed old new did (Some log) (Some now) → Stay
+  goes_on : GoesOn Unclaimed replies old new did (Some log) (Some now) → Stay
   goes_on (inl s) = syncs_around log now old.name old.levels (record { tree = known.tree; files = known.files; nested = known.nested; levels = known.levels }) old new did refl s
   goes_on (inr (clean, takes)) = takes_next clean takes
 
-  pub works_on : (item : Item) → ItemKnown log old item → WorksOn item Unclaimed old new did (Some log) (Some now) → Stay
+  pub works_on : (item : Item) → ItemKnown log old item → WorksOn item Unclaimed replies old new did (Some log) (Some now) → Stay
   works_on Next item w = goes_on w
-  works_on (File f) item w = file_works f (worked_file f item) w
+  works_on (File f) item w = file_works f (worked_file f item) (worked_moves Unclaimed f old new did (Some log) (Some now) w)
   works_on (Link l) item w = link_works l (worked_link l item) w
   works_on (Stays part) item w = absurd w
 
 -- A step, where this is known once the folders are left that owe nothing.
-pub copy_step : (free : Route → Bool) (old new : Seen) (did : Did) (calls : ℕ) (log now : CallLog) (faults faults_after : ℕ) (s : CopySteps free old new did calls (Some log) (Some now) faults faults_after)
+pub copy_step : (free : Route → Bool) (replies : Replies) (old new : Seen) (did : Did) (calls : ℕ) (log now : CallLog) (faults faults_after : ℕ) (s : CopySteps free replies old new did calls (Some log) (Some now) faults faults_after)
     → StepKnown log s.mid → ItemKnown log s.mid s.mid.item → LevelsKnow now (let m : Seen = s.mid in m.name) new.levels
-copy_step free old new did calls log now faults faults_after s known item = works_on free s.mid new did log now known s.mid.item item s.works
+copy_step free replies old new did calls log now faults faults_after s known item = works_on free replies s.mid new did log now known s.mid.item item s.works

@@ -6,6 +6,7 @@ use Rattle.tree_trait.specs.Change.{Nothing, CallLog, current, found, with_chang
 use Rattle.tree_trait.proofs.Visible.{same_path-self}
 use Rattle.tree_trait.proofs.Walking.{stat-found}
 use Rattle.crash_law.specs.Guarded.{Marks}
+use Rattle.job_answers.specs.declared.replies.Replies.{Replies}
 use Rattle.job_reports.specs.Jobs.{Copies}
 use Rattle.job_reports.specs.Paths.{folder_of}
 use Rattle.job_reports.specs.declared.report.Did.{Did}
@@ -13,10 +14,9 @@ use Rattle.job_reports.specs.declared.report.Did.TheVariants.{Began, Chunk, Plac
 use Rattle.job_reports.specs.declared.report.Ending.TheVariants.{Finished, Aborted, Killed, NoMemory}
 use Rattle.job_reports.specs.declared.report.Trouble.{Trouble}
 use Rattle.job_reports.proofs.CallAnswers.{one_done, some_log}
-use Rattle.job_reports.proofs.PermittedCalls.{stat_missing}
 use Rattle.file_copy.specs.Copying as file
 use Rattle.file_copy.specs.Copying.{Copying, places_of}
-use Rattle.file_copy.specs.CopyCalls.{CopyCalls, making}
+use Rattle.file_copy.specs.CopyCalls.{making}
 use Rattle.file_copy.specs.declared.stage.FolderState.TheVariants.{Dirty}
 use Rattle.copy_levels.specs.Levels.{is_around_dirty}
 use Rattle.tree_deletion.specs.Folders.{joined, with_change as change_list}
@@ -31,8 +31,10 @@ use Rattle.copy_move.specs.declared.run.Course.TheVariants.{GoesOn}
 use Rattle.copy_move.specs.declared.work.Work.TheVariants.{Copy, CopyTree}
 use Rattle.copy_move.specs.Settling.{with_change as moves_dirty}
 use Rattle.history_laws.specs.Staying.{may_change}
+use Rattle.history_laws.proofs.BareTargets.{free_or_bare}
+use Rattle.history_laws.proofs.FileMoves.{MoveCalls, taken_moves}
 use Rattle.history_laws.proofs.Calming.{stopped_is}
-use Rattle.history_laws.proofs.CopySteps.{copy_tells}
+use Rattle.history_laws.proofs.CopySteps.{copy_begins}
 use Rattle.history_laws.proofs.DeletionSteps.{Steps}
 use Rattle.history_laws.proofs.Filling.{MayBegin, begins_filling, making_stands}
 use Rattle.history_laws.proofs.FilledFolders.{IsFilling}
@@ -51,7 +53,7 @@ use Rattle.history_laws.proofs.TreeListed.{list_joins, list_stays, no_part, note
 use Rattle.file_copy.specs.declared.stage.Stage.TheVariants.{Fill}
 
 module _ (told : Said) (dirty dirty_after : List Route) (marks : Marks) (log now : CallLog) (kept : IsKept told dirty marks log) (c : SubtreeCopying) (mid : Seen) (b : Before told dirty marks log c mid) (none : mid.item ≡ Next)
-    (clean : is_around_dirty mid.levels.around ≡ false) (free : Route → Bool) where
+    (clean : is_around_dirty mid.levels.around ≡ false) (free : Route → Bool) (replies : Replies) where
   abbrev Comes_to : Did → Seen → Type 0
   Comes_to did new = Result told dirty dirty_after log now c did new
 
@@ -65,7 +67,7 @@ module _ (told : Said) (dirty dirty_after : List Route) (marks : Marks) (log now
   part_none = no_part told dirty dirty_after marks log now kept c mid b none clean free
 
   -- a file is begun
-  module _ (did : Did) (new : Seen) (t : TakesFile (IsPartPlace free mid) mid new did (Some log) (Some now)) (list : Listed did new) where
+  module _ (did : Did) (new : Seen) (t : TakesFile (IsPartPlace free mid) replies mid new did (Some log) (Some now)) (list : Listed did new) where
     abbrev f : Copying
     f = let p = t.pair in file.begun mid.job p.source p.target
 
@@ -79,7 +81,7 @@ module _ (told : Said) (dirty dirty_after : List Route) (marks : Marks) (log now
     Works moved did = new ≡ settled (progress moved.stage) (File moved) (noted did (file.is_dirty moved.folder) (idle mid))
 
     -- the trouble of it
-    file_stops : (trouble : Trouble) (moved : Copying) → did ≡ Troubled trouble → moved ≡ f → Works moved did → CopyCalls (IsPartPlace free mid) f (Troubled trouble) moved log (Some now) → Comes_to did new
+    file_stops : (trouble : Trouble) (moved : Copying) → did ≡ Troubled trouble → moved ≡ f → Works moved did → MoveCalls (IsPartPlace free mid) f (Troubled trouble) moved log (Some now) → Comes_to did new
     file_stops trouble moved is moved_is stands calls =
         subst (λ d. Comes_to d new) (sym is)
         (idle_quiet told dirty dirty_after marks log now kept c mid b none trouble new
@@ -88,13 +90,12 @@ module _ (told : Said) (dirty dirty_after : List Route) (marks : Marks) (log now
         (ap (λ d. is_left_dirty d new) is ∙ noted_clean (progress moved.stage) (File moved) did (file.is_dirty moved.folder) mid new stands (ap (λ (m : Copying). file.is_dirty m.folder) moved_is)))
         (how calls))
       where
-        how : CopyCalls (IsPartPlace free mid) f (Troubled trouble) moved log (Some now) → (now ≡ log) ⊎ (now ≡ with_change log Nothing)
-        how (inl look) = inl (some_log now log look.1)
-        how (inr (inl name)) = inl (some_log now log name.2)
-        how (inr (inr (k, ready, first, run))) = stopped_is log now (making (current log) (places_of f) k) trouble.cause trouble.path (λ s left. refl) run
+        how : MoveCalls (IsPartPlace free mid) f (Troubled trouble) moved log (Some now) → (now ≡ log) ⊎ (now ≡ with_change log Nothing)
+        how (inl same) = inl (some_log now log same)
+        how (inr (k, first, run)) = stopped_is log now (making (current log) (places_of f) k) trouble.cause trouble.path (λ s left. refl) run
 
     -- its part is made
-    module _ (part : Route) (moved : Copying) (is : did ≡ Began part) (stands : Works moved did) (tells : file.Tells f (Began part) moved) (calls : CopyCalls (IsPartPlace free mid) f (Began part) moved log (Some now)) where
+    module _ (part : Route) (moved : Copying) (is : did ≡ Began part) (stands : Works moved did) (tells : file.Tells f (Began part) moved) (calls : MoveCalls (IsPartPlace free mid) f (Began part) moved log (Some now)) where
       meets : Meets log t.pair
       meets =
           let p = t.pair in
@@ -102,7 +103,7 @@ module _ (told : Said) (dirty dirty_after : List Route) (marks : Marks) (log now
           let made = calls.2 in
           record {
             stands = making_stands log now f made.0 (one_done log (making (current log) (places_of f) made.0) now made.3);
-            free = stat_missing (current log) p.target ready.target;
+            open_to = free_or_bare (current log) p.target ready.bare;
             n = found (current log) p.source;
             source = stat-found (current log) p.source ready.source;
           }
@@ -139,7 +140,7 @@ module _ (told : Said) (dirty dirty_after : List Route) (marks : Marks) (log now
           ∙ (ap (λ q. joined q dirty) (sym here) ∙ sym (ap (λ x. moves_dirty false x (folder_of f.target) dirty) changed))
 
       come : Steps (within told c) dirty dirty_after marks log now (within_kept told dirty marks log c mid kept may) (Began part) GoesOn (Copy f) (Copy moved)
-      come = copy_tells (within told c) dirty dirty_after marks log now (within_kept told dirty marks log c mid kept may) f (IsPartPlace free mid) moved (Began part) (name, (λ e. absurd (let x : ⊥ = cc in x)), (part_none, λ e. absurd (let x : ⊥ = cc in x))) tells calls (λ fresh. begins) leaves
+      come = copy_begins (within told c) dirty dirty_after marks log now (within_kept told dirty marks log c mid kept may) f (IsPartPlace free mid) moved part (name, (λ e. absurd (let x : ⊥ = cc in x)), (part_none, λ e. absurd (let x : ⊥ = cc in x))) tells calls.0 (calls.1, calls.2) (λ fresh. begins) leaves
 
       abbrev copied_so : Said
       copied_so = said_after now (Began part) (Copy f) (within told c)
@@ -183,21 +184,21 @@ module _ (told : Said) (dirty dirty_after : List Route) (marks : Marks) (log now
             modes = λ h. h;
           }) come)
 
-  pub takes_file : (did : Did) (new : Seen) (t : TakesFile (IsPartPlace free mid) mid new did (Some log) (Some now)) → Listed did new → Comes_to did new
-  takes_file (Began part) new t list = (let w = t.works in file_begins (Began part) new t list part w.moved refl w.stands w.tells (w.called log refl))
-  takes_file (Troubled trouble) new t list = (let w = t.works in let tells = w.tells in file_stops (Troubled trouble) new t list trouble w.moved refl tells.1 w.stands (w.called log refl))
-  takes_file (Chunk count) new t list = (let w = t.works in let tells = w.tells in absurd (let e = tells.3 in let f : ⊥ = cc in f))
-  takes_file (Placed path) new t list = (let w = t.works in let tells = w.tells in absurd (let e = tells.2 in let f : ⊥ = cc in f))
-  takes_file (Cleaned part) new t list = (let w = t.works in let tells = w.tells in absurd (let e = tells.1 in let f : ⊥ = cc in f))
-  takes_file Barrier new t list = (let w = t.works in let tells = w.tells in absurd (let e = tells.0 in let f : ⊥ = cc in f))
-  takes_file (Ended Finished part) new t list = (let w = t.works in let tells = w.tells in absurd (let e = tells.0 in let f : ⊥ = cc in f))
-  takes_file (Ended Aborted part) new t list = (let w = t.works in absurd w.tells)
-  takes_file (Ended Killed part) new t list = (let w = t.works in absurd w.tells)
-  takes_file (Ended NoMemory part) new t list = (let w = t.works in absurd w.tells)
-  takes_file (Removed path) new t list = (let w = t.works in absurd w.tells)
-  takes_file (Made path) new t list = (let w = t.works in absurd w.tells)
-  takes_file (Set path) new t list = (let w = t.works in absurd w.tells)
-  takes_file (Kept path) new t list = (let w = t.works in absurd w.tells)
-  takes_file (Asked question) new t list = (let w = t.works in absurd w.tells)
-  takes_file (Merges pair names) new t list = (let w = t.works in absurd w.tells)
-  takes_file (Skipped path cause) new t list = (let w = t.works in absurd w.tells)
+  pub takes_file : (did : Did) (new : Seen) (t : TakesFile (IsPartPlace free mid) replies mid new did (Some log) (Some now)) → Listed did new → Comes_to did new
+  takes_file (Began part) new t list = (let w = taken_moves (IsPartPlace free mid) replies mid new (Began part) (Some log) (Some now) t in file_begins (Began part) new t list part w.moved refl w.stands w.tells (w.called log refl))
+  takes_file (Troubled trouble) new t list = (let w = taken_moves (IsPartPlace free mid) replies mid new (Troubled trouble) (Some log) (Some now) t in let tells = w.tells in file_stops (Troubled trouble) new t list trouble w.moved refl tells.1 w.stands (w.called log refl))
+  takes_file (Chunk count) new t list = (let w = taken_moves (IsPartPlace free mid) replies mid new (Chunk count) (Some log) (Some now) t in let tells = w.tells in absurd (let e = tells.3 in let f : ⊥ = cc in f))
+  takes_file (Placed path) new t list = (let w = taken_moves (IsPartPlace free mid) replies mid new (Placed path) (Some log) (Some now) t in let tells = w.tells in absurd (let e = tells.2 in let f : ⊥ = cc in f))
+  takes_file (Cleaned part) new t list = (let w = taken_moves (IsPartPlace free mid) replies mid new (Cleaned part) (Some log) (Some now) t in let tells = w.tells in absurd (let e = tells.1 in let f : ⊥ = cc in f))
+  takes_file Barrier new t list = (let w = taken_moves (IsPartPlace free mid) replies mid new Barrier (Some log) (Some now) t in let tells = w.tells in absurd (let e = tells.0 in let f : ⊥ = cc in f))
+  takes_file (Ended Finished part) new t list = (let w = taken_moves (IsPartPlace free mid) replies mid new (Ended Finished part) (Some log) (Some now) t in let tells = w.tells in absurd (let e = tells.0 in let f : ⊥ = cc in f))
+  takes_file (Ended Aborted part) new t list = (let w = taken_moves (IsPartPlace free mid) replies mid new (Ended Aborted part) (Some log) (Some now) t in absurd w.tells)
+  takes_file (Ended Killed part) new t list = (let w = taken_moves (IsPartPlace free mid) replies mid new (Ended Killed part) (Some log) (Some now) t in absurd w.tells)
+  takes_file (Ended NoMemory part) new t list = (let w = taken_moves (IsPartPlace free mid) replies mid new (Ended NoMemory part) (Some log) (Some now) t in absurd w.tells)
+  takes_file (Removed path) new t list = (let w = taken_moves (IsPartPlace free mid) replies mid new (Removed path) (Some log) (Some now) t in absurd w.tells)
+  takes_file (Made path) new t list = (let w = taken_moves (IsPartPlace free mid) replies mid new (Made path) (Some log) (Some now) t in absurd w.tells)
+  takes_file (Set path) new t list = (let w = taken_moves (IsPartPlace free mid) replies mid new (Set path) (Some log) (Some now) t in absurd w.tells)
+  takes_file (Kept path) new t list = (let w = taken_moves (IsPartPlace free mid) replies mid new (Kept path) (Some log) (Some now) t in absurd w.tells)
+  takes_file (Asked question) new t list = (let w = taken_moves (IsPartPlace free mid) replies mid new (Asked question) (Some log) (Some now) t in absurd w.tells)
+  takes_file (Merges pair names) new t list = (let w = taken_moves (IsPartPlace free mid) replies mid new (Merges pair names) (Some log) (Some now) t in absurd w.tells)
+  takes_file (Skipped path cause) new t list = (let w = taken_moves (IsPartPlace free mid) replies mid new (Skipped path cause) (Some log) (Some now) t in absurd w.tells)

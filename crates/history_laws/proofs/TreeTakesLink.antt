@@ -14,13 +14,14 @@ use Rattle.tree_trait.proofs.Walking.{stat-found}
 use Rattle.crash_law.specs.Guarded.{Marks}
 use Rattle.crash_law.proofs.Guarding.{found_there}
 use Rattle.crash_law.proofs.Syncing.{unaltered_law}
+use Rattle.job_answers.specs.declared.replies.Replies.{Replies}
 use Rattle.job_reports.specs.Jobs.{Copies}
 use Rattle.job_reports.specs.Paths.{folder_of}
 use Rattle.job_reports.specs.declared.report.Did.{Did}
 use Rattle.job_reports.specs.declared.report.Did.TheVariants.{Began, Chunk, Placed, Removed, Made, Set, Kept, Skipped, Cleaned, Barrier, Asked, Merges, Troubled, Ended}
 use Rattle.job_reports.specs.declared.report.Trouble.{Trouble}
 use Rattle.job_reports.proofs.CallAnswers.{IsDoneCall, one_done, some_log}
-use Rattle.job_reports.proofs.PermittedCalls.{IsMaking, making_passes, stat_missing}
+use Rattle.job_reports.proofs.PermittedCalls.{IsMaking, making_passes}
 use Rattle.file_copy.specs.Copying as file
 use Rattle.link_copy.specs.LinkCopying as link
 use Rattle.link_copy.specs.LinkCopying.{LinkCopying}
@@ -30,16 +31,18 @@ use Rattle.tree_deletion.specs.Folders.{joined, with_change as change_list}
 use Rattle.tree_copy.specs.Parts.{IsPartPlace, ahead}
 use Rattle.tree_copy.specs.Progress.{link_progress}
 use Rattle.tree_copy.specs.Standing.{Seen, target_name}
-use Rattle.tree_copy.specs.Steps.{TakesLink, idle, link_begun, noted, settled}
+use Rattle.tree_copy.specs.Steps.{TakesLink, idle, link_begun, noted, settled, is_top}
 use Rattle.tree_copy.specs.declared.item.Item.TheVariants.{Next, Link}
 use Rattle.subtree_copy.specs.Marks.{folder_worked, is_dirty_after, is_left_dirty, was_dirty}
 use Rattle.subtree_copy.specs.Standing.{SubtreeCopying}
 use Rattle.copy_move.specs.declared.run.Course.TheVariants.{GoesOn}
 use Rattle.copy_move.specs.declared.work.Work.TheVariants.{CopyTree}
 use Rattle.history_laws.specs.Staying.{may_change}
+use Rattle.history_laws.proofs.OpenTargets.{taken_bare}
+use Rattle.history_laws.proofs.BareTargets.{free_or_bare}
 use Rattle.history_laws.proofs.Calming.{stopped_is}
 use Rattle.history_laws.proofs.DeletionSteps.{joined_holds, joined_more}
-use Rattle.history_laws.proofs.FilledFolders.{IsFilling, met_untouched}
+use Rattle.history_laws.proofs.FilledFolders.{IsFilling, met_found}
 use Rattle.history_laws.proofs.Knowing.{IsKept, IsKnown, Said, settled_marks}
 use Rattle.history_laws.proofs.KnownParts.{HasName, IsLinkOf, LinkKnows, link_knows_settled}
 use Rattle.history_laws.proofs.LinkParts.{has_link, link_known}
@@ -57,10 +60,10 @@ use Rattle.history_laws.proofs.TreeListed.{list_joins, list_stays, no_part, note
 use Rattle.file_copy.specs.PartNames.{IsChosen, IsFirstFree, part_name}
 use Rattle.tree_copy.specs.Taking.{IsTaken}
 use Rattle.tree_copy.specs.declared.looking.Taken.TheVariants as taken
-use Rattle.history_laws.proofs.Untouched.{IsUntouched}
+use Rattle.history_laws.proofs.Untouched.{IsAsFound, IsBare}
 
 module _ (told : Said) (dirty dirty_after : List Route) (marks : Marks) (log now : CallLog) (kept : IsKept told dirty marks log) (c : SubtreeCopying) (mid : Seen) (b : Before told dirty marks log c mid) (none : mid.item ≡ Next)
-    (clean : is_around_dirty mid.levels.around ≡ false) (free : Route → Bool) where
+    (clean : is_around_dirty mid.levels.around ≡ false) (free : Route → Bool) (replies : Replies) where
   abbrev Comes_to : Did → Seen → Type 0
   Comes_to did new = Result told dirty dirty_after log now c did new
 
@@ -74,7 +77,7 @@ module _ (told : Said) (dirty dirty_after : List Route) (marks : Marks) (log now
   part_none = no_part told dirty dirty_after marks log now kept c mid b none clean free
 
   -- a link is begun
-  module _ (did : Did) (new : Seen) (t : TakesLink (IsPartPlace free mid) mid new did (Some log) (Some now)) (list : Listed did new) where
+  module _ (did : Did) (new : Seen) (t : TakesLink (IsPartPlace free mid) replies mid new did (Some log) (Some now)) (list : Listed did new) where
     abbrev l : LinkCopying
     l = link_begun t.pair t.part
 
@@ -142,16 +145,20 @@ module _ (told : Said) (dirty dirty_after : List Route) (marks : Marks) (log now
       then : now ≡ with_change log makes
       then = d.is
 
-      looked : IsTaken (current log) t.pair taken.Link
+      looked : IsTaken (current log) (is_top mid) replies t.pair taken.Link
       looked = t.is log refl
 
       source_at : find (current log) source ≡ Some (found (current log) source)
       source_at = stat-found (current log) source looked.0.0
 
+      -- no folder stands at the target
+      bare : IsBare (current log) target
+      bare = taken_bare (current log) (is_top mid) replies t.pair looked.1
+
       meets : Meets log t.pair
       meets = record {
         stands = folder_at_of (current log) folder_in g passes.folder passes.holds;
-        free = stat_missing (current log) target looked.1;
+        open_to = free_or_bare (current log) target bare;
         n = found (current log) source;
         source = source_at;
       }
@@ -168,9 +175,9 @@ module _ (told : Said) (dirty dirty_after : List Route) (marks : Marks) (log now
       firm : IsSureFolder log folder_in
       firm = subst (λ q. IsSureFolder log q) (sym here) filling.firm
 
-      untouched : IsUntouched marks (current log) target
-      untouched = subst (λ q. IsUntouched marks (current log) q) (sym met.target_is)
-          (met_untouched told dirty marks log up (ahead mid) (target_name mid met.name) kept filling (among_next mid met.name met.rest met.names_are) (ap (find (current log)) (sym met.target_is) ∙ meets.free))
+      as_it_was : IsAsFound marks (current log) target
+      as_it_was = subst (λ q. IsAsFound marks (current log) q) (sym met.target_is)
+          (met_found told dirty marks log up (ahead mid) (target_name mid met.name) kept filling (among_next mid met.name met.rest met.names_are) (subst (λ q. IsBare (current log) q) met.target_is bare))
 
       has_name : HasName target
       has_name = record { name = target_name mid met.name; is = met.target_is ∙ ap (λ q. (let r : Route = target_name mid met.name ∷ q in r)) (sym here) }
@@ -244,7 +251,7 @@ module _ (told : Said) (dirty dirty_after : List Route) (marks : Marks) (log now
         calm = or_left _ _ own;
         text = text;
         i = n;
-        has = has_link told dirty dirty_after marks log kept (folder_of c.top.target) may_in target name g made m refl apart untouched;
+        has = has_link told dirty dirty_after marks log kept (folder_of c.top.target) may_in target name g made m refl apart as_it_was;
         copies = is_link;
       }
 
@@ -275,14 +282,14 @@ module _ (told : Said) (dirty dirty_after : List Route) (marks : Marks) (log now
       come : Result told dirty dirty_after log now c (Began (name ∷ folder_in)) new
       come = comes_one told after dirty dirty_after marks marks_then log now makes (Then told dirty_after log now c (Began (name ∷ folder_in)) new) kept then
           (subst (λ (x : CallLog). IsKnown after dirty_after marks_then x) (sym then)
-          (link_known told dirty dirty_after marks log kept (folder_of c.top.target) may_in target name g made m refl apart untouched may.firm firm may.calm listed more))
+          (link_known told dirty dirty_after marks log kept (folder_of c.top.target) may_in target name g made m refl apart as_it_was may.firm firm may.calm listed more))
           (at_part (name ∷ folder_in) (sym chosen.1) (settled_marks now marks_then)
           (subst (λ (x : CallLog). Knows (name ∷ folder_in) (settled_marks x marks_then) x) (sym then) settled_then))
 
       pub link_begins : Comes_to did new
       link_begins = subst (λ d. Comes_to d new) (sym is) (subst (λ q. Comes_to (Began q) new) (sym (tells.1 ∙ chosen.1)) come)
 
-  pub takes_link : (did : Did) (new : Seen) (t : TakesLink (IsPartPlace free mid) mid new did (Some log) (Some now)) → Listed did new → Comes_to did new
+  pub takes_link : (did : Did) (new : Seen) (t : TakesLink (IsPartPlace free mid) replies mid new did (Some log) (Some now)) → Listed did new → Comes_to did new
   takes_link (Began part) new t list = (let w = t.works in link_begins (Began part) new t list part w.moved refl w.stands w.tells (w.called log refl))
   takes_link (Troubled trouble) new t list = (let w = t.works in let tells = w.tells in link_stops (Troubled trouble) new t list trouble w.moved refl tells.1 w.stands (w.called log refl))
   takes_link (Placed path) new t list = (let w = t.works in let tells = w.tells in absurd (let e = tells.0 in let f : ⊥ = cc in f))

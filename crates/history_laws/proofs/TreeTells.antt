@@ -5,6 +5,7 @@ use Rattle.mc_text.specs.Routes.{Route}
 use Rattle.tree_trait.specs.Change.{CallLog, current}
 use Rattle.tree_trait.proofs.Visible.{same_path-self}
 use Rattle.crash_law.specs.Guarded.{Marks}
+use Rattle.job_answers.specs.declared.replies.Replies.{Replies}
 use Rattle.job_reports.specs.Paths.{folder_of}
 use Rattle.job_reports.specs.Stops.{out_of_memory_at}
 use Rattle.job_reports.specs.declared.report.Cause.{Cause}
@@ -46,7 +47,7 @@ use Rattle.history_laws.proofs.TreeSkipped.{skipped_item, skips_none}
 use Rattle.history_laws.proofs.TreeSkips.{LaidIn}
 
 module _ (told : Said) (dirty dirty_after : List Route) (marks : Marks) (log now : CallLog) (kept : IsKept told dirty marks log) (c new : SubtreeCopying) (did : Did) (k : TreeKnown told dirty marks log GoesOn c) (tells : Tells c did new)
-    (settled : is_fresh c.at.stage ≡ true → NoneOwed (current log) (CopyTree c) dirty) (free : Route → Bool) (count f0 f1 : ℕ) (s : SubtreeSteps free c new did count dirty dirty_after (Some log) (Some now) f0 f1) where
+    (settled : is_fresh c.at.stage ≡ true → NoneOwed (current log) (CopyTree c) dirty) (free : Route → Bool) (replies : Replies) (count f0 f1 : ℕ) (s : SubtreeSteps free replies c new did count dirty dirty_after (Some log) (Some now) f0 f1) where
   abbrev mid : Seen
   mid = s.mid
 
@@ -99,9 +100,9 @@ module _ (told : Said) (dirty dirty_after : List Route) (marks : Marks) (log now
   worked : Comes_to r.did s.moved
   worked = by s.works
     where
-      by : ListSteps free mid s.moved r dirty dirty_after (Some log) (Some now) f0 f1 → Comes_to r.did s.moved
+      by : ListSteps free replies mid s.moved r dirty dirty_after (Some log) (Some now) f0 f1 → Comes_to r.did s.moved
       by (inl out) = subst (λ d. Comes_to d s.moved) (sym (ap (λ (x : StepResult). x.did) out.says)) (short (out_of_memory_at (at_barrier mid)) out.stays out.list (some_log now log out.same))
-      by (inr m) = works told dirty dirty_after marks log now kept c mid before laid free r.did s.moved m.list first_worked mid.item refl (works_at_once free mid s.moved r.did r.calls (Some log) (Some now) f0 f1 m.steps s.settled)
+      by (inr m) = works told dirty dirty_after marks log now kept c mid before laid free replies r.did s.moved m.list first_worked mid.item refl (works_at_once free replies mid s.moved r.did r.calls (Some log) (Some now) f0 f1 m.steps s.settled)
 
   -- the modes that are owed, as the history told them before
   owed_first : OwedModes told.tree c.at
@@ -123,9 +124,9 @@ module _ (told : Said) (dirty dirty_after : List Route) (marks : Marks) (log now
       owed_mid : OwedModes told.tree mid
       owed_mid = leaves_owe told.tree leaves.0 c.at mid leaves.1 owed_first
 
-      by : ListSteps free mid s.moved r dirty dirty_after (Some log) (Some now) f0 f1 → OwedModes told.tree s.moved
+      by : ListSteps free replies mid s.moved r dirty dirty_after (Some log) (Some now) f0 f1 → OwedModes told.tree s.moved
       by (inl out) = subst (OwedModes told.tree) (sym out.stays) owed_mid
-      by (inr m) = owes told dirty dirty_after marks log now kept c mid before laid free r.did s.moved m.list first_worked mid.item refl (works_at_once free mid s.moved r.did r.calls (Some log) (Some now) f0 f1 m.steps s.settled) owed_mid
+      by (inr m) = owes told dirty dirty_after marks log now kept c mid before laid free replies r.did s.moved m.list first_worked mid.item refl (works_at_once free replies mid s.moved r.did r.calls (Some log) (Some now) f0 f1 m.steps s.settled) owed_mid
 
   -- what is in trouble is passed over in the same step
   module _ (trouble : Trouble) (come : Comes_to (Troubled trouble) s.moved) (why : Cause) (skips : machine.Skips why s.moved did new.at) where
@@ -183,8 +184,8 @@ module _ (told : Said) (dirty dirty_after : List Route) (marks : Marks) (log now
   folder_then (Placed path) is some = some_before (Placed path) is (λ may. may)
   folder_then (Cleaned part) is some = some_before (Cleaned part) is (λ may. may)
   folder_then Barrier is some = some_before Barrier is (λ may. may)
-  folder_then (Kept path) is some = some_before (Kept path) is (λ may. may)
-  folder_then (Asked question) is some = some_before (Asked question) is (λ may. may)
+  folder_then (Kept path) is some = still_so some
+  folder_then (Asked question) is some = still_so some
   folder_then (Removed path) is some = absurd (subst MayTell is tells.may)
   folder_then (Merges pair names) is some = still_so some
   folder_then (Skipped path cause) is some = still_so some
@@ -198,11 +199,11 @@ module _ (told : Said) (dirty dirty_after : List Route) (marks : Marks) (log now
       told_so = tells.after
 
       by : (x : Bool) → is_fresh new.at.stage ≡ x → TreeKnown after dirty_after m now (course_after did) new
-      by true still = tree_fresh told dirty dirty_after marks log now kept c new did free count f0 f1 s goes.stands k.name told_so (fresh_before did c.at.stage (sym (ap is_fresh told_so.stage) ∙ still)) still after (course_after did) m h.part
+      by true still = tree_fresh told dirty dirty_after marks log now kept c new did free replies count f0 f1 s goes.stands k.name told_so (fresh_before did c.at.stage (sym (ap is_fresh told_so.stage) ∙ still)) still after (course_after did) m h.part
       by false off =
           let some : is_fresh (after_report did c.at.stage) ≡ false = sym (ap is_fresh told_so.stage) ∙ off in
           let had = h.had some in
-          tree_then told dirty dirty_after marks log now kept c new did free count f0 f1 s goes.stands k.name told_so had.0 had.1 after (course_after did) m (h.modes stepped.1) (folder_then did refl some) h.part
+          tree_then told dirty dirty_after marks log now kept c new did free replies count f0 f1 s goes.stands k.name told_so had.0 had.1 after (course_after did) m (h.modes stepped.1) (folder_then did refl some) h.part
           (subst (λ (x : SubtreeCopying). AroundKnows after m (current now) x) (sym s.stands) (h.around some))
 
   knows_after : (d : Did) → (m : Marks) → TreeKnown (said_after now d (CopyTree c) told) dirty_after m now (course_after d) new → KnowsAfter d (said_after now d (CopyTree c) told) dirty_after now (course_after d) (CopyTree new) m

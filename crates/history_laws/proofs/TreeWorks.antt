@@ -7,7 +7,7 @@ use Rattle.tree_trait.specs.declared.file_system.FileSystem.{FileSystem}
 use Rattle.tree_trait.specs.Calls.{RemoveFile, Rename}
 use Rattle.tree_trait.specs.Change.{Nothing, CallLog, current, with_change}
 use Rattle.tree_trait.specs.CrashImages.{Among, is_clean}
-use Rattle.tree_trait.specs.FileSystem.{Spot, Value, find, node, value}
+use Rattle.tree_trait.specs.FileSystem.{Spot, Value, find, node, value, View}
 use Rattle.crash_law.specs.Guarded.{Marks}
 use Rattle.job_reports.specs.CallRuns.{AllDone}
 use Rattle.job_reports.specs.Paths.{folder_of}
@@ -25,7 +25,7 @@ use Rattle.link_copy.specs.declared.stage.Next.TheVariants as link_next
 use Rattle.link_copy.specs.declared.stage.Stage.{Stage as LinkStage}
 use Rattle.link_copy.specs.declared.stage.Stage.TheVariants as link_stage
 use Rattle.tree_deletion.specs.Folders.{with_change as change_list}
-use Rattle.tree_copy.specs.InPlace.{IsInPlace, IsMoved, ItemMoved}
+use Rattle.tree_copy.specs.InPlace.{IsInPlace, IsMoved, ItemMoved, AreMoved, HoldsTop, owed_of}
 use Rattle.tree_copy.specs.Progress.{link_progress, progress}
 use Rattle.tree_copy.specs.Standing.{Seen, is_fresh}
 use Rattle.tree_copy.specs.Steps.{FileWorks, LinkWorks, idle, noted, settled}
@@ -40,6 +40,9 @@ use Rattle.copy_move.specs.Jobs.{course_after}
 use Rattle.copy_move.specs.declared.run.Course.TheVariants.{GoesOn}
 use Rattle.copy_move.specs.declared.work.Work.TheVariants.{CopyTree}
 use Rattle.history_laws.specs.Replayed.{mode_placed, moved_from, placed_by, placed_copy}
+use Rattle.copy_levels.specs.declared.level.Level.{Level}
+use Rattle.tree_copy.specs.declared.item.Item.{Item as CopyItem}
+use Rattle.file_copy.specs.Copying as file
 use Rattle.history_laws.proofs.AtWork.{ItemKnown}
 use Rattle.history_laws.proofs.Calm.{PartCalm}
 use Rattle.history_laws.proofs.Calming.{stopped_is}
@@ -66,7 +69,7 @@ use Rattle.file_copy.specs.declared.stage.Stage.TheVariants.{Fill}
 use Rattle.job_reports.specs.Jobs.{Copies}
 use Rattle.job_reports.specs.declared.report.Ending.TheVariants.{Finished, Aborted, Killed, NoMemory}
 use Rattle.history_laws.proofs.Deleted.{put_off}
-use Rattle.history_laws.proofs.OwedModes.{OwedModes}
+use Rattle.history_laws.proofs.OwedModes.{OwedModes, AllOwe}
 use Rattle.history_laws.proofs.TreeOwed.{free_owes}
 
 -- A link that is placed shows what the history makes of its source.
@@ -86,6 +89,26 @@ some_path p q is = cc
 free_shown : {told s : Spot} → s ≡ told → s.value ≡ None → told.value ≡ None
 free_shown is free = ap (λ (x : Spot). x.value) (sym is) ∙ free
 
+-- a step of a file or a link leaves the folders around, and the stage of the one that is worked
+settled_around : (p : Progress) (item : CopyItem) (did : Did) (changed : Bool) (c : Seen) → (let s : Seen = settled p item (noted did changed (idle c)) in s.levels.around) ≡ c.levels.around
+settled_around UnderWay item did true c = refl
+settled_around UnderWay item did false c = refl
+settled_around Decided item did true c = refl
+settled_around Decided item did false c = refl
+settled_around Anew item did true c = refl
+settled_around Anew item did false c = refl
+
+settled_copy : (p : Progress) (item : CopyItem) (did : Did) (changed : Bool) (c : Seen) → (let s : Seen = settled p item (noted did changed (idle c)) in s.levels.inner.copy.stage) ≡ c.levels.inner.copy.stage
+settled_copy UnderWay item did true c = refl
+settled_copy UnderWay item did false c = refl
+settled_copy Decided item did true c = refl
+settled_copy Decided item did false c = refl
+settled_copy Anew item did true c = refl
+settled_copy Anew item did false c = refl
+
+owe_none : (v : View) (inner : Level) (around : List Level) → around ≡ [] → owed_of inner.copy.stage ≡ None → AllOwe v inner around
+owe_none v inner around is none = subst (λ (a : List Level). AllOwe v inner a) (sym is) (λ mode owed. absurd (let e : (let o : Option ℕ = None in o) ≡ Some mode = sym none ∙ owed in let f : ⊥ = cc in f))
+
 module _ (told : Said) (dirty dirty_after : List Route) (marks : Marks) (log now : CallLog) (kept : IsKept told dirty marks log) (c : SubtreeCopying) (mid : Seen) (b : Before told dirty marks log c mid) (some : is_fresh c.at.stage ≡ false) where
   abbrev Comes_to : Did → Seen → Type 0
   Comes_to did new = Result told dirty dirty_after log now c did new
@@ -95,6 +118,13 @@ module _ (told : Said) (dirty dirty_after : List Route) (marks : Marks) (log now
 
   in_place : IsInPlace c.top mid
   in_place = let s = b.stands in leaves_all c.top b.n c.at mid b.leaves s.in_place
+
+  -- the outermost folder is to be given no mode
+  outermost_owes : (v : View) → mid.levels.around ≡ [] → (p : Progress) (item : CopyItem) (did : Did) (changed : Bool) (new : Seen) → new ≡ settled p item (noted did changed (idle mid)) → OwedModes v new
+  outermost_owes v outermost p item did changed new is =
+      let holds : HoldsTop c.top mid.levels.inner = subst (AreMoved c.top mid.levels.inner) outermost in_place.levels in
+      owe_none v new.levels.inner new.levels.around (ap (λ (x : Seen). x.levels.around) is ∙ (settled_around p item did changed mid ∙ outermost))
+      (ap (λ (x : Seen). owed_of x.levels.inner.copy.stage) is ∙ (ap owed_of (settled_copy p item did changed mid) ∙ holds.keeps))
 
   has : LogHas c.top log mid
   has = leaves_has c.top log b.n c.at mid b.leaves (log_has told dirty marks log c b.stands (b.begun some))
@@ -111,44 +141,50 @@ module _ (told : Said) (dirty dirty_after : List Route) (marks : Marks) (log now
     going : progress f.stage ≡ UnderWay
     going = known_item.1
 
-    target_free : (part : Route) → part_at f.stage ≡ Some part → find (current log) f.target ≡ None
-    target_free part is = let h = known_item.3 part is in let work = h.work in work.free
+    target_free : (part : Route) → part_at f.stage ≡ Some part → (find (current log) f.target ≡ None) ⊎ (mid.levels.around ≡ [])
+    target_free part is = let h = known_item.3 part is in h.free
 
     known_file : FileKnows told dirty marks (current log) GoesOn f
     known_file = subst (λ i. ItemHas told dirty marks (current log) GoesOn i) item b.part
 
-    -- nothing stood where it is placed
-    file_free : (part : Route) (said : SourceFacts) → f.stage ≡ Fill part said said.size → (told.tree f.target).value ≡ None
+    -- nothing stood where it is placed, or it is what is copied itself
+    file_free : (part : Route) (said : SourceFacts) → f.stage ≡ Fill part said said.size → ((told.tree f.target).value ≡ None) ⊎ (mid.levels.around ≡ [])
     file_free part said stage =
         let k = subst (λ x. StageKnows told marks (current log) GoesOn f x) stage known_file.2 in
         let h = k.1.1 in
-        free_shown (kept.known.shows f.target (λ is. h.apart (some_path part f.target (sym h.part_is ∙ is)))) (ap (option_map (λ j. value (node (current log) j))) (target_free part (ap part_at stage)))
+        elim (target_free part (ap part_at stage)) [
+          | inl free ↦ inl (free_shown (kept.known.shows f.target (λ is. h.apart (some_path part f.target (sym h.part_is ∙ is)))) (ap (option_map (λ j. value (node (current log) j))) free))
+          | inr outermost ↦ inr outermost
+        ]
 
-    file_modes : (did : Did) (moved : Copying) → Tells f did moved → (new : Seen) → OwedModes told.tree new → OwedModes (let s : Said = said_after now did (CopyTree c) told in s.tree) new
-    file_modes (Placed path) moved (part, said, stage, path_is, new_is) new h =
+    file_modes : (did : Did) (moved : Copying) → Tells f did moved → (new : Seen) → new ≡ settled (progress moved.stage) (File moved) (noted did (file.is_dirty moved.folder) (idle mid)) → OwedModes told.tree new → OwedModes (let s : Said = said_after now did (CopyTree c) told in s.tree) new
+    file_modes (Placed path) moved (part, said, stage, path_is, new_is) new stands h =
         subst (λ q. OwedModes (placed_by (Some (Copies c.top.source c.top.target)) q told.tree) new) (sym path_is)
-        (free_owes told.tree (placed_by (Some (Copies c.top.source c.top.target)) f.target told.tree) f.target (λ p off. put_off told.tree f.target _ p off) (file_free part said stage) new.levels.inner new.levels.around h)
-    file_modes (Began part) moved t new h = h
-    file_modes (Chunk count) moved t new h = h
-    file_modes (Cleaned part) moved t new h = h
-    file_modes (Troubled trouble) moved t new h = h
-    file_modes Barrier moved t new h = h
-    file_modes (Ended Finished part) moved (stage, synced, part_is, new_is) new h = not_decided f.stage going stage
-    file_modes (Ended Aborted part) moved t new h = absurd t
-    file_modes (Ended Killed part) moved t new h = absurd t
-    file_modes (Ended NoMemory part) moved t new h = absurd t
-    file_modes (Removed path) moved t new h = absurd t
-    file_modes (Made path) moved t new h = absurd t
-    file_modes (Set path) moved t new h = absurd t
-    file_modes (Kept path) moved t new h = absurd t
-    file_modes (Asked question) moved t new h = absurd t
-    file_modes (Merges pair names) moved t new h = absurd t
-    file_modes (Skipped path cause) moved t new h = absurd t
+        (elim (file_free part said stage) [
+          | inl free ↦ free_owes told.tree (placed_by (Some (Copies c.top.source c.top.target)) f.target told.tree) f.target (λ p off. put_off told.tree f.target _ p off) free new.levels.inner new.levels.around h
+          | inr outermost ↦ outermost_owes (placed_by (Some (Copies c.top.source c.top.target)) f.target told.tree) outermost (progress moved.stage) (File moved) (Placed path) (file.is_dirty moved.folder) new stands
+        ])
+    file_modes (Began part) moved t new stands h = h
+    file_modes (Chunk count) moved t new stands h = h
+    file_modes (Cleaned part) moved t new stands h = h
+    file_modes (Troubled trouble) moved t new stands h = h
+    file_modes Barrier moved t new stands h = h
+    file_modes (Ended Finished part) moved (stage, synced, part_is, new_is) new stands h = not_decided f.stage going stage
+    file_modes (Ended Aborted part) moved t new stands h = absurd t
+    file_modes (Ended Killed part) moved t new stands h = absurd t
+    file_modes (Ended NoMemory part) moved t new stands h = absurd t
+    file_modes (Removed path) moved t new stands h = absurd t
+    file_modes (Made path) moved t new stands h = absurd t
+    file_modes (Set path) moved t new stands h = absurd t
+    file_modes (Kept path) moved t new stands h = absurd t
+    file_modes (Asked question) moved t new stands h = absurd t
+    file_modes (Merges pair names) moved t new stands h = absurd t
+    file_modes (Skipped path cause) moved t new stands h = absurd t
 
     pub works_file : (did : Did) (new : Seen) → FileWorks unclaimed f mid new did (Some log) (Some now) → Listed did new → Comes_to did new
     works_file did new w list =
         comes_map told (said_after now did (CopyTree c) told) dirty_after log now _ (Then told dirty_after log now c did new)
-        (λ m k known. record { part = known.0; around = λ begun. known.1; had = λ begun. had_begun told dirty marks log c mid b some; modes = file_modes did w.moved w.tells new })
+        (λ m k known. record { part = known.0; around = λ begun. known.1; had = λ begun. had_begun told dirty marks log c mid b some; modes = file_modes did w.moved w.tells new w.stands })
         (file_comes told dirty dirty_after marks log now kept c f mid new did unclaimed item going (subst (λ i. ItemMoved c.top i) item in_place.item) (subst (λ i. WorkedMarked i mid.levels.inner) item has.marked) calm_file
         (subst (λ i. ItemHas told dirty marks (current log) GoesOn i) item b.part) list w)
 
@@ -228,15 +264,22 @@ module _ (told : Said) (dirty dirty_after : List Route) (marks : Marks) (log now
           part = subst (λ i. ItemHas (said_after now (Placed l.target) (CopyTree c) told) dirty m (current now) GoesOn i) (sym (nothing_left (Placed l.target) moved stands link_stage.Decided stage refl)) gone;
           around = λ begun. inl calm_link;
           had = λ begun. had_begun told dirty marks log c mid b some;
-          modes = λ owed. free_owes told.tree (placed_by (Some (Copies c.top.source c.top.target)) l.target told.tree) l.target (λ p off. put_off told.tree l.target _ p off) link_free new.levels.inner new.levels.around owed;
+          modes = λ owed. elim link_free [
+            | inl free ↦ free_owes told.tree (placed_by (Some (Copies c.top.source c.top.target)) l.target told.tree) l.target (λ p off. put_off told.tree l.target _ p off) free new.levels.inner new.levels.around owed
+            | inr outermost ↦ outermost_owes (placed_by (Some (Copies c.top.source c.top.target)) l.target told.tree) outermost (link_progress moved.stage) (Link moved) (Placed l.target) (link.is_dirty moved.folder) new stands
+          ];
         })
         (whole_placed told dirty c.top.source c.top.target l.target name.name name.is l.part k.i k.listed k.calm marks log now kept (whole_link told marks log l.target l.part k.text k.i h (clean_part (k.i) h.leads)) (copy_shown item_moved) (row_done log now (Rename l.part l.target) rows)))
       where
-        link_free : (told.tree l.target).value ≡ None
+        link_free : ((told.tree l.target).value ≡ None) ⊎ (mid.levels.around ≡ [])
         link_free =
             let h = k.has in
-            let u = h.untouched in
-            free_shown (kept.known.shows l.target (λ is. h.apart (some_path l.part l.target (sym h.part_is ∙ is)))) (ap (option_map (λ j. value (node (current log) j))) u.free)
+            let known_item : ItemKnown log mid (Link l) = (let copy = has.copy in subst (ItemKnown log mid) item copy.1) in
+            let at_work = known_item.3 part_has.0 in
+            elim at_work.free [
+              | inl free ↦ inl (free_shown (kept.known.shows l.target (λ is. h.apart (some_path l.part l.target (sym h.part_is ∙ is)))) (ap (option_map (λ j. value (node (current log) j))) free))
+              | inr outermost ↦ inr outermost
+            ]
 
         -- of the part of a link nothing waits
         clean_part : (i : ℕ) → find (current log) l.part ≡ Some i → is_clean i log.changes ≡ true

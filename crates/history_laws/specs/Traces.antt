@@ -54,7 +54,7 @@ pub record WorkLeads (job : Running) (did : Did) (new : Running) (dirty dirty_af
   pub called : JobCalls IsUnclaimed job did new log (Some now)
   pub settled : job.course ≡ GoesOn → is_fresh job.work ≡ true → NoneOwed (current log) job.work dirty
   pub leaves : LeavesDirty job.course job.work did new.work dirty dirty_after (Some log) (Some now)
-  pub walks : (calls : ℕ) × (faults : ℕ) × (faults_after : ℕ) × WalksOn IsUnclaimed job.course job.work new.work did calls dirty dirty_after (Some log) (Some now) faults faults_after
+  pub walks : (calls : ℕ) × (faults : ℕ) × (faults_after : ℕ) × WalksOn IsUnclaimed job.replies job.course job.work new.work did calls dirty dirty_after (Some log) (Some now) faults faults_after
 
 -- a job that has changed nothing yet syncs what an ended job left dirty, or waits where that is refused
 pub record SyncLeads (job : Running) (did : Did) (new : Running) (dirty dirty_after : List Route) (log now : CallLog) : Type 0 where

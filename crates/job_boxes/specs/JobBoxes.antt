@@ -1,6 +1,5 @@
 -- The boxes of jobs as they are seen, and what they go by.
 use Rattle.std.specs.Prelude.{ℕ, List, Option}
-use Rattle.mc_text.specs.declared.kind.Kind.{Kind}
 use Rattle.mc_text.specs.Routes.{Route}
 use Rattle.job_reports.specs.declared.row.JobRow.{JobRow}
 use Rattle.job_reports.specs.declared.waits.Waits.{Waits}
@@ -11,12 +10,11 @@ use Rattle.job_boxes.specs.declared.job_box.JobBox.TheVariants as box
 use Rattle.job_boxes.specs.declared.job_box.Surroundings.{Surroundings}
 
 -- A box that asks whether to delete things, asks for the source mask of a copy or, with that mask, for its destination, for a new folder,
--- for what a new link is to say or, with that, for its name, or for the mode of things, or tells what a job waits with. Of one thing alone the boxes
--- of a copy keep its kind.
+-- for what a new link is to say or, with that, for its name, or for the mode of things, or tells what a job waits with.
 pub data JobBoxState : Type 0 where
   DeleteBox : (paths : List Route) → JobBoxState
-  MaskBox : (kind : Option Kind) → (paths : List Route) → (typed : InputState) → JobBoxState
-  TargetBox : (kind : Option Kind) → (paths : List Route) → (mask : List ℕ) → (typed : InputState) → JobBoxState
+  MaskBox : (paths : List Route) → (typed : InputState) → JobBoxState
+  TargetBox : (paths : List Route) → (mask : List ℕ) → (typed : InputState) → JobBoxState
   FolderBox : (typed : InputState) → JobBoxState
   LinkTextBox : (typed : InputState) → JobBoxState
   LinkNameBox : (text : List ℕ) → (typed : InputState) → JobBoxState
@@ -26,8 +24,8 @@ pub data JobBoxState : Type 0 where
 -- a box as it is seen
 abbrev pub seen : JobBox → JobBoxState
 seen (box.Delete chosen) = DeleteBox chosen.paths
-seen (box.SourceMask chosen typed) = MaskBox chosen.kind chosen.paths typed
-seen (box.CopyTo source typed) = TargetBox source.chosen.kind source.chosen.paths source.mask typed
+seen (box.SourceMask chosen typed) = MaskBox chosen.paths typed
+seen (box.CopyTo source typed) = TargetBox source.chosen.paths source.mask typed
 seen (box.MakeFolder typed) = FolderBox typed
 seen (box.LinkText typed) = LinkTextBox typed
 seen (box.LinkName text typed) = LinkNameBox text typed

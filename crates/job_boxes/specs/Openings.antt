@@ -1,6 +1,5 @@
 -- The boxes as they open.
 use Rattle.std.specs.Prelude.{ℕ, List, Option, Some, None}
-use Rattle.mc_text.specs.declared.kind.Kind.{Kind}
 use Rattle.mc_text.specs.Routes.{Route, path_text}
 use Rattle.mc_dialogs.specs.InputKeys.{InputState}
 use Rattle.box_words.specs.BoxLines.{link_text_line, mask_line, mode_box, thing_text}
@@ -9,11 +8,11 @@ use Rattle.job_plans.specs.declared.choosing.Opens.TheVariants as opens
 use Rattle.mc_panels.specs.Panels.{PanelState, current_name}
 use Rattle.job_boxes.specs.JobBoxes.{JobBoxState, DeleteBox, MaskBox, NewModeBox}
 
--- the box that such a key opens on things, of which one alone is of this kind, and the first has this mode
-abbrev pub box_of : Opens → Option Kind → List Route → ℕ → JobBoxState
-box_of opens.Delete kind paths mode = DeleteBox paths
-box_of opens.SourceMask kind paths mode = MaskBox kind paths mask_line
-box_of opens.Mode kind paths mode = NewModeBox paths (mode_box mode)
+-- the box that such a key opens on things, of which the first has this mode
+abbrev pub box_of : Opens → List Route → ℕ → JobBoxState
+box_of opens.Delete paths mode = DeleteBox paths
+box_of opens.SourceMask paths mode = MaskBox paths mask_line
+box_of opens.Mode paths mode = NewModeBox paths (mode_box mode)
 
 -- what a link says at first that is asked for in a panel: the path of the thing under the cursor, or of the folder, where that is on `..`
 abbrev pub text_within : Option (List ℕ) → Route → List ℕ

@@ -13,7 +13,7 @@ use Rattle.job_boxes.specs.JobBoxes.{Around}
 
 -- what planning it comes to where a text leads from a folder
 abbrev pub PlansAt : PlanOf → Option CallLog → Route → List ℕ → JobPlan → Type 0
-PlansAt (plan_of.Copy source) contents from text plan = CopyLeads contents source.now.chosen.kind source.now.chosen.paths source.now.mask from text plan
+PlansAt (plan_of.Copy source) contents from text plan = CopyLeads contents source.now.chosen.paths source.now.mask from text plan
 PlansAt plan_of.Folder contents from text plan = FolderLeads contents from text plan
 PlansAt (plan_of.Link said) contents from text plan = LinkLeads contents from text said.now plan
 

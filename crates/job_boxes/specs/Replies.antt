@@ -1,6 +1,5 @@
 -- What a key comes to in each box of a job (mc(1), "Copy, Rename", "Miscellaneous Keys"; F5, F7 and F8 of its bottom line).
 use Rattle.std.specs.Prelude.{◌≡◌, ◌⊎◌, ⊤, ℕ, Bool, true, false, MatchBool, if◌then◌else◌, List, [], ◌∷◌, Option}
-use Rattle.mc_text.specs.declared.kind.Kind.{Kind}
 use Rattle.mc_text.specs.Routes.{Route}
 use Rattle.home_paths.specs.Homes.{with_home}
 use Rattle.tree_trait.specs.Change.{CallLog}
@@ -71,10 +70,10 @@ delete_answer rows paths delete.Shuts = Shuts
 delete_answer rows paths delete.Deletes = begun_alone rows (delete_plan paths)
 
 -- the source mask: with any mask that is typed the destination is asked for, at first the folder of the other panel
-abbrev pub MaskLeads : LineReply → Option Kind → List Route → Route → JobReply → Type 0
-MaskLeads line.Stays kind paths other reply = reply ≡ Stays
-MaskLeads line.Shuts kind paths other reply = reply ≡ Shuts
-MaskLeads (line.Takes text) kind paths other reply = OpensBox (TargetBox kind paths text (target_line other)) reply
+abbrev pub MaskLeads : LineReply → List Route → Route → JobReply → Type 0
+MaskLeads line.Stays paths other reply = reply ≡ Stays
+MaskLeads line.Shuts paths other reply = reply ≡ Shuts
+MaskLeads (line.Takes text) paths other reply = OpensBox (TargetBox paths text (target_line other)) reply
 
 -- what a new link is to say: with any text that is typed its name is asked for
 abbrev pub LinkTextLeads : LineReply → JobReply → Type 0
@@ -106,10 +105,10 @@ given_answer rows (answer.Gives given) = if can_answer rows given then Answers g
 -- of those things that match the mask, the new folder's path, and that of the link with its text.
 abbrev pub BoxLeads : JobBoxState → Option CallLog → Around → Key → JobReply → Type 0
 BoxLeads (DeleteBox paths) contents around key reply = reply ≡ delete_answer around.rows paths (delete_reply_to key)
-BoxLeads (MaskBox kind paths typed) contents around key reply = MaskLeads (line_reply (input_shut typed key)) kind paths around.other reply
-BoxLeads (TargetBox kind paths mask typed) contents around key reply =
+BoxLeads (MaskBox paths typed) contents around key reply = MaskLeads (line_reply (input_shut typed key)) paths around.other reply
+BoxLeads (TargetBox paths mask typed) contents around key reply =
     PathLeads (line_reply (input_shut typed key)) around.rows
-    (λ text planned. CopyLeads contents kind paths mask around.current (with_home around.home text) planned) reply
+    (λ text planned. CopyLeads contents paths mask around.current (with_home around.home text) planned) reply
 BoxLeads (FolderBox typed) contents around key reply =
     PathLeads (line_reply (input_shut typed key)) around.rows
     (λ text planned. FolderLeads contents around.current (with_home around.home text) planned) reply
@@ -123,8 +122,8 @@ BoxLeads (AnswerBox waits) contents around key reply = reply ≡ given_answer ar
 -- a box after a key
 abbrev pub box_after : JobBoxState → Key → JobBoxState
 box_after (DeleteBox paths) key = DeleteBox paths
-box_after (MaskBox kind paths typed) key = MaskBox kind paths (input_after typed key)
-box_after (TargetBox kind paths mask typed) key = TargetBox kind paths mask (input_after typed key)
+box_after (MaskBox paths typed) key = MaskBox paths (input_after typed key)
+box_after (TargetBox paths mask typed) key = TargetBox paths mask (input_after typed key)
 box_after (FolderBox typed) key = FolderBox (input_after typed key)
 box_after (LinkTextBox typed) key = LinkTextBox (input_after typed key)
 box_after (LinkNameBox text typed) key = LinkNameBox text (input_after typed key)

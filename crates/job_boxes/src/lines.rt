@@ -22,7 +22,7 @@ pub(crate) fn key_in_mask(
     line: &mut InputLine,
     key: Key,
 ) -> Result<JobReply, NoMemory>
-    ensures leads { IfOk result (MaskLeads (line_reply_of (input_shut line.old key)) chosen.now.kind chosen.now.paths other.now) }
+    ensures leads { IfOk result (MaskLeads (line_reply_of (input_shut line.old key)) chosen.now.paths other.now) }
     ensures state { OnOk result (line.new ≡ input_after line.old key) }
     ensures kept { IfOk result (λ reply. stays reply ≡ false → line.new ≡ line.old) }
     ensures lost { OnErr result (line.new ≡ line.old) }
@@ -40,12 +40,11 @@ pub(crate) fn key_in_mask(
 
 /// The box that asks for the destination, at first the folder of the other panel.
 fn ask_target(alloc: Global, other: &Path, chosen: &Chosen, mask: Text) -> Result<JobBox, NoMemory>
-    ensures { IfOk result (λ asks. seen asks ≡ TargetBox chosen.now.kind chosen.now.paths mask (target_line_of other.now)) }
+    ensures { IfOk result (λ asks. seen asks ≡ TargetBox chosen.now.paths mask (target_line_of other.now)) }
 {
     let line = target_line(alloc, other)?;
     let chosen = Chosen {
         paths: chosen.paths.copy(alloc)?,
-        kind: chosen.kind,
     };
     Ok(JobBox::CopyTo(MaskedSource { chosen, mask }, line))
 }

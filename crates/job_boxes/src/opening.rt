@@ -16,7 +16,7 @@ use std::convert::AsStr;
 impl JobBox {
     /// The box on things, of which the first has this mode, where a mode is asked for.
     pub fn open(alloc: Global, opens: Opens, chosen: Chosen, mode: u16) -> Result<JobBox, NoMemory>
-        ensures { IfOk result (λ asks. seen asks ≡ box_of opens chosen.kind chosen.paths mode) }
+        ensures { IfOk result (λ asks. seen asks ≡ box_of opens chosen.paths mode) }
     {
         match opens {
             Opens::Delete => Ok(JobBox::Delete(chosen)),

@@ -1,50 +1,32 @@
 -- What choosing one thing comes to, from the look at it.
-use Rattle.std.proofs.Common.{◌≡◌, ◌≤◌, ◌<◌, ◌+◌, ℕ, true, List, [], ◌∷◌, length, drop, get_or, zero, suc, arith, refl, sym, ◌∙◌, ap, subst, Option, Some, None, IfOk, Result, Ok, Err}
+use Rattle.std.proofs.Common.{◌≡◌, ◌≤◌, ℕ, true, List, [], ◌∷◌, length, sym, ◌∙◌, ap, subst, Option, IfOk, Result, Ok, Err}
 use Rattle.mc_text.specs.declared.error.NoMemory.{NoMemory}
-use Rattle.mc_text.specs.declared.kind.Kind.{Kind}
 use Rattle.mc_text.specs.Routes.{Route, spelled}
 use Rattle.tree_trait.specs.declared.calls.TreeError.{TreeError}
 use Rattle.tree_trait.specs.declared.calls.Meta.{Meta}
 use Rattle.tree_trait.specs.Calls.{Stat}
 use Rattle.tree_trait.specs.Change.{CallLog, current}
 use Rattle.tree_trait.specs.Answers.{IsMeta, IfKnown, Reads}
-use Rattle.tagging.specs.TagSets.{TagSet}
-use Rattle.panel_listing.specs.declared.item.Item.{Item}
 use Rattle.job_plans.specs.declared.choosing.Choice.{Choice}
 use Rattle.job_plans.specs.declared.choosing.Choice.TheVariants.{NoSelection, Nothing, Things, Refused}
 use Rattle.job_plans.specs.declared.choosing.Opens.{Opens}
-use Rattle.job_plans.specs.Choices.{IsChoiceOf, IsThing, first_kind, or_kind, paths_in, tagged_kind}
-use Rattle.job_plans.specs.Copies.{HasKind, HasMode, MayAsk}
+use Rattle.job_plans.specs.Choices.{IsChoiceOf, IsThing, paths_in}
+use Rattle.job_plans.specs.Copies.{HasMode, MayAsk}
 use Rattle.job_plans.specs.Reading.{sight}
 use Rattle.job_plans.proofs.Sights.{thing_look}
 
-module _ (box : Opens) (contents : Option CallLog) (listed : Option Kind) (folder : Route) where
+module _ (box : Opens) (contents : Option CallLog) (folder : Route) where
   is_thing : (name : List ℕ) (path : Route) (meta : Meta) (choice : Choice) → path ≡ name ∷ folder
-      → MayAsk (sight contents) (name ∷ folder) true × HasMode (sight contents) (name ∷ folder) meta.mode × HasKind (sight contents) (name ∷ folder) (Some meta.kind)
-      → IsThing path meta choice → IsChoiceOf box (sight contents) listed (paths_in folder (name ∷ [])) choice
-  is_thing name path meta (Things chosen mode) is seen h = (
-    (seen.0, subst (HasMode (sight contents) (name ∷ folder)) (sym h.2) seen.1, subst (HasKind (sight contents) (name ∷ folder)) (sym h.1) seen.2),
-    h.0 ∙ ap (λ (p : Route). p ∷ []) is,
-  )
+      → MayAsk (sight contents) (name ∷ folder) true × HasMode (sight contents) (name ∷ folder) meta.mode
+      → IsThing path meta choice → IsChoiceOf box (sight contents) (paths_in folder (name ∷ [])) choice
+  is_thing name path meta (Things chosen mode) is seen h =
+      ((seen.0, subst (HasMode (sight contents) (name ∷ folder)) (sym h.1) seen.1), h.0 ∙ ap (λ (p : Route). p ∷ []) is)
   is_thing name path meta NoSelection is seen h = absurd h
   is_thing name path meta Nothing is seen h = absurd h
   is_thing name path meta (Refused refused e) is seen h = absurd h
 
   pub one_chosen : (name : List ℕ) (path : Route) (meta : Meta) (result : Result Choice NoMemory) → path ≡ name ∷ folder → length (spelled (name ∷ folder)) ≤ 4096
       → IfKnown contents (λ log. Reads log (Stat path) (let r : Result Meta TreeError = Ok meta in r) (IsMeta (current log) path))
-      → IfOk result (IsThing path meta) → IfOk result (IsChoiceOf box (sight contents) listed (paths_in folder (name ∷ [])))
+      → IfOk result (IsThing path meta) → IfOk result (IsChoiceOf box (sight contents) (paths_in folder (name ∷ [])))
   one_chosen name path meta (Ok choice) is near reads h = is_thing name path meta choice is (thing_look contents (name ∷ folder) path meta is near reads) h
   one_chosen name path meta (Err e) is near reads h = tt
-
--- the kind of the first row that is tagged, from this row on
-pub first_from : (tags : TagSet) (rows : List (Option Item)) (row : ℕ) → row < length rows → first_kind tags (drop row rows) ≡ or_kind (tagged_kind tags (get_or rows row None)) (first_kind tags (drop (row + 1) rows))
-first_from tags [] row within = absurd (omega (arith, within))
-first_from tags (first ∷ rows) zero within = refl
-first_from tags (first ∷ rows) (suc row) within =
-    first_from tags rows row (omega (arith, within))
-    ∙ ap (λ n. or_kind (tagged_kind tags (get_or rows row None)) (first_kind tags (drop n (first ∷ rows)))) (let e : suc (row + 1) ≡ suc row + 1 = omega arith in e)
-
--- behind the last row none is
-pub first_past : (tags : TagSet) (rows : List (Option Item)) → first_kind tags (drop (length rows) rows) ≡ None
-first_past tags [] = refl
-first_past tags (row ∷ rows) = first_past tags rows

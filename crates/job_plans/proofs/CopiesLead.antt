@@ -2,7 +2,6 @@
 use Rattle.std.proofs.Common.{◌≡◌, inl, inr, ℕ, true, false, List, ◌∙◌, subst, Option, Result, Ok, Err, arith}
 use Rattle.std.specs.Prelude.{IfOk}
 use Rattle.mc_text.specs.declared.error.NoMemory.{NoMemory}
-use Rattle.mc_text.specs.declared.kind.Kind.{Kind}
 use Rattle.mc_text.specs.Routes.{Route}
 use Rattle.tree_trait.specs.Change.{CallLog}
 use Rattle.op_plan.specs.declared.error.PlanError.{PlanError}
@@ -45,19 +44,19 @@ module _ (paths : List Route) (mask : List ℕ) (from : Route) (typed : List ℕ
       copied_within paths mask typed pairs within (subst (λ (j : Planned). IsJobFor (copy_request paths mask from typed) j) are (subst (λ (r : Request). IsJobFor r job) is asked))
       (subst IsSound are sound)
 
-  module _ (kind : Option Kind) (contents : Option CallLog) where
+  module _ (contents : Option CallLog) where
     leads : (pairs : List Pair) (plan : JobPlan) → is_below_home typed ≡ false → IsSound (planned.Copy pairs)
         → IsJobFor (copy_request paths mask from typed) (planned.Copy pairs)
-        → IsPlanned contents (copy_request paths mask from typed) (Ok (planned.Copy pairs)) → BeginsCopy kind pairs plan
-        → CopyLeads contents kind paths mask from typed plan
+        → IsPlanned contents (copy_request paths mask from typed) (Ok (planned.Copy pairs)) → BeginsCopy pairs plan
+        → CopyLeads contents paths mask from typed plan
     leads pairs (Begins plan) not_home sound asked known at =
         (pairs, record { not_home = not_home; asked_for = asked; apart = sound; planned = known }, at.0, at.1)
     leads pairs (Refuses refusal) not_home sound asked known at = absurd at
 
     pub copy_leads : (request : Request) (job : Planned) (pairs : List Pair) (result : Result JobPlan NoMemory) → is_below_home typed ≡ false
         → request ≡ copy_request paths mask from typed → IsSound job → IsJobFor request job → IsPlanned contents request (Ok job)
-        → job ≡ planned.Copy pairs → IfOk result (BeginsCopy kind pairs)
-        → IfOk result (CopyLeads contents kind paths mask from typed)
+        → job ≡ planned.Copy pairs → IfOk result (BeginsCopy pairs)
+        → IfOk result (CopyLeads contents paths mask from typed)
     copy_leads request job pairs (Err e) not_home is sound asked known are told = tt
     copy_leads request job pairs (Ok plan) not_home is sound asked known are told =
         leads pairs plan not_home (subst IsSound are sound)
@@ -67,20 +66,20 @@ module _ (paths : List Route) (mask : List ℕ) (from : Route) (typed : List ℕ
         told
 
     refuses : (error : PlanError) (plan : JobPlan) → is_below_home typed ≡ false → IsPlanned contents (copy_request paths mask from typed) (Err error)
-        → IsToldAs error plan → CopyLeads contents kind paths mask from typed plan
+        → IsToldAs error plan → CopyLeads contents paths mask from typed plan
     refuses error (Begins plan) not_home known told = absurd told
     refuses error (Refuses refusal) not_home known told = inr (not_home, record { error = error; planned = known; told = told })
 
     pub refused_copy : (request : Request) (error : PlanError) (result : Result JobPlan NoMemory) → is_below_home typed ≡ false
         → request ≡ copy_request paths mask from typed → IsPlanned contents request (Err error) → IfOk result (IsToldAs error)
-        → IfOk result (CopyLeads contents kind paths mask from typed)
+        → IfOk result (CopyLeads contents paths mask from typed)
     refused_copy request error (Err e) not_home is known told = tt
     refused_copy request error (Ok plan) not_home is known told =
         refuses error plan not_home (subst (λ (r : Request). IsPlanned contents r (Err error)) is known) told
 
 -- what is read by a plan that was made
-pub copy_reads : {A : Type 0} (contents after : Option CallLog) (f0 f1 : ℕ) (made : Result A PlanError) (kind : Option Kind) (pairs : List Pair) (result : Result JobPlan NoMemory)
-    → after ≡ contents → HasPlanCause f0 f1 made → IfOk result (BeginsCopy kind pairs) → ReadsTree plan_refusals result contents after f0 f1
-copy_reads contents after f0 f1 made kind pairs (Err e) same cause begins = record { same = same; later = cause.later; called = λ log is. tt; fault = tt }
-copy_reads contents after f0 f1 made kind pairs (Ok (Begins plan)) same cause begins = record { same = same; later = cause.later; called = λ log is. tt; fault = λ h. absurd cc }
-copy_reads contents after f0 f1 made kind pairs (Ok (Refuses refusal)) same cause begins = absurd begins
+pub copy_reads : {A : Type 0} (contents after : Option CallLog) (f0 f1 : ℕ) (made : Result A PlanError) (pairs : List Pair) (result : Result JobPlan NoMemory)
+    → after ≡ contents → HasPlanCause f0 f1 made → IfOk result (BeginsCopy pairs) → ReadsTree plan_refusals result contents after f0 f1
+copy_reads contents after f0 f1 made pairs (Err e) same cause begins = record { same = same; later = cause.later; called = λ log is. tt; fault = tt }
+copy_reads contents after f0 f1 made pairs (Ok (Begins plan)) same cause begins = record { same = same; later = cause.later; called = λ log is. tt; fault = λ h. absurd cc }
+copy_reads contents after f0 f1 made pairs (Ok (Refuses refusal)) same cause begins = absurd begins

@@ -2,7 +2,6 @@
 use Rattle.std.proofs.Common.{◌≡◌, ℕ, ◌≤◌, Bool, true, false, ◌&&◌, List, length, refl, sym, ◌∙◌, ap, subst, Option, Some, None, Result, Ok, arith}
 use Rattle.std.specs.Prelude.{is_some, nat_le}
 use Rattle.std.specs.Option.{option_map}
-use Rattle.mc_text.specs.declared.kind.Kind.{Kind}
 use Rattle.mc_text.specs.Routes.{Route, spelled}
 use Rattle.tree_trait.specs.declared.calls.TreeError.{TreeError}
 use Rattle.tree_trait.specs.declared.calls.Meta.{Meta}
@@ -12,7 +11,7 @@ use Rattle.tree_trait.specs.Change.{CallLog, current}
 use Rattle.tree_trait.specs.Answers.{IsMeta, IfKnown, Reads}
 use Rattle.tree_trait.proofs.Walking.{stat-found}
 use Rattle.job_plans.specs.Choices.{HasSeenMode, first_of}
-use Rattle.job_plans.specs.Copies.{HasKind, HasMode, MayAsk}
+use Rattle.job_plans.specs.Copies.{HasMode, MayAsk}
 use Rattle.job_plans.specs.Reading.{sight}
 
 le_true : (n m : ℕ) → n ≤ m → nat_le n m ≡ true
@@ -41,26 +40,14 @@ has_mode (Some log) path meta reads =
     subst (λ (i : Option ℕ). option_map (λ (v : Value). v.mode) (option_map (λ i. value (node (current log) i)) i) ≡ Some meta.mode) (sym at)
     (ap (λ (mode : ℕ). Some mode) (sym r.1.mode))
 
--- and is of the kind that the look tells
-has_kind : (contents : Option CallLog) (path : Route) (meta : Meta)
-    → IfKnown contents (λ log. Reads log (Stat path) (let r : Result Meta TreeError = Ok meta in r) (IsMeta (current log) path))
-    → HasKind (sight contents) path (Some meta.kind)
-has_kind None path meta reads = tt
-has_kind (Some log) path meta reads =
-    let r = reads log refl in
-    let at = stat-found (current log) path r.0 in
-    subst (λ (i : Option ℕ). option_map (λ (v : Value). v.kind) (option_map (λ i. value (node (current log) i)) i) ≡ Some meta.kind) (sym at)
-    (ap (λ (kind : Kind). Some kind) (sym r.1.kind))
-
 -- what a look at a thing says of it
 pub thing_look : (contents : Option CallLog) (wanted path : Route) (meta : Meta) → path ≡ wanted → length (spelled wanted) ≤ 4096
     → IfKnown contents (λ log. Reads log (Stat path) (let r : Result Meta TreeError = Ok meta in r) (IsMeta (current log) path))
-    → MayAsk (sight contents) wanted true × HasMode (sight contents) wanted meta.mode × HasKind (sight contents) wanted (Some meta.kind)
+    → MayAsk (sight contents) wanted true × HasMode (sight contents) wanted meta.mode
 thing_look contents wanted path meta same close reads =
     let near : length (spelled path) ≤ 4096 = subst (λ (q : Route). length (spelled q) ≤ 4096) (sym same) close in (
       subst (λ q. MayAsk (sight contents) q true) same (may_ask contents path meta near reads),
       subst (λ q. HasMode (sight contents) q meta.mode) same (has_mode contents path meta reads),
-      subst (λ q. HasKind (sight contents) q (Some meta.kind)) same (has_kind contents path meta reads),
     )
 
 -- the mode of the first of some things, as the look at it tells

@@ -3,8 +3,6 @@ use Rattle.std.proofs.Common.{◌≡◌, ◌⊎◌, inl, inr, ℕ, ◌<◌, ◌�
 use Rattle.std.specs.Prelude.{filter, nat_le, nat_lt, not}
 use Rattle.std.specs.List.{list_all, list_any}
 use Rattle.std.proofs.lemmas.List.Folds.{list_all-map, list_any_at}
-use Rattle.mc_text.specs.declared.kind.Kind.{Kind}
-use Rattle.mc_text.specs.declared.kind.Kind.TheVariants.{File, Folder, Link, Other}
 use Rattle.mc_text.specs.Routes.{Route, spelled}
 use Rattle.tagging.specs.declared.glob.GlobPart.{GlobPart}
 use Rattle.op_plan.specs.declared.job.Pair.{Pair as PlannedPair}
@@ -21,7 +19,7 @@ use Rattle.job_reports.specs.Jobs.{is_workable}
 use Rattle.session_history.specs.Sources.{are_workable}
 use Rattle.box_words.specs.Chosen.{can_be_chosen, is_within}
 use Rattle.job_plans.specs.Choices.{are_several, is_too_long, paths_in}
-use Rattle.job_plans.specs.Copies.{can_be_copied, copies, delete_plan, lie_within, mode_plan, reported}
+use Rattle.job_plans.specs.Copies.{can_be_copied, delete_plan, lie_within, mode_plan, reported}
 use Rattle.job_plans.proofs.Firsts.{Each}
 
 both : (a b : Bool) → a ≡ true → b ≡ true → (a && b) ≡ true
@@ -134,27 +132,13 @@ copied_within paths mask typed pairs within asked sound =
     (subst (λ (l : List Route). Each (λ path. is_within path ≡ true) l) (sym asked.sources_are) (left_within _ paths within))
     (targets_within _ _ pairs asked.targets_are))
 
-copies_work : (pairs : List PlannedPair) → Each (λ pair. lie_within pair ≡ true) pairs
-    → list_all is_workable (map (λ (pair : Pair). plan.Copy (pair ∷ [])) (reported pairs)) ≡ true
-copies_work [] h = refl
-copies_work (pair ∷ pairs) h =
-    both (lie_within pair) (list_all is_workable (map (λ (pair : Pair). plan.Copy (pair ∷ [])) (reported pairs))) h.0 (copies_work pairs h.1)
-
 trees_work : (pairs : List PlannedPair) → Each (λ pair. lie_within pair ≡ true) pairs
     → list_all is_workable (map (λ (pair : Pair). plan.CopyTree (pair ∷ [])) (reported pairs)) ≡ true
 trees_work [] h = refl
 trees_work (pair ∷ pairs) h =
     both (lie_within pair) (list_all is_workable (map (λ (pair : Pair). plan.CopyTree (pair ∷ [])) (reported pairs))) h.0 (trees_work pairs h.1)
 
-by_kind : (kind : Option Kind) (pairs : List PlannedPair) → can_be_copied pairs ≡ true → are_workable (copies kind (reported pairs)) ≡ true
-by_kind kind [] h = absurd cc
-by_kind (Some File) (pair ∷ pairs) h = copies_work (pair ∷ pairs) (all_pass lie_within (pair ∷ pairs) h)
-by_kind (Some Folder) (pair ∷ pairs) h = trees_work (pair ∷ pairs) (all_pass lie_within (pair ∷ pairs) h)
-by_kind (Some Link) (pair ∷ pairs) h = trees_work (pair ∷ pairs) (all_pass lie_within (pair ∷ pairs) h)
-by_kind (Some Other) (pair ∷ pairs) h = trees_work (pair ∷ pairs) (all_pass lie_within (pair ∷ pairs) h)
-by_kind None (pair ∷ pairs) h = trees_work (pair ∷ pairs) (all_pass lie_within (pair ∷ pairs) h)
-
 -- and can be worked
-pub copy_works : (kind : Option Kind) (pairs : List PlannedPair) (plan : Job) (told : List Pair) → can_be_copied pairs ≡ true → told ≡ reported pairs
-    → plan ≡ copies kind told → are_workable plan ≡ true
-copy_works kind pairs plan told within is planned = ap are_workable (planned ∙ ap (copies kind) is) ∙ by_kind kind pairs within
+pub copy_works : (pairs : List PlannedPair) (told : List Pair) → can_be_copied pairs ≡ true → told ≡ reported pairs → are_workable (plan.CopyTree told) ≡ true
+copy_works [] told within is = absurd cc
+copy_works (pair ∷ pairs) told within is = ap (λ (l : List Pair). are_workable (plan.CopyTree l)) is ∙ trees_work (pair ∷ pairs) (all_pass lie_within (pair ∷ pairs) within)

@@ -1,18 +1,13 @@
 -- What choosing the things that are selected comes to.
-use Rattle.std.specs.Prelude.{◌≡◌, ⊤, ℕ, Bool, true, false, not, ◌&&◌, if◌then◌else◌, List, [], ◌∷◌, length, map, nat_lt, Option, Some, None}
-use Rattle.std.specs.FinSet as set
+use Rattle.std.specs.Prelude.{◌≡◌, ⊤, ℕ, Bool, true, false, List, [], ◌∷◌, length, map, nat_lt, Option, Some, None}
 use Rattle.std.specs.List.{list_any}
-use Rattle.mc_text.specs.declared.kind.Kind.{Kind}
 use Rattle.mc_text.specs.Routes.{Route, spelled}
 use Rattle.tree_trait.specs.declared.calls.Meta.{Meta}
 use Rattle.tree_trait.specs.FileSystem.{View}
 use Rattle.session_history.specs.declared.refusal.PlanError.TheVariants as plan
 use Rattle.session_history.specs.declared.refusal.Refusal.{Refusal}
 use Rattle.session_history.specs.declared.refusal.Refusal.TheVariants.{Plan, Tree}
-use Rattle.tagging.specs.TagSets.{TagSet}
-use Rattle.panel_listing.specs.declared.item.Item.{Item}
-use Rattle.panel_listing.specs.Listings.{rows_in}
-use Rattle.mc_panels.specs.Panels.{PanelState, tag_set}
+use Rattle.mc_panels.specs.Panels.{PanelState}
 use Rattle.mc_panels.specs.Selections.{selection}
 use Rattle.job_plans.specs.declared.choosing.Opens.{Opens}
 use Rattle.job_plans.specs.declared.choosing.Opens.TheVariants as opens
@@ -20,7 +15,7 @@ use Rattle.job_plans.specs.declared.choosing.Choice.{Choice}
 use Rattle.job_plans.specs.declared.choosing.Choice.TheVariants.{NoSelection, Nothing, Things, Refused}
 use Rattle.job_plans.specs.declared.copying.JobPlan.{JobPlan}
 use Rattle.job_plans.specs.declared.copying.JobPlan.TheVariants.{Begins, Refuses}
-use Rattle.job_plans.specs.Copies.{HasKind, HasMode, MayAsk}
+use Rattle.job_plans.specs.Copies.{HasMode, MayAsk}
 
 -- the things of these names in a folder
 abbrev pub paths_in : Route → List (List ℕ) → List Route
@@ -35,30 +30,6 @@ are_several [] = false
 are_several (one ∷ []) = false
 are_several (one ∷ other ∷ more) = true
 
--- the kind of what a row lists, where it is tagged
-abbrev pub tagged_kind : TagSet → Option Item → Option Kind
-tagged_kind tags None = None
-tagged_kind tags (Some item) = if set.contains tags item.name then Some item.kind else None
-
-abbrev pub or_kind : Option Kind → Option Kind → Option Kind
-or_kind None rest = rest
-or_kind (Some kind) rest = Some kind
-
--- that of the first row that is tagged
-abbrev pub first_kind : TagSet → List (Option Item) → Option Kind
-first_kind tags [] = None
-first_kind tags (row ∷ rows) = or_kind (tagged_kind tags row) (first_kind tags rows)
-
--- Of several things that are tagged the kind of the first, as the panel lists it: that one is taken up first, and each later one is looked at in its turn.
-abbrev pub listed_kind : PanelState → Option Kind
-listed_kind p = first_kind (tag_set p) (rows_in p.listing)
-
--- of several things that are to be copied their kind is kept, as it is listed
-abbrev pub kind_kept : Opens → Option Kind → Option Kind
-kind_kept opens.SourceMask listed = listed
-kind_kept opens.Delete listed = None
-kind_kept opens.Mode listed = None
-
 -- what is looked at before a box asks: one thing, and of several the first, where a mode is asked for
 abbrev pub looked_at : Opens → List Route → Option Route
 looked_at box [] = None
@@ -72,12 +43,11 @@ abbrev pub HasSeenMode : Option View → Option Route → ℕ → Type 0
 HasSeenMode tree None mode = ⊤
 HasSeenMode tree (Some path) mode = HasMode tree path mode
 
--- A box may ask of these things: of one, where something stands there, whose kind is told, too; of several, whatever they are, of which the panel lists this kind.
-abbrev pub MayAskOf : Opens → Option View → Option Kind → List Route → Option Kind → ℕ → Type 0
-MayAskOf box tree listed [] kind mode = ⊥
-MayAskOf box tree listed (path ∷ []) kind mode = MayAsk tree path true × HasMode tree path mode × HasKind tree path kind
-MayAskOf box tree listed (path ∷ other ∷ more) kind mode =
-    (list_any is_too_long (path ∷ other ∷ more) ≡ false) × HasSeenMode tree (looked_at box (path ∷ other ∷ more)) mode × (kind ≡ kind_kept box listed)
+-- A box may ask of these things: of one, where something stands there; of several, whatever they are.
+abbrev pub MayAskOf : Opens → Option View → List Route → ℕ → Type 0
+MayAskOf box tree [] mode = ⊥
+MayAskOf box tree (path ∷ []) mode = MayAsk tree path true × HasMode tree path mode
+MayAskOf box tree (path ∷ other ∷ more) mode = (list_any is_too_long (path ∷ other ∷ more) ≡ false) × HasSeenMode tree (looked_at box (path ∷ other ∷ more)) mode
 
 -- or none may: of one, where nothing stands there or its path is too long; of several, where some path is too long
 abbrev pub MayNotAskOf : Option View → List Route → Type 0
@@ -86,15 +56,15 @@ MayNotAskOf tree (path ∷ []) = MayAsk tree path false
 MayNotAskOf tree (path ∷ other ∷ more) = list_any is_too_long (path ∷ other ∷ more) ≡ true
 
 -- of these things: there are none; the box may ask of them, or may not; or the look at one was refused
-abbrev pub IsChoiceOf : Opens → Option View → Option Kind → List Route → Choice → Type 0
-IsChoiceOf box tree listed paths NoSelection = paths ≡ []
-IsChoiceOf box tree listed paths Nothing = MayNotAskOf tree paths
-IsChoiceOf box tree listed paths (Things chosen mode) = MayAskOf box tree listed paths chosen.kind mode × (chosen.paths ≡ paths)
-IsChoiceOf box tree listed paths (Refused refused e) = looked_at box paths ≡ Some refused
+abbrev pub IsChoiceOf : Opens → Option View → List Route → Choice → Type 0
+IsChoiceOf box tree paths NoSelection = paths ≡ []
+IsChoiceOf box tree paths Nothing = MayNotAskOf tree paths
+IsChoiceOf box tree paths (Things chosen mode) = MayAskOf box tree paths mode × (chosen.paths ≡ paths)
+IsChoiceOf box tree paths (Refused refused e) = looked_at box paths ≡ Some refused
 
 -- of what is selected in a panel
 abbrev pub IsChoice : Opens → Option View → PanelState → Choice → Type 0
-IsChoice box tree p choice = IsChoiceOf box tree (listed_kind p) (paths_in p.folder (selection p)) choice
+IsChoice box tree p choice = IsChoiceOf box tree (paths_in p.folder (selection p)) choice
 
 -- what was refused: nothing was selected, or the look at a thing
 abbrev pub choice_refusals : Choice → List Refusal
@@ -105,7 +75,7 @@ choice_refusals (Refused path e) = Tree path e ∷ []
 
 -- one thing, as a look at it told
 abbrev pub IsThing : Route → Meta → Choice → Type 0
-IsThing path meta (Things chosen mode) = (chosen.paths ≡ path ∷ []) × (chosen.kind ≡ Some meta.kind) × (mode ≡ meta.mode)
+IsThing path meta (Things chosen mode) = (chosen.paths ≡ path ∷ []) × (mode ≡ meta.mode)
 IsThing path meta NoSelection = ⊥
 IsThing path meta Nothing = ⊥
 IsThing path meta (Refused refused e) = ⊥
@@ -115,11 +85,11 @@ abbrev pub first_of : List Route → Option Route
 first_of [] = None
 first_of (path ∷ paths) = Some path
 
-abbrev pub IsLookAtFirst : Option View → List Route → Option Kind → Choice → Type 0
-IsLookAtFirst tree paths kind (Things chosen mode) = HasSeenMode tree (first_of paths) mode × (chosen.paths ≡ paths) × (chosen.kind ≡ kind)
-IsLookAtFirst tree paths kind (Refused refused e) = first_of paths ≡ Some refused
-IsLookAtFirst tree paths kind NoSelection = ⊥
-IsLookAtFirst tree paths kind Nothing = ⊥
+abbrev pub IsLookAtFirst : Option View → List Route → Choice → Type 0
+IsLookAtFirst tree paths (Things chosen mode) = HasSeenMode tree (first_of paths) mode × (chosen.paths ≡ paths)
+IsLookAtFirst tree paths (Refused refused e) = first_of paths ≡ Some refused
+IsLookAtFirst tree paths NoSelection = ⊥
+IsLookAtFirst tree paths Nothing = ⊥
 
 -- the paths of things in a folder, where none is too long
 abbrev pub ArePathsIn : Route → List (List ℕ) → Option (List Route) → Type 0

@@ -2,8 +2,6 @@
 use Rattle.std.specs.Prelude.{◌≡◌, ℕ, Bool, true, false, ◌&&◌, is_some, nat_le, ⊤, List, [], ◌∷◌, length, map, Option, Some, None}
 use Rattle.std.specs.List.{list_all}
 use Rattle.std.specs.Option.{option_map}
-use Rattle.mc_text.specs.declared.kind.Kind.{Kind}
-use Rattle.mc_text.specs.declared.kind.Kind.TheVariants.{File, Folder, Link, Other}
 use Rattle.mc_text.specs.Routes.{Route, spelled}
 use Rattle.tree_trait.specs.FileSystem.{Value, View}
 use Rattle.op_plan.specs.declared.job.Pair.{Pair as PlannedPair}
@@ -22,11 +20,6 @@ abbrev pub HasMode : Option View → Route → ℕ → Type 0
 HasMode None path mode = ⊤
 HasMode (Some view) path mode = option_map (λ (v : Value). v.mode) (view path).value ≡ Some mode
 
--- the thing at a path is of a kind, as far as the tree can be seen
-abbrev pub HasKind : Option View → Route → Option Kind → Type 0
-HasKind None path kind = ⊤
-HasKind (Some view) path kind = option_map (λ (v : Value). v.kind) (view path).value ≡ kind
-
 -- the plans of some things
 abbrev pub delete_plan : List Route → Job
 delete_plan paths = plan.Delete paths
@@ -34,20 +27,13 @@ delete_plan paths = plan.Delete paths
 abbrev pub mode_plan : List Route → ℕ → Job
 mode_plan paths mode = plan.SetMode paths mode
 
--- the copy of some things, of which the first is a file, or else of things with all that lies in them
-abbrev pub copies : Option Kind → List Pair → Job
-copies (Some File) pairs = plan.Copy pairs
-copies (Some Folder) pairs = plan.CopyTree pairs
-copies (Some Link) pairs = plan.CopyTree pairs
-copies (Some Other) pairs = plan.CopyTree pairs
-copies None pairs = plan.CopyTree pairs
-
 -- sources with their targets, as jobs have them
 abbrev pub reported : List PlannedPair → List Pair
 reported = map (λ (pair : PlannedPair). record { source = pair.source; target = pair.target })
 
-abbrev pub copy_plan : Option Kind → List PlannedPair → Job
-copy_plan kind pairs = copies kind (reported pairs)
+-- the copy of things, each with all that lies in it
+abbrev pub copy_plan : List PlannedPair → Job
+copy_plan pairs = plan.CopyTree (reported pairs)
 
 -- at least one source with its target, of which each lies in a folder
 abbrev pub lie_within : PlannedPair → Bool

@@ -1,6 +1,5 @@
 -- Where copies go, and why none is made. The rule is that of a plan (`op_plan`), after mc(1), "Copy, Rename": masks.
 use Rattle.std.specs.Prelude.{◌≡◌, ◌⊎◌, ⊤, ℕ, true, false, List, Option, Some, Result, Ok, Err}
-use Rattle.mc_text.specs.declared.kind.Kind.{Kind}
 use Rattle.mc_text.specs.Routes.{Route}
 use Rattle.tree_trait.specs.Change.{CallLog, current}
 use Rattle.tree_trait.specs.Answers.{IfKnown}
@@ -57,13 +56,13 @@ CopyRefused contents paths mask from typed refusal =
     ((is_below_home typed ≡ true) × (refusal ≡ Plan BadMask))
     ⊎ ((is_below_home typed ≡ false) × HasNoPlan contents (copy_request paths mask from typed) refusal)
 
--- what planning the copy of things comes to, of which one alone is of this kind: the plan, or why it is refused
-abbrev pub CopyLeads : Option CallLog → Option Kind → List Route → List ℕ → Route → List ℕ → JobPlan → Type 0
-CopyLeads contents kind paths mask from typed (Begins plan) =
-    (pairs : List PlannedPair) × AreCopies contents paths mask from typed pairs × (plan ≡ copy_plan kind pairs) × (are_workable plan ≡ true)
-CopyLeads contents kind paths mask from typed (Refuses refusal) = CopyRefused contents paths mask from typed refusal
+-- what planning the copy of things comes to: the plan, or why it is refused
+abbrev pub CopyLeads : Option CallLog → List Route → List ℕ → Route → List ℕ → JobPlan → Type 0
+CopyLeads contents paths mask from typed (Begins plan) =
+    (pairs : List PlannedPair) × AreCopies contents paths mask from typed pairs × (plan ≡ copy_plan pairs) × (are_workable plan ≡ true)
+CopyLeads contents paths mask from typed (Refuses refusal) = CopyRefused contents paths mask from typed refusal
 
 -- the plan of copies to targets
-abbrev pub BeginsCopy : Option Kind → List PlannedPair → JobPlan → Type 0
-BeginsCopy kind pairs (Begins plan) = (plan ≡ copy_plan kind pairs) × (are_workable plan ≡ true)
-BeginsCopy kind pairs (Refuses refusal) = ⊥
+abbrev pub BeginsCopy : List PlannedPair → JobPlan → Type 0
+BeginsCopy pairs (Begins plan) = (plan ≡ copy_plan pairs) × (are_workable plan ≡ true)
+BeginsCopy pairs (Refuses refusal) = ⊥

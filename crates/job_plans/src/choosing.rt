@@ -1,16 +1,14 @@
 //! The look at the things that are selected.
-ghost use Rattle.std.specs.Prelude.{◌≡◌, ◌∷◌, [], true, None, IfOk, option_copied};
+ghost use Rattle.std.specs.Prelude.{◌≡◌, ◌∷◌, [], true, None, IfOk};
 ghost use Rattle.mc_panels.specs.Selections.{selection};
 ghost use Rattle.box_words.specs.Chosen.{can_be_chosen};
-ghost use Rattle.job_plans.specs.Choices.{ArePathsIn, IsChoice, IsChoiceOf, IsLookAtFirst, IsThing, are_several, choice_refusals, listed_kind, looked_at, paths_in, tagged_kind};
+ghost use Rattle.job_plans.specs.Choices.{ArePathsIn, IsChoice, IsChoiceOf, IsLookAtFirst, IsThing, are_several, choice_refusals, looked_at, paths_in};
 ghost use Rattle.job_plans.specs.Reading.{ReadsTree, sight};
 
 use box_words::Chosen;
 use mc_panels::Panel;
-use mc_text::{Kind, Name, NoMemory, Path, PathError, Paths};
-use panel_listing::Item;
+use mc_text::{Name, NoMemory, Path, PathError, Paths};
 use std::alloc::Global;
-use tagging::Tags;
 use tree_trait::{Meta, ReadTree, TreeError};
 
 /// Which box is opened on the things that are selected.
@@ -63,7 +61,7 @@ fn choose_one<T: ReadTree>(
     name: &Name,
     opens: Opens,
 ) -> Result<Choice, NoMemory>
-    ensures chosen { IfOk result (IsChoiceOf opens (sight (T.contents tree.old)) (listed_kind panel.now) (paths_in panel.now.folder (name.now ∷ []))) }
+    ensures chosen { IfOk result (IsChoiceOf opens (sight (T.contents tree.old)) (paths_in panel.now.folder (name.now ∷ []))) }
     ensures reads { ReadsTree choice_refusals result (T.contents tree.old) (T.contents tree.new)
         (T.fault_count tree.old) (T.fault_count tree.new) }
 {
@@ -86,11 +84,7 @@ fn one_thing(alloc: Global, path: Path, meta: Meta) -> Result<Choice, NoMemory>
 {
     let mut paths = Paths::new(alloc);
     paths.push(path)?;
-    let chosen = Chosen {
-        paths,
-        kind: Some(meta.kind),
-    };
-    Ok(Choice::Things(chosen, meta.mode))
+    Ok(Choice::Things(Chosen { paths }, meta.mode))
 }
 
 /// Chooses several things in the panel's folder. Only for a mode the first is looked at.
@@ -102,7 +96,7 @@ fn choose_several<T: ReadTree>(
     opens: Opens,
 ) -> Result<Choice, NoMemory>
     requires several { are_several names.now ≡ true }
-    ensures chosen { IfOk result (IsChoiceOf opens (sight (T.contents tree.old)) (listed_kind panel.now) (paths_in panel.now.folder names.now)) }
+    ensures chosen { IfOk result (IsChoiceOf opens (sight (T.contents tree.old)) (paths_in panel.now.folder names.now)) }
     ensures still { looked_at opens (paths_in panel.now.folder names.now) ≡ None → tree.new ≡ tree.old }
     ensures reads { ReadsTree choice_refusals result (T.contents tree.old) (T.contents tree.new)
         (T.fault_count tree.old) (T.fault_count tree.new) }
@@ -111,39 +105,8 @@ fn choose_several<T: ReadTree>(
         return Ok(Choice::Nothing);
     };
     match opens {
-        Opens::Delete => Ok(Choice::Things(Chosen { paths, kind: None }, 0)),
-        Opens::SourceMask => Ok(Choice::Things(
-            Chosen {
-                paths,
-                kind: listed_kind(panel),
-            },
-            0,
-        )),
-        Opens::Mode => with_first_mode(alloc, tree, Chosen { paths, kind: None }),
-    }
-}
-
-/// The kind of the first of the things that are tagged, as the panel lists it.
-fn listed_kind(panel: &Panel) -> Option<Kind>
-    ensures { result ≡ listed_kind panel.now }
-{
-    let listing = panel.listing();
-    let tags = panel.tags();
-    for row in 0..listing.len() {
-        if let Some(kind) = tagged_kind(tags, listing.item(row)) {
-            return Some(kind);
-        }
-    }
-    None
-}
-
-/// The kind of what a row lists, where it is tagged.
-fn tagged_kind(tags: &Tags, row: Option<&Item>) -> Option<Kind>
-    ensures { result ≡ tagged_kind tags.now (option_copied row.entry) }
-{
-    match row {
-        Some(item) if tags.has(item.name.text()) => Some(item.kind),
-        _ => None,
+        Opens::Delete | Opens::SourceMask => Ok(Choice::Things(Chosen { paths }, 0)),
+        Opens::Mode => with_first_mode(alloc, tree, Chosen { paths }),
     }
 }
 
@@ -153,7 +116,7 @@ fn with_first_mode<T: ReadTree>(
     tree: &mut T,
     chosen: Chosen,
 ) -> Result<Choice, NoMemory>
-    ensures chosen { IfOk result (IsLookAtFirst (sight (T.contents tree.old)) chosen.paths chosen.kind) }
+    ensures chosen { IfOk result (IsLookAtFirst (sight (T.contents tree.old)) chosen.paths) }
     ensures reads { ReadsTree choice_refusals result (T.contents tree.old) (T.contents tree.new)
         (T.fault_count tree.old) (T.fault_count tree.new) }
 {

@@ -1,7 +1,7 @@
 //! The plans of the jobs that a box confirms.
 ghost use Rattle.std.specs.Prelude.{◌≡◌, ◌<◌, true, IfOk};
 ghost use Rattle.session_history.specs.Sources.{are_workable};
-ghost use Rattle.job_plans.specs.Copies.{can_be_copied, copies, delete_plan, mode_plan, reported as reported_pairs};
+ghost use Rattle.job_plans.specs.Copies.{can_be_copied, delete_plan, mode_plan, reported as reported_pairs};
 ghost use Rattle.job_plans.specs.CopyPlans.{BeginsCopy, CopyLeads, IsCopy, copy_request};
 ghost use Rattle.job_plans.specs.Choices.{plan_refusals};
 ghost use Rattle.job_plans.specs.Places.{is_below_home};
@@ -11,7 +11,7 @@ use crate::home::is_below_home;
 use crate::refused::{refuse, refused};
 use box_words::Chosen;
 use job_reports::{Job, Pair, Pairs};
-use mc_text::{Kind, NoMemory, Path, Text};
+use mc_text::{NoMemory, Path, Text};
 use op_plan::{Job as Planned, Pair as PlannedPair, Pairs as PlannedPairs, Request, make_plan};
 use session_history::{PlanError, Refusal};
 use std::alloc::Global;
@@ -35,7 +35,7 @@ pub fn plan_copy<T: ReadTree>(
     from: &Path,
     typed: &str,
 ) -> Result<JobPlan, NoMemory>
-    ensures leads { IfOk result (CopyLeads (T.contents tree.old) chosen.now.kind chosen.now.paths mask.now from.now typed.now) }
+    ensures leads { IfOk result (CopyLeads (T.contents tree.old) chosen.now.paths mask.now from.now typed.now) }
     ensures home { is_below_home typed.now ≡ true → tree.new ≡ tree.old }
     ensures reads { ReadsTree plan_refusals result (T.contents tree.old) (T.contents tree.new)
         (T.fault_count tree.old) (T.fault_count tree.new) }
@@ -45,7 +45,7 @@ pub fn plan_copy<T: ReadTree>(
     }
     let request = request_of(alloc, chosen, mask, from, typed)?;
     match make_plan(alloc, tree, request) {
-        Ok(job) => plan_to(alloc, chosen.kind, pairs_of(job)),
+        Ok(job) => plan_to(alloc, pairs_of(job)),
         Err(error) => refused(error),
     }
 }
@@ -79,13 +79,13 @@ fn pairs_of(job: Planned) -> PlannedPairs
     }
 }
 
-/// The plan of the copies of sources to their targets. What is one thing alone is of this kind.
+/// The plan of the copies of sources to their targets.
 #[tactic(auto, using(crate::proofs::Within::copy_works))]
-fn plan_to(alloc: Global, kind: Option<Kind>, pairs: PlannedPairs) -> Result<JobPlan, NoMemory>
+fn plan_to(alloc: Global, pairs: PlannedPairs) -> Result<JobPlan, NoMemory>
     requires within { can_be_copied pairs ≡ true }
-    ensures { IfOk result (BeginsCopy kind pairs) }
+    ensures { IfOk result (BeginsCopy pairs) }
 {
-    Ok(JobPlan::Begins(copying(kind, reported(alloc, pairs)?)))
+    Ok(JobPlan::Begins(Job::CopyTree(reported(alloc, pairs)?)))
 }
 
 /// The pairs of a plan, as jobs have them.
@@ -98,19 +98,6 @@ fn reported(alloc: Global, pairs: PlannedPairs) -> Result<Pairs, NoMemory>
         told.push(Pair { source, target })?;
     }
     Ok(Pairs(told))
-}
-
-/// The copy of one file, or of things with all that lies in them.
-fn copying(kind: Option<Kind>, pairs: Pairs) -> Job
-    ensures { result ≡ copies kind pairs }
-{
-    match kind {
-        Some(Kind::File) => Job::Copy(pairs),
-        Some(Kind::Folder) => Job::CopyTree(pairs),
-        Some(Kind::Link) => Job::CopyTree(pairs),
-        Some(Kind::Other) => Job::CopyTree(pairs),
-        None => Job::CopyTree(pairs),
-    }
 }
 
 /// The setting of the mode of things.

@@ -1,5 +1,5 @@
 -- How many steps a source takes with all that may be copied in its place: those of the children of a folder are counted in the folder's own.
-use Rattle.std.proofs.Common.{◌≡◌, ℕ, zero, suc, ◌+◌, ◌-◌, ◌*◌, ◌^◌, ◌≤◌, Bool, true, false, List, [], ◌∷◌, ◌++◌, length, refl, sym, ◌∙◌, ap, subst, inl, inr, Option, Some, None, arith, mul-le-mul_right}
+use Rattle.std.proofs.Common.{◌≡◌, ℕ, zero, suc, ◌+◌, ◌-◌, ◌*◌, ◌^◌, ◌≤◌, Bool, true, false, List, [], ◌∷◌, ◌++◌, length, refl, sym, ◌∙◌, ap, subst, inl, Option, Some, None, arith, mul-le-mul_right}
 use Rattle.std.proofs.Math.Nat.{suc-mul}
 use Rattle.std.proofs.lemmas.List.{length-append}
 use Rattle.std.specs.Prelude.{if◌then◌else◌, is_some, ◌&&◌}
@@ -10,7 +10,7 @@ use Rattle.job_reports.specs.declared.job.Job.{Job}
 use Rattle.job_reports.specs.declared.job.Job.TheVariants.{Copy, CopyTree, Delete, MakeFolder, MakeLink, SetMode}
 use Rattle.job_reports.specs.declared.job.Pair.{Pair}
 use Rattle.job_reports.specs.Jobs.{is_link_text}
-use Rattle.session_history.specs.Sources.{IsPlanOf, children_in, copied_otherwise}
+use Rattle.session_history.specs.Sources.{children_in}
 use Rattle.subtree_copy.specs.Standing.{started}
 use Rattle.tree_copy.specs.Taking.{AreShort}
 use Rattle.copy_move.specs.declared.work.Work.{Work}
@@ -55,7 +55,7 @@ children_within id pair (name ∷ names) short few =
     let most = mul-le-mul_right (merged_steps tree_steps (4097 - suc (length pair.source))) few in
     subst (λ r. sources_rank id (children_in pair (name ∷ names)) ≤ below_steps tree_steps r) (sym room) (omega (arith, all, most))
 
--- how many steps a job takes with a source that it takes up so, and one more
+-- how many steps a job takes with a source that it takes up, and one more
 abbrev pub start_cost : Work → ℕ
 start_cost work = (3 * work_rank work + 1) + children_left work
 
@@ -84,7 +84,7 @@ tree_cost id pair =
     let own : 3 * work_rank (copies_tree id pair) + 1 ≡ tree_steps = refl in
     omega (arith, parts, none, own)
 
-cost_within : (id : ℕ) (source : Job) → option_map_or start_cost (first_work id source) 1 ≤ source_rank id source
+pub cost_within : (id : ℕ) (source : Job) → option_map_or start_cost (first_work id source) 1 ≤ source_rank id source
 cost_within id (Copy []) = omega arith
 cost_within id (Copy (pair ∷ [])) = if_workable (is_some (parent_of pair.source) && is_some (parent_of pair.target)) (copies id pair.source pair.target) _ (file_cost id pair) (some_steps (room_below pair.source))
 cost_within id (Copy (pair ∷ more ∷ pairs)) = some_steps (room_below pair.source)
@@ -99,20 +99,3 @@ cost_within id (MakeLink path text) = if_alone (is_some (parent_of path) && is_l
 cost_within id (SetMode [] mode) = omega arith
 cost_within id (SetMode (path ∷ []) mode) = if_alone _ (sets path mode) refl
 cost_within id (SetMode (path ∷ more ∷ paths) mode) = omega arith
-
--- whichever way a pair is copied, it has the steps of a whole thing
-otherwise_alike : (id : ℕ) (source plan : Job) → copied_otherwise source ≡ Some plan → source_rank id plan ≡ source_rank id source
-otherwise_alike id (Copy []) plan is = absurd cc
-otherwise_alike id (Copy (pair ∷ [])) plan is = (let same : CopyTree (pair ∷ []) ≡ plan = cc in ap (source_rank id) (sym same))
-otherwise_alike id (Copy (pair ∷ more ∷ pairs)) plan is = absurd cc
-otherwise_alike id (CopyTree []) plan is = absurd cc
-otherwise_alike id (CopyTree (pair ∷ [])) plan is = (let same : Copy (pair ∷ []) ≡ plan = cc in ap (source_rank id) (sym same))
-otherwise_alike id (CopyTree (pair ∷ more ∷ pairs)) plan is = absurd cc
-otherwise_alike id (Delete paths) plan is = absurd cc
-otherwise_alike id (MakeFolder path) plan is = absurd cc
-otherwise_alike id (MakeLink path text) plan is = absurd cc
-otherwise_alike id (SetMode paths mode) plan is = absurd cc
-
-pub plan_within : (id : ℕ) (source plan : Job) → IsPlanOf source plan → option_map_or start_cost (first_work id plan) 1 ≤ source_rank id source
-plan_within id source plan (inl same) = subst (λ (s : Job). option_map_or start_cost (first_work id plan) 1 ≤ source_rank id s) same (cost_within id plan)
-plan_within id source plan (inr other) = subst (λ n. option_map_or start_cost (first_work id plan) 1 ≤ n) (otherwise_alike id source plan other) (cost_within id plan)

@@ -25,7 +25,7 @@ use Rattle.copy_move.proofs.Finishing.{Finishes, finish_stays, passing_rank}
 use Rattle.copy_move.proofs.Merging.{merge_stays}
 use Rattle.job_sources.specs.declared.turning.Stepped.{Stepped}
 use Rattle.job_sources.specs.Turning.{GoesOn as GoesWith, Reports, Turns, children_left, children_on, finishes, merges, rank_left, source_rank, sources_rank}
-use Rattle.job_sources.proofs.Children.{plan_within, sources_apart, start_cost}
+use Rattle.job_sources.proofs.Children.{cost_within, sources_apart, start_cost}
 use Rattle.job_sources.proofs.Over.{closed_within, step_less, step_merges}
 use Rattle.job_sources.proofs.Ranking.{closed_rank, run_falls, some_left}
 
@@ -178,11 +178,11 @@ module _ (unclaimed : Route → Type 0) (closed : Bool) (job new : Running) (did
   turn_falls : (source : Job) → left ≡ source ∷ left_after → finishes did ≡ true → Turns new source stepped → rank_left dirty_after (if_closed closed stepped.job) left_after < rank_left dirty (Some job) left
   turn_falls source left_is h t =
       let f = (finished h).1 in
-      let n = next_is new (first_work new.id t.plan) t.run t.run_is in
+      let n = next_is new (first_work new.id source) t.run t.run_is in
       let most = next_rank closed t.run dirty_after left_after n.goes in
       let run_number = n.number in
       let ids : sources_rank (let r = t.run in r.id) left_after ≡ sources_rank job.id left_after = ap (λ i. sources_rank i left_after) (run_number ∙ number) in
-      let pays = plan_within new.id source t.plan t.plan_is in
+      let pays = cost_within new.id source in
       let first : source_rank new.id source ≡ source_rank job.id source = ap (λ i. source_rank i source) number in
       let rank = n.rank in
       let all : sources_rank job.id left ≡ source_rank job.id source + sources_rank job.id left_after = ap (sources_rank job.id) left_is in

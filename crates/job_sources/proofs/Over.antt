@@ -195,7 +195,7 @@ merges_less id (SetMode s) (SetMode new) pair names t = absurd t
 
 module _ (unclaimed : Route → Type 0) (job new : Running) (calls : ℕ) (dirty dirty_after : List Route) (before after : Option CallLog) (f0 f1 : ℕ) where
   -- a step of the job that doesn't merge
-  course_less : (course : Course) (did : Did) → job.course ≡ course → TellsOn course job did new → WalksOn unclaimed course job.work new.work did calls dirty dirty_after before after f0 f1
+  course_less : (course : Course) (did : Did) → job.course ≡ course → TellsOn course job did new → WalksOn unclaimed job.replies course job.work new.work did calls dirty dirty_after before after f0 f1
       → children_on new.course new.work ≤ children_on course job.work
   course_less GoesOn did is (work, tells, new_is) walks =
       let less = tells_less job.work work did tells in

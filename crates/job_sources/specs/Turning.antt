@@ -12,7 +12,7 @@ use Rattle.job_reports.specs.Jobs.{is_workable}
 use Rattle.job_reports.specs.Reports.{ends}
 use Rattle.folder_copy.specs.FolderCopying.{is_dirty}
 use Rattle.session_history.specs.declared.history.Event.TheVariants.{Step, Next}
-use Rattle.session_history.specs.Sources.{IsPlanOf, left_by}
+use Rattle.session_history.specs.Sources.{left_by}
 use Rattle.subtree_copy.specs.Leaving.{owes_at_end}
 use Rattle.subtree_walk.specs.Places.{is_empty}
 use Rattle.tree_copy.specs.declared.item.Item.{Item}
@@ -58,15 +58,13 @@ pub record Reports (job : Running) (did : Did) (calls : ℕ) (left : List Job) (
   pub stands : stepped.job ≡ (if ends did then None else Some job)
   pub rest : after ≡ left_by did left
 
--- The job goes on with its next source by this plan, which is written down in place of the end.
+-- The job goes on with its next source by its own plan, which is written down in place of the end.
 pub record Turns (job : Running) (source : Job) (stepped : Stepped) : Type 0 where
-  pub plan : Job
-  pub plan_is : IsPlanOf source plan
-  pub workable : is_workable plan ≡ true
-  pub told : stepped.what ≡ Next job.id plan
+  pub workable : is_workable source ≡ true
+  pub told : stepped.what ≡ Next job.id source
   pub uncounted : stepped.calls ≡ 0
   pub run : Running
-  pub run_is : turned plan job ≡ Some run
+  pub run_is : turned source job ≡ Some run
   pub stands : stepped.job ≡ Some run
 
 -- There is no memory to go on with the next source, or to keep those of a folder that is merged, and the job ends so.
@@ -101,7 +99,7 @@ abbrev pub below_steps : ℕ → ℕ → ℕ
 below_steps own zero = 0
 below_steps own (suc room) = 2 ^ 64 * merged_steps own room
 
--- how many steps the sources take that are left: each those of its work, just begun, and one more; a copy those of a whole thing, whichever way it is taken up
+-- how many steps the sources take that are left: each those of its work, just begun, and one more; a copy those of a whole thing
 abbrev pub work_steps : ℕ → Job → ℕ
 work_steps id source = option_map_or (λ work. 3 * work_rank work + 1) (first_work id source) 1
 

@@ -1,10 +1,9 @@
-//! The sources of a job: those that it is yet to take up, which comes next and by which plan, and how the job goes on after each step.
+//! The sources of a job: those that it is yet to take up, which comes next, and how the job goes on after each step.
 #![tactic(auto)]
 
 mod later;
 mod left;
 mod sources;
-mod taking;
 mod turning;
 
 pub use later::Later;

@@ -1,18 +1,16 @@
 //! How the live job goes on after a step: as it stands, with its next source, or not.
-ghost use Rattle.std.specs.Prelude.{◌≡◌, ◌≤◌, ◌⊎◌, [], None, OnErr, OnOk, Some, if◌then◌else◌, true};
+ghost use Rattle.std.specs.Prelude.{◌≡◌, ◌⊎◌, [], None, OnErr, OnOk, Some, if◌then◌else◌, true};
 ghost use Rattle.job_reports.specs.Jobs.{is_workable};
 ghost use Rattle.job_reports.specs.Reports.{ends};
 ghost use Rattle.session_history.specs.Sources.{left_by};
 ghost use Rattle.job_sources.specs.Turning.{GoesOn, Reports, RunsShort, Turns, finishes, merges};
 
 use crate::later::Later;
-use crate::taking::plan_of;
 use copy_move::Run;
 use job_reports::{Did, Ending, Job, StepResult, is_end};
 use mc_text::{NoMemory, Path};
 use session_history::Event;
 use std::alloc::Global;
-use tree_trait::Tree;
 
 /// What is written down of a step, how many changing calls it made, and the job as it goes on.
 #[derive(Debug, Drop)]
@@ -23,16 +21,8 @@ pub struct Stepped {
 }
 
 /// The job after a step. One that has finished a source goes on with the next one, where one is left.
-pub fn go_on<T: Tree>(
-    alloc: Global,
-    tree: &mut T,
-    job: Run,
-    made: StepResult,
-    later: &mut Later,
-) -> Stepped
+pub fn go_on(alloc: Global, job: Run, made: StepResult, later: &mut Later) -> Stepped
     ensures goes { GoesOn job made.did made.calls later.old result later.new }
-    ensures same { T.contents tree.new ≡ T.contents tree.old }
-    ensures later { T.fault_count tree.old ≤ T.fault_count tree.new }
 {
     let StepResult { did, calls } = made;
     if !is_finish(&did) {
@@ -41,7 +31,7 @@ pub fn go_on<T: Tree>(
     match later.take_next(alloc) {
         Err(_e) => run_short(job, later),
         Ok(None) => reported(alloc, job, did, calls, later),
-        Ok(Some(source)) => turn(alloc, tree, job, source, later),
+        Ok(Some(source)) => turn(alloc, job, source, later),
     }
 }
 
@@ -86,18 +76,18 @@ fn leave_by(alloc: Global, did: &Did, later: &mut Later) -> Result<(), NoMemory>
 }
 
 /// A job that has finished a source, as it goes on with the next one. Where there is no memory for that it ends.
-fn turn<T: Tree>(alloc: Global, tree: &mut T, job: Run, source: Job, later: &mut Later) -> Stepped
+fn turn(alloc: Global, job: Run, source: Job, later: &mut Later) -> Stepped
     requires workable { is_workable source ≡ true }
     ensures goes { (Turns job source result × (later.new ≡ later.old)) ⊎ (RunsShort job result × (later.new ≡ [])) }
-    ensures same { T.contents tree.new ≡ T.contents tree.old }
-    ensures later { T.fault_count tree.old ≤ T.fault_count tree.new }
 {
     let id = job.id();
-    let plan = plan_of(alloc, tree, source);
-    match job.turn(alloc, &plan) {
+    match job.turn(alloc, &source) {
         Err(_e) => run_short(job, later),
         Ok(run) => Stepped {
-            what: Event::Next { job: id, plan },
+            what: Event::Next {
+                job: id,
+                plan: source,
+            },
             calls: 0,
             job: Some(run),
         },

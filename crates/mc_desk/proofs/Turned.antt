@@ -9,7 +9,7 @@ use Rattle.job_reports.specs.declared.report.Did.TheVariants.{Ended}
 use Rattle.job_reports.specs.declared.report.Ending.TheVariants.{Finished, NoMemory}
 use Rattle.job_reports.specs.Jobs.{is_workable}
 use Rattle.session_history.specs.declared.history.Event.TheVariants.{Next, Step}
-use Rattle.session_history.specs.Sources.{IsPlanOf, later as rest_of}
+use Rattle.session_history.specs.Sources.{later as rest_of}
 use Rattle.copy_move.specs.declared.run.Course.TheVariants.{Ends, GoesOn}
 use Rattle.copy_move.specs.Jobs.{Running, part_of, waits_on}
 use Rattle.copy_move.specs.Steps.{OwnStep, RunStep, SyncsOwed, step_made}
@@ -41,13 +41,13 @@ own_leads job new made dirty dirty_after log before after own = record {
 }
 
 module _ (contents contents_after : Option CallLog) (same : contents_after ≡ contents) (faults : ℕ) (old new : Seen) (seat count : ℕ) (main : seat ≡ 0) where
-  pub adds_turned : (live stepped run : Running) (source plan : Job) (made before after : ℕ) → IsPlanOf source plan → old.job ≡ Some live → old.tally.job ≡ option_map told old.job → live.course ≡ GoesOn
+  pub adds_turned : (live stepped run : Running) (plan : Job) (made before after : ℕ) → old.job ≡ Some live → old.tally.job ≡ option_map told old.job → live.course ≡ GoesOn
       → OwnStep IsUnclaimed (step_made live stepped (Ended Finished None) made old.dirty new.dirty contents contents_after before after) → turned plan live ≡ Some run → is_workable plan ≡ true
-      → new.newest ≡ entry seat old.tally.calls count 0 (Next live.id plan) ∷ old.newest → old.later ≡ source ∷ new.later → new.job ≡ if_closed old.tally.closed (Some run)
+      → new.newest ≡ entry seat old.tally.calls count 0 (Next live.id plan) ∷ old.newest → old.later ≡ plan ∷ new.later → new.job ≡ if_closed old.tally.closed (Some run)
       → new.tally ≡ record old.tally { job = option_map told new.job } → old.screen.planned ≡ None → faults_in faults old.newest ≤ count → new.screen ≡ old.screen → new.quit ≡ old.quit → new.out.put ≡ old.out.put
       → Adds contents contents_after faults old new (entry seat old.tally.calls count 0 (Next live.id plan))
-  adds_turned live stepped run source plan made before after plan_is is tells goes own run_is workable more left job tally settled later screen quit put = record {
-    turn = (source, new.later, left, plan_is);
+  adds_turned live stepped run plan made before after is tells goes own run_is workable more left job tally settled later screen quit put = record {
+    turn = (new.later, left);
     left = sym (ap rest_of left);
     draws = record { same = put; none = refl };
     more = more;
@@ -122,14 +122,14 @@ module _ (start : Option Start) (opening contents contents_after : Option CallLo
   counted : faults_in faults old.newest ≤ count
   counted = (let s = own.own in let l = s.later in omega (arith, l, had, now))
 
-  pub desk_turned : (source plan : Job) (run : Running) → IsPlanOf source plan → turned plan stepped ≡ Some run → is_workable plan ≡ true → calls ≡ old.tally.calls → new.newest ≡ entry seat calls count 0 (Next live.id plan) ∷ old.newest → old.later ≡ source ∷ new.later
+  pub desk_turned : (plan : Job) (run : Running) → turned plan stepped ≡ Some run → is_workable plan ≡ true → calls ≡ old.tally.calls → new.newest ≡ entry seat calls count 0 (Next live.id plan) ∷ old.newest → old.later ≡ plan ∷ new.later
       → new.job ≡ if_closed old.tally.closed (Some run) → new.tally ≡ record old.tally { job = option_map told new.job } → new.screen ≡ old.screen → new.quit ≡ old.quit → 2 ≤ new.spare → new.out ≡ old.out
       → IsDesk start opening contents_after faults new
-  desk_turned source plan run plan_is run_is workable all more left job tally screen quit room out =
+  desk_turned plan run run_is workable all more left job tally screen quit room out =
       let f = finished in
       desk_of start opening contents_after faults new
       (written_more faults old new _ start opening contents contents_after desk.written
-      (adds_turned contents contents_after same_contents faults old new seat count main live stepped run source plan made before after plan_is is desk.written.told f.goes own
+      (adds_turned contents contents_after same_contents faults old new seat count main live stepped run plan made before after is desk.written.told f.goes own
       (sym (turned_alike plan live stepped f.number f.skips f.replies) ∙ run_is) workable (more ∙ ap (λ n. entry seat n count 0 (Next live.id plan) ∷ old.newest) all) left job tally desk.settled counted screen quit
       (ap (λ (o : Output). o.put) out)))
       (ap (λ (s : Screen). s.planned) screen ∙ desk.settled) (λ h. ap (λ (t : Tally). t.closed) tally ∙ desk.lost (sym (ap (λ (t : Tally). t.lost) tally) ∙ h))

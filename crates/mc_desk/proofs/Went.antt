@@ -123,8 +123,8 @@ module _ (start : Option Start) (opening contents contents_after : Option CallLo
             screen quit room ready out last r.rest
         by (inr (inl (h, source, left_is, t))) =
             let p = finish_so did h in
-            desk_turned start opening contents contents_after faults old new seat count made total before after live stepped p.0 main desk is (finishing p.0 p.1) had now ready source t.plan t.run t.plan_is t.run_is t.workable (same_total t.uncounted)
-            (more ∙ ap (λ w. entry seat total count 0 w ∷ old.newest) (t.told ∙ ap (λ n. Next n t.plan) number)) left_is (job ∙ ap (if_closed old.tally.closed) t.stands) (tally_so false (ap is_none t.stands) t.uncounted) screen quit room out
+            desk_turned start opening contents contents_after faults old new seat count made total before after live stepped p.0 main desk is (finishing p.0 p.1) had now ready source t.run t.run_is t.workable (same_total t.uncounted)
+            (more ∙ ap (λ w. entry seat total count 0 w ∷ old.newest) (t.told ∙ ap (λ n. Next n source) number)) left_is (job ∙ ap (if_closed old.tally.closed) t.stands) (tally_so false (ap is_none t.stands) t.uncounted) screen quit room out
         by (inr (inr (h, none, r))) =
             let gone : new.job ≡ None = job ∙ (ap (if_closed old.tally.closed) r.stands ∙ closed_none old.tally.closed) in
             desk_short start opening contents contents_after faults old new seat count total before after live stepped main desk is (stays_so h) unknown had rises now ready (same_total r.uncounted)

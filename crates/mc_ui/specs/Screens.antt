@@ -140,12 +140,12 @@ abbrev pub Works : PanelCommand → Option CallLog → List Refusal → Screen �
 Works command contents [] before after = IsDone command contents before after
 Works command contents (refusal ∷ more) before after = IsRefused command contents (refusal ∷ more) before after
 
--- What a choice makes of the screen: the box is opened on the things, with the kind of one alone and the mode of the first; or it may not ask
+-- What a choice makes of the screen: the box is opened on the things, with the mode of the first; or it may not ask
 -- of them, and nothing happens; or a message says that nothing is selected, or why one of them can't be looked at.
 abbrev pub after_choice : Opens → Choice → Screen → Screen
 after_choice box choice.NoSelection before = told_refusal (Plan NoSelection) before
 after_choice box choice.Nothing before = before
-after_choice box (choice.Things chosen mode) before = record before { over = OneJobBox (box_of box chosen.kind chosen.paths mode) }
+after_choice box (choice.Things chosen mode) before = record before { over = OneJobBox (box_of box chosen.paths mode) }
 after_choice box (choice.Refused path e) before = told_refusal (Tree path e) before
 
 -- the key that opens a box on what is selected in a panel does so by what choosing comes to

@@ -9,7 +9,9 @@ use Rattle.mc_text.specs.declared.kind.Kind.TheVariants.{Folder}
 use Rattle.tree_trait.specs.FileSystem.{Value, View, put}
 use Rattle.tree_trait.specs.CrashImages.{Among}
 use Rattle.tree_trait.proofs.Visible.{same_path-true}
+use Rattle.job_reports.specs.Jobs.{Copies}
 use Rattle.job_reports.specs.declared.job.Pair.{Pair}
+use Rattle.job_reports.specs.declared.report.Did.{Did}
 use Rattle.file_copy.specs.declared.stage.Next.TheVariants as next
 use Rattle.file_copy.specs.declared.stage.Stage.{Stage as FileStage}
 use Rattle.file_copy.specs.declared.stage.Stage.TheVariants as file_stage
@@ -27,7 +29,7 @@ use Rattle.tree_copy.specs.Standing.{Seen}
 use Rattle.history_laws.specs.Replayed.{new_folder, placed_copy}
 use Rattle.history_laws.proofs.Deleted.{put_at, put_off}
 use Rattle.history_laws.proofs.Intact.{prefix_append, prefix_way}
-use Rattle.outcome_laws.specs.Outcomes.{as_copied}
+use Rattle.outcome_laws.specs.Outcomes.{as_copied, passed_in}
 
 -- it lies at or below something that was passed over
 abbrev pub IsCovered : List Route → Route → Type 0
@@ -57,51 +59,53 @@ IsPending inner (outer ∷ around) path = IsDue inner path ⊎ IsPending outer a
 abbrev pub IsAccounted : View → List Route → Level → List Level → Route → Route → Type 0
 IsAccounted v passed inner around source target = IsCovered passed source ⊎ (IsPending inner around source ⊎ IsCopy v source target)
 
--- A file or a link, at whose target nothing stands; nothing stands below it.
-pub record IsBare (v : View) (source target : Route) : Type 0 where
-  pub plain : option_map as_copied (v source).value ≡ option_map placed_copy (v source).value
-  pub below : (name : List ℕ) (rest : Route) → (v (name ∷ (rest ++ source))).value ≡ None
-  pub free : (rest : Route) → (v (rest ++ target)).value ≡ None
-
 -- A file or a link, and a target that is no folder: nothing stands below either.
 pub record IsPlain (v : View) (source target : Route) : Type 0 where
   pub plain : option_map as_copied (v source).value ≡ option_map placed_copy (v source).value
   pub below : (name : List ℕ) (rest : Route) → (v (name ∷ (rest ++ source))).value ≡ None
   pub under : (name : List ℕ) (rest : Route) → (v (name ∷ (rest ++ target))).value ≡ None
 
+-- Nothing stands at the target; or no folder is open around, so that what is copied itself goes there, and may replace what stands there.
+abbrev pub IsRoom : View → List Level → Route → Type 0
+IsRoom v around target = ((v target).value ≡ None) ⊎ (around ≡ [])
+
+-- such a copy may be placed
+abbrev pub CanPlace : View → List Level → Route → Route → Type 0
+CanPlace v around source target = IsPlain v source target × IsRoom v around target
+
 -- its copy stands, and nothing below that; but for what lies at the target of all
 abbrev pub AllCopied : View → Route → Route → Route → Type 0
 AllCopied v top source target = (rest : Route) → is_prefix top (rest ++ source) ≡ false → IsCopy v (rest ++ source) (rest ++ target)
 
 -- what the copy of a file has done, by where it stands
-abbrev pub FileDone : View → List Route → Route → Route → Route → FileStage → Type 0
-FileDone v passed top source target file_stage.Begin = ⊤
-FileDone v passed top source target (file_stage.Fill part facts done) = IsBare v source target
-FileDone v passed top source target (file_stage.Clean part next.Begin) = ⊤
-FileDone v passed top source target (file_stage.Clean part next.Decided) = IsCovered passed source
-FileDone v passed top source target (file_stage.Left part) = ⊤
-FileDone v passed top source target file_stage.Decided = IsCovered passed source ⊎ AllCopied v top source target
+abbrev pub FileDone : View → List Route → Route → List Level → Route → Route → FileStage → Type 0
+FileDone v passed top around source target file_stage.Begin = ⊤
+FileDone v passed top around source target (file_stage.Fill part facts done) = CanPlace v around source target
+FileDone v passed top around source target (file_stage.Clean part next.Begin) = ⊤
+FileDone v passed top around source target (file_stage.Clean part next.Decided) = IsCovered passed source
+FileDone v passed top around source target (file_stage.Left part) = ⊤
+FileDone v passed top around source target file_stage.Decided = IsCovered passed source ⊎ AllCopied v top source target
 
 -- so it is of the copy of a link
-abbrev pub LinkDone : View → List Route → Route → Route → Route → LinkStage → Type 0
-LinkDone v passed top source target link_stage.Make = IsBare v source target
-LinkDone v passed top source target link_stage.Place = IsBare v source target
-LinkDone v passed top source target (link_stage.Clean link_next.Again) = ⊤
-LinkDone v passed top source target (link_stage.Clean link_next.Decided) = IsCovered passed source
-LinkDone v passed top source target link_stage.Left = ⊤
-LinkDone v passed top source target link_stage.Again = ⊤
-LinkDone v passed top source target link_stage.Decided = IsCovered passed source ⊎ AllCopied v top source target
+abbrev pub LinkDone : View → List Route → Route → List Level → Route → Route → LinkStage → Type 0
+LinkDone v passed top around source target link_stage.Make = CanPlace v around source target
+LinkDone v passed top around source target link_stage.Place = CanPlace v around source target
+LinkDone v passed top around source target (link_stage.Clean link_next.Again) = ⊤
+LinkDone v passed top around source target (link_stage.Clean link_next.Decided) = IsCovered passed source
+LinkDone v passed top around source target link_stage.Left = ⊤
+LinkDone v passed top around source target link_stage.Again = ⊤
+LinkDone v passed top around source target link_stage.Decided = IsCovered passed source ⊎ AllCopied v top source target
 
 -- it has the next name
 abbrev pub IsNext : Level → Route → Type 0
 IsNext l path = (name : List ℕ) × (names : List (List ℕ)) × (l.names.names ≡ name ∷ names) × (path ≡ name ∷ l.copy.source)
 
 -- what is at work has the next name
-abbrev pub ItemDone : View → List Route → Route → Level → Item → Type 0
-ItemDone v passed top inner Next = ⊤
-ItemDone v passed top inner (File f) = (progress f.stage ≡ UnderWay) × IsNext inner f.source × FileDone v passed top f.source f.target f.stage
-ItemDone v passed top inner (Link l) = (link_progress l.stage ≡ UnderWay) × IsNext inner l.source × LinkDone v passed top l.source l.target l.stage
-ItemDone v passed top inner (Stays part) = ⊤
+abbrev pub ItemDone : View → List Route → Route → Level → List Level → Item → Type 0
+ItemDone v passed top inner around Next = ⊤
+ItemDone v passed top inner around (File f) = (progress f.stage ≡ UnderWay) × IsNext inner f.source × FileDone v passed top around f.source f.target f.stage
+ItemDone v passed top inner around (Link l) = (link_progress l.stage ≡ UnderWay) × IsNext inner l.source × LinkDone v passed top around l.source l.target l.stage
+ItemDone v passed top inner around (Stays part) = ⊤
 
 -- a folder was made at a target for the one that stands at its source, all names of which can be shown
 pub record IsShown (v : View) (source target : Route) : Type 0 where
@@ -121,11 +125,15 @@ abbrev pub AreOpened : View → Route → Level → List Level → Type 0
 AreOpened v top inner [] = ⊤
 AreOpened v top inner (outer ∷ around) = IsOpened v top inner × AreOpened v top outer around
 
+-- what such a copy has passed over once it has reported this; where it keeps what stands at its target, its source
+abbrev pub passed_at : Pair → Did → List Route → List Route
+passed_at top did passed = passed_in (Some (Copies top.source top.target)) did passed
+
 -- What the copy of a thing with all that lies in it has done; paths at or below the target are none of the source.
 pub record TreeDone (v : View) (passed : List Route) (top : Pair) (c : Seen) : Type 0 where
   pub things : (rest : Route) → is_prefix top.target (rest ++ top.source) ≡ false → IsAccounted v passed c.levels.inner c.levels.around (rest ++ top.source) (rest ++ top.target)
   pub folders : AreOpened v top.target c.levels.inner c.levels.around
-  pub item : ItemDone v passed top.target c.levels.inner c.item
+  pub item : ItemDone v passed top.target c.levels.inner c.levels.around c.item
 
 -- what is covered stays so as more is passed over
 pub covered_more : (passed : List Route) (left path : Route) → IsCovered passed path → IsCovered (left ∷ passed) path

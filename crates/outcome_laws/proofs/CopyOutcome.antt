@@ -1,22 +1,26 @@
 -- What a job that copies has done, in each of its steps; and what it leaves once it is finished.
 use Rattle.std.proofs.Common.{◌≡◌, ℕ, Bool, true, false, List, [], ◌∷◌, ◌++◌, refl, sym, ◌∙◌, ap, subst, inl, inr, Option, Some, None}
-use Rattle.std.specs.Prelude.{is_some}
+use Rattle.std.specs.Prelude.{is_some, unwrap_or}
 use Rattle.std.proofs.lemmas.Bool.{both_ways, false≢true}
 use Rattle.mc_text.specs.Routes.{Route, is_prefix, parent_of}
+use Rattle.mc_text.specs.declared.kind.Kind.{Kind}
 use Rattle.mc_text.specs.declared.kind.Kind.TheVariants as kind
 use Rattle.tree_trait.specs.Change.{CallLog, current}
 use Rattle.tree_trait.specs.CrashImages.{Among}
-use Rattle.tree_trait.specs.FileSystem.{Spot, View}
+use Rattle.tree_trait.specs.FileSystem.{Spot, View, node}
+use Rattle.tree_trait.specs.declared.file_system.FileSystem.{FileSystem}
+use Rattle.tree_trait.specs.Refusals.{folder_kind, is_folder}
 use Rattle.tree_trait.specs.Shape.{IsTree}
 use Rattle.crash_law.specs.Guarded.{Marks}
 use Rattle.job_reports.specs.Jobs.{Copies}
 use Rattle.job_reports.specs.declared.job.Pair.{Pair}
 use Rattle.job_reports.specs.declared.report.Cause.{Cause}
 use Rattle.job_reports.specs.declared.report.Did.{Did}
-use Rattle.job_reports.specs.declared.report.Did.TheVariants.{Merges, Skipped, Troubled, Ended}
+use Rattle.job_reports.specs.declared.report.Did.TheVariants.{Asked, Kept, Merges, Skipped, Troubled, Ended}
 use Rattle.job_reports.specs.declared.report.Ending.TheVariants.{Finished}
 use Rattle.job_reports.specs.declared.report.StepResult.{StepResult}
-use Rattle.file_copy.specs.AskedCopies.{AskedCalls, AskedTells}
+use Rattle.job_reports.proofs.PermittedCalls.{stat_missing}
+use Rattle.file_copy.specs.AskedCopies.{AskedCalls, AskedTells, IsReplaceable}
 use Rattle.job_answers.specs.declared.replies.Replies.{Replies}
 use Rattle.file_copy.specs.Copying as file
 use Rattle.file_copy.specs.Copying.{Copying}
@@ -33,7 +37,10 @@ use Rattle.tree_copy.specs.InPlace.{AreMoved, HoldsTop, IsInPlace}
 use Rattle.tree_copy.specs.Progress.{progress}
 use Rattle.tree_copy.specs.Reports.{IsToldAs}
 use Rattle.tree_copy.specs.Standing.{Seen, due, due_at, pair_of}
-use Rattle.tree_copy.specs.Steps.{CopySteps, TakesNext, WorksOn, at_end, link_begun}
+use Rattle.tree_copy.specs.Steps.{CopySteps, TakesNext, WorksOn, at_end, is_top, link_begun}
+use Rattle.tree_copy.specs.Asking.{IsOpen}
+use Rattle.tree_copy.specs.Taking.{SourceIs}
+use Rattle.subtree_walk.specs.Places.{is_empty}
 use Rattle.tree_copy.specs.Parts.{IsPartPlace}
 use Rattle.tree_copy.proofs.InPlaces.{closed_in_place, leaves_all, pair_moved, place_law}
 use Rattle.tree_copy.proofs.Staying.{staying_law}
@@ -46,15 +53,16 @@ use Rattle.history_laws.proofs.Intact.{prefix_append}
 use Rattle.history_laws.proofs.Knowing.{IsKept, Said}
 use Rattle.history_laws.proofs.KnownParts.{FileKnows, StageKnows}
 use Rattle.history_laws.proofs.OwedModes.{ShowsTree}
+use Rattle.history_laws.proofs.Untouched.{IsBare as NoFolder, bare_free}
 use Rattle.history_laws.proofs.TreeCalls.{left_item}
 use Rattle.history_laws.proofs.TreeKnown.{ItemHas}
 use Rattle.history_laws.proofs.TreeMachine.{SaysPassed, passed_trouble, skip_says}
 use Rattle.copy_move.specs.declared.run.Course.{Course}
-use Rattle.outcome_laws.specs.Outcomes.{IsCopied, IsReached, passed_by, passed_in}
-use Rattle.outcome_laws.proofs.Accounts.{IsAccounted, IsCovered, IsDue, IsNext, IsPending, ItemDone, TreeDone, covered_below}
-use Rattle.outcome_laws.proofs.FileWork.{bare_begins}
+use Rattle.outcome_laws.specs.Outcomes.{IsCopied, IsReached, passed_in}
+use Rattle.outcome_laws.proofs.Accounts.{CanPlace, IsAccounted, IsCovered, IsDue, IsNext, IsPending, IsRoom, ItemDone, TreeDone, covered_below, passed_at}
+use Rattle.outcome_laws.proofs.FileWork.{none_shown, plain_begins}
 use Rattle.outcome_laws.proofs.OverWork.{OverDone, over_anew, over_goes, over_skipped}
-use Rattle.outcome_laws.proofs.TreeItems.{file_works, link_works}
+use Rattle.outcome_laws.proofs.TreeItems.{file_begins, file_works, link_works}
 use Rattle.outcome_laws.proofs.TreeLevels.{closed_done, leaves_done, no_name}
 use Rattle.outcome_laws.proofs.TreeFolders.{syncs_done, takes_folder}
 use Rattle.outcome_laws.proofs.TreeClosings.{ends_done}
@@ -108,56 +116,103 @@ next_of c (name ∷ names) pair names_is is = let same : pair_of c name ≡ pair
 not_begun : (stage : FileStage) → progress stage ≡ UnderWay → stage ≡ file_stage.Begin → ⊥
 not_begun stage under is = (let e : progress file_stage.Begin ≡ UnderWay = sym (ap progress is) ∙ under in let f : ⊥ = cc in f)
 
+-- what is copied itself is taken up where no folder is open around
+no_around : (around : List Level) → is_empty around ≡ true → around ≡ []
+no_around [] is = refl
+no_around (outer ∷ around) is = absurd (false≢true is)
+
+pub top_alone : (c : Seen) → is_top c ≡ true → c.levels.around ≡ []
+top_alone c is = no_around c.levels.around is
+
+-- and then it is the source
+pub top_source : (top : Pair) (c : Seen) (source : Route) → c.levels.around ≡ [] → IsNext c.levels.inner source → IsInPlace top c → source ≡ top.source
+top_source top c source around n place =
+    let holds : HoldsTop top c.levels.inner = subst (AreMoved top c.levels.inner) around place.levels in
+    n.3 ∙ (ap (λ (up : Route). n.0 ∷ up) holds.from ∙ holds.only n.0 (subst (λ names. Among names n.0) (sym n.2) (inl refl)))
+
+-- a file or a link is no folder
+single_kind : (k : Kind) → IsReplaceable k → folder_kind k ≡ false
+single_kind kind.File h = refl
+single_kind kind.Link h = refl
+single_kind kind.Folder h = absurd h
+single_kind kind.Other h = absurd h
+
+-- no folder stands where something may be put
+open_bare : (s : FileSystem) (alone : Bool) (replies : Replies) (pair : Pair) → IsOpen s alone replies pair → NoFolder s pair.target
+open_bare s alone replies pair (inl free) i at = bare_free s pair.target (stat_missing s pair.target free) i at
+open_bare s alone replies pair (inr (is, (question, d))) i at =
+    let both = d.both in
+    let target = both.of_target in
+    ap (λ j. is_folder (node s j)) (sym (ap (λ o. unwrap_or o 0) at)) ∙ (ap folder_kind (sym target.kind) ∙ single_kind both.target.kind both.replaceable)
+
 module _ (now : CallLog) (v : View) (passed : List Route) (top : Pair) where
   abbrev Then : Did → View
   Then did = replayed_step now did (Some (Copies top.source top.target)) v
 
   -- a step of the machine
-  module _ (unclaimed : Route → Type 0) (old new : Seen) (did : Did) (log : CallLog) (h : TreeDone v passed top old) (place : IsInPlace top old) (tree : IsTree (current log)) where
+  module _ (unclaimed : Route → Type 0) (replies : Replies) (old new : Seen) (did : Did) (log : CallLog) (h : TreeDone v passed top old) (place : IsInPlace top old) (tree : IsTree (current log)) where
     abbrev After : Type 0
-    After = TreeDone (Then did) (passed_by did passed) top new
+    After = TreeDone (Then did) (passed_at top did passed) top new
 
-    takes_done : old.item ≡ Next → ShowsTree v log → TakesNext unclaimed old new did (Some log) (Some now) → After
-    takes_done none shows (inl s) = subst (λ d. TreeDone (Then d) (passed_by d passed) top new) (sym s.says) (subst (TreeDone v passed top) (sym s.stands) h)
+    -- what is taken up may be placed, since there is room at its target
+    can_place : (pair : Pair) (k : Kind) → folder_kind k ≡ false → SourceIs (current log) pair k → IsOpen (current log) (is_top old) replies pair → ShowsTree v log → CanPlace v old.levels.around pair.source pair.target
+    can_place pair k single is onto shows =
+        (plain_begins v log tree shows pair.source pair.target k is.0 is.1 single (open_bare (current log) (is_top old) replies pair onto), room onto)
+      where
+        room : IsOpen (current log) (is_top old) replies pair → IsRoom v old.levels.around pair.target
+        room (inl free) = inl (none_shown v log tree shows pair.target (stat_missing (current log) pair.target free))
+        room (inr (alone, decided)) = inr (top_alone old alone)
+
+    takes_done : old.item ≡ Next → ShowsTree v log → TakesNext unclaimed replies old new did (Some log) (Some now) → After
+    takes_done none shows (inl s) = subst (λ d. TreeDone (Then d) (passed_at top d passed) top new) (sym s.says) (subst (TreeDone v passed top) (sym s.stands) h)
     takes_done none shows (inr (inl t)) =
-        file_works now v passed top old new did h unclaimed (file.begun old.job t.pair.source t.pair.target) log (Some now) t.works
-        (pair_moved top old.levels.inner.names.names old t.pair refl t.next place) (next_of old old.levels.inner.names.names t.pair refl t.next) tt (λ is. (tree, shows))
+        let is = t.is log refl in
+        file_begins now v passed top old new did h unclaimed t.facts (file.begun old.job t.pair.source t.pair.target) (Some log) (Some now) t.works
+        (pair_moved top old.levels.inner.names.names old t.pair refl t.next place) (next_of old old.levels.inner.names.names t.pair refl t.next) refl
+        (can_place t.pair kind.File refl is.0 is.2 shows)
     takes_done none shows (inr (inr (inl t))) =
         let is = t.is log refl in
         link_works now v passed top old new did h (link_begun t.pair t.part) (Some log) (Some now) t.works
         (pair_moved top old.levels.inner.names.names old t.pair refl t.next place) (next_of old old.levels.inner.names.names t.pair refl t.next)
-        (bare_begins v log tree shows t.pair.source t.pair.target kind.Link is.0.0 is.0.1 refl is.1)
+        (can_place t.pair kind.Link refl is.0 is.1 shows)
     takes_done none shows (inr (inr (inr (inl t)))) =
-        takes_folder now v passed top old new did log (Some now) t.pair t.names t.mode h tree shows none
+        takes_folder now v passed top old new did log (Some now) t.pair t.names t.mode (is_top old) replies h tree shows none
         (pair_moved top old.levels.inner.names.names old t.pair refl t.next place) (next_of old old.levels.inner.names.names t.pair refl t.next) (t.is log refl) t.works
     takes_done none shows (inr (inr (inr (inr (inl t))))) =
         let n = next_of old old.levels.inner.names.names t.pair refl t.next in
-        subst (λ d. TreeDone (Then d) (passed_by d passed) top new) (sym t.says)
+        subst (λ d. TreeDone (Then d) (passed_at top d passed) top new) (sym t.says)
         (subst (λ p. TreeDone v (p ∷ passed) top new) (sym n.3) (name_passed v passed top old h n.0 n.1 n.2 false new t.stands none))
-    takes_done none shows (inr (inr (inr (inr (inr (next, inl (debt, e))))))) =
+    takes_done none shows (inr (inr (inr (inr (inr (inl t)))))) =
+        let n = next_of old old.levels.inner.names.names t.pair refl t.next in
+        let itself = top_source top old t.pair.source (top_alone old t.top) n place in
+        subst (λ d. TreeDone (Then d) (passed_at top d passed) top new) (sym t.says)
+        (subst (λ p. TreeDone v (p ∷ passed) top new) (sym n.3 ∙ itself) (name_passed v passed top old h n.0 n.1 n.2 false new t.stands none))
+    takes_done none shows (inr (inr (inr (inr (inr (inr (inl t))))))) =
+        subst (λ d. TreeDone (Then d) (passed_at top d passed) top new) (sym t.says) (subst (TreeDone v passed top) (sym t.stands) h)
+    takes_done none shows (inr (inr (inr (inr (inr (inr (inr (next, inl (debt, e))))))))) =
         let at = closed_in_place top old place in
         ends_done now v passed top (at_end old) new did (Some log) (Some now) (closed_done v passed top old none h) none at.levels e
-    takes_done none shows (inr (inr (inr (inr (inr (next, inr (debt, f, same))))))) =
-        subst (λ d. TreeDone (Then d) (passed_by d passed) top new) (sym f.says) (subst (TreeDone v passed top) (sym f.stands) (closed_done v passed top old none h))
+    takes_done none shows (inr (inr (inr (inr (inr (inr (inr (next, inr (debt, f, same))))))))) =
+        subst (λ d. TreeDone (Then d) (passed_at top d passed) top new) (sym f.says) (subst (TreeDone v passed top) (sym f.stands) (closed_done v passed top old none h))
 
-    works_done : (item : Item) → old.item ≡ item → (item ≡ Next → ShowsTree v log) → WorksOn item unclaimed old new did (Some log) (Some now) → After
+    works_done : (item : Item) → old.item ≡ item → (item ≡ Next → ShowsTree v log) → WorksOn item unclaimed replies old new did (Some log) (Some now) → After
     works_done Next is shows (inl s) = syncs_done now v passed top old new did (Some log) (Some now) h is s
     works_done Next is shows (inr (clean, takes)) = takes_done is (shows refl) takes
     works_done (File f) is shows w =
-        let d = subst (λ i. ItemDone v passed top.target old.levels.inner i) is h.item in
+        let d = subst (λ i. ItemDone v passed top.target old.levels.inner old.levels.around i) is h.item in
         let m = subst (Rattle.tree_copy.specs.InPlace.ItemMoved top) is place.item in
-        file_works now v passed top old new did h unclaimed f log (Some now) w m d.1 d.2 (λ begin. absurd (not_begun f.stage d.0 begin))
+        file_works now v passed top old new did h unclaimed f (Some log) (Some now) w m d.1 d.2 (not_begun f.stage d.0)
     works_done (Link l) is shows w =
-        let d = subst (λ i. ItemDone v passed top.target old.levels.inner i) is h.item in
+        let d = subst (λ i. ItemDone v passed top.target old.levels.inner old.levels.around i) is h.item in
         let m = subst (Rattle.tree_copy.specs.InPlace.ItemMoved top) is place.item in
         link_works now v passed top old new did h l (Some log) (Some now) w m d.1 d.2
     works_done (Stays part) is shows w = absurd w
 
-  pub copy_done : (free : Route → Bool) (old new : Seen) (did : Did) (calls : ℕ) (log : CallLog) (f0 f1 : ℕ) → CopySteps free old new did calls (Some log) (Some now) f0 f1 → TreeDone v passed top old → IsInPlace top old → IsTree (current log)
-      → (old.item ≡ Next → ShowsTree v log) → TreeDone (Then did) (passed_by did passed) top new
-  copy_done free old new did calls log f0 f1 s h place tree shows =
+  pub copy_done : (free : Route → Bool) (replies : Replies) (old new : Seen) (did : Did) (calls : ℕ) (log : CallLog) (f0 f1 : ℕ) → CopySteps free replies old new did calls (Some log) (Some now) f0 f1 → TreeDone v passed top old → IsInPlace top old → IsTree (current log)
+      → (old.item ≡ Next → ShowsTree v log) → TreeDone (Then did) (passed_at top did passed) top new
+  copy_done free replies old new did calls log f0 f1 s h place tree shows =
       let mid = s.mid in
-      works_done (IsPartPlace free mid) mid new did log (leaves_done v passed top s.folders old mid s.leaves h) (leaves_all top s.folders old mid s.leaves place) tree mid.item refl
+      works_done (IsPartPlace free mid) replies mid new did log (leaves_done v passed top s.folders old mid s.leaves h) (leaves_all top s.folders old mid s.leaves place) tree mid.item refl
       (λ none. shows (sym (left_item s.folders old mid s.leaves) ∙ none)) s.works
 
   -- what is passed over changes nothing
@@ -166,8 +221,8 @@ module _ (now : CallLog) (v : View) (passed : List Route) (top : Pair) where
   passed_still did (inr (trouble, is)) = ap Then is
 
 -- A step of the copy of a thing with all that lies in it.
-module _ (told : Said) (dirty dirty_after : List Route) (marks : Marks) (log now : CallLog) (kept : IsKept told dirty marks log) (c new : SubtreeCopying) (did : Did) (passed : List Route) (course : Course) (free : Route → Bool) (count f0 f1 : ℕ)
-    (part : ItemHas told dirty marks (current log) course c.at.item) (s : SubtreeSteps free c new did count dirty dirty_after (Some log) (Some now) f0 f1) (a : TreeAccounts passed told.tree c) where
+module _ (told : Said) (dirty dirty_after : List Route) (marks : Marks) (log now : CallLog) (kept : IsKept told dirty marks log) (c new : SubtreeCopying) (did : Did) (passed : List Route) (course : Course) (free : Route → Bool) (replies : Replies) (count f0 f1 : ℕ)
+    (part : ItemHas told dirty marks (current log) course c.at.item) (s : SubtreeSteps free replies c new did count dirty dirty_after (Some log) (Some now) f0 f1) (a : TreeAccounts passed told.tree c) where
   abbrev seen_tree : Did → View
   seen_tree d = replayed_step now d (Some (Copies c.top.source c.top.target)) told.tree
 
@@ -186,42 +241,42 @@ module _ (told : Said) (dirty dirty_after : List Route) (marks : Marks) (log now
   shown : mid.item ≡ Next → ShowsTree told.tree log
   shown none = shows_all told dirty marks log kept (subst (ItemHas told dirty marks (current log) course) (sym (left_item s.leaves.0 c.at mid s.leaves.1) ∙ none) part)
 
-  worked : TreeDone (seen_tree r.did) (passed_by r.did passed) c.top s.moved × IsInPlace c.top s.moved
+  worked : TreeDone (seen_tree r.did) (passed_at c.top r.did passed) c.top s.moved × IsInPlace c.top s.moved
   worked = by s.works
     where
-      by : ListSteps free mid s.moved r dirty dirty_after (Some log) (Some now) f0 f1 → TreeDone (seen_tree r.did) (passed_by r.did passed) c.top s.moved × IsInPlace c.top s.moved
+      by : ListSteps free replies mid s.moved r dirty dirty_after (Some log) (Some now) f0 f1 → TreeDone (seen_tree r.did) (passed_at c.top r.did passed) c.top s.moved × IsInPlace c.top s.moved
       by (inl out) = (
-        subst (λ d. TreeDone (seen_tree d) (passed_by d passed) c.top s.moved) (sym (ap (λ (x : StepResult). x.did) out.says)) (subst (TreeDone told.tree passed c.top) (sym out.stays) before),
+        subst (λ d. TreeDone (seen_tree d) (passed_at c.top d passed) c.top s.moved) (sym (ap (λ (x : StepResult). x.did) out.says)) (subst (TreeDone told.tree passed c.top) (sym out.stays) before),
         subst (IsInPlace c.top) (sym out.stays) place_before,
       )
       by (inr m) = (
-        copy_done now told.tree passed c.top free mid s.moved r.did r.calls log f0 f1 m.steps before place_before kept.known.guarded.tree shown,
-        (place_law free c.top mid s.moved r.did r.calls (Some log) (Some now) f0 f1 m.steps place_before).0,
+        copy_done now told.tree passed c.top free replies mid s.moved r.did r.calls log f0 f1 m.steps before place_before kept.known.guarded.tree shown,
+        (place_law free replies c.top mid s.moved r.did r.calls (Some log) (Some now) f0 f1 m.steps place_before).0,
       )
 
-  reported : TreeDone (seen_tree did) (passed_by did passed) c.top new.at × IsInPlace c.top new.at
+  reported : TreeDone (seen_tree did) (passed_at c.top did passed) c.top new.at × IsInPlace c.top new.at
   reported = by s.passes
     where
-      by : OrPassedOver c.skips r s.moved new.at (step_result did count) → TreeDone (seen_tree did) (passed_by did passed) c.top new.at × IsInPlace c.top new.at
+      by : OrPassedOver c.skips r s.moved new.at (step_result did count) → TreeDone (seen_tree did) (passed_at c.top did passed) c.top new.at × IsInPlace c.top new.at
       by (inl (none, same, at)) =
           let did_is : did ≡ r.did = ap (λ (x : StepResult). x.did) same in (
-            subst (λ d. TreeDone (seen_tree d) (passed_by d passed) c.top new.at) (sym did_is) (subst (TreeDone (seen_tree r.did) (passed_by r.did passed) c.top) (sym at) worked.0),
+            subst (λ d. TreeDone (seen_tree d) (passed_at c.top d passed) c.top new.at) (sym did_is) (subst (TreeDone (seen_tree r.did) (passed_at c.top r.did passed) c.top) (sym at) worked.0),
             subst (IsInPlace c.top) (sym at) worked.1,
           )
       by (inr (cause, is, calls, skips)) =
           let t = passed_trouble c.skips r.did cause is in
-          let h : TreeDone told.tree passed c.top s.moved = subst (λ d. TreeDone (seen_tree d) (passed_by d passed) c.top s.moved) t.1 worked.0 in
+          let h : TreeDone told.tree passed c.top s.moved = subst (λ d. TreeDone (seen_tree d) (passed_at c.top d passed) c.top s.moved) t.1 worked.0 in
           let place = worked.1 in
           let moved = s.moved in (
-            subst (λ (w : View). TreeDone w (passed_by did passed) c.top new.at) (sym (passed_still now told.tree passed c.top did (skip_says moved.item cause moved new.at did skips)))
+            subst (λ (w : View). TreeDone w (passed_at c.top did passed) c.top new.at) (sym (passed_still now told.tree passed c.top did (skip_says moved.item cause moved new.at did skips)))
                 (skips_done told.tree passed c.top cause moved new.at did h moved.item refl place.item skips),
             (let law = staying_law in law.skip c.top cause moved new.at did skips place),
           )
 
-  pub tree_steps : TreeAccounts (passed_by did passed) (seen_tree did) new
+  pub tree_steps : TreeAccounts (passed_at c.top did passed) (seen_tree did) new
   tree_steps = record {
     in_place = subst (λ (top : Pair). IsInPlace top new.at) (sym top_is) reported.1;
-    done = subst (λ (top : Pair). TreeDone (seen_tree did) (passed_by did passed) top new.at) (sym top_is) reported.0;
+    done = subst (λ (top : Pair). TreeDone (seen_tree did) (passed_at c.top did passed) top new.at) (sym top_is) reported.0;
   }
     where
       top_is : new.top ≡ c.top
@@ -239,16 +294,18 @@ module _ (told : Said) (dirty dirty_after : List Route) (marks : Marks) (log now
   abbrev IsAtEnd : Seen → Type 0
   IsAtEnd x = (x.levels.inner.names.names ≡ []) × (x.levels.around ≡ [])
 
-  takes_end : (unclaimed : Route → Type 0) (old next : Seen) (part : Option Route) → TakesNext unclaimed old next (Ended Finished part) (Some log) (Some now) → IsAtEnd old
+  takes_end : (unclaimed : Route → Type 0) (old next : Seen) (part : Option Route) → TakesNext unclaimed replies old next (Ended Finished part) (Some log) (Some now) → IsAtEnd old
   takes_end unclaimed old next part (inl t) = absurd (let e : Ended Finished part ≡ Troubled t.trouble = t.says in let f : ⊥ = cc in f)
-  takes_end unclaimed old next part (inr (inl t)) = (let w = t.works in let tells = w.tells in absurd (let e = tells.0 in let f : ⊥ = cc in f))
+  takes_end unclaimed old next part (inr (inl t)) = (let w = t.works in absurd w.tells)
   takes_end unclaimed old next part (inr (inr (inl t))) = (let w = t.works in absurd w.tells)
   takes_end unclaimed old next part (inr (inr (inr (inl t)))) = (let w = t.works in absurd (no_end w.report part w.says))
   takes_end unclaimed old next part (inr (inr (inr (inr (inl t))))) = absurd (let e : Ended Finished part ≡ Merges t.pair t.names = t.says in let f : ⊥ = cc in f)
-  takes_end unclaimed old next part (inr (inr (inr (inr (inr (due, inl (debt, e))))))) = absurd (no_end e.report part e.says)
-  takes_end unclaimed old next part (inr (inr (inr (inr (inr (due, inr (debt, f, same))))))) = (no_name old old.levels.inner.names.names due, f.last)
+  takes_end unclaimed old next part (inr (inr (inr (inr (inr (inl t)))))) = absurd (let e : Ended Finished part ≡ Kept (let p = t.pair in p.target) = t.says in let f : ⊥ = cc in f)
+  takes_end unclaimed old next part (inr (inr (inr (inr (inr (inr (inl t))))))) = absurd (let e : Ended Finished part ≡ Asked t.question = t.says in let f : ⊥ = cc in f)
+  takes_end unclaimed old next part (inr (inr (inr (inr (inr (inr (inr (due, inl (debt, e))))))))) = absurd (no_end e.report part e.says)
+  takes_end unclaimed old next part (inr (inr (inr (inr (inr (inr (inr (due, inr (debt, f, same))))))))) = (no_name old old.levels.inner.names.names due, f.last)
 
-  works_end : (unclaimed : Route → Type 0) (old next : Seen) (part : Option Route) (item : Item) → ItemDone told.tree passed c.top.target old.levels.inner item → WorksOn item unclaimed old next (Ended Finished part) (Some log) (Some now) → IsAtEnd old
+  works_end : (unclaimed : Route → Type 0) (old next : Seen) (part : Option Route) (item : Item) → ItemDone told.tree passed c.top.target old.levels.inner old.levels.around item → WorksOn item unclaimed replies old next (Ended Finished part) (Some log) (Some now) → IsAtEnd old
   works_end unclaimed old next part Next d (inl x) = absurd (no_end x.report part x.says)
   works_end unclaimed old next part Next d (inr (clean, t)) = takes_end unclaimed old next part t
   works_end unclaimed old next part (File f) d w = (let tells = w.tells in absurd (let e : progress file_stage.Decided ≡ UnderWay = sym (ap progress tells.0) ∙ d.0 in let f : ⊥ = cc in f))
@@ -274,14 +331,14 @@ module _ (told : Said) (dirty dirty_after : List Route) (marks : Marks) (log now
   pub tree_ends : (part_left : Option Route) → did ≡ Ended Finished part_left → IsCopied c.top.source c.top.target passed told.tree
   tree_ends part_left is = by s.passes
     where
-      stepped : (m : CopySteps free mid s.moved r.did r.calls (Some log) (Some now) f0 f1) → did ≡ r.did → IsCopied c.top.source c.top.target passed told.tree
+      stepped : (m : CopySteps free replies mid s.moved r.did r.calls (Some log) (Some now) f0 f1) → did ≡ r.did → IsCopied c.top.source c.top.target passed told.tree
       stepped m same =
           let last = m.mid in
           let h = leaves_done told.tree passed c.top m.folders mid last m.leaves before in
           let place = leaves_all c.top m.folders mid last m.leaves place_before in
-          copied_at last h place (works_end (IsPartPlace free last) last s.moved part_left last.item h.item (subst (λ d. WorksOn last.item (IsPartPlace free last) last s.moved d (Some log) (Some now)) (sym same ∙ is) m.works))
+          copied_at last h place (works_end (IsPartPlace free last) last s.moved part_left last.item h.item (subst (λ d. WorksOn last.item (IsPartPlace free last) replies last s.moved d (Some log) (Some now)) (sym same ∙ is) m.works))
 
-      worked_end : did ≡ r.did → ListSteps free mid s.moved r dirty dirty_after (Some log) (Some now) f0 f1 → IsCopied c.top.source c.top.target passed told.tree
+      worked_end : did ≡ r.did → ListSteps free replies mid s.moved r dirty dirty_after (Some log) (Some now) f0 f1 → IsCopied c.top.source c.top.target passed told.tree
       worked_end same (inl out) = absurd (let e : Ended Finished part_left ≡ Troubled _ = sym is ∙ (same ∙ ap (λ (x : StepResult). x.did) out.says) in let f : ⊥ = cc in f)
       worked_end same (inr m) = stepped m.steps same
 

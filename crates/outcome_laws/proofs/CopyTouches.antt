@@ -2,6 +2,7 @@
 use Rattle.std.proofs.Common.{[], ◌≡◌, ℕ, Bool, true, List, sym, ◌∙◌, ap, subst, inl, inr, Option, Some, None}
 use Rattle.mc_text.specs.Routes.{Route, is_prefix}
 use Rattle.tree_trait.specs.Change.{CallLog}
+use Rattle.job_answers.specs.declared.replies.Replies.{Replies}
 use Rattle.job_reports.specs.declared.job.Pair.{Pair}
 use Rattle.job_reports.specs.declared.report.Did.{Did}
 use Rattle.job_reports.specs.declared.report.Did.TheVariants.{Began, Chunk, Placed, Removed, Made, Set, Kept, Skipped, Cleaned, Barrier, Asked, Merges, Troubled, Ended}
@@ -60,15 +61,15 @@ by_names top Barrier path may names changed = none_changed path changed
 by_names top (Troubled trouble) path may names changed = none_changed path changed
 by_names top (Ended ending part) path may names changed = none_changed path changed
 
-module _ (c new : SubtreeCopying) (did : Did) (path : Route) (free : Route → Bool) (count : ℕ) (dirty dirty_after : List Route) (before after : Option CallLog) (f0 f1 : ℕ)
-    (s : SubtreeSteps free c new did count dirty dirty_after before after f0 f1) (in_place : IsInPlace c.top c.at) (may : MayTell did) (changed : changed_by did ≡ Some path) where
+module _ (c new : SubtreeCopying) (did : Did) (path : Route) (free : Route → Bool) (replies : Replies) (count : ℕ) (dirty dirty_after : List Route) (before after : Option CallLog) (f0 f1 : ℕ)
+    (s : SubtreeSteps free replies c new did count dirty dirty_after before after f0 f1) (in_place : IsInPlace c.top c.at) (may : MayTell did) (changed : changed_by did ≡ Some path) where
   abbrev r : StepResult
   r = s.worked
 
-  of_works : did ≡ r.did → ListSteps free s.mid s.moved r dirty dirty_after before after f0 f1 → is_prefix c.top.target path ≡ true
+  of_works : did ≡ r.did → ListSteps free replies s.mid s.moved r dirty dirty_after before after f0 f1 → is_prefix c.top.target path ≡ true
   of_works same (inl out) = none_changed path (sym (ap changed_by (same ∙ ap (λ (x : StepResult). x.did) out.says)) ∙ changed)
   of_works same (inr m) =
-      let names = (place_law free c.top s.mid s.moved r.did r.calls before after f0 f1 m.steps (let l = s.leaves in leaves_all c.top l.0 c.at s.mid l.1 in_place)).1 in
+      let names = (place_law free replies c.top s.mid s.moved r.did r.calls before after f0 f1 m.steps (let l = s.leaves in leaves_all c.top l.0 c.at s.mid l.1 in_place)).1 in
       by_names c.top did path may (subst (NamesTarget c.top) (sym same) names) changed
 
   of_skip : SaysPassed did → is_prefix c.top.target path ≡ true

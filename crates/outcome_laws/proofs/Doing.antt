@@ -25,7 +25,6 @@ use Rattle.mode_setting.specs.Settings.{Setting}
 use Rattle.mode_setting.specs.SettingSteps.{SettingCalls}
 use Rattle.job_answers.specs.declared.replies.Replies.{Replies}
 use Rattle.job_reports.specs.Jobs.{Item}
-use Rattle.subtree_copy.specs.Reporting.{MayTell}
 use Rattle.thing_making.specs.declared.new_thing.NewThing.{NewThing}
 use Rattle.thing_making.specs.declared.new_thing.NewThing.TheVariants as thing
 use Rattle.copy_move.specs.declared.run.Course.{Course}
@@ -150,23 +149,6 @@ in_plain item Barrier passed plain = refl
 in_plain item (Troubled trouble) passed plain = refl
 in_plain item (Ended ending part) passed plain = refl
 
--- nor does what is copied whole keep anything
-in_told : (item : Item) (did : Did) (passed : List Route) → MayTell did → passed_in (Some item) did passed ≡ passed_by did passed
-in_told item (Kept path) passed may = absurd may
-in_told item (Skipped path cause) passed may = refl
-in_told item (Began part) passed may = refl
-in_told item (Chunk count) passed may = refl
-in_told item (Placed path) passed may = refl
-in_told item (Removed path) passed may = refl
-in_told item (Made made) passed may = refl
-in_told item (Set path) passed may = refl
-in_told item (Asked question) passed may = refl
-in_told item (Merges pair names) passed may = refl
-in_told item (Cleaned part) passed may = refl
-in_told item Barrier passed may = refl
-in_told item (Troubled trouble) passed may = refl
-in_told item (Ended ending part) passed may = refl
-
 makes_plain : (new : NewThing) (path : Route) (passed : List Route) → kept_of (Some (making_item new path)) passed ≡ passed
 makes_plain thing.Folder path passed = refl
 makes_plain (thing.Link text) path passed = refl
@@ -186,13 +168,13 @@ module _ (told : Said) (dirty dirty_after : List Route) (marks : Marks) (log now
       )
 
   work_steps : (replies : Replies) (old new : Work) (did : Did) (calls faults faults_after : ℕ) (passed : List Route) → WorkKnows told dirty marks log GoesOn old → WorkTells old did new → WorkCalls IsUnclaimed replies old did new log (Some now)
-      → Walks IsUnclaimed old new did calls dirty dirty_after (Some log) (Some now) faults faults_after → WorkDone passed told.tree (current log) old → Then passed did old new
+      → Walks IsUnclaimed replies old new did calls dirty dirty_after (Some log) (Some now) faults faults_after → WorkDone passed told.tree (current log) old → Then passed did old new
   work_steps replies (Copy c) (Copy new) did calls faults faults_after passed knows t called walks k =
       unless_of did (WorkDone (passed_in (Some (item_in (Copy c))) did passed) (replayed_step now did (Some (item_in (Copy c))) told.tree) (current now) (Copy new))
       (file_steps told dirty marks log now kept c new passed IsUnclaimed replies GoesOn did (Some now) knows t called k)
   work_steps replies (CopyTree c) (CopyTree new) did calls faults faults_after passed knows t called walks k =
       unless_of did (WorkDone (passed_in (Some (item_in (CopyTree c))) did passed) (replayed_step now did (Some (item_in (CopyTree c))) told.tree) (current now) (CopyTree new))
-      (subst (λ p. TreeAccounts p (replayed_step now did (Some (item_in (CopyTree c))) told.tree) new) (sym (in_told (item_in (CopyTree c)) did passed t.may)) (tree_steps told dirty dirty_after marks log now kept c new did passed GoesOn walks.free calls walks.since faults_after knows.part walks.steps k))
+      (tree_steps told dirty dirty_after marks log now kept c new did passed GoesOn walks.free replies calls walks.since faults_after knows.part walks.steps k)
   work_steps replies (Delete d) (Delete new) did calls faults faults_after passed knows t called walks k =
       subst (λ p. Unless did (DeletionDone p (current now) new)) (sym (in_plain (item_in (Delete d)) did passed refl)) (deletion_steps d new did calls dirty dirty_after log now faults faults_after passed kept.known.guarded.tree t walks k)
   work_steps replies (Make m) (Make new) did calls faults faults_after passed knows t called walks k =
@@ -224,7 +206,7 @@ module _ (told : Said) (dirty dirty_after : List Route) (marks : Marks) (log now
   Later passed did job new = Unless did (JobDone (passed_in (Some (item_in job.work)) did passed) (replayed_step now did (Some (item_in job.work)) told.tree) (current now) new)
 
   course_steps : (job new : Running) (did : Did) (course : Course) (calls faults faults_after : ℕ) (passed : List Route) → job.course ≡ course → WorkKnows told dirty marks log course job.work → TellsOn course job did new
-      → CallsOn IsUnclaimed course job did new log (Some now) → WalksOn IsUnclaimed course job.work new.work did calls dirty dirty_after (Some log) (Some now) faults faults_after → CourseDone course passed told.tree (current log) job.work
+      → CallsOn IsUnclaimed course job did new log (Some now) → WalksOn IsUnclaimed job.replies course job.work new.work did calls dirty dirty_after (Some log) (Some now) faults faults_after → CourseDone course passed told.tree (current log) job.work
       → Later passed did job new
   course_steps job new did GoesOn calls faults faults_after passed is knows (work, t, new_is) called walks k =
       subst (λ c. Unless did (CourseDone c (passed_in (Some (item_in job.work)) did passed) (replayed_step now did (Some (item_in job.work)) told.tree) (current now) new.work)) (sym (ap (λ (x : Running). x.course) new_is))
@@ -372,7 +354,7 @@ pub some_if : (P : Work → Type 0) (b : Bool) (x w : Work) → P x → (if b th
 some_if P true x w k is = subst P (let e : x ≡ w = cc in e) k
 some_if P false x w k is = absurd (let f : ⊥ = cc in f)
 
-some_and : (P : Work → Type 0) (a b : Bool) (x w : Work) → (a ≡ true → b ≡ true → P x) → (if a && b then Some x else None) ≡ Some w → P w
+pub some_and : (P : Work → Type 0) (a b : Bool) (x w : Work) → (a ≡ true → b ≡ true → P x) → (if a && b then Some x else None) ≡ Some w → P w
 some_and P true true x w k is = subst P (let e : x ≡ w = cc in e) (k refl refl)
 some_and P true false x w k is = absurd (let f : ⊥ = cc in f)
 some_and P false b x w k is = absurd (let f : ⊥ = cc in f)

@@ -11,7 +11,6 @@ use Rattle.tree_trait.specs.Change.{CallLog, current, found}
 use Rattle.tree_trait.specs.FileSystem.{Value, View, find, node, put, value}
 use Rattle.tree_trait.specs.Refusals.{folder_kind, refusal_of}
 use Rattle.tree_trait.specs.Shape.{IsTree}
-use Rattle.tree_trait.specs.declared.calls.TreeError.TheVariants as refused
 use Rattle.tree_trait.proofs.Visible.{same_path-true}
 use Rattle.tree_trait.proofs.Walking.{stat-found}
 use Rattle.crash_law.proofs.Tops.{none_below}
@@ -21,14 +20,13 @@ use Rattle.job_reports.specs.declared.report.Cause.{Cause}
 use Rattle.job_reports.specs.declared.report.Did.{Did}
 use Rattle.job_reports.specs.declared.report.Did.TheVariants.{Began, Chunk, Placed, Removed, Made, Set, Kept, Skipped, Cleaned, Barrier, Asked, Merges, Troubled, Ended}
 use Rattle.job_reports.specs.declared.report.Ending.TheVariants.{Finished, Aborted, Killed, NoMemory}
-use Rattle.job_reports.proofs.PermittedCalls.{stat_missing}
-use Rattle.file_copy.specs.CopyCalls.{CopyCalls}
 use Rattle.file_copy.specs.CopySteps as file
 use Rattle.file_copy.specs.Copying.{Copying, Tells, after_clean, skipped, taken_anew}
 use Rattle.file_copy.specs.declared.stage.Next.{Next}
 use Rattle.file_copy.specs.declared.stage.Next.TheVariants as next
 use Rattle.file_copy.specs.declared.stage.Stage.{Stage}
 use Rattle.file_copy.specs.declared.stage.Stage.TheVariants as at
+use Rattle.copy_levels.specs.declared.level.Level.{Level}
 use Rattle.tree_copy.specs.InPlace.{IsMoved}
 use Rattle.history_laws.specs.Replayed.{moved_from, placed_copy, replayed_step}
 use Rattle.history_laws.proofs.Changing.{none_below_file}
@@ -36,8 +34,8 @@ use Rattle.history_laws.proofs.Intact.{prefix_append}
 use Rattle.history_laws.proofs.Moved.{moved_below}
 use Rattle.history_laws.proofs.OwedModes.{ShowsTree}
 use Rattle.history_laws.proofs.Untouched.{IsBare as NoFolder}
-use Rattle.outcome_laws.specs.Outcomes.{copied_as, as_copied, passed_by}
-use Rattle.outcome_laws.proofs.Accounts.{AllCopied, FileDone, IsBare, IsPlain, apart_from, covered_more, covered_now, put_same, put_value}
+use Rattle.outcome_laws.specs.Outcomes.{copied_as, as_copied}
+use Rattle.outcome_laws.proofs.Accounts.{AllCopied, FileDone, IsPlain, apart_from, covered_more, covered_now, passed_at, put_same, put_value}
 
 -- what is no folder is copied as it is placed
 plain_by : (k : Kind) (x : Value) → folder_kind k ≡ false → copied_as k x ≡ placed_copy x
@@ -72,29 +70,16 @@ module _ (v : View) (log : CallLog) (tree : IsTree (current log)) (shows : Shows
       subst (λ o. option_map as_copied o ≡ option_map placed_copy o) (sym (some_shown source there)) (ap Some (plain_by n.kind (value n) (ap folder_kind is ∙ bare)))
 
   -- where no folder stands at the target
-  pub plain_begins : (source target : Route) → refusal_of (current log) (Stat source) ≡ None → (node (current log) (found (current log) source)).kind ≡ kind.File → NoFolder (current log) target → IsPlain v source target
-  plain_begins source target there is bare = record {
-    plain = plain_source source kind.File there is refl;
-    below = λ name rest. none_shown (name ∷ (rest ++ source)) (none_below_file (current log) tree source (found (current log) source) (stat-found (current log) source there) (ap folder_kind is) name rest);
+  pub plain_begins : (source target : Route) (k : Kind) → refusal_of (current log) (Stat source) ≡ None → (node (current log) (found (current log) source)).kind ≡ k → folder_kind k ≡ false → NoFolder (current log) target → IsPlain v source target
+  plain_begins source target k there is single bare = record {
+    plain = plain_source source k there is single;
+    below = λ name rest. none_shown (name ∷ (rest ++ source)) (none_below_file (current log) tree source (found (current log) source) (stat-found (current log) source there) (ap folder_kind is ∙ single) name rest);
     under = λ name rest. none_shown (name ∷ (rest ++ target)) (none_under name rest (find (current log) target) refl);
   }
     where
       none_under : (name : List ℕ) (rest : Route) (o : Option ℕ) → find (current log) target ≡ o → find (current log) (name ∷ rest ++ target) ≡ None
       none_under name rest None free = none_below log (name ∷ rest) target free
       none_under name rest (Some i) at = none_below_file (current log) tree target i at (bare i at) name rest
-
-  pub bare_begins : (source target : Route) (k : Kind) → refusal_of (current log) (Stat source) ≡ None → (node (current log) (found (current log) source)).kind ≡ k → folder_kind k ≡ false
-      → refusal_of (current log) (Stat target) ≡ Some refused.Missing → IsBare v source target
-  bare_begins source target k there is bare missing =
-      let n = node (current log) (found (current log) source) in
-      record {
-        plain = subst (λ o. option_map as_copied o ≡ option_map placed_copy o) (sym (some_shown source there)) (ap Some (plain_by n.kind (value n) (ap folder_kind is ∙ bare)));
-        below = λ name rest. none_shown (name ∷ (rest ++ source)) (none_below_file (current log) tree source (found (current log) source) (stat-found (current log) source there) (ap folder_kind is ∙ bare) name rest);
-        free = λ rest. none_shown (rest ++ target) (none_below log rest target (stat_missing (current log) target missing));
-      }
-
-pub plain_bare : (v : View) (source target : Route) → IsBare v source target → IsPlain v source target
-plain_bare v source target bare = record { plain = bare.plain; below = bare.below; under = λ name rest. bare.free (name ∷ rest) }
 
 module _ (now : CallLog) (v : View) (passed : List Route) (top : Pair) where
   abbrev Then : Did → View
@@ -125,44 +110,42 @@ module _ (now : CallLog) (v : View) (passed : List Route) (top : Pair) where
     pub placed_all : AllCopied (Then (Placed target)) top.target source target
     placed_all = all
 
-  abbrev Done : View → Route → Route → Stage → Type 0
-  Done w source target stage = FileDone w passed top.target source target stage
+  module _ (around : List Level) where
+    abbrev Done : View → Route → Route → Stage → Type 0
+    Done w source target stage = FileDone w passed top.target around source target stage
 
-  by_clean : (source target : Route) (part : Route) (follows : Next) → Done v source target (at.Clean part follows) → Done v source target (after_clean follows)
-  by_clean source target part next.Begin d = tt
-  by_clean source target part next.Decided d = inl d
+    by_clean : (source target : Route) (part : Route) (follows : Next) → Done v source target (at.Clean part follows) → Done v source target (after_clean follows)
+    by_clean source target part next.Begin d = tt
+    by_clean source target part next.Decided d = inl d
 
-  pub file_goes : (unclaimed : Route → Type 0) (f moved : Copying) (did : Did) (log : CallLog) (after : Option CallLog) → IsMoved top f.source f.target → Tells f did moved → CopyCalls unclaimed f did moved log after
-      → (f.stage ≡ at.Begin → IsTree (current log) × ShowsTree v log) → Done v f.source f.target f.stage → FileDone (Then did) (passed_by did passed) top.target moved.source moved.target moved.stage
-  file_goes unclaimed f moved (Began part) log after m (stage, (facts, new_is)) called begins d =
-      let b = begins stage in
-      let r = called.0 in
-      subst (λ (x : Copying). Done v x.source x.target x.stage) (sym new_is) (bare_begins v log b.0 b.1 f.source f.target kind.File r.source r.file refl r.target)
-  file_goes unclaimed f moved (Chunk count) log after m (part, facts, done, stage, least, most, fits, new_is) called begins d =
-      subst (λ (x : Copying). Done v x.source x.target x.stage) (sym new_is) (subst (λ s. Done v f.source f.target s) stage d)
-  file_goes unclaimed f moved (Placed path) log after m (part, facts, stage, path_is, new_is) called begins d =
-      subst (λ (x : Copying). Done (Then (Placed path)) x.source x.target x.stage) (sym new_is)
-      (subst (λ p. Done (Then (Placed p)) f.source f.target at.Decided) (sym path_is) (inr (placed_all f.source f.target m (plain_bare v f.source f.target (subst (λ s. Done v f.source f.target s) stage d)))))
-  file_goes unclaimed f moved (Cleaned part) log after m (follows, stage, new_is) called begins d =
-      subst (λ (x : Copying). Done v x.source x.target x.stage) (sym new_is) (by_clean f.source f.target part follows (subst (λ s. Done v f.source f.target s) stage d))
-  file_goes unclaimed f moved Barrier log after m (stage, dirty, new_is) called begins d = subst (λ (x : Copying). Done v x.source x.target x.stage) (sym new_is) d
-  file_goes unclaimed f moved (Troubled trouble) log after m (barrier, new_is) called begins d = subst (λ (x : Copying). Done v x.source x.target x.stage) (sym new_is) d
-  file_goes unclaimed f moved (Ended Finished part) log after m (stage, synced, part_is, new_is) called begins d =
-      subst (λ (x : Copying). Done (Then (Ended Finished part)) x.source x.target x.stage) (sym new_is) (subst (λ p. Done (Then (Ended Finished p)) f.source f.target f.stage) (sym part_is) d)
-  file_goes unclaimed f moved (Ended Aborted part) log after m t called begins d = absurd t
-  file_goes unclaimed f moved (Ended Killed part) log after m t called begins d = absurd t
-  file_goes unclaimed f moved (Ended NoMemory part) log after m t called begins d = absurd t
-  file_goes unclaimed f moved (Removed path) log after m t called begins d = absurd t
-  file_goes unclaimed f moved (Made path) log after m t called begins d = absurd t
-  file_goes unclaimed f moved (Set path) log after m t called begins d = absurd t
-  file_goes unclaimed f moved (Kept path) log after m t called begins d = absurd t
-  file_goes unclaimed f moved (Asked question) log after m t called begins d = absurd t
-  file_goes unclaimed f moved (Merges pair names) log after m t called begins d = absurd t
-  file_goes unclaimed f moved (Skipped path cause) log after m t called begins d = absurd t
+    pub file_goes : (f moved : Copying) (did : Did) → IsMoved top f.source f.target → Tells f did moved
+        → (f.stage ≡ at.Begin → ⊥) → Done v f.source f.target f.stage → FileDone (Then did) (passed_at top did passed) top.target around moved.source moved.target moved.stage
+    file_goes f moved (Began part) m (stage, told) begun d = absurd (begun stage)
+    file_goes f moved (Chunk count) m (part, facts, done, stage, least, most, fits, new_is) begun d =
+        subst (λ (x : Copying). Done v x.source x.target x.stage) (sym new_is) (subst (λ s. Done v f.source f.target s) stage d)
+    file_goes f moved (Placed path) m (part, facts, stage, path_is, new_is) begun d =
+        subst (λ (x : Copying). Done (Then (Placed path)) x.source x.target x.stage) (sym new_is)
+        (subst (λ p. Done (Then (Placed p)) f.source f.target at.Decided) (sym path_is) (inr (placed_all f.source f.target m (subst (λ s. Done v f.source f.target s) stage d).0)))
+    file_goes f moved (Cleaned part) m (follows, stage, new_is) begun d =
+        subst (λ (x : Copying). Done v x.source x.target x.stage) (sym new_is) (by_clean f.source f.target part follows (subst (λ s. Done v f.source f.target s) stage d))
+    file_goes f moved Barrier m (stage, dirty, new_is) begun d = subst (λ (x : Copying). Done v x.source x.target x.stage) (sym new_is) d
+    file_goes f moved (Troubled trouble) m (barrier, new_is) begun d = subst (λ (x : Copying). Done v x.source x.target x.stage) (sym new_is) d
+    file_goes f moved (Ended Finished part) m (stage, synced, part_is, new_is) begun d =
+        subst (λ (x : Copying). Done (Then (Ended Finished part)) x.source x.target x.stage) (sym new_is) (subst (λ p. Done (Then (Ended Finished p)) f.source f.target f.stage) (sym part_is) d)
+    file_goes f moved (Ended Aborted part) m t begun d = absurd t
+    file_goes f moved (Ended Killed part) m t begun d = absurd t
+    file_goes f moved (Ended NoMemory part) m t begun d = absurd t
+    file_goes f moved (Removed path) m t begun d = absurd t
+    file_goes f moved (Made path) m t begun d = absurd t
+    file_goes f moved (Set path) m t begun d = absurd t
+    file_goes f moved (Kept path) m t begun d = absurd t
+    file_goes f moved (Asked question) m t begun d = absurd t
+    file_goes f moved (Merges pair names) m t begun d = absurd t
+    file_goes f moved (Skipped path cause) m t begun d = absurd t
 
 -- a file that is skipped is covered
-module _ (v : View) (passed : List Route) (top : Route) where
-  pub skipped_done : (source target : Route) (stage : Stage) → FileDone v passed top source target stage → FileDone v (source ∷ passed) top source target (skipped stage)
+module _ (v : View) (passed : List Route) (top : Pair) (around : List Level) where
+  pub skipped_done : (source target : Route) (stage : Stage) → FileDone v passed top.target around source target stage → FileDone v (source ∷ passed) top.target around source target (skipped stage)
   skipped_done source target at.Begin d = inl (covered_now passed source source (self_prefix source))
   skipped_done source target (at.Fill part facts done) d = covered_now passed source source (self_prefix source)
   skipped_done source target (at.Clean part follows) d = covered_now passed source source (self_prefix source)
@@ -170,15 +153,15 @@ module _ (v : View) (passed : List Route) (top : Route) where
   skipped_done source target at.Decided (inl covered) = inl (covered_more passed source source covered)
   skipped_done source target at.Decided (inr all) = inr all
 
-  pub file_skips : (cause : Cause) (f moved : Copying) (did : Did) → file.Skips cause f did moved → FileDone v passed top f.source f.target f.stage → FileDone v (passed_by did passed) top moved.source moved.target moved.stage
+  pub file_skips : (cause : Cause) (f moved : Copying) (did : Did) → file.Skips cause f did moved → FileDone v passed top.target around f.source f.target f.stage → FileDone v (passed_at top did passed) top.target around moved.source moved.target moved.stage
   file_skips cause f moved did (inl s) d =
-      subst (λ x. FileDone v (passed_by x passed) top moved.source moved.target moved.stage) (sym s.0)
-      (subst (λ (x : Copying). FileDone v (f.source ∷ passed) top x.source x.target x.stage) (sym s.1) (skipped_done f.source f.target f.stage d))
+      subst (λ x. FileDone v (passed_at top x passed) top.target around moved.source moved.target moved.stage) (sym s.0)
+      (subst (λ (x : Copying). FileDone v (f.source ∷ passed) top.target around x.source x.target x.stage) (sym s.1) (skipped_done f.source f.target f.stage d))
   file_skips cause f moved did (inr s) d =
-      subst (λ x. FileDone v (passed_by x passed) top moved.source moved.target moved.stage) (sym s.0)
-      (subst (λ (x : Copying). FileDone v passed top x.source x.target x.stage) (sym s.1) d)
+      subst (λ x. FileDone v (passed_at top x passed) top.target around moved.source moved.target moved.stage) (sym s.0)
+      (subst (λ (x : Copying). FileDone v passed top.target around x.source x.target x.stage) (sym s.1) d)
 
-  pub file_anew : (source target : Route) (stage : Stage) → FileDone v passed top source target stage → FileDone v passed top source target (taken_anew stage)
+  pub file_anew : (source target : Route) (stage : Stage) → FileDone v passed top.target around source target stage → FileDone v passed top.target around source target (taken_anew stage)
   file_anew source target at.Begin d = tt
   file_anew source target (at.Fill part facts done) d = tt
   file_anew source target (at.Clean part follows) d = d

@@ -21,13 +21,13 @@ use Rattle.session_history.specs.declared.history.Entry.{Entry}
 use Rattle.session_history.specs.Entries.{is_closed}
 use Rattle.session_history.specs.LiveJobs.{live_jobs}
 use Rattle.session_history.specs.Sources.{sources_of}
-use Rattle.copy_move.specs.declared.run.Course.TheVariants.{Skips}
+use Rattle.copy_move.specs.declared.run.Course.TheVariants.{GoesOn, Skips}
 use Rattle.copy_move.specs.declared.work.Work.{Work}
 use Rattle.copy_move.specs.declared.work.Work.TheVariants.{Copy, CopyTree, Delete, Make, SetMode}
 use Rattle.thing_making.specs.declared.new_thing.NewThing.{NewThing}
 use Rattle.thing_making.specs.declared.new_thing.NewThing.TheVariants as thing
 use Rattle.copy_move.specs.Jobs.{Running, begun_work}
-use Rattle.copy_move.specs.Steps.{SkipWalks, SyncsOwed, WalksOn}
+use Rattle.copy_move.specs.Steps.{SkipWalks, SyncsOwed, Walks, WalksOn}
 use Rattle.copy_move.specs.Told.{running}
 use Rattle.history_laws.specs.Replayed.{log_prefix, replayed_event, replayed_step, replayed_tree}
 use Rattle.history_laws.specs.Traces.{EventLeads, IsTraced, IsUnclaimed, Stand, StepLeads, WorkLeads, before_others, if_closed, unless_ended, with_job}
@@ -45,7 +45,7 @@ use Rattle.outcome_laws.specs.Keeps.{KeptLaw, has_kept, keeps_after, keeps_by}
 use Rattle.outcome_laws.specs.Outcomes.{Finishes}
 use Rattle.outcome_laws.specs.Untouched.{begun_after, tree_begun}
 use Rattle.outcome_laws.proofs.Elsewhere.{begun_more, ended_on}
-use Rattle.outcome_laws.proofs.KeptTrees.{AllSame}
+use Rattle.outcome_laws.proofs.TopSteps.{AllSame}
 use Rattle.outcome_laws.proofs.KeptTargets.{JobSpares, JobsSpare, Spares, begun_spares, closed_spare, course_spares, orders_spare, spares_after, turned_spares}
 use Rattle.outcome_laws.proofs.MadeThings.{Unless}
 use Rattle.outcome_laws.proofs.Touching.{UnlessEnding, unless_ending}
@@ -101,13 +101,21 @@ module _ (opening : CallLog) (tree : IsTree (current opening)) (settled : all_se
     skip_walks : (new : Running) → WorkLeads job did new was.dirty after.dirty before now → (cause : Cause) → job.course ≡ Skips cause → SkipWalks cause job.work did new.work
     skip_walks new works cause is =
         let walks = works.walks in
-        subst (λ course. WalksOn IsUnclaimed course job.work new.work did walks.0 was.dirty after.dirty (Some before) (Some now) walks.1 walks.2) is walks.3
+        subst (λ course. WalksOn IsUnclaimed job.replies course job.work new.work did walks.0 was.dirty after.dirty (Some before) (Some now) walks.1 walks.2) is walks.3
+
+    -- and on its way
+    goes_walks : (new : Running) (works : WorkLeads job did new was.dirty after.dirty before now) → job.course ≡ GoesOn
+        → (let w = works.walks in Walks IsUnclaimed job.replies job.work new.work did w.0 was.dirty after.dirty (Some before) (Some now) w.1 w.2)
+    goes_walks new works is =
+        let walks = works.walks in
+        subst (λ course. WalksOn IsUnclaimed job.replies course job.work new.work did walks.0 was.dirty after.dirty (Some before) (Some now) walks.1 walks.2) is walks.3
 
     stepped : (new : Option Running) → StepLeads job did new was.dirty after.dirty before now → after.jobs ≡ with_job id new was.jobs → Then older calls (Step id did) now after.jobs
     stepped new (inl (next, inl works, after_is)) is =
         subst (λ js. Then older calls (Step id did) now js) (sym (jobs_then new is ∙ ap (λ o. before_others o []) after_is))
         (let same = tells_same job next did works.tells in
-        after_one next same.0 (course_spares now (replayed_tree opening before older) begun (has_kept job.id older) job next did job.course refl works.tells (skip_walks next works) job_spares))
+        after_one next same.0 (course_spares now (replayed_tree opening before older) begun (has_kept job.id older) job next did job.course refl works.tells (skip_walks next works)
+        (let w = works.walks in w.0) (let w = works.walks in w.1) (let w = works.walks in w.2) was.dirty after.dirty (Some before) (Some now) (goes_walks next works) job_spares))
     stepped new (inl (next, inr syncs, after_is)) is =
         subst (λ js. Then older calls (Step id did) now js) (sym (jobs_then new is ∙ ap (λ o. before_others o []) after_is)) (by syncs.synced)
       where
@@ -181,7 +189,7 @@ made_no_copy (thing.Link text) path source target is = absurd (let f : ⊥ = cc 
 
 all_same : (v was : View) (kept : Bool) (work : Work) (source target : Route) → item_in work ≡ Copies source target → kept ≡ true → Spares v was kept work → AllSame v was
 all_same v was kept (Copy c) source target is has s = s.1 has
-all_same v was kept (CopyTree c) source target is has s = (s.over has).1
+all_same v was kept (CopyTree c) source target is has s = (s.spared.over has).1
 all_same v was kept (Delete d) source target is has s = absurd (let f : ⊥ = cc in f)
 all_same v was kept (Make m) source target is has s = made_no_copy m.thing m.path source target is
 all_same v was kept (SetMode w) source target is has s = absurd (let f : ⊥ = cc in f)

@@ -1,5 +1,5 @@
--- A copy of a file that isn't decided has changed nothing, and one that kept what stands at its target has changed nothing at all; nor has one of folders that merged one.
-use Rattle.std.proofs.Common.{◌≡◌, ℕ, Bool, true, false, List, [], ◌∷◌, refl, sym, ◌∙◌, ap, subst, inl, inr, Some}
+-- A copy of a file that isn't decided has changed nothing, and one that kept what stands at its target has changed nothing at all; nor has one of a thing with all that lies in it.
+use Rattle.std.proofs.Common.{◌≡◌, ℕ, Bool, true, false, List, [], ◌∷◌, refl, sym, ◌∙◌, ap, subst, inl, inr, Option, Some}
 use Rattle.std.specs.Prelude.{⊤, ◌&&◌, is_some, nat_le, if◌then◌else◌, map, ◌==◌}
 use Rattle.std.proofs.lemmas.Bool.{both_ways, false≢true}
 use Rattle.mc_text.specs.Routes.{Route, parent_of}
@@ -16,6 +16,7 @@ use Rattle.job_reports.specs.declared.report.Did.TheVariants.{Began, Chunk, Plac
 use Rattle.session_history.specs.declared.history.JobOrder.{JobOrder}
 use Rattle.session_history.specs.declared.history.JobOrder.TheVariants.{Answered}
 use Rattle.job_answers.specs.Skipping.{kind_in, with_kind}
+use Rattle.job_answers.specs.declared.replies.Replies.{Replies}
 use Rattle.job_answers.specs.declared.skips.Skips.{Skips as SkippedKinds}
 use Rattle.file_copy.specs.AskedCopies.{AskedTells}
 use Rattle.file_copy.specs.Copying.{Copying, after_clean, skipped, taken_anew}
@@ -23,7 +24,6 @@ use Rattle.file_copy.specs.declared.stage.Next.{Next}
 use Rattle.file_copy.specs.declared.stage.Next.TheVariants as next
 use Rattle.file_copy.specs.declared.stage.Stage.{Stage}
 use Rattle.file_copy.specs.declared.stage.Stage.TheVariants as at
-use Rattle.subtree_copy.specs.Standing.{started}
 use Rattle.thing_making.specs.declared.new_thing.NewThing.TheVariants as thing
 use Rattle.copy_move.specs.declared.run.Course.{Course}
 use Rattle.copy_move.specs.declared.run.Course.TheVariants.{GoesOn, Asking, InTrouble, OwedSyncFailed, Skips, Ends}
@@ -31,14 +31,15 @@ use Rattle.copy_move.specs.declared.work.Work.{Work}
 use Rattle.copy_move.specs.declared.work.Work.TheVariants.{Copy, CopyTree, Delete, Make, SetMode}
 use Rattle.copy_move.specs.Jobs.{PassesOver, Running, TellsOn, WorkTells, answered_on, answered, begun_work, closed_job, first_work, passing_over, skips_of, with_skips}
 use Rattle.copy_move.specs.Jobs as works
-use Rattle.copy_move.specs.Steps.{SkipWalks}
+use Rattle.copy_move.specs.Steps.{SkipWalks, Walks}
 use Rattle.history_laws.specs.Replayed.{replayed_step}
-use Rattle.history_laws.specs.Traces.{before_others, ordered, unless_ended}
+use Rattle.history_laws.specs.Traces.{IsUnclaimed, before_others, ordered, unless_ended}
 use Rattle.history_laws.proofs.Sources.{item_in}
 use Rattle.history_laws.proofs.Turns.{Turned}
 use Rattle.outcome_laws.specs.Keeps.{keeps_by}
-use Rattle.outcome_laws.proofs.Doing.{ordered_id, some_if}
-use Rattle.outcome_laws.proofs.KeptTrees.{AllSame, TreeSpares, other_skips, tree_begins, tree_passes, tree_retries, tree_spares}
+use Rattle.outcome_laws.proofs.Doing.{ordered_id, some_and, some_if}
+use Rattle.outcome_laws.proofs.KeptTrees.{TreeSpares, other_skips, tree_begins, tree_passes, tree_retries, tree_spares}
+use Rattle.outcome_laws.proofs.TopSteps.{AllSame}
 use Rattle.outcome_laws.proofs.MadeThings.{Unless, unless_of}
 use Rattle.outcome_laws.proofs.Touching.{UnlessEnding, close_by}
 
@@ -104,36 +105,39 @@ anew_before (at.Left part) u = tt
 anew_before at.Decided u = u
 
 module _ (now : CallLog) (v was : View) (kept : Bool) where
-  work_spares : (old new : Work) (did : Did) → WorkTells old did new → Spares v was kept old → Unless did (Spares (replayed_step now did (Some (item_in old)) v) was (keeps_by did kept) new)
-  work_spares (Copy c) (Copy new) did t s = copy_spares now v was kept c new did t s
-  work_spares (CopyTree c) (CopyTree new) did t s = tree_spares now (Some (item_in (CopyTree c))) v was kept c new did t s
-  work_spares (Delete d) (Delete new) did t s = unless_of did ⊤ tt
-  work_spares (Make m) (Make new) did t s = unless_of did ⊤ tt
-  work_spares (SetMode w) (SetMode new) did t s = unless_of did ⊤ tt
-  work_spares (Copy c) (CopyTree new) did t s = absurd t
-  work_spares (Copy c) (Delete new) did t s = absurd t
-  work_spares (Copy c) (Make new) did t s = absurd t
-  work_spares (Copy c) (SetMode new) did t s = absurd t
-  work_spares (CopyTree c) (Copy new) did t s = absurd t
-  work_spares (CopyTree c) (Delete new) did t s = absurd t
-  work_spares (CopyTree c) (Make new) did t s = absurd t
-  work_spares (CopyTree c) (SetMode new) did t s = absurd t
-  work_spares (Delete d) (Copy new) did t s = absurd t
-  work_spares (Delete d) (CopyTree new) did t s = absurd t
-  work_spares (Delete d) (Make new) did t s = absurd t
-  work_spares (Delete d) (SetMode new) did t s = absurd t
-  work_spares (Make m) (Copy new) did t s = absurd t
-  work_spares (Make m) (CopyTree new) did t s = absurd t
-  work_spares (Make m) (Delete new) did t s = absurd t
-  work_spares (Make m) (SetMode new) did t s = absurd t
-  work_spares (SetMode w) (Copy new) did t s = absurd t
-  work_spares (SetMode w) (CopyTree new) did t s = absurd t
-  work_spares (SetMode w) (Delete new) did t s = absurd t
-  work_spares (SetMode w) (Make new) did t s = absurd t
+  work_spares : (replies : Replies) (old new : Work) (did : Did) (calls faults faults_after : ℕ) (dirty dirty_after : List Route) (before after : Option CallLog) → WorkTells old did new
+      → Walks IsUnclaimed replies old new did calls dirty dirty_after before after faults faults_after → Spares v was kept old
+      → Unless did (Spares (replayed_step now did (Some (item_in old)) v) was (keeps_by did kept) new)
+  work_spares replies (Copy c) (Copy new) did calls faults faults_after dirty dirty_after before after t walks s = copy_spares now v was kept c new did t s
+  work_spares replies (CopyTree c) (CopyTree new) did calls faults faults_after dirty dirty_after before after t walks s =
+      tree_spares now (Some (item_in (CopyTree c))) v was kept c new did walks.free replies calls dirty dirty_after before after walks.since faults_after walks.steps s
+  work_spares replies (Delete d) (Delete new) did calls faults faults_after dirty dirty_after before after t walks s = unless_of did ⊤ tt
+  work_spares replies (Make m) (Make new) did calls faults faults_after dirty dirty_after before after t walks s = unless_of did ⊤ tt
+  work_spares replies (SetMode w) (SetMode new) did calls faults faults_after dirty dirty_after before after t walks s = unless_of did ⊤ tt
+  work_spares replies (Copy c) (CopyTree new) did calls faults faults_after dirty dirty_after before after t walks s = absurd t
+  work_spares replies (Copy c) (Delete new) did calls faults faults_after dirty dirty_after before after t walks s = absurd t
+  work_spares replies (Copy c) (Make new) did calls faults faults_after dirty dirty_after before after t walks s = absurd t
+  work_spares replies (Copy c) (SetMode new) did calls faults faults_after dirty dirty_after before after t walks s = absurd t
+  work_spares replies (CopyTree c) (Copy new) did calls faults faults_after dirty dirty_after before after t walks s = absurd t
+  work_spares replies (CopyTree c) (Delete new) did calls faults faults_after dirty dirty_after before after t walks s = absurd t
+  work_spares replies (CopyTree c) (Make new) did calls faults faults_after dirty dirty_after before after t walks s = absurd t
+  work_spares replies (CopyTree c) (SetMode new) did calls faults faults_after dirty dirty_after before after t walks s = absurd t
+  work_spares replies (Delete d) (Copy new) did calls faults faults_after dirty dirty_after before after t walks s = absurd t
+  work_spares replies (Delete d) (CopyTree new) did calls faults faults_after dirty dirty_after before after t walks s = absurd t
+  work_spares replies (Delete d) (Make new) did calls faults faults_after dirty dirty_after before after t walks s = absurd t
+  work_spares replies (Delete d) (SetMode new) did calls faults faults_after dirty dirty_after before after t walks s = absurd t
+  work_spares replies (Make m) (Copy new) did calls faults faults_after dirty dirty_after before after t walks s = absurd t
+  work_spares replies (Make m) (CopyTree new) did calls faults faults_after dirty dirty_after before after t walks s = absurd t
+  work_spares replies (Make m) (Delete new) did calls faults faults_after dirty dirty_after before after t walks s = absurd t
+  work_spares replies (Make m) (SetMode new) did calls faults faults_after dirty dirty_after before after t walks s = absurd t
+  work_spares replies (SetMode w) (Copy new) did calls faults faults_after dirty dirty_after before after t walks s = absurd t
+  work_spares replies (SetMode w) (CopyTree new) did calls faults faults_after dirty dirty_after before after t walks s = absurd t
+  work_spares replies (SetMode w) (Delete new) did calls faults faults_after dirty dirty_after before after t walks s = absurd t
+  work_spares replies (SetMode w) (Make new) did calls faults faults_after dirty dirty_after before after t walks s = absurd t
 
   passes_spares : (old new : Work) (cause : Cause) (did : Did) (path : Route) → PassesOver old path new → SkipWalks cause old did new → Spares v was kept old → Spares v was kept new
   passes_spares (Copy c) (Copy new) cause did path (path_is, new_is) k s = subst (λ (x : Copying). Spares v was kept (Copy x)) (sym new_is) (λ u. s.0 (skipped_before c.stage u), s.1)
-  passes_spares (CopyTree c) (CopyTree new) cause did path p k s = tree_passes v was kept c new cause did path p k s
+  passes_spares (CopyTree c) (CopyTree new) cause did path p k s = tree_passes v was kept c new cause did k s
   passes_spares (Delete d) (Delete new) cause did path p k s = tt
   passes_spares (Make m) (Make new) cause did path p k s = tt
   passes_spares (SetMode w) (SetMode new) cause did path p k s = tt
@@ -159,11 +163,13 @@ module _ (now : CallLog) (v was : View) (kept : Bool) where
   passes_spares (SetMode w) (Make new) cause did path p k s = absurd p
 
   -- a step, by the course
-  pub course_spares : (job new : Running) (did : Did) (course : Course) → job.course ≡ course → TellsOn course job did new → ((cause : Cause) → course ≡ Skips cause → SkipWalks cause job.work did new.work) → UnlessEnding course (Spares v was kept job.work)
+  pub course_spares : (job new : Running) (did : Did) (course : Course) → job.course ≡ course → TellsOn course job did new → ((cause : Cause) → course ≡ Skips cause → SkipWalks cause job.work did new.work)
+      → (calls faults faults_after : ℕ) (dirty dirty_after : List Route) (before after : Option CallLog) → (course ≡ GoesOn → Walks IsUnclaimed job.replies job.work new.work did calls dirty dirty_after before after faults faults_after) → UnlessEnding course (Spares v was kept job.work)
       → Unless did (UnlessEnding new.course (Spares (replayed_step now did (Some (item_in job.work)) v) was (keeps_by did kept) new.work))
-  course_spares job new did GoesOn is (work, t, new_is) walks s =
+  course_spares job new did GoesOn is (work, t, new_is) walks calls faults faults_after dirty dirty_after before after goes s =
       subst (λ (x : Running). Unless did (UnlessEnding x.course (Spares (replayed_step now did (Some (item_in job.work)) v) was (keeps_by did kept) x.work))) (sym new_is)
-      (ending_by did (work_spares job.work work did t s))
+      (ending_by did (work_spares job.replies job.work work did calls faults faults_after dirty dirty_after before after t
+      (subst (λ (x : Running). Walks IsUnclaimed job.replies job.work x.work did calls dirty dirty_after before after faults faults_after) new_is (goes refl)) s))
     where
       ending_by : (d : Did) → Unless d (Spares (replayed_step now d (Some (item_in job.work)) v) was (keeps_by d kept) work)
           → Unless d (UnlessEnding (works.course_after d) (Spares (replayed_step now d (Some (item_in job.work)) v) was (keeps_by d kept) work))
@@ -181,16 +187,16 @@ module _ (now : CallLog) (v was : View) (kept : Bool) where
       ending_by (Merges pair names) h = h
       ending_by (Troubled trouble) h = h
       ending_by (Ended ending part) h = h
-  course_spares job new did (InTrouble halt) is t walks s = absurd t
-  course_spares job new did (OwedSyncFailed cause) is t walks s = absurd t
-  course_spares job new did Asking is t walks s = absurd t
-  course_spares job new did (Skips cause) is (inl (path, work, did_is, passes, new_is)) walks s =
+  course_spares job new did (InTrouble halt) is t walks calls faults faults_after dirty dirty_after before after goes s = absurd t
+  course_spares job new did (OwedSyncFailed cause) is t walks calls faults faults_after dirty dirty_after before after goes s = absurd t
+  course_spares job new did Asking is t walks calls faults faults_after dirty dirty_after before after goes s = absurd t
+  course_spares job new did (Skips cause) is (inl (path, work, did_is, passes, new_is)) walks calls faults faults_after dirty dirty_after before after goes s =
       subst (λ (d : Did). Unless d (UnlessEnding new.course (Spares (replayed_step now d (Some (item_in job.work)) v) was (keeps_by d kept) new.work))) (sym did_is)
       (subst (λ (x : Running). UnlessEnding x.course (Spares v was kept x.work)) (sym new_is) (passes_spares job.work work cause did path passes (subst (λ (x : Running). SkipWalks cause job.work did x.work) new_is (walks cause refl)) s))
-  course_spares job new did (Skips cause) is (inr (off, did_is, new_is)) walks s =
+  course_spares job new did (Skips cause) is (inr (off, did_is, new_is)) walks calls faults faults_after dirty dirty_after before after goes s =
       subst (λ (d : Did). Unless d (UnlessEnding new.course (Spares (replayed_step now d (Some (item_in job.work)) v) was (keeps_by d kept) new.work))) (sym did_is)
       (subst (λ (x : Running). UnlessEnding x.course (Spares v was kept x.work)) (sym new_is) s)
-  course_spares job new did (Ends ending) is (work, winds, new_is) walks s =
+  course_spares job new did (Ends ending) is (work, winds, new_is) walks calls faults faults_after dirty dirty_after before after goes s =
       subst (λ c. Unless did (UnlessEnding c (Spares (replayed_step now did (Some (item_in job.work)) v) was (keeps_by did kept) new.work))) (sym (ap (λ (x : Running). x.course) new_is ∙ is)) (unless_of did ⊤ tt)
 
 -- the live jobs
@@ -301,7 +307,7 @@ module _ (v : View) where
   first_spares id (plan.Copy (pair ∷ [])) w is = some_if (Spares v v false) (is_some (parent_of pair.source) && is_some (parent_of pair.target)) (works.copies id pair.source pair.target) w nothing_kept is
   first_spares id (plan.Copy (pair ∷ more ∷ pairs)) w is = absurd (let f : ⊥ = cc in f)
   first_spares id (plan.CopyTree []) w is = absurd (let f : ⊥ = cc in f)
-  first_spares id (plan.CopyTree (pair ∷ [])) w is = some_if (Spares v v false) (is_some (parent_of pair.source) && is_some (parent_of pair.target)) (works.copies_tree id pair) w (tree_begins v (started id pair)) is
+  first_spares id (plan.CopyTree (pair ∷ [])) w is = some_and (Spares v v false) (is_some (parent_of pair.source)) (is_some (parent_of pair.target)) (works.copies_tree id pair) w (λ from to. tree_begins id pair v from to) is
   first_spares id (plan.CopyTree (pair ∷ more ∷ pairs)) w is = absurd (let f : ⊥ = cc in f)
   first_spares id (plan.MakeFolder path) w is = some_if (Spares v v false) (is_some (parent_of path)) (works.makes thing.Folder path) w tt is
   first_spares id (plan.MakeLink path text) w is = some_if (Spares v v false) (is_some (parent_of path) && is_link_text text) (works.makes (thing.Link text) path) w tt is

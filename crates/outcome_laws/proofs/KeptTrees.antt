@@ -1,98 +1,130 @@
--- A copy of folders that has changed nothing yet leaves all as it was, and one that merged a folder is over: it changes nothing any more.
-use Rattle.std.proofs.Common.{◌≡◌, ℕ, Bool, true, false, List, refl, sym, ◌∙◌, ap, Option}
-use Rattle.std.specs.Prelude.{if◌then◌else◌}
-use Rattle.std.proofs.lemmas.Bool.{both_ways, false≢true}
-use Rattle.mc_text.specs.Routes.{Route}
+-- A copy of a thing with all that lies in it has changed nothing as long as the thing itself is before it, and nothing at all where it kept what stood at its target, or merged it.
+use Rattle.std.proofs.Common.{◌≡◌, ℕ, Bool, true, false, List, refl, sym, ap, subst, inl, inr, Option}
+use Rattle.std.specs.Prelude.{is_some}
+use Rattle.std.proofs.lemmas.Bool.{false≢true}
+use Rattle.mc_text.specs.Routes.{Route, parent_of}
 use Rattle.tree_trait.specs.Change.{CallLog}
 use Rattle.tree_trait.specs.FileSystem.{View}
+use Rattle.job_answers.specs.declared.replies.Replies.{Replies}
 use Rattle.job_answers.specs.declared.skips.Skips.{Skips as Kinds}
 use Rattle.job_reports.specs.Jobs.{Item}
 use Rattle.job_reports.specs.declared.job.Pair.{Pair}
 use Rattle.job_reports.specs.declared.report.Cause.{Cause}
 use Rattle.job_reports.specs.declared.report.Did.{Did}
 use Rattle.job_reports.specs.declared.report.Did.TheVariants.{Began, Chunk, Placed, Removed, Made, Set, Kept, Skipped, Cleaned, Barrier, Asked, Merges, Troubled, Ended}
-use Rattle.tree_copy.specs.declared.copy.Stage.TheVariants.{Going}
-use Rattle.tree_copy.specs.Reports.{changes}
-use Rattle.tree_copy.specs.Standing.{is_fresh}
-use Rattle.subtree_copy.specs.Merged.{IsOver}
-use Rattle.subtree_copy.specs.Standing.{SubtreeCopying, retries}
-use Rattle.subtree_copy.specs.SubtreeSteps.{SubtreeSkips}
-use Rattle.subtree_copy.proofs.MergedOnes.{merged_law}
-use Rattle.subtree_copy.proofs.Tellings.{told_law}
-use Rattle.copy_move.specs.TreeCopies.{Passes, Tells}
+use Rattle.job_reports.specs.declared.report.StepResult.{StepResult}
+use Rattle.tree_copy.specs.InPlace.{IsInPlace}
+use Rattle.tree_copy.specs.Standing.{Seen}
+use Rattle.tree_copy.proofs.InPlaces.{leaves_all, place_law}
+use Rattle.tree_copy.proofs.Staying.{staying_law}
+use Rattle.subtree_copy.specs.Passing.{OrPassedOver}
+use Rattle.subtree_copy.specs.Standing.{SubtreeCopying, retries, started}
+use Rattle.subtree_copy.specs.SubtreeSteps.{ListSteps, SubtreeSkips, SubtreeSteps, step_result}
+use Rattle.subtree_copy.proofs.Begun.{begins_held}
 use Rattle.history_laws.specs.Replayed.{replayed_step}
+use Rattle.history_laws.proofs.TreeMachine.{passed_trouble, skip_says}
 use Rattle.outcome_laws.specs.Keeps.{keeps_by}
 use Rattle.outcome_laws.proofs.MadeThings.{Unless}
+use Rattle.outcome_laws.proofs.TopSteps.{After, Spared, copy_spared, leaves_spared, retries_spared, says_plain, skips_spared, told}
 
--- all is as it was
-abbrev pub AllSame : View → View → Type 0
-AllSame v was = (path : Route) → v path ≡ was path
-
--- before the first change it is so, and where a folder was merged nothing more is done
+-- it is in its place
 pub record TreeSpares (v was : View) (kept : Bool) (c : SubtreeCopying) : Type 0 where
-  pub fresh : is_fresh c.at.stage ≡ true → AllSame v was
-  pub over : kept ≡ true → IsOver c.at × AllSame v was
+  pub in_place : IsInPlace c.top c.at
+  pub spared : Spared v was kept c.at
+
+-- a report that isn't the end
+unless_both : {A : Type 0} (did : Did) (P : Type 0) → Unless did P → (P → A) → Unless did A
+unless_both (Ended ending part) P h f = tt
+unless_both (Began part) P h f = f h
+unless_both (Chunk count) P h f = f h
+unless_both (Placed path) P h f = f h
+unless_both (Removed path) P h f = f h
+unless_both (Made path) P h f = f h
+unless_both (Set path) P h f = f h
+unless_both (Kept path) P h f = f h
+unless_both (Skipped path cause) P h f = f h
+unless_both (Cleaned part) P h f = f h
+unless_both Barrier P h f = f h
+unless_both (Asked question) P h f = f h
+unless_both (Merges pair names) P h f = f h
+unless_both (Troubled trouble) P h f = f h
 
 -- a step
-module _ (v was : View) (kept : Bool) (c new : SubtreeCopying) where
-  -- with a change: then the copy isn't fresh any more, and was not over
-  changed : (did : Did) → Tells c did new → changes did ≡ true → TreeSpares v was kept c → (w : View) → TreeSpares w was kept new
-  changed did t is s w = record {
-    fresh = λ fresh.
-        let after = t.after in
-        absurd (both_ways (is_fresh new.at.stage) (ap is_fresh after.stage ∙ ap (λ b. is_fresh (if b then Going else c.at.stage)) is) fresh);
-    over = λ has. let o = s.over has in let still = t.over o.0 in absurd (both_ways (changes did) still.1 is);
-  }
+module _ (now : CallLog) (work : Option Item) (v was : View) (kept : Bool) (c new : SubtreeCopying) (did : Did) (free : Route → Bool) (replies : Replies) (count : ℕ) (dirty dirty_after : List Route) (before after : Option CallLog) (f0 f1 : ℕ)
+    (s : SubtreeSteps free replies c new did count dirty dirty_after before after f0 f1) (h : TreeSpares v was kept c) where
+  abbrev Here : Did → Seen → Type 0
+  Here d x = After now v was kept work c.top d x
 
-  -- and without one
-  unchanged : (did : Did) → Tells c did new → changes did ≡ false → TreeSpares v was kept c → TreeSpares v was kept new
-  unchanged did t is s = record {
-    fresh = λ fresh.
-        let after = t.after in
-        s.fresh (sym (ap is_fresh after.stage ∙ ap (λ b. is_fresh (if b then Going else c.at.stage)) is) ∙ fresh);
-    over = λ has. let o = s.over has in let still = t.over o.0 in (still.0, o.1);
-  }
+  abbrev r : StepResult
+  r = s.worked
 
-  -- a folder is merged: nothing was changed before
-  merged : (pair : Pair) (names : List (List ℕ)) → Tells c (Merges pair names) new → TreeSpares v was kept c → TreeSpares v was true new
-  merged pair names t s =
-      let m = t.merged pair names refl in
-      let stays = unchanged (Merges pair names) t refl s in
-      record { fresh = stays.fresh; over = λ has. (m.over, s.fresh m.fresh) }
+  place_before : IsInPlace c.top s.mid
+  place_before = (let l = s.leaves in leaves_all c.top l.0 c.at s.mid l.1 h.in_place)
 
-pub tree_spares : (now : CallLog) (item : Option Item) (v was : View) (kept : Bool) (c new : SubtreeCopying) (did : Did) → Tells c did new → TreeSpares v was kept c → Unless did (TreeSpares (replayed_step now did item v) was (keeps_by did kept) new)
-tree_spares now item v was kept c new (Began part) t s = changed v was kept c new (Began part) t refl s v
-tree_spares now item v was kept c new (Chunk count) t s = changed v was kept c new (Chunk count) t refl s v
-tree_spares now item v was kept c new (Placed path) t s = changed v was kept c new (Placed path) t refl s (replayed_step now (Placed path) item v)
-tree_spares now item v was kept c new (Made path) t s = changed v was kept c new (Made path) t refl s (replayed_step now (Made path) item v)
-tree_spares now item v was kept c new (Set path) t s = changed v was kept c new (Set path) t refl s (replayed_step now (Set path) item v)
-tree_spares now item v was kept c new (Cleaned part) t s = changed v was kept c new (Cleaned part) t refl s v
-tree_spares now item v was kept c new Barrier t s = changed v was kept c new Barrier t refl s v
-tree_spares now item v was kept c new (Skipped path cause) t s = unchanged v was kept c new (Skipped path cause) t refl s
-tree_spares now item v was kept c new (Troubled trouble) t s = unchanged v was kept c new (Troubled trouble) t refl s
-tree_spares now item v was kept c new (Merges pair names) t s = merged v was kept c new pair names t s
-tree_spares now item v was kept c new (Ended ending part) t s = tt
-tree_spares now item v was kept c new (Removed path) t s = absurd t.may
-tree_spares now item v was kept c new (Kept path) t s = absurd t.may
-tree_spares now item v was kept c new (Asked question) t s = absurd t.may
+  worked : Here r.did s.moved × IsInPlace c.top s.moved
+  worked = by s.works
+    where
+      before_it : Spared v was kept s.mid
+      before_it = (let l = s.leaves in leaves_spared now v was kept work c.top l.0 c.at s.mid l.1 h.in_place h.spared)
 
--- A copy that is over stays so where its end is passed over, or tried again.
-pub tree_passes : (v was : View) (kept : Bool) (c new : SubtreeCopying) (cause : Cause) (did : Did) (path : Route) → Passes c path new → SubtreeSkips cause c did new → TreeSpares v was kept c → TreeSpares v was kept new
-tree_passes v was kept c new cause did path (told, after) skips s = record {
-  fresh = λ fresh. s.fresh (sym (ap is_fresh after.stage) ∙ fresh);
-  over = λ has. let o = s.over has in let law = merged_law in (law.skip cause c new did skips o.0, o.1);
-}
+      by : ListSteps free replies s.mid s.moved r dirty dirty_after before after f0 f1 → Here r.did s.moved × IsInPlace c.top s.moved
+      by (inl out) = (
+        subst (λ d. Here d s.moved) (sym (ap (λ (x : StepResult). x.did) out.says)) (subst (Spared v was kept) (sym out.stays) before_it),
+        subst (IsInPlace c.top) (sym out.stays) place_before,
+      )
+      by (inr m) = (
+        copy_spared now v was kept work c.top free replies s.mid s.moved r.did r.calls before after f0 f1 m.steps place_before before_it,
+        (place_law free replies c.top s.mid s.moved r.did r.calls before after f0 f1 m.steps place_before).0,
+      )
 
+  reported : Here did new.at × IsInPlace c.top new.at
+  reported = by s.passes
+    where
+      by : OrPassedOver c.skips r s.moved new.at (step_result did count) → Here did new.at × IsInPlace c.top new.at
+      by (inl (none, same, at)) = (
+        subst (λ d. Here d new.at) (sym (ap (λ (x : StepResult). x.did) same)) (subst (Here r.did) (sym at) worked.0),
+        subst (IsInPlace c.top) (sym at) worked.1,
+      )
+      by (inr (cause, is, calls, skips)) =
+          let t = passed_trouble c.skips r.did cause is in
+          let moved = s.moved in
+          let here : Spared v was kept moved = subst (λ d. Here d s.moved) t.1 worked.0 in (
+            told now v was kept work c.top did new.at (says_plain did (skip_says moved.item cause moved new.at did skips)) (skips_spared v was kept moved new.at here cause did moved.item refl skips),
+            (let law = staying_law in law.skip c.top cause moved new.at did skips worked.1),
+          )
+
+  top_is : new.top ≡ c.top
+  top_is = ap (λ (x : SubtreeCopying). x.top) s.stands
+
+  pub tree_spares : Unless did (TreeSpares (replayed_step now did work v) was (keeps_by did kept) new)
+  tree_spares = unless_both did (Spared (replayed_step now did work v) was (keeps_by did kept) new.at) reported.0 (λ spared. record { in_place = subst (λ (top : Pair). IsInPlace top new.at) (sym top_is) reported.1; spared = spared })
+
+-- something is passed over once that was answered
+pub tree_passes : (v was : View) (kept : Bool) (c new : SubtreeCopying) (cause : Cause) (did : Did) → SubtreeSkips cause c did new → TreeSpares v was kept c → TreeSpares v was kept new
+tree_passes v was kept c new cause did skips h =
+    subst (TreeSpares v was kept) (sym skips.stands) (record {
+      in_place = (let law = staying_law in law.skip c.top cause c.at new.at did skips.skips h.in_place);
+      spared = (let at = c.at in skips_spared v was kept at new.at h.spared cause did at.item refl skips.skips);
+    })
+
+-- and what was refused is taken up anew
 pub tree_retries : (v was : View) (kept : Bool) (c : SubtreeCopying) → TreeSpares v was kept c → TreeSpares v was kept (retries c)
-tree_retries v was kept c s = record {
-  fresh = λ fresh. let law = told_law in let same = law.retry c in s.fresh (sym (ap is_fresh same.stage) ∙ fresh);
-  over = λ has. let o = s.over has in let law = merged_law in (law.retry c o.0, o.1);
+tree_retries v was kept c h = record {
+  in_place = (let law = staying_law in law.retry c.top c.at h.in_place);
+  spared = (let at = c.at in retries_spared v was kept at (let again : SubtreeCopying = retries c in again.at) h.spared at.item refl refl);
 }
 
 -- other kinds are passed over from then on
 pub other_skips : (v was : View) (kept : Bool) (c : SubtreeCopying) (skips : Kinds) → TreeSpares v was kept c → TreeSpares v was kept (record c { skips = skips })
-other_skips v was kept c skips s = record { fresh = s.fresh; over = s.over }
+other_skips v was kept c skips h = record { in_place = h.in_place; spared = h.spared }
 
 -- a copy that begins
-pub tree_begins : (v : View) (c : SubtreeCopying) → TreeSpares v v false c
-tree_begins v c = record { fresh = λ fresh path. refl; over = λ has. absurd (false≢true has) }
+pub tree_begins : (id : ℕ) (top : Pair) (v : View) → is_some (parent_of top.source) ≡ true → is_some (parent_of top.target) ≡ true → TreeSpares v v false (started id top)
+tree_begins id top v from to = record {
+  in_place = (let held = begins_held id top from to in held.in_place);
+  spared = record {
+    begun = λ fresh. refl;
+    ahead = λ a. (refl, λ path. refl);
+    over = λ kept. absurd (false≢true kept);
+  };
+}

@@ -5,6 +5,7 @@ pub mod Deciding
 pub mod Deletions
 pub mod Doing
 pub mod Elsewhere
+pub mod ExampleSteps
 pub mod FileWork
 pub mod KeptExample
 pub mod KeptSessions
@@ -19,6 +20,7 @@ pub mod Owed
 pub mod ReplacedExample
 pub mod SourcesExample
 pub mod Together
+pub mod TopSteps
 pub mod Touching
 pub mod TreeClosings
 pub mod TreeFolders

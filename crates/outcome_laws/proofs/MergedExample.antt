@@ -16,6 +16,7 @@ use Rattle.tree_trait.proofs.BareRoot.{bare, bare_tree}
 use Rattle.tree_trait.proofs.Finding.{same_name-true}
 use Rattle.tree_trait.proofs.Kept.{tree_made}
 use Rattle.tree_trait.proofs.Visible.{same_path-self}
+use Rattle.job_answers.specs.Decisions.{no_replies}
 use Rattle.job_reports.specs.declared.job.Job.TheVariants as plan
 use Rattle.job_reports.specs.declared.job.Pair.{Pair}
 use Rattle.job_reports.specs.declared.report.Did.TheVariants.{Merges, Ended}
@@ -23,20 +24,20 @@ use Rattle.job_reports.specs.declared.report.Ending.TheVariants.{Finished}
 use Rattle.session_history.specs.Sources.{AreInTurn}
 use Rattle.session_history.specs.declared.history.Event.TheVariants.{Began, Step, Next}
 use Rattle.session_history.specs.declared.history.Entry.{Entry}
-use Rattle.copy_levels.specs.Levels.{passed}
-use Rattle.tree_copy.specs.Standing.{Seen}
-use Rattle.tree_copy.specs.Steps.{at_end}
 use Rattle.tree_copy.specs.Taking.{AreShort, IsShort, IsTaken}
 use Rattle.tree_copy.specs.declared.looking.Taken.TheVariants.{Merged}
 use Rattle.subtree_copy.specs.Merged.{IsOver, MergesTop}
 use Rattle.subtree_copy.specs.Reporting.{ChangesOwn}
 use Rattle.subtree_copy.specs.Standing.{SubtreeCopying, is_own, started}
 use Rattle.subtree_copy.specs.SubtreeSteps.{step_result}
+use Rattle.copy_move.specs.declared.run.Course.TheVariants.{GoesOn}
+use Rattle.copy_move.specs.Jobs.{Running}
 use Rattle.history_laws.specs.Replayed.{replayed_tree}
 use Rattle.history_laws.specs.Traces.{IsTraced, WorkLeads, nothing_live}
-use Rattle.history_laws.proofs.CopyExampleSteps.{IsStep, counts, job, works}
+use Rattle.history_laws.proofs.CopyExampleSteps.{counts}
 use Rattle.history_laws.proofs.ExampleParts.{entry, folder, known_is, own_step, stand}
 use Rattle.outcome_laws.specs.Keeps.{has_kept}
+use Rattle.outcome_laws.proofs.ExampleSteps.{IsStep, at_last as decided, job as job_of, tells_own, with_top_passed as merged, works}
 use Rattle.outcome_laws.proofs.KeptSessions.{kept_law}
 
 abbrev pub outer_name : List ℕ
@@ -105,12 +106,9 @@ short_one : AreShort outer (inner_name ∷ [])
 short_one name (inl is) = subst (λ n. IsShort (n ∷ outer.source) × IsShort (n ∷ outer.target)) (sym is) (omega arith, omega arith)
 short_one name (inr none) = absurd none
 
--- how a copy stands that has merged its folder, and as it is finished
-abbrev pub merged : SubtreeCopying → SubtreeCopying
-merged c = record c { at = (let s : Seen = c.at in record s { levels = passed false s.levels }) }
-
-abbrev pub decided : SubtreeCopying → SubtreeCopying
-decided c = record c { at = at_end c.at }
+-- its job
+abbrev job : SubtreeCopying → Running
+job c = job_of no_replies GoesOn c
 
 -- the copy of a folder to where one stands, in two steps
 module _ (name : List ℕ) (from to : Route) (names : List (List ℕ)) where
@@ -129,8 +127,8 @@ module _ (name : List ℕ) (from to : Route) (names : List (List ℕ)) where
   own_folder : is_own begins to ≡ true
   own_folder = or_left _ _ (same_path-self to)
 
-  module _ (taken : IsTaken small pair (Merged names)) (from_short : IsShort pair.source) (to_short : IsShort pair.target) (short : AreShort pair names) (few : length names ≤ 2 ^ 64) (in_order : IsAscending names) where
-    takes : IsStep begins over (Merges pair names) 0 [] [] log log
+  module _ (taken : IsTaken small true no_replies pair (Merged names)) (from_short : IsShort pair.source) (to_short : IsShort pair.target) (short : AreShort pair names) (few : length names ≤ 2 ^ 64) (in_order : IsAscending names) where
+    takes : IsStep no_replies begins over (Merges pair names) 0 [] [] log log
     takes = record {
       mid = begins.at;
       leaves = (0, refl);
@@ -150,7 +148,7 @@ module _ (name : List ℕ) (from to : Route) (names : List (List ℕ)) where
               next = refl;
               reach = (omega arith, from_short, to_short);
               fresh = refl;
-              is = known_is log (λ l. IsTaken (current l) pair (Merged names)) taken;
+              is = known_is log (λ l. IsTaken (current l) true no_replies pair (Merged names)) taken;
               short = short;
               few = few;
               in_order = in_order;
@@ -179,19 +177,21 @@ module _ (name : List ℕ) (from to : Route) (names : List (List ℕ)) where
     stays = record { folder = to; own = own_folder; was = false; now = false; list = refl; synced = λ was now. absurd (false≢true was) }
 
     pub merges : WorkLeads (job begins) (Merges pair names) (job over) [] [] log log
-    merges = works begins over (Merges pair names) 0 [] [] log log (record {
+    merges = works no_replies GoesOn begins over (Merges pair names) 0 [] [] log log (record {
       may = tt;
       after = record { top = refl; part = refl; stage = refl; skips = refl };
       first = λ fresh. tt;
-      on = refl;
-      no_trouble = λ trouble is. let f : ⊥ = cc in f;
-      no_skip = λ path cause is. let f : ⊥ = cc in f;
+      barred = λ trouble is. absurd (let f : ⊥ = cc in f);
+      apart = λ trouble is. absurd (let f : ⊥ = cc in f);
+      kinds = λ path cause is. absurd (let f : ⊥ = cc in f);
       merged = merges_top;
+      kept = λ path is. absurd (let f : ⊥ = cc in f);
+      asked = λ question is. absurd (let f : ⊥ = cc in f);
       over = λ before. absurd (let e = before.names in let f : ⊥ = cc in f);
-    }) takes (λ fresh. refl) stays
+    }) refl takes (λ fresh. refl) stays
 
   -- it is over
-  ends : IsStep over (decided over) (Ended Finished None) 0 [] [] log log
+  ends : IsStep no_replies over (decided over) (Ended Finished None) 0 [] [] log log
   ends = record {
     mid = over.at;
     leaves = (0, refl);
@@ -203,7 +203,7 @@ module _ (name : List ℕ) (from to : Route) (names : List (List ℕ)) where
         folders = 0;
         mid = over.at;
         leaves = refl;
-        works = inr (refl, inr (inr (inr (inr (inr (refl, inr (refl, record { last = refl; says = refl; stands = refl }, refl)))))));
+        works = inr (refl, inr (inr (inr (inr (inr (inr (inr (refl, inr (refl, record { last = refl; says = refl; stands = refl }, refl)))))))));
         counts = counts (Ended Finished None) 0 log log refl (omega arith) (λ h. h);
       };
       list = refl;
@@ -214,16 +214,11 @@ module _ (name : List ℕ) (from to : Route) (names : List (List ℕ)) where
   }
 
   pub finishes : WorkLeads (job over) (Ended Finished None) (job (decided over)) [] [] log log
-  finishes = works over (decided over) (Ended Finished None) 0 [] [] log log (record {
-    may = refl;
-    after = record { top = refl; part = refl; stage = refl; skips = refl };
-    first = λ fresh. tt;
-    on = refl;
-    no_trouble = λ trouble is. let f : ⊥ = cc in f;
-    no_skip = λ path cause is. let f : ⊥ = cc in f;
-    merged = λ told within is. absurd (let f : ⊥ = cc in f);
-    over = λ before. (record { none = refl; around = refl; names = refl; owes = refl; clean = refl }, refl);
-  }) ends (λ fresh. refl) (record { folder = to; own = own_folder; was = false; now = false; list = refl; synced = λ was now. absurd (false≢true was) })
+  finishes =
+      works no_replies GoesOn over (decided over) (Ended Finished None) 0 [] [] log log
+      (tells_own over (decided over) (Ended Finished None) tt refl (record { top = refl; part = refl; stage = refl; skips = refl }) (λ fresh. tt)
+      (λ before. (record { none = refl; around = refl; names = refl; owes = refl; clean = refl }, refl)))
+      refl ends (λ fresh. refl) (record { folder = to; own = own_folder; was = false; now = false; list = refl; synced = λ was now. absurd (false≢true was) })
 
 -- both copies, as they begin and once their folders are merged
 abbrev pub outer_begins : SubtreeCopying
@@ -294,7 +289,7 @@ ended_traced =
 
 -- what it goes on with is what the merge told, and at its end nothing is left
 pub in_turn : AreInTurn (end ∷ both_entries)
-in_turn = (refl, (tt, ((plan.CopyTree (inner ∷ []), [], refl, inl refl), (tt, (tt, tt)))))
+in_turn = (refl, (tt, (([], refl), (tt, (tt, tt)))))
 
 -- The job has merged both, so each path shows what it showed at the opening: as it goes on with the inner one, and at its end.
 pub outer_is_as_it_was : (path : Route) → replayed_tree log log merged_entries path ≡ visible_tree small path

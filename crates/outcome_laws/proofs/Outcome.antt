@@ -8,6 +8,7 @@ use Rattle.tree_trait.specs.declared.file_system.FileSystem.{FileSystem}
 use Rattle.tree_trait.specs.Shape.{IsTree}
 use Rattle.tree_trait.specs.Change.{Change, CallLog, current}
 use Rattle.tree_trait.specs.CrashImages.{all_settled}
+use Rattle.job_answers.specs.declared.replies.Replies.{Replies}
 use Rattle.job_reports.specs.declared.job.Job.{Job}
 use Rattle.job_reports.specs.declared.report.Did.{Did}
 use Rattle.job_reports.specs.declared.report.Did.TheVariants.{Ended}
@@ -182,38 +183,38 @@ module _ (opening : CallLog) (tree : IsTree (current opening)) (settled : all_se
 
 -- what a job that is finished has left
 module _ (told : Rattle.history_laws.proofs.Knowing.Said) (dirty dirty_after : List Route) (marks : Rattle.crash_law.specs.Guarded.Marks) (log now : CallLog) (kept : Rattle.history_laws.proofs.Knowing.IsKept told dirty marks log) (part : Option Route) (passed : List Route) where
-  work_ends : (old new : Work) (course : Course) → WorkTells old (Ended Finished part) new → (calls f0 f1 : ℕ) → Walks IsUnclaimed old new (Ended Finished part) calls dirty dirty_after (Some log) (Some now) f0 f1 → WorkKnows told dirty marks log course old → WorkDone passed told.tree (current log) old → IsOutcome (item_in old) passed told.tree
-  work_ends (Copy c) (Copy new) course t calls f0 f1 walks knows k = file_ends c new part passed told.tree t k
-  work_ends (CopyTree c) (CopyTree new) course t calls f0 f1 walks knows k =
-      tree_ends told dirty dirty_after marks log now kept c new (Ended Finished part) passed course walks.free calls walks.since f1 knows.part walks.steps k part refl
-  work_ends (Copy c) (CopyTree new) course t calls f0 f1 walks knows k = absurd t
-  work_ends (Copy c) (Delete new) course t calls f0 f1 walks knows k = absurd t
-  work_ends (Copy c) (Make new) course t calls f0 f1 walks knows k = absurd t
-  work_ends (Copy c) (SetMode new) course t calls f0 f1 walks knows k = absurd t
-  work_ends (CopyTree c) (Copy new) course t calls f0 f1 walks knows k = absurd t
-  work_ends (CopyTree c) (Delete new) course t calls f0 f1 walks knows k = absurd t
-  work_ends (CopyTree c) (Make new) course t calls f0 f1 walks knows k = absurd t
-  work_ends (CopyTree c) (SetMode new) course t calls f0 f1 walks knows k = absurd t
-  work_ends (Delete d) (Delete new) course t calls f0 f1 walks knows k =
+  work_ends : (replies : Replies) (old new : Work) (course : Course) → WorkTells old (Ended Finished part) new → (calls f0 f1 : ℕ) → Walks IsUnclaimed replies old new (Ended Finished part) calls dirty dirty_after (Some log) (Some now) f0 f1 → WorkKnows told dirty marks log course old → WorkDone passed told.tree (current log) old → IsOutcome (item_in old) passed told.tree
+  work_ends replies (Copy c) (Copy new) course t calls f0 f1 walks knows k = file_ends c new part passed told.tree t k
+  work_ends replies (CopyTree c) (CopyTree new) course t calls f0 f1 walks knows k =
+      tree_ends told dirty dirty_after marks log now kept c new (Ended Finished part) passed course walks.free replies calls walks.since f1 knows.part walks.steps k part refl
+  work_ends replies (Copy c) (CopyTree new) course t calls f0 f1 walks knows k = absurd t
+  work_ends replies (Copy c) (Delete new) course t calls f0 f1 walks knows k = absurd t
+  work_ends replies (Copy c) (Make new) course t calls f0 f1 walks knows k = absurd t
+  work_ends replies (Copy c) (SetMode new) course t calls f0 f1 walks knows k = absurd t
+  work_ends replies (CopyTree c) (Copy new) course t calls f0 f1 walks knows k = absurd t
+  work_ends replies (CopyTree c) (Delete new) course t calls f0 f1 walks knows k = absurd t
+  work_ends replies (CopyTree c) (Make new) course t calls f0 f1 walks knows k = absurd t
+  work_ends replies (CopyTree c) (SetMode new) course t calls f0 f1 walks knows k = absurd t
+  work_ends replies (Delete d) (Delete new) course t calls f0 f1 walks knows k =
       deletion_ends d passed (current log) told.tree t.0 (λ p. kept.known.shows p (λ is. let none = knows.1 in let e : (let o : Option Route = None in o) ≡ Some p = sym none ∙ is in let x : ⊥ = cc in x)) k
-  work_ends (Make m) (Make new) course t calls f0 f1 walks knows k = making_ends m passed told.tree t.0 k
-  work_ends (SetMode s) (SetMode new) course t calls f0 f1 walks knows k = setting_ends s passed told.tree t.0 k
-  work_ends (Delete d) (Copy new) course t calls f0 f1 walks knows k = absurd t
-  work_ends (Delete d) (CopyTree new) course t calls f0 f1 walks knows k = absurd t
-  work_ends (Delete d) (Make new) course t calls f0 f1 walks knows k = absurd t
-  work_ends (Delete d) (SetMode new) course t calls f0 f1 walks knows k = absurd t
-  work_ends (Make m) (Copy new) course t calls f0 f1 walks knows k = absurd t
-  work_ends (Make m) (CopyTree new) course t calls f0 f1 walks knows k = absurd t
-  work_ends (Make m) (Delete new) course t calls f0 f1 walks knows k = absurd t
-  work_ends (Make m) (SetMode new) course t calls f0 f1 walks knows k = absurd t
-  work_ends (SetMode s) (Copy new) course t calls f0 f1 walks knows k = absurd t
-  work_ends (SetMode s) (CopyTree new) course t calls f0 f1 walks knows k = absurd t
-  work_ends (SetMode s) (Delete new) course t calls f0 f1 walks knows k = absurd t
-  work_ends (SetMode s) (Make new) course t calls f0 f1 walks knows k = absurd t
+  work_ends replies (Make m) (Make new) course t calls f0 f1 walks knows k = making_ends m passed told.tree t.0 k
+  work_ends replies (SetMode s) (SetMode new) course t calls f0 f1 walks knows k = setting_ends s passed told.tree t.0 k
+  work_ends replies (Delete d) (Copy new) course t calls f0 f1 walks knows k = absurd t
+  work_ends replies (Delete d) (CopyTree new) course t calls f0 f1 walks knows k = absurd t
+  work_ends replies (Delete d) (Make new) course t calls f0 f1 walks knows k = absurd t
+  work_ends replies (Delete d) (SetMode new) course t calls f0 f1 walks knows k = absurd t
+  work_ends replies (Make m) (Copy new) course t calls f0 f1 walks knows k = absurd t
+  work_ends replies (Make m) (CopyTree new) course t calls f0 f1 walks knows k = absurd t
+  work_ends replies (Make m) (Delete new) course t calls f0 f1 walks knows k = absurd t
+  work_ends replies (Make m) (SetMode new) course t calls f0 f1 walks knows k = absurd t
+  work_ends replies (SetMode s) (Copy new) course t calls f0 f1 walks knows k = absurd t
+  work_ends replies (SetMode s) (CopyTree new) course t calls f0 f1 walks knows k = absurd t
+  work_ends replies (SetMode s) (Delete new) course t calls f0 f1 walks knows k = absurd t
+  work_ends replies (SetMode s) (Make new) course t calls f0 f1 walks knows k = absurd t
 
-  ends : (job new : Running) (course : Course) → TellsOn course job (Ended Finished part) new → (calls f0 f1 : ℕ) → WalksOn IsUnclaimed course job.work new.work (Ended Finished part) calls dirty dirty_after (Some log) (Some now) f0 f1 → ((ending : Rattle.job_reports.specs.declared.report.Ending.Ending) → course ≡ Ends ending → ending ≡ Aborted) → WorkKnows told dirty marks log course job.work
+  ends : (job new : Running) (course : Course) → TellsOn course job (Ended Finished part) new → (calls f0 f1 : ℕ) → WalksOn IsUnclaimed job.replies course job.work new.work (Ended Finished part) calls dirty dirty_after (Some log) (Some now) f0 f1 → ((ending : Rattle.job_reports.specs.declared.report.Ending.Ending) → course ≡ Ends ending → ending ≡ Aborted) → WorkKnows told dirty marks log course job.work
       → CourseDone course passed told.tree (current log) job.work → IsOutcome (item_in job.work) passed told.tree
-  ends job new GoesOn (work, t, new_is) calls f0 f1 walks aborted knows k = work_ends job.work new.work GoesOn (subst (WorkTells job.work (Ended Finished part)) (sym (ap (λ (x : Running). x.work) new_is)) t) calls f0 f1 walks knows k
+  ends job new GoesOn (work, t, new_is) calls f0 f1 walks aborted knows k = work_ends job.replies job.work new.work GoesOn (subst (WorkTells job.work (Ended Finished part)) (sym (ap (λ (x : Running). x.work) new_is)) t) calls f0 f1 walks knows k
   ends job new (InTrouble halt) t calls f0 f1 walks aborted knows k = absurd t
   ends job new (OwedSyncFailed cause) t calls f0 f1 walks aborted knows k = absurd t
   ends job new Asking t calls f0 f1 walks aborted knows k = absurd t

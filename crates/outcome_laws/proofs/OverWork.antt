@@ -1,7 +1,8 @@
 -- What the copy of a file has done where something may stand at its target, after each step, skip and retry.
-use Rattle.std.proofs.Common.{◌≡◌, List, [], ◌∷◌, ◌++◌, refl, sym, ◌∙◌, subst, inl, inr, Option, Some}
+use Rattle.std.proofs.Common.{◌≡◌, List, [], ◌∷◌, refl, sym, subst, inl, inr, Option, Some}
 use Rattle.std.specs.Prelude.{⊤, ◌⊎◌}
 use Rattle.mc_text.specs.Routes.{Route}
+use Rattle.mc_text.specs.declared.kind.Kind.TheVariants as kind
 use Rattle.tree_trait.specs.Change.{CallLog, current}
 use Rattle.tree_trait.specs.FileSystem.{View}
 use Rattle.tree_trait.specs.Shape.{IsTree}
@@ -60,7 +61,7 @@ module _ (now : CallLog) (v : View) (passed : List Route) (f : Copying) where
   over_goes unclaimed replies moved (Began part) log after (stage, (facts, new_is)) called begins d =
       let b = begins stage in
       let r = open_over (current log) (places_of f) replies called.0 in
-      subst (λ (x : Copying). OverDone v passed x.source x.target x.stage) (sym new_is) (plain_begins v log b.0 b.1 f.source f.target r.source r.file r.bare)
+      subst (λ (x : Copying). OverDone v passed x.source x.target x.stage) (sym new_is) (plain_begins v log b.0 b.1 f.source f.target kind.File r.source r.file refl r.bare)
   over_goes unclaimed replies moved (Chunk count) log after (part, facts, done, stage, least, most, fits, new_is) called begins d =
       subst (λ (x : Copying). OverDone v passed x.source x.target x.stage) (sym new_is) (subst (Here v) stage d)
   over_goes unclaimed replies moved (Placed path) log after (part, facts, stage, path_is, new_is) called begins d =

@@ -1,13 +1,13 @@
 -- The session of `KeptExample`, answered `Yes`: a part is made beside the target and filled, and takes the target's name, at which a file stood; its folder is synced, and the job is
 -- finished. Then a copy of the source stands at the target.
-use Rattle.std.proofs.Common.{◌≡◌, pos, List, [], ◌∷◌, refl, sym, ap, inl, inr, Some, None, arith, true≢false}
+use Rattle.std.proofs.Common.{◌≡◌, ℕ, pos, true, false, List, [], ◌∷◌, refl, ap, inl, inr, Some, None, arith}
 use Rattle.std.proofs.lemmas.Bool.{false≢true}
 use Rattle.std.specs.Fmt.{digits}
 use Rattle.mc_text.specs.Routes.{Route, same_path}
 use Rattle.mc_text.specs.declared.kind.Kind.TheVariants.{File}
 use Rattle.tree_trait.specs.declared.file_system.Node.{Node}
 use Rattle.tree_trait.specs.FileSystem.{value}
-use Rattle.tree_trait.specs.Change.{Change, Makes, Moves, Syncs, Writes, CallLog}
+use Rattle.tree_trait.specs.Change.{Change, Makes, Moves, Syncs, Writes, CallLog, current}
 use Rattle.job_reports.specs.declared.answer.Answer.TheVariants.{Yes}
 use Rattle.job_reports.specs.declared.report.Did.TheVariants.{Barrier, Began, Chunk, Ended, Placed}
 use Rattle.job_reports.specs.declared.report.Ending.TheVariants.{Finished}
@@ -15,61 +15,72 @@ use Rattle.job_reports.specs.Jobs as jobs
 use Rattle.job_answers.specs.declared.replies.Decision.TheVariants.{Replace}
 use Rattle.job_answers.specs.declared.replies.Replies.{Replies}
 use Rattle.job_answers.specs.Decisions.{no_replies, with_reply}
-use Rattle.file_copy.specs.declared.stage.FolderState.{FolderState}
 use Rattle.file_copy.specs.declared.stage.FolderState.TheVariants.{Dirty, Synced}
 use Rattle.file_copy.specs.declared.stage.SourceFacts.{SourceFacts}
-use Rattle.file_copy.specs.declared.stage.Stage.{Stage}
 use Rattle.file_copy.specs.declared.stage.Stage.TheVariants.{Begin, Decided, Fill}
-use Rattle.file_copy.specs.AskedCopies.{IsReadyOver}
-use Rattle.file_copy.specs.Copying.{Copying, copying}
+use Rattle.file_copy.specs.CopyCalls.{CopyCalls}
+use Rattle.file_copy.specs.Copying.{Copying, Places, copying, places}
 use Rattle.file_copy.specs.PartNames.{IsFirstFree, part_name, part_path}
+use Rattle.file_copy.specs.PartSteps.{MadeCalls}
+use Rattle.folder_copy.specs.FolderCopying.{FolderCopying}
+use Rattle.folder_copy.specs.FolderCopying as folder
+use Rattle.folder_copy.specs.FolderSteps.{FolderCalls}
+use Rattle.folder_copy.specs.declared.stage.FolderDid.TheVariants as folder_did
+use Rattle.folder_copy.specs.declared.stage.NamesState.TheVariants as folder_names
+use Rattle.folder_copy.specs.declared.stage.Stage.TheVariants as folder_stage
+use Rattle.copy_levels.specs.Levels.{with_copy}
+use Rattle.tree_copy.specs.Parts.{IsPartPlace}
+use Rattle.tree_copy.specs.Standing.{Seen, after_report}
+use Rattle.tree_copy.specs.Steps.{after_file, at_end, idle}
+use Rattle.tree_copy.specs.Taking.{IsTaken}
+use Rattle.tree_copy.specs.declared.looking.Taken.TheVariants as taken
+use Rattle.subtree_copy.specs.Reporting.{ChangesOwn}
+use Rattle.subtree_copy.specs.Standing.{SubtreeCopying}
+use Rattle.subtree_copy.specs.SubtreeSteps.{step_result}
 use Rattle.session_history.specs.declared.history.Event.TheVariants.{Order, Step}
 use Rattle.session_history.specs.declared.history.JobOrder.TheVariants.{Answered}
 use Rattle.session_history.specs.declared.history.Entry.{Entry}
 use Rattle.copy_move.specs.declared.run.Course.TheVariants.{GoesOn}
-use Rattle.copy_move.specs.declared.work.Work.TheVariants.{Copy}
 use Rattle.copy_move.specs.Jobs.{Running}
 use Rattle.history_laws.specs.Replayed.{replayed_tree}
-use Rattle.history_laws.specs.Traces.{IsTraced, IsUnclaimed, WorkLeads}
-use Rattle.history_laws.proofs.ExampleParts.{entry, file, own_step, stand}
-use Rattle.outcome_laws.proofs.KeptExample.{asked_entries, asked_traced, asks, is_decided, log, ours, question, small, small_tree, source, target}
+use Rattle.history_laws.specs.Traces.{IsTraced, WorkLeads}
+use Rattle.history_laws.proofs.CopyExampleSteps.{counts}
+use Rattle.history_laws.proofs.ExampleParts.{entry, file, known_is, own_step, stand}
+use Rattle.outcome_laws.proofs.ExampleSteps.{IsStep, anywhere, at_last, job, tells_own, works}
+use Rattle.outcome_laws.proofs.KeptExample.{asked_entries, asked_traced, asks, begun, holder, is_decided, log, own_folder, pair, question, small, small_tree, source, stays, target}
 use Rattle.outcome_laws.proofs.Outcome.{outcome_law}
-
--- how the copy stands, with its folder
-abbrev copies : Stage → FolderState → Copying
-copies stage state = copying ours stage state
 
 abbrev said_yes : Replies
 said_yes = with_reply Yes no_replies
-
-abbrev job : Stage → FolderState → Running
-job stage state = record { id = 1; work = Copy (copies stage state); course = GoesOn; replies = said_yes }
-
-abbrev holder : Route
-holder = (116 ∷ []) ∷ []
 
 -- the job is answered `Yes`
 abbrev yes_entries : List Entry
 yes_entries = entry 0 (Order 1 (Answered Yes)) ∷ asked_entries
 
 abbrev told_yes : Running
-told_yes = job Begin Synced
+told_yes = job said_yes GoesOn begun
 
 yes_traced : IsTraced (log []) yes_entries (stand (told_yes ∷ []) []) (log [])
 yes_traced = (stand (asks ∷ []) [], log [], asked_traced, record { after = stand (told_yes ∷ []) []; leads = record { after_is = refl; now_is = refl }; stand_is = refl; counts = refl })
 
--- a file stands at the target, and the answer replaces it
-over_target : IsReadyOver small ours said_yes
-over_target = record { source = refl; file = refl; target = inr (question, is_decided said_yes Replace refl) }
+-- the copy of the file, and its part, which is made where nothing stands
+abbrev ours : Places
+ours = places 1 source target
 
--- its part is made, where nothing stands
 abbrev part : Route
 part = part_path ours 0
 
 abbrev facts : SourceFacts
 facts = record { size = 1; mode = 0o644 }
 
-first_free : IsFirstFree small IsUnclaimed ours 0
+abbrev filling : ℕ → Copying
+filling done = copying ours (Fill part facts done) Dirty
+
+abbrev placed_file : Copying
+placed_file = copying ours Decided Dirty
+
+first_free : IsFirstFree small (IsPartPlace anywhere begun.at) ours 0
+unfolding digits
 first_free = record {
   few = omega arith;
   free = record {
@@ -81,6 +92,30 @@ first_free = record {
   first = λ j less. absurd (omega (arith, less));
 }
 
+-- how the copy stands once its part was made, is full, was placed, and once its folder was synced
+abbrev fills : SubtreeCopying
+fills = record begun { at = after_file (Began part) (filling 0) (idle begun.at) }
+
+abbrev is_full : SubtreeCopying
+is_full = record fills { at = after_file (Chunk 1) (filling 1) (idle fills.at) }
+
+abbrev is_placed : SubtreeCopying
+is_placed = record is_full { at = after_file (Placed target) placed_file (idle is_full.at) }
+
+abbrev around : FolderCopying
+around = folder.copying ((115 ∷ []) ∷ []) holder (folder_stage.Close None) folder_names.Synced
+
+abbrev is_done : SubtreeCopying
+is_done = record is_placed { at = (let s : Seen = at_end is_placed.at in record s { stage = after_report Barrier s.stage; levels = with_copy around s.levels }) }
+
+-- the first change makes the folder dirty
+becomes_dirty : ChangesOwn begun (Began part) [] (holder ∷ [])
+becomes_dirty = record { folder = holder; own = own_folder; was = false; now = true; list = refl; synced = λ was now. absurd (false≢true was) }
+
+becomes_clean : ChangesOwn is_placed Barrier (holder ∷ []) []
+becomes_clean = record { folder = holder; own = own_folder; was = true; now = false; list = refl; synced = λ was now. refl }
+
+-- its part is made
 abbrev part_file : Node
 part_file = record { kind = File; bytes = []; mode = 0o644; mtime = pos 0; unnamed = 0 }
 
@@ -93,21 +128,56 @@ made_log = log (makes ∷ [])
 abbrev made_entries : List Entry
 made_entries = entry 1 (Step 1 (Began part)) ∷ yes_entries
 
-abbrev fills : Running
-fills = job (Fill part facts 0) Dirty
-
-made_leads : WorkLeads told_yes (Began part) fills [] (holder ∷ []) (log []) made_log
-made_leads = record {
-  tells = (Copy (copies (Fill part facts 0) Dirty), (refl, (facts, refl)), refl);
-  called = (over_target, record { size = refl; mode = refl }, (0, refl, first_free, (made_log, (refl, (pos 0, refl)), refl)));
-  settled = λ goes fresh kept among. absurd among;
-  leaves = refl;
-  walks = (1, 0, 0, tt);
+made_step : IsStep said_yes begun fills (Began part) 1 [] (holder ∷ []) (log []) made_log
+unfolding digits
+made_step = record {
+  mid = begun.at;
+  leaves = (0, refl);
+  settled = refl;
+  worked = step_result (Began part) 1;
+  moved = fills.at;
+  works = inr (record {
+    steps = record {
+      folders = 0;
+      mid = begun.at;
+      leaves = refl;
+      works = inr (
+        refl,
+        inr (inl (record {
+          pair = pair;
+          facts = facts;
+          next = refl;
+          reach = (omega arith, omega arith, omega arith);
+          is = known_is (log []) (λ l. IsTaken (current l) true said_yes pair (taken.File facts)) ((refl, refl), record { size = refl; mode = refl }, inr (refl, (question, is_decided said_yes Replace refl)));
+          range = record { mode = omega arith; size = omega arith };
+          works = record {
+            moved = filling 0;
+            tells = refl;
+            called = known_is (log []) (λ l. MadeCalls (IsPartPlace anywhere begun.at) facts (copying ours Begin Synced) (Began part) l (Some made_log)) (0, refl, first_free, (made_log, (refl, (pos 0, refl)), refl));
+            sound = (omega arith, omega arith, omega arith, refl);
+            short = omega arith;
+            stands = refl;
+          };
+        })),
+      );
+      counts = counts (Began part) 1 (log []) made_log refl (omega arith) (λ h. h);
+    };
+    list = refl;
+  });
+  going = (refl, refl);
+  passes = inl (refl, refl, refl);
+  stands = refl;
 }
 
-made_traced : IsTraced (log []) made_entries (stand (fills ∷ []) (holder ∷ [])) made_log
+made_leads : WorkLeads told_yes (Began part) (job said_yes GoesOn fills) [] (holder ∷ []) (log []) made_log
+made_leads =
+    works said_yes GoesOn begun fills (Began part) 1 [] (holder ∷ []) (log []) made_log
+    (tells_own begun fills (Began part) tt tt (record { top = refl; part = refl; stage = refl; skips = refl }) (λ fresh. tt) (λ before. absurd (let e = before.names in let f : ⊥ = cc in f)))
+    refl made_step (λ fresh. refl) becomes_dirty
+
+made_traced : IsTraced (log []) made_entries (stand (job said_yes GoesOn fills ∷ []) (holder ∷ [])) made_log
 made_traced =
-    own_step (log []) 1 1 (Began part) yes_entries (stand (told_yes ∷ []) []) (stand (fills ∷ []) (holder ∷ [])) (log []) made_log told_yes fills yes_traced (inl (refl, refl))
+    own_step (log []) 1 1 (Began part) yes_entries (stand (told_yes ∷ []) []) (stand (job said_yes GoesOn fills ∷ []) (holder ∷ [])) (log []) made_log told_yes (job said_yes GoesOn fills) yes_traced (inl (refl, refl))
     made_leads refl refl refl
 
 -- it is filled with the one byte of the source
@@ -120,22 +190,46 @@ filled_log = log (makes ∷ writes ∷ [])
 abbrev filled_entries : List Entry
 filled_entries = entry 2 (Step 1 (Chunk 1)) ∷ made_entries
 
-abbrev is_full : Running
-is_full = job (Fill part facts 1) Dirty
-
-filled_leads : WorkLeads fills (Chunk 1) is_full (holder ∷ []) (holder ∷ []) made_log filled_log
+filled_step : IsStep said_yes fills is_full (Chunk 1) 1 (holder ∷ []) (holder ∷ []) made_log filled_log
 unfolding digits
-filled_leads = record {
-  tells = (Copy (copies (Fill part facts 1) Dirty), (part, facts, 0, refl, omega arith, omega arith, omega arith, refl), refl);
-  called = (part, facts, 0, refl, refl, (filled_log, (refl, (pos 0, refl)), refl));
-  settled = λ goes fresh. absurd (true≢false (sym fresh));
-  leaves = refl;
-  walks = (1, 0, 0, tt);
+filled_step = record {
+  mid = fills.at;
+  leaves = (0, refl);
+  settled = refl;
+  worked = step_result (Chunk 1) 1;
+  moved = is_full.at;
+  works = inr (record {
+    steps = record {
+      folders = 0;
+      mid = fills.at;
+      leaves = refl;
+      works = record {
+        moved = filling 1;
+        tells = (part, facts, 0, refl, omega arith, omega arith, omega arith, refl);
+        called = known_is made_log (λ l. CopyCalls (IsPartPlace anywhere fills.at) (filling 0) (Chunk 1) (filling 1) l (Some filled_log)) (part, facts, 0, refl, refl, (filled_log, (refl, (pos 0, refl)), refl));
+        falls = omega arith;
+        sound = (omega arith, omega arith, omega arith, refl);
+        short = omega arith;
+        stands = refl;
+      };
+      counts = counts (Chunk 1) 1 made_log filled_log refl (omega arith) (λ h. h);
+    };
+    list = refl;
+  });
+  going = (refl, refl);
+  passes = inl (refl, refl, refl);
+  stands = refl;
 }
 
-filled_traced : IsTraced (log []) filled_entries (stand (is_full ∷ []) (holder ∷ [])) filled_log
+filled_leads : WorkLeads (job said_yes GoesOn fills) (Chunk 1) (job said_yes GoesOn is_full) (holder ∷ []) (holder ∷ []) made_log filled_log
+filled_leads =
+    works said_yes GoesOn fills is_full (Chunk 1) 1 (holder ∷ []) (holder ∷ []) made_log filled_log
+    (tells_own fills is_full (Chunk 1) tt tt (record { top = refl; part = refl; stage = refl; skips = refl }) (λ fresh. absurd (false≢true fresh)) (λ before. absurd (let e = before.names in let f : ⊥ = cc in f)))
+    refl filled_step (λ fresh. absurd (false≢true fresh)) (stays fills (Chunk 1) (holder ∷ []) refl)
+
+filled_traced : IsTraced (log []) filled_entries (stand (job said_yes GoesOn is_full ∷ []) (holder ∷ [])) filled_log
 filled_traced =
-    own_step (log []) 1 2 (Chunk 1) made_entries (stand (fills ∷ []) (holder ∷ [])) (stand (is_full ∷ []) (holder ∷ [])) made_log filled_log fills is_full made_traced (inl (refl, refl))
+    own_step (log []) 1 2 (Chunk 1) made_entries (stand (job said_yes GoesOn fills ∷ []) (holder ∷ [])) (stand (job said_yes GoesOn is_full ∷ []) (holder ∷ [])) made_log filled_log (job said_yes GoesOn fills) (job said_yes GoesOn is_full) made_traced (inl (refl, refl))
     filled_leads refl refl refl
 
 -- it is synced, and takes the target's name from the file that stood there
@@ -151,22 +245,46 @@ placed_log = log (makes ∷ writes ∷ Syncs 5 ∷ moves ∷ [])
 abbrev placed_entries : List Entry
 placed_entries = entry 4 (Step 1 (Placed target)) ∷ filled_entries
 
-abbrev is_placed : Running
-is_placed = job Decided Dirty
-
-placed_leads : WorkLeads is_full (Placed target) is_placed (holder ∷ []) (holder ∷ []) filled_log placed_log
+placed_step : IsStep said_yes is_full is_placed (Placed target) 2 (holder ∷ []) (holder ∷ []) filled_log placed_log
 unfolding digits
-placed_leads = record {
-  tells = (Copy (copies Decided Dirty), (part, facts, refl, refl, refl), refl);
-  called = (part, facts, refl, (synced_log, (refl, (pos 0, refl)), (placed_log, (refl, (pos 0, refl)), refl)));
-  settled = λ goes fresh. absurd (true≢false (sym fresh));
-  leaves = refl;
-  walks = (2, 0, 0, tt);
+placed_step = record {
+  mid = is_full.at;
+  leaves = (0, refl);
+  settled = refl;
+  worked = step_result (Placed target) 2;
+  moved = is_placed.at;
+  works = inr (record {
+    steps = record {
+      folders = 0;
+      mid = is_full.at;
+      leaves = refl;
+      works = record {
+        moved = placed_file;
+        tells = (part, facts, refl, refl, refl);
+        called = known_is filled_log (λ l. CopyCalls (IsPartPlace anywhere is_full.at) (filling 1) (Placed target) placed_file l (Some placed_log)) (part, facts, refl, (synced_log, (refl, (pos 0, refl)), (placed_log, (refl, (pos 0, refl)), refl)));
+        falls = omega arith;
+        sound = tt;
+        short = tt;
+        stands = refl;
+      };
+      counts = counts (Placed target) 2 filled_log placed_log refl (omega arith) (λ h. h);
+    };
+    list = refl;
+  });
+  going = tt;
+  passes = inl (refl, refl, refl);
+  stands = refl;
 }
 
-placed_traced : IsTraced (log []) placed_entries (stand (is_placed ∷ []) (holder ∷ [])) placed_log
+placed_leads : WorkLeads (job said_yes GoesOn is_full) (Placed target) (job said_yes GoesOn is_placed) (holder ∷ []) (holder ∷ []) filled_log placed_log
+placed_leads =
+    works said_yes GoesOn is_full is_placed (Placed target) 2 (holder ∷ []) (holder ∷ []) filled_log placed_log
+    (tells_own is_full is_placed (Placed target) tt tt (record { top = refl; part = refl; stage = refl; skips = refl }) (λ fresh. absurd (false≢true fresh)) (λ before. absurd (let e = before.names in let f : ⊥ = cc in f)))
+    refl placed_step (λ fresh. absurd (false≢true fresh)) (stays is_full (Placed target) (holder ∷ []) refl)
+
+placed_traced : IsTraced (log []) placed_entries (stand (job said_yes GoesOn is_placed ∷ []) (holder ∷ [])) placed_log
 placed_traced =
-    own_step (log []) 1 4 (Placed target) filled_entries (stand (is_full ∷ []) (holder ∷ [])) (stand (is_placed ∷ []) (holder ∷ [])) filled_log placed_log is_full is_placed filled_traced (inl (refl, refl))
+    own_step (log []) 1 4 (Placed target) filled_entries (stand (job said_yes GoesOn is_full ∷ []) (holder ∷ [])) (stand (job said_yes GoesOn is_placed ∷ []) (holder ∷ [])) filled_log placed_log (job said_yes GoesOn is_full) (job said_yes GoesOn is_placed) filled_traced (inl (refl, refl))
     placed_leads refl refl refl
 
 -- the folder is synced, and the job is finished
@@ -176,37 +294,91 @@ done_log = log (makes ∷ writes ∷ Syncs 5 ∷ moves ∷ Syncs 2 ∷ [])
 abbrev done_entries : List Entry
 done_entries = entry 5 (Step 1 Barrier) ∷ placed_entries
 
-abbrev is_done : Running
-is_done = job Decided Synced
-
-done_leads : WorkLeads is_placed Barrier is_done (holder ∷ []) [] placed_log done_log
-done_leads = record {
-  tells = (Copy (copies Decided Synced), (refl, refl, refl), refl);
-  called = (done_log, (refl, (pos 0, refl)), refl);
-  settled = λ goes fresh. absurd (true≢false (sym fresh));
-  leaves = refl;
-  walks = (1, 0, 0, tt);
+done_step : IsStep said_yes is_placed is_done Barrier 1 (holder ∷ []) [] placed_log done_log
+unfolding digits
+done_step = record {
+  mid = is_placed.at;
+  leaves = (0, refl);
+  settled = refl;
+  worked = step_result Barrier 1;
+  moved = is_done.at;
+  works = inr (record {
+    steps = record {
+      folders = 0;
+      mid = is_placed.at;
+      leaves = refl;
+      works = inr (
+        refl,
+        inr (inr (inr (inr (inr (inr (inr (
+          refl,
+          inl (
+            refl,
+            record {
+              moved = around;
+              report = folder_did.Barrier;
+              says = refl;
+              tells = (refl, refl, refl);
+              called = known_is placed_log (λ l. FolderCalls (record around { names = folder_names.Dirty }) folder_did.Barrier l (Some done_log)) (done_log, (refl, (pos 0, refl)), refl);
+              falls = omega arith;
+              stands = refl;
+            },
+          ),
+        ))))))),
+      );
+      counts = counts Barrier 1 placed_log done_log refl (omega arith) (λ h. h);
+    };
+    list = refl;
+  });
+  going = tt;
+  passes = inl (refl, refl, refl);
+  stands = refl;
 }
 
-done_traced : IsTraced (log []) done_entries (stand (is_done ∷ []) []) done_log
+done_leads : WorkLeads (job said_yes GoesOn is_placed) Barrier (job said_yes GoesOn is_done) (holder ∷ []) [] placed_log done_log
+done_leads =
+    works said_yes GoesOn is_placed is_done Barrier 1 (holder ∷ []) [] placed_log done_log
+    (tells_own is_placed is_done Barrier tt tt (record { top = refl; part = refl; stage = refl; skips = refl }) (λ fresh. absurd (false≢true fresh)) (λ before. absurd (let e = before.clean in let f : ⊥ = cc in f)))
+    refl done_step (λ fresh. absurd (false≢true fresh)) becomes_clean
+
+done_traced : IsTraced (log []) done_entries (stand (job said_yes GoesOn is_done ∷ []) []) done_log
 done_traced =
-    own_step (log []) 1 5 Barrier placed_entries (stand (is_placed ∷ []) (holder ∷ [])) (stand (is_done ∷ []) []) placed_log done_log is_placed is_done placed_traced (inl (refl, refl))
+    own_step (log []) 1 5 Barrier placed_entries (stand (job said_yes GoesOn is_placed ∷ []) (holder ∷ [])) (stand (job said_yes GoesOn is_done ∷ []) []) placed_log done_log (job said_yes GoesOn is_placed) (job said_yes GoesOn is_done) placed_traced (inl (refl, refl))
     done_leads refl refl refl
 
 abbrev end : Entry
 end = entry 5 (Step 1 (Ended Finished None))
 
-ended_leads : WorkLeads is_done (Ended Finished None) is_done [] [] done_log done_log
-ended_leads = record {
-  tells = (Copy (copies Decided Synced), (refl, refl, refl, refl), refl);
-  called = refl;
-  settled = λ goes fresh. absurd (true≢false (sym fresh));
-  leaves = refl;
-  walks = (0, 0, 0, tt);
+ended_step : IsStep said_yes is_done (at_last is_done) (Ended Finished None) 0 [] [] done_log done_log
+ended_step = record {
+  mid = is_done.at;
+  leaves = (0, refl);
+  settled = refl;
+  worked = step_result (Ended Finished None) 0;
+  moved = (let d : SubtreeCopying = at_last is_done in d.at);
+  works = inr (record {
+    steps = record {
+      folders = 0;
+      mid = is_done.at;
+      leaves = refl;
+      works = inr (refl, inr (inr (inr (inr (inr (inr (inr (refl, inr (refl, record { last = refl; says = refl; stands = refl }, refl)))))))));
+      counts = counts (Ended Finished None) 0 done_log done_log refl (omega arith) (λ h. h);
+    };
+    list = refl;
+  });
+  going = tt;
+  passes = inl (refl, refl, refl);
+  stands = refl;
 }
 
+ended_leads : WorkLeads (job said_yes GoesOn is_done) (Ended Finished None) (job said_yes GoesOn (at_last is_done)) [] [] done_log done_log
+ended_leads =
+    works said_yes GoesOn is_done (at_last is_done) (Ended Finished None) 0 [] [] done_log done_log
+    (tells_own is_done (at_last is_done) (Ended Finished None) tt refl (record { top = refl; part = refl; stage = refl; skips = refl }) (λ fresh. absurd (false≢true fresh))
+    (λ before. (record { none = refl; around = refl; names = refl; owes = refl; clean = refl }, refl))) refl ended_step (λ fresh. absurd (false≢true fresh)) (stays is_done (Ended Finished None) [] refl)
+
 ended_traced : IsTraced (log []) (end ∷ done_entries) (stand [] []) done_log
-ended_traced = own_step (log []) 1 5 (Ended Finished None) done_entries (stand (is_done ∷ []) []) (stand [] []) done_log done_log is_done is_done done_traced (inl (refl, refl)) ended_leads refl refl refl
+ended_traced =
+    own_step (log []) 1 5 (Ended Finished None) done_entries (stand (job said_yes GoesOn is_done ∷ []) []) (stand [] []) done_log done_log (job said_yes GoesOn is_done) (job said_yes GoesOn (at_last is_done)) done_traced (inl (refl, refl)) ended_leads refl refl refl
 
 -- so a copy of the source stands at the target
 pub target_is_replaced : (replayed_tree (log []) done_log done_entries target).value ≡ Some (value file)

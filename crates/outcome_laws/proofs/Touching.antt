@@ -8,6 +8,7 @@ use Rattle.tree_trait.specs.FileSystem.{View}
 use Rattle.tree_trait.specs.Change.{CallLog, current}
 use Rattle.tree_trait.proofs.Visible.{same_path-self, same_path-true}
 use Rattle.job_reports.specs.declared.answer.Answer.{Answer}
+use Rattle.job_answers.specs.declared.replies.Replies.{Replies}
 use Rattle.job_reports.specs.declared.report.Did.{Did}
 use Rattle.job_reports.specs.declared.report.Did.TheVariants.{Began, Chunk, Placed, Removed, Made, Set, Kept, Skipped, Cleaned, Barrier, Asked, Merges, Troubled, Ended}
 use Rattle.job_reports.specs.Jobs.{Item, Copies, Removes, Makes, MakesLink, Sets}
@@ -192,34 +193,34 @@ setting_touches s new (Skipped p why) path t is = absurd t
 setting_touches s new (Cleaned part) path t is = absurd t
 
 module _ (dirty dirty_after : List Route) (log now : CallLog) (passed : List Route) (v : View) where
-  work_touches : (old new : Work) (did : Did) (path : Route) (calls faults faults_after : ℕ) → WorkTells old did new → Walks IsUnclaimed old new did calls dirty dirty_after (Some log) (Some now) faults faults_after
+  work_touches : (replies : Replies) (old new : Work) (did : Did) (path : Route) (calls faults faults_after : ℕ) → WorkTells old did new → Walks IsUnclaimed replies old new did calls dirty dirty_after (Some log) (Some now) faults faults_after
       → WorkDone passed v (current log) old → changed_by did ≡ Some path → touches (item_in old) path ≡ true
-  work_touches (Copy c) (Copy new) did path calls faults faults_after t walks k is = copy_touches c new did path t is
-  work_touches (CopyTree c) (CopyTree new) did path calls faults faults_after t walks k is =
-      tree_touches c new did path walks.free calls dirty dirty_after (Some log) (Some now) walks.since faults_after walks.steps k.in_place t.may is
-  work_touches (Delete d) (Delete new) did path calls faults faults_after t walks k is = deletion_touches d new did path t is
-  work_touches (Make m) (Make new) did path calls faults faults_after t walks k is = making_touches m new did path t is
-  work_touches (SetMode s) (SetMode new) did path calls faults faults_after t walks k is = setting_touches s new did path t is
-  work_touches (Copy x) (CopyTree new) did path calls faults faults_after t walks k is = absurd t
-  work_touches (Copy x) (Delete new) did path calls faults faults_after t walks k is = absurd t
-  work_touches (Copy x) (Make new) did path calls faults faults_after t walks k is = absurd t
-  work_touches (Copy x) (SetMode new) did path calls faults faults_after t walks k is = absurd t
-  work_touches (CopyTree x) (Copy new) did path calls faults faults_after t walks k is = absurd t
-  work_touches (CopyTree x) (Delete new) did path calls faults faults_after t walks k is = absurd t
-  work_touches (CopyTree x) (Make new) did path calls faults faults_after t walks k is = absurd t
-  work_touches (CopyTree x) (SetMode new) did path calls faults faults_after t walks k is = absurd t
-  work_touches (Delete x) (Copy new) did path calls faults faults_after t walks k is = absurd t
-  work_touches (Delete x) (CopyTree new) did path calls faults faults_after t walks k is = absurd t
-  work_touches (Delete x) (Make new) did path calls faults faults_after t walks k is = absurd t
-  work_touches (Delete x) (SetMode new) did path calls faults faults_after t walks k is = absurd t
-  work_touches (Make x) (Copy new) did path calls faults faults_after t walks k is = absurd t
-  work_touches (Make x) (CopyTree new) did path calls faults faults_after t walks k is = absurd t
-  work_touches (Make x) (Delete new) did path calls faults faults_after t walks k is = absurd t
-  work_touches (Make x) (SetMode new) did path calls faults faults_after t walks k is = absurd t
-  work_touches (SetMode x) (Copy new) did path calls faults faults_after t walks k is = absurd t
-  work_touches (SetMode x) (CopyTree new) did path calls faults faults_after t walks k is = absurd t
-  work_touches (SetMode x) (Delete new) did path calls faults faults_after t walks k is = absurd t
-  work_touches (SetMode x) (Make new) did path calls faults faults_after t walks k is = absurd t
+  work_touches replies (Copy c) (Copy new) did path calls faults faults_after t walks k is = copy_touches c new did path t is
+  work_touches replies (CopyTree c) (CopyTree new) did path calls faults faults_after t walks k is =
+      tree_touches c new did path walks.free replies calls dirty dirty_after (Some log) (Some now) walks.since faults_after walks.steps k.in_place t.may is
+  work_touches replies (Delete d) (Delete new) did path calls faults faults_after t walks k is = deletion_touches d new did path t is
+  work_touches replies (Make m) (Make new) did path calls faults faults_after t walks k is = making_touches m new did path t is
+  work_touches replies (SetMode s) (SetMode new) did path calls faults faults_after t walks k is = setting_touches s new did path t is
+  work_touches replies (Copy x) (CopyTree new) did path calls faults faults_after t walks k is = absurd t
+  work_touches replies (Copy x) (Delete new) did path calls faults faults_after t walks k is = absurd t
+  work_touches replies (Copy x) (Make new) did path calls faults faults_after t walks k is = absurd t
+  work_touches replies (Copy x) (SetMode new) did path calls faults faults_after t walks k is = absurd t
+  work_touches replies (CopyTree x) (Copy new) did path calls faults faults_after t walks k is = absurd t
+  work_touches replies (CopyTree x) (Delete new) did path calls faults faults_after t walks k is = absurd t
+  work_touches replies (CopyTree x) (Make new) did path calls faults faults_after t walks k is = absurd t
+  work_touches replies (CopyTree x) (SetMode new) did path calls faults faults_after t walks k is = absurd t
+  work_touches replies (Delete x) (Copy new) did path calls faults faults_after t walks k is = absurd t
+  work_touches replies (Delete x) (CopyTree new) did path calls faults faults_after t walks k is = absurd t
+  work_touches replies (Delete x) (Make new) did path calls faults faults_after t walks k is = absurd t
+  work_touches replies (Delete x) (SetMode new) did path calls faults faults_after t walks k is = absurd t
+  work_touches replies (Make x) (Copy new) did path calls faults faults_after t walks k is = absurd t
+  work_touches replies (Make x) (CopyTree new) did path calls faults faults_after t walks k is = absurd t
+  work_touches replies (Make x) (Delete new) did path calls faults faults_after t walks k is = absurd t
+  work_touches replies (Make x) (SetMode new) did path calls faults faults_after t walks k is = absurd t
+  work_touches replies (SetMode x) (Copy new) did path calls faults faults_after t walks k is = absurd t
+  work_touches replies (SetMode x) (CopyTree new) did path calls faults faults_after t walks k is = absurd t
+  work_touches replies (SetMode x) (Delete new) did path calls faults faults_after t walks k is = absurd t
+  work_touches replies (SetMode x) (Make new) did path calls faults faults_after t walks k is = absurd t
 
   -- so a step leaves what the job doesn't touch
   still : (job new : Running) (did : Did) (was : ℕ → View) → IsSame job new → IsAsBegun v (was job.id) (item_in job.work) → ((path : Route) → changed_by did ≡ Some path → touches (item_in job.work) path ≡ true)
@@ -232,10 +233,10 @@ module _ (dirty dirty_after : List Route) (log now : CallLog) (passed : List Rou
       (step_else did now (item_in job.work) v on)
 
   pub course_touches : (job new : Running) (did : Did) (course : Course) (calls faults faults_after : ℕ) (v_was : ℕ → View) → job.course ≡ course → TellsOn course job did new
-      → WalksOn IsUnclaimed course job.work new.work did calls dirty dirty_after (Some log) (Some now) faults faults_after → CourseDone course passed v (current log) job.work
+      → WalksOn IsUnclaimed job.replies course job.work new.work did calls dirty dirty_after (Some log) (Some now) faults faults_after → CourseDone course passed v (current log) job.work
       → UnlessEnding course (IsAsBegun v (v_was job.id) (item_in job.work)) → IsSame job new → Unless did (JobKept (replayed_step now did (Some (item_in job.work)) v) v_was new)
   course_touches job new did GoesOn calls faults faults_after was is (work, t, new_is) walks k kept same =
-      still job new did was same kept (λ path changed. work_touches job.work new.work did path calls faults faults_after (subst (WorkTells job.work did) (sym (ap (λ (x : Running). x.work) new_is)) t) walks k changed)
+      still job new did was same kept (λ path changed. work_touches job.replies job.work new.work did path calls faults faults_after (subst (WorkTells job.work did) (sym (ap (λ (x : Running). x.work) new_is)) t) walks k changed)
   course_touches job new did (InTrouble halt) calls faults faults_after was is t walks k kept same = absurd t
   course_touches job new did (OwedSyncFailed cause) calls faults faults_after was is t walks k kept same = absurd t
   course_touches job new did Asking calls faults faults_after was is t walks k kept same = absurd t

@@ -23,8 +23,8 @@ use Rattle.tree_copy.specs.Reports.{IsToldAs}
 use Rattle.tree_copy.specs.Standing.{Seen, after_report}
 use Rattle.tree_copy.specs.Steps.{FolderEnds}
 use Rattle.history_laws.specs.Replayed.{moved_from, new_folder, replayed_step, with_mode_of}
-use Rattle.outcome_laws.specs.Outcomes.{as_copied, passed_by}
-use Rattle.outcome_laws.proofs.Accounts.{AreOpened, IsAccounted, IsCopy, IsDue, IsOpened, IsShown, ItemDone, TreeDone, apart_from, put_same, put_value}
+use Rattle.outcome_laws.specs.Outcomes.{as_copied}
+use Rattle.outcome_laws.proofs.Accounts.{AreOpened, IsAccounted, IsCopy, IsDue, IsOpened, IsShown, ItemDone, TreeDone, apart_from, passed_at, put_same, put_value}
 use Rattle.outcome_laws.proofs.TreeFolders.{comes_from, folder_copied, on_target}
 use Rattle.outcome_laws.proofs.TreeLevels.{IsChanged, accounted_map, copy_changed, opened_inner, pending_or, same_rest, source_of}
 
@@ -135,7 +135,7 @@ module _ (now : CallLog) (v : View) (passed : List Route) (top : Pair) where
         made = λ mode is. o.made mode (sym stage ∙ is);
         shown = λ off. subst (λ s. IsShown v s c.target) (sym from) (subst (λ t. IsShown v old.levels.inner.copy.source t) (sym to) (o.shown (subst (λ s. is_prefix top.target s ≡ false) from off)));
       }) h.folders;
-      item = subst (λ i. ItemDone v passed top.target (level old.levels.inner.names c) i) (sym none) tt;
+      item = subst (λ i. ItemDone v passed top.target (level old.levels.inner.names c) old.levels.around i) (sym none) tt;
     }
       where
         due : (path : Route) → IsDue old.levels.inner path → IsDue (level old.levels.inner.names c) path
@@ -152,21 +152,21 @@ module _ (now : CallLog) (v : View) (passed : List Route) (top : Pair) where
         record {
           things = λ rest off. set_thing l m o old.levels.around rest off (h.things rest off);
           folders = opened_inner (Then (common.Set l.copy.target)) top.target l (given l m o) old.levels.around (λ x. record { made = λ other is. (let f : ⊥ = cc in f); shown = x.shown }) (all_set l m o l old.levels.around h.folders);
-          item = subst (λ i. ItemDone (Then (common.Set l.copy.target)) passed top.target (given l m o) i) (sym none) tt;
+          item = subst (λ i. ItemDone (Then (common.Set l.copy.target)) passed top.target (given l m o) old.levels.around i) (sym none) tt;
         }
 
-    by_report : (report : FolderDid) (d : Did) → IsToldAs report d → (c : FolderCopying) → Tells old.levels.inner.copy report c → TreeDone (Then d) (passed_by d passed) top (Ended_at d c)
+    by_report : (report : FolderDid) (d : Did) → IsToldAs report d → (c : FolderCopying) → Tells old.levels.inner.copy report c → TreeDone (Then d) (passed_at top d passed) top (Ended_at d c)
     by_report (folder_did.Made path) d says c (mode, stage, path_is, new_is) = absurd (not_made v top old.levels.inner old.levels.around moved h.folders mode stage)
     by_report (folder_did.Set path) d says c (mode, stage, path_is, new_is) =
-        subst (λ x. TreeDone (Then x) (passed_by x passed) top (Ended_at x c)) (sym (says ∙ ap common.Set path_is))
+        subst (λ x. TreeDone (Then x) (passed_at top x passed) top (Ended_at x c)) (sym (says ∙ ap common.Set path_is))
         (subst (λ x. TreeDone (Then (common.Set old.levels.inner.copy.target)) passed top (Ended_at (common.Set old.levels.inner.copy.target) x)) (sym new_is) (given_mode old.levels.around refl mode stage))
     by_report folder_did.Barrier d says c (stage, dirty, new_is) =
-        subst (λ x. TreeDone (Then x) (passed_by x passed) top (Ended_at x c)) (sym says)
+        subst (λ x. TreeDone (Then x) (passed_at top x passed) top (Ended_at x c)) (sym says)
         (kept common.Barrier c (ap (λ (x : FolderCopying). x.source) new_is) (ap (λ (x : FolderCopying). x.target) new_is) (ap (λ (x : FolderCopying). x.stage) new_is))
     by_report (folder_did.Troubled trouble) d says c (barrier, new_is) =
-        subst (λ x. TreeDone (Then x) (passed_by x passed) top (Ended_at x c)) (sym says)
+        subst (λ x. TreeDone (Then x) (passed_at top x passed) top (Ended_at x c)) (sym says)
         (kept (common.Troubled trouble) c (ap (λ (x : FolderCopying). x.source) new_is) (ap (λ (x : FolderCopying). x.target) new_is) (ap (λ (x : FolderCopying). x.stage) new_is))
     by_report folder_did.Closed d says c t = absurd says
 
-    pub ends_done : TreeDone (Then did) (passed_by did passed) top new
-    ends_done = subst (TreeDone (Then did) (passed_by did passed) top) (sym e.stands) (by_report e.report did e.says e.moved e.tells)
+    pub ends_done : TreeDone (Then did) (passed_at top did passed) top new
+    ends_done = subst (TreeDone (Then did) (passed_at top did passed) top) (sym e.stands) (by_report e.report did e.says e.moved e.tells)

@@ -13,6 +13,7 @@ use Rattle.tree_trait.specs.FileSystem.{Value, View, find, lookup, node, value}
 use Rattle.tree_trait.specs.Shape.{IsTree}
 use Rattle.tree_trait.proofs.Walking.{stat-found}
 use Rattle.crash_law.proofs.Tops.{none_below}
+use Rattle.job_answers.specs.declared.replies.Replies.{Replies}
 use Rattle.job_reports.specs.Jobs.{Copies}
 use Rattle.job_reports.specs.declared.job.Pair.{Pair}
 use Rattle.job_reports.specs.declared.report.Did.{Did}
@@ -38,8 +39,8 @@ use Rattle.history_laws.specs.Replayed.{copied_folder, moved_from, new_folder, r
 use Rattle.history_laws.proofs.Intact.{prefix_append, prefix_way}
 use Rattle.history_laws.proofs.Moved.{moved_below}
 use Rattle.history_laws.proofs.OwedModes.{ShowsTree}
-use Rattle.outcome_laws.specs.Outcomes.{as_copied, copied_as, passed_by}
-use Rattle.outcome_laws.proofs.Accounts.{AreOpened, IsAccounted, IsCopy, IsDue, IsNext, IsOpened, IsPending, ItemDone, TreeDone, apart_from, put_same, put_value}
+use Rattle.outcome_laws.specs.Outcomes.{as_copied, copied_as}
+use Rattle.outcome_laws.proofs.Accounts.{AreOpened, IsAccounted, IsCopy, IsDue, IsNext, IsOpened, IsPending, ItemDone, TreeDone, apart_from, passed_at, put_same, put_value}
 use Rattle.outcome_laws.proofs.FileWork.{none_shown, self_prefix, some_shown}
 use Rattle.outcome_laws.proofs.TreeLevels.{IsChanged, copy_changed, opened_changed, opened_inner, pending_map, same_rest, source_of}
 
@@ -71,7 +72,7 @@ module _ (now : CallLog) (v : View) (passed : List Route) (top : Pair) where
 
   -- a folder is made
   module _ (old : Seen) (h : TreeDone v passed top old) (log : CallLog) (tree : IsTree (current log)) (shows : ShowsTree v log) (source target : Route) (m : IsMoved top source target) (next : IsNext old.levels.inner source)
-      (names : List (List ℕ)) (mode : ℕ) (is : IsTaken (current log) (record { source = source; target = target }) (taken.Folder names mode)) where
+      (names : List (List ℕ)) (mode : ℕ) (alone : Bool) (replies : Replies) (is : IsTaken (current log) alone replies (record { source = source; target = target }) (taken.Folder names mode)) where
     abbrev w : View
     w = Then (common.Made target)
 
@@ -184,27 +185,27 @@ module _ (now : CallLog) (v : View) (passed : List Route) (top : Pair) where
     folder_made left stage none = record {
       things = things;
       folders = (opens, opened_inner w top.target old.levels.inner outer old.levels.around (λ o. record { made = o.made; shown = o.shown }) (opened_changed v w top target change (free []) old.levels.inner old.levels.around h.folders));
-      item = subst (λ i. ItemDone w passed top.target inner i) (sym none) tt;
+      item = subst (λ i. ItemDone w passed top.target inner (outer ∷ old.levels.around) i) (sym none) tt;
     }
 
   -- the step that takes a folder up
-  pub takes_folder : (old new : Seen) (did : Did) (log : CallLog) (after : Option CallLog) (pair : Pair) (names : List (List ℕ)) (mode : ℕ) → TreeDone v passed top old → IsTree (current log) → ShowsTree v log → old.item ≡ Next
-      → IsMoved top pair.source pair.target → IsNext old.levels.inner pair.source → IsTaken (current log) pair (taken.Folder names mode) → FolderMakes pair names mode old new did (Some log) after
-      → TreeDone (Then did) (passed_by did passed) top new
-  takes_folder old new did log after pair names mode h tree shows none m next is w =
-      subst (TreeDone (Then did) (passed_by did passed) top) (sym w.stands) (by w.report did w.says w.moved w.tells)
+  pub takes_folder : (old new : Seen) (did : Did) (log : CallLog) (after : Option CallLog) (pair : Pair) (names : List (List ℕ)) (mode : ℕ) (alone : Bool) (replies : Replies) → TreeDone v passed top old → IsTree (current log) → ShowsTree v log → old.item ≡ Next
+      → IsMoved top pair.source pair.target → IsNext old.levels.inner pair.source → IsTaken (current log) alone replies pair (taken.Folder names mode) → FolderMakes pair names mode old new did (Some log) after
+      → TreeDone (Then did) (passed_at top did passed) top new
+  takes_folder old new did log after pair names mode alone replies h tree shows none m next is w =
+      subst (TreeDone (Then did) (passed_at top did passed) top) (sym w.stands) (by w.report did w.says w.moved w.tells)
     where
       by : (report : FolderDid) (did : Did) → IsToldAs report did → (moved : FolderCopying) → Tells (copying pair.source pair.target (at.Make mode) Synced) report moved
-          → TreeDone (Then did) (passed_by did passed) top (record old { stage = after_report did old.stage; levels = made_levels moved.stage (opened pair.source names) moved old.levels })
+          → TreeDone (Then did) (passed_at top did passed) top (record old { stage = after_report did old.stage; levels = made_levels moved.stage (opened pair.source names) moved old.levels })
       by (folder_did.Made path) did says moved (mode_now, stage, path_is, new_is) =
           let same : mode ≡ mode_now = (let e : at.Make mode ≡ at.Make mode_now = stage in cc) in
           let moved_is : moved ≡ (let c : FolderCopying = record { source = pair.source; target = pair.target; stage = at.Fill (owed_mode mode); names = Synced } in c) =
           new_is ∙ ap (λ n. (let c : FolderCopying = record { source = pair.source; target = pair.target; stage = at.Fill (owed_mode n); names = Synced } in c)) (sym same) in
-          subst (λ d. TreeDone (Then d) (passed_by d passed) top (record old { stage = after_report d old.stage; levels = made_levels moved.stage (opened pair.source names) moved old.levels })) (sym (says ∙ ap common.Made path_is))
+          subst (λ d. TreeDone (Then d) (passed_at top d passed) top (record old { stage = after_report d old.stage; levels = made_levels moved.stage (opened pair.source names) moved old.levels })) (sym (says ∙ ap common.Made path_is))
           (subst (λ (c : FolderCopying). TreeDone (Then (common.Made pair.target)) passed top (record old { stage = after_report (common.Made pair.target) old.stage; levels = made_levels c.stage (opened pair.source names) c old.levels })) (sym moved_is)
-          (folder_made old h log tree shows pair.source pair.target m next names mode is _ (after_report (common.Made pair.target) old.stage) none))
+          (folder_made old h log tree shows pair.source pair.target m next names mode alone replies is _ (after_report (common.Made pair.target) old.stage) none))
       by (folder_did.Troubled trouble) did says moved (barrier, new_is) =
-          subst (λ d. TreeDone (Then d) (passed_by d passed) top (record old { stage = after_report d old.stage; levels = made_levels moved.stage (opened pair.source names) moved old.levels })) (sym says)
+          subst (λ d. TreeDone (Then d) (passed_at top d passed) top (record old { stage = after_report d old.stage; levels = made_levels moved.stage (opened pair.source names) moved old.levels })) (sym says)
           (subst (λ (c : FolderCopying). TreeDone v passed top (record old { stage = after_report (common.Troubled trouble) old.stage; levels = made_levels c.stage (opened pair.source names) c old.levels })) (sym new_is)
           (record { things = h.things; folders = h.folders; item = h.item }))
       by (folder_did.Set path) did says moved (other, stage, path_is, new_is) = absurd (let f : ⊥ = cc in f)
@@ -232,15 +233,15 @@ module _ (now : CallLog) (v : View) (passed : List Route) (top : Pair) where
     stays d = record {
       things = λ rest off. went (rest ++ top.source) (rest ++ top.target) (h.things rest off);
       folders = (let k = subst (λ (xs : List Level). AreOpened v top.target old.levels.inner xs) s.was h.folders in (k.0, opened_inner v top.target s.outer synced s.around (λ o. record { made = o.made; shown = o.shown }) k.1));
-      item = subst (λ i. ItemDone v passed top.target old.levels.inner i) (sym none) tt;
+      item = subst (λ i. ItemDone v passed top.target old.levels.inner (synced ∷ s.around) i) (sym none) tt;
     }
 
-    by_report : (report : FolderDid) (d : Did) → IsToldAs report d → Tells (at_sync s.outer.copy) report (record (at_sync s.outer.copy) { names = s.names }) → TreeDone (Then d) (passed_by d passed) top (Synced_at d)
-    by_report folder_did.Barrier d says t = subst (λ x. TreeDone (Then x) (passed_by x passed) top (Synced_at x)) (sym says) (stays common.Barrier)
-    by_report (folder_did.Troubled trouble) d says t = subst (λ x. TreeDone (Then x) (passed_by x passed) top (Synced_at x)) (sym says) (stays (common.Troubled trouble))
+    by_report : (report : FolderDid) (d : Did) → IsToldAs report d → Tells (at_sync s.outer.copy) report (record (at_sync s.outer.copy) { names = s.names }) → TreeDone (Then d) (passed_at top d passed) top (Synced_at d)
+    by_report folder_did.Barrier d says t = subst (λ x. TreeDone (Then x) (passed_at top x passed) top (Synced_at x)) (sym says) (stays common.Barrier)
+    by_report (folder_did.Troubled trouble) d says t = subst (λ x. TreeDone (Then x) (passed_at top x passed) top (Synced_at x)) (sym says) (stays (common.Troubled trouble))
     by_report (folder_did.Made path) d says (mode, stage, path_is, new_is) = absurd (let f : ⊥ = cc in f)
     by_report (folder_did.Set path) d says (mode, stage, path_is, new_is) = absurd (let f : ⊥ = cc in f)
     by_report folder_did.Closed d says t = absurd says
 
-    pub syncs_done : TreeDone (Then did) (passed_by did passed) top new
-    syncs_done = subst (TreeDone (Then did) (passed_by did passed) top) (sym s.stands) (by_report s.report did s.says s.tells)
+    pub syncs_done : TreeDone (Then did) (passed_at top did passed) top new
+    syncs_done = subst (TreeDone (Then did) (passed_at top did passed) top) (sym s.stands) (by_report s.report did s.says s.tells)

@@ -21,8 +21,8 @@ use Rattle.tree_copy.specs.InPlace.{IsMoved, owed_of}
 use Rattle.tree_copy.specs.Standing.{Seen, due_at}
 use Rattle.tree_copy.specs.Steps.{LeavesAll, at_end}
 use Rattle.history_laws.specs.Replayed.{new_folder}
-use Rattle.outcome_laws.specs.Outcomes.{as_copied, passed_by}
-use Rattle.outcome_laws.proofs.Accounts.{AreOpened, IsAccounted, IsCopy, IsCovered, IsDue, IsOpened, IsPending, ItemDone, TreeDone, apart_from, covered_more}
+use Rattle.outcome_laws.specs.Outcomes.{as_copied}
+use Rattle.outcome_laws.proofs.Accounts.{AreOpened, IsAccounted, IsCopy, IsCovered, IsDue, IsOpened, IsPending, ItemDone, TreeDone, apart_from, covered_more, passed_at}
 
 -- the innermost folder is another level, in which what is due is due still, or something else holds
 pub pending_or : {A : Type 0} (inner new : Level) (around : List Level) (path : Route) → (IsDue inner path → IsDue new path ⊎ A) → IsPending inner around path → IsPending new around path ⊎ A
@@ -102,21 +102,21 @@ module _ (v w : View) (top : Pair) (path : Route) (change : IsChanged v w top.ta
     opened_changed inner (outer ∷ around) h = (one inner h.0, opened_changed outer around h.1)
 
 -- a report leaves covered what is
-pub covered_by : (did : Did) (passed : List Route) (path : Route) → IsCovered passed path → IsCovered (passed_by did passed) path
-covered_by (Skipped left cause) passed path c = covered_more passed left path c
-covered_by (Began part) passed path c = c
-covered_by (Chunk count) passed path c = c
-covered_by (Placed target) passed path c = c
-covered_by (Removed gone) passed path c = c
-covered_by (Made made) passed path c = c
-covered_by (Set set) passed path c = c
-covered_by (Kept kept) passed path c = c
-covered_by (Asked question) passed path c = c
-covered_by (Merges pair names) passed path c = covered_more passed pair.source path c
-covered_by (Cleaned part) passed path c = c
-covered_by Barrier passed path c = c
-covered_by (Troubled trouble) passed path c = c
-covered_by (Ended ending part) passed path c = c
+pub covered_by : (top : Pair) (did : Did) (passed : List Route) (path : Route) → IsCovered passed path → IsCovered (passed_at top did passed) path
+covered_by top (Skipped left cause) passed path c = covered_more passed left path c
+covered_by top (Began part) passed path c = c
+covered_by top (Chunk count) passed path c = c
+covered_by top (Placed target) passed path c = c
+covered_by top (Removed gone) passed path c = c
+covered_by top (Made made) passed path c = c
+covered_by top (Set set) passed path c = c
+covered_by top (Kept kept) passed path c = covered_more passed top.source path c
+covered_by top (Asked question) passed path c = c
+covered_by top (Merges pair names) passed path c = covered_more passed pair.source path c
+covered_by top (Cleaned part) passed path c = c
+covered_by top Barrier passed path c = c
+covered_by top (Troubled trouble) passed path c = c
+covered_by top (Ended ending part) passed path c = c
 
 -- the end of a folder is next where no name is
 pub no_name : (c : Seen) (names : List (List ℕ)) → due_at names c ≡ End → names ≡ []
@@ -150,7 +150,7 @@ module _ (v : View) (passed : List Route) (top : Pair) where
   closed_done c none h = record {
     things = λ rest off. accounted_map v passed c.levels.inner (let x = at_end c in x.levels.inner) c.levels.around (rest ++ top.source) (rest ++ top.target) (due (rest ++ top.source)) (h.things rest off);
     folders = opened_inner v top.target c.levels.inner (let x = at_end c in x.levels.inner) c.levels.around (λ o. record { made = λ mode is. o.made mode (closing_made c.levels.inner.copy.stage mode is); shown = o.shown }) h.folders;
-    item = subst (λ i. ItemDone v passed top.target (let x = at_end c in x.levels.inner) i) (sym none) tt;
+    item = subst (λ i. ItemDone v passed top.target (let x = at_end c in x.levels.inner) c.levels.around i) (sym none) tt;
   }
     where
       due : (path : Route) → IsDue c.levels.inner path → IsDue (let x = at_end c in x.levels.inner) path
@@ -167,7 +167,7 @@ module _ (v : View) (passed : List Route) (top : Pair) where
       record {
         things = λ rest off. goes left.was (due_none (no_name last last.levels.inner.names.names leaves.next) leaves.done) rest (d.things rest off);
         folders = (subst (AreOpened v top.target last.levels.inner) left.was d.folders).1;
-        item = subst (λ i. ItemDone v passed top.target mid.levels.inner i) (sym (ap (λ (x : Seen). x.item) r.stands ∙ none)) tt;
+        item = subst (λ i. ItemDone v passed top.target mid.levels.inner mid.levels.around i) (sym (ap (λ (x : Seen). x.item) r.stands ∙ none)) tt;
       }
     where
       due_none : last.levels.inner.names.names ≡ [] → owed_at (closing last.levels.inner.copy.stage) (is_dirty last.levels.inner.copy.names) ≡ false → (path : Route) → IsDue last.levels.inner path → ⊥

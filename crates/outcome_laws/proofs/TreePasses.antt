@@ -22,8 +22,7 @@ use Rattle.tree_copy.specs.InPlace.{ItemMoved, owed_of}
 use Rattle.tree_copy.specs.Skipping.{NoRoom, SkipsAt, SkipsEnd, SkipsNamed, SkipsRest, retried_at}
 use Rattle.tree_copy.specs.Standing.{Seen}
 use Rattle.tree_copy.specs.Steps.{idle}
-use Rattle.outcome_laws.specs.Outcomes.{passed_by}
-use Rattle.outcome_laws.proofs.Accounts.{AreOpened, IsAccounted, IsDue, IsOpened, IsShown, ItemDone, TreeDone, covered_more, covered_now, prefix_through}
+use Rattle.outcome_laws.proofs.Accounts.{AreOpened, IsAccounted, IsDue, IsOpened, IsShown, ItemDone, TreeDone, covered_more, covered_now, passed_at, prefix_through}
 use Rattle.outcome_laws.proofs.FileWork.{file_anew, file_skips, self_prefix}
 use Rattle.outcome_laws.proofs.LinkWork.{link_anew, link_skips}
 use Rattle.outcome_laws.proofs.TreeItems.{Elsewhere, settled_file, settled_link}
@@ -31,10 +30,10 @@ use Rattle.outcome_laws.proofs.TreeLevels.{covered_by, opened_inner, pending_or}
 use Rattle.history_laws.proofs.Intact.{prefix_append}
 
 -- a report of a skip, or that there was no memory for it, covers no less
-more_passed : (v : View) (passed : List Route) (did : Did) (inner : Level) (around : List Level) (source target : Route) → IsAccounted v passed inner around source target → IsAccounted v (passed_by did passed) inner around source target
-more_passed v passed did inner around source target (inl covered) = inl (covered_by did passed source covered)
-more_passed v passed did inner around source target (inr (inl pending)) = inr (inl pending)
-more_passed v passed did inner around source target (inr (inr copy)) = inr (inr copy)
+more_passed : (v : View) (passed : List Route) (top : Pair) (did : Did) (inner : Level) (around : List Level) (source target : Route) → IsAccounted v passed inner around source target → IsAccounted v (passed_at top did passed) inner around source target
+more_passed v passed top did inner around source target (inl covered) = inl (covered_by top did passed source covered)
+more_passed v passed top did inner around source target (inr (inl pending)) = inr (inl pending)
+more_passed v passed top did inner around source target (inr (inr copy)) = inr (inr copy)
 
 module _ (v : View) (passed : List Route) (top : Pair) (old : Seen) (h : TreeDone v passed top old) where
   -- names or the mode that are due no more are those of what was passed over
@@ -45,7 +44,7 @@ module _ (v : View) (passed : List Route) (top : Pair) (old : Seen) (h : TreeDon
         (subst (λ (ls : List Level). IsAccounted v (left ∷ passed) next ls (rest ++ top.source) (rest ++ top.target)) (sym around_is) (went (rest ++ top.source) (rest ++ top.target) (h.things rest off)));
     folders = subst (λ (l : Level). AreOpened v top.target l x.levels.around) (sym inner_is)
         (subst (λ (ls : List Level). AreOpened v top.target next ls) (sym around_is) (opened_inner v top.target old.levels.inner next old.levels.around opens h.folders));
-    item = subst (λ i. ItemDone v (left ∷ passed) top.target x.levels.inner i) (sym item_is) tt;
+    item = subst (λ i. ItemDone v (left ∷ passed) top.target x.levels.inner x.levels.around i) (sym item_is) tt;
   }
     where
       went : (source target : Route) → IsAccounted v passed old.levels.inner old.levels.around source target → IsAccounted v (left ∷ passed) next old.levels.around source target
@@ -81,23 +80,23 @@ module _ (v : View) (passed : List Route) (top : Pair) (old : Seen) (h : TreeDon
           by (inr later) = inl (inl (other, subst (λ ns. Among (drop 1 ns) other) (sym names_is) later, below))
 
 module _ (v : View) (passed : List Route) (top : Pair) (cause : Cause) (old new : Seen) (did : Did) (h : TreeDone v passed top old) where
-  elsewhere : (source : Route) → Elsewhere v (passed_by did passed) top old.levels.inner old.levels.around source
-  elsewhere source rest off apart = more_passed v passed did old.levels.inner old.levels.around (rest ++ top.source) (rest ++ top.target) (h.things rest off)
+  elsewhere : (source : Route) → Elsewhere v (passed_at top did passed) top old.levels.inner old.levels.around source
+  elsewhere source rest off apart = more_passed v passed top did old.levels.inner old.levels.around (rest ++ top.source) (rest ++ top.target) (h.things rest off)
 
-  no_room : old.item ≡ Next → NoRoom old did new → TreeDone v (passed_by did passed) top new
+  no_room : old.item ≡ Next → NoRoom old did new → TreeDone v (passed_at top did passed) top new
   no_room none room =
-      subst (TreeDone v (passed_by did passed) top) (sym room.1)
-      (subst (λ x. TreeDone v (passed_by x passed) top old) (sym room.0) h)
+      subst (TreeDone v (passed_at top did passed) top) (sym room.1)
+      (subst (λ x. TreeDone v (passed_at top x passed) top old) (sym room.0) h)
 
   -- the folder that is worked is covered, with all that is yet to be met in it
   module _ (none : old.item ≡ Next) where
     abbrev up : Route
     up = old.levels.inner.copy.source
 
-    rest_passed : SkipsRest cause old did new → TreeDone v (passed_by did passed) top new
+    rest_passed : SkipsRest cause old did new → TreeDone v (passed_at top did passed) top new
     rest_passed (inr room) = no_room none room
     rest_passed (inl (did_is, new_is)) =
-        subst (λ x. TreeDone v (passed_by x passed) top new) (sym did_is)
+        subst (λ x. TreeDone v (passed_at top x passed) top new) (sym did_is)
         (passed_done v passed top old h up (let l = emptied old.levels in l.inner) refl refl (inl refl) goes new (ap (λ (x : Seen). x.levels.inner) new_is) (ap (λ (x : Seen). x.levels.around) new_is) (ap (λ (x : Seen). x.item) new_is ∙ none))
       where
         goes : (path : Route) → IsDue old.levels.inner path → IsDue (let l = emptied old.levels in l.inner) path ⊎ (is_prefix up path ≡ true)
@@ -110,12 +109,12 @@ module _ (v : View) (passed : List Route) (top : Pair) (cause : Cause) (old new 
     skipped_none (at.Close owed) = inr refl
     skipped_none at.Done = inl refl
 
-    end_passed : SkipsEnd cause old did new → TreeDone v (passed_by did passed) top new
+    end_passed : SkipsEnd cause old did new → TreeDone v (passed_at top did passed) top new
     end_passed (moved, inr (did_is, moved_is), new_is) =
-        subst (λ x. TreeDone v (passed_by x passed) top new) (sym did_is)
+        subst (λ x. TreeDone v (passed_at top x passed) top new) (sym did_is)
         (subst (TreeDone v passed top) (sym (new_is ∙ ap (λ (c : FolderCopying). (let x : Seen = record old { levels = with_copy c old.levels } in x)) moved_is)) (record { things = h.things; folders = h.folders; item = h.item }))
     end_passed (moved, inl (did_is, moved_is), new_is) =
-        subst (λ x. TreeDone v (passed_by x passed) top new) (sym did_is)
+        subst (λ x. TreeDone v (passed_at top x passed) top new) (sym did_is)
         (subst (TreeDone v (up ∷ passed) top) (sym (new_is ∙ ap (λ (c : FolderCopying). (let x : Seen = record old { levels = with_copy c old.levels } in x)) moved_is))
         (passed_done v passed top old h up (level old.levels.inner.names (record old.levels.inner.copy { stage = skipped old.levels.inner.copy.stage })) refl refl (skipped_none old.levels.inner.copy.stage) goes
         (record old { levels = with_copy (record old.levels.inner.copy { stage = skipped old.levels.inner.copy.stage }) old.levels }) refl refl none))
@@ -124,28 +123,28 @@ module _ (v : View) (passed : List Route) (top : Pair) (cause : Cause) (old new 
         goes path (inl ahead) = inl (inl ahead)
         goes path (inr (mode, owed, is)) = inr (subst (λ p. is_prefix up p ≡ true) (sym is) (self_prefix up))
 
-    named_passed : (names : List (List ℕ)) → old.levels.inner.names.names ≡ names → SkipsNamed names cause old did new → TreeDone v (passed_by did passed) top new
+    named_passed : (names : List (List ℕ)) → old.levels.inner.names.names ≡ names → SkipsNamed names cause old did new → TreeDone v (passed_at top did passed) top new
     named_passed [] names_is s = end_passed s
     named_passed (name ∷ names) names_is (inr (inl (long, rest))) = rest_passed rest
     named_passed (name ∷ names) names_is (inr (inr room)) = no_room none room
-    named_passed (name ∷ names) names_is (inl (did_is, new_is)) = subst (λ x. TreeDone v (passed_by x passed) top new) (sym did_is) (name_passed v passed top old h name names names_is true new new_is none)
+    named_passed (name ∷ names) names_is (inl (did_is, new_is)) = subst (λ x. TreeDone v (passed_at top x passed) top new) (sym did_is) (name_passed v passed top old h name names names_is true new new_is none)
 
-  pub skips_done : (item : Item) → old.item ≡ item → ItemMoved top item → SkipsAt item cause old did new → TreeDone v (passed_by did passed) top new
+  pub skips_done : (item : Item) → old.item ≡ item → ItemMoved top item → SkipsAt item cause old did new → TreeDone v (passed_at top did passed) top new
   skips_done Next is m s = named_passed is old.levels.inner.names.names refl s
   skips_done (File f) is m (moved, skips, stands) =
-      let d = subst (λ i. ItemDone v passed top.target old.levels.inner i) is h.item in
+      let d = subst (λ i. ItemDone v passed top.target old.levels.inner old.levels.around i) is h.item in
       let paths = file_paths f moved skips in
-      subst (TreeDone v (passed_by did passed) top) (sym stands)
-      (settled_file v (passed_by did passed) top (idle old) f.source f.target m d.1 (elsewhere f.source) h.folders refl moved paths.0 paths.1 (file_skips v passed top.target cause f moved did skips d.2))
+      subst (TreeDone v (passed_at top did passed) top) (sym stands)
+      (settled_file v (passed_at top did passed) top (idle old) f.source f.target m d.1 (elsewhere f.source) h.folders refl moved paths.0 paths.1 (file_skips v passed top old.levels.around cause f moved did skips d.2))
     where
       file_paths : (f moved : Copying) → file.Skips cause f did moved → (moved.source ≡ f.source) × (moved.target ≡ f.target)
       file_paths f moved (inl s) = (ap (λ (x : Copying). x.source) s.1, ap (λ (x : Copying). x.target) s.1)
       file_paths f moved (inr s) = (ap (λ (x : Copying). x.source) s.1, ap (λ (x : Copying). x.target) s.1)
   skips_done (Link l) is m (moved, skips, stands) =
-      let d = subst (λ i. ItemDone v passed top.target old.levels.inner i) is h.item in
+      let d = subst (λ i. ItemDone v passed top.target old.levels.inner old.levels.around i) is h.item in
       let paths = link_paths l moved skips in
-      subst (TreeDone v (passed_by did passed) top) (sym stands)
-      (settled_link v (passed_by did passed) top (idle old) l.source l.target m d.1 (elsewhere l.source) h.folders refl moved paths.0 paths.1 (link_skips v passed top.target cause l moved did skips d.2))
+      subst (TreeDone v (passed_at top did passed) top) (sym stands)
+      (settled_link v (passed_at top did passed) top (idle old) l.source l.target m d.1 (elsewhere l.source) h.folders refl moved paths.0 paths.1 (link_skips v passed top old.levels.around cause l moved did skips d.2))
     where
       link_paths : (l moved : LinkCopying) → link.Skips cause l did moved → (moved.source ≡ l.source) × (moved.target ≡ l.target)
       link_paths l moved (inl s) = (ap (λ (x : LinkCopying). x.source) s.1, ap (λ (x : LinkCopying). x.target) s.1)
@@ -156,9 +155,9 @@ module _ (v : View) (passed : List Route) (top : Pair) (cause : Cause) (old new 
 pub retries_done : (v : View) (passed : List Route) (top : Pair) (c : Seen) (item : Item) → c.item ≡ item → ItemMoved top item → TreeDone v passed top c → TreeDone v passed top (retried_at item c)
 retries_done v passed top c Next is m h = h
 retries_done v passed top c (File f) is m h =
-    let d = subst (λ i. ItemDone v passed top.target c.levels.inner i) is h.item in
-    settled_file v passed top (idle c) f.source f.target m d.1 (λ rest off apart. h.things rest off) h.folders refl (record f { stage = file_anew_at f.stage }) refl refl (file_anew v passed top.target f.source f.target f.stage d.2)
+    let d = subst (λ i. ItemDone v passed top.target c.levels.inner c.levels.around i) is h.item in
+    settled_file v passed top (idle c) f.source f.target m d.1 (λ rest off apart. h.things rest off) h.folders refl (record f { stage = file_anew_at f.stage }) refl refl (file_anew v passed top c.levels.around f.source f.target f.stage d.2)
 retries_done v passed top c (Link l) is m h =
-    let d = subst (λ i. ItemDone v passed top.target c.levels.inner i) is h.item in
-    settled_link v passed top (idle c) l.source l.target m d.1 (λ rest off apart. h.things rest off) h.folders refl (record l { stage = link_anew_at l.stage }) refl refl (link_anew v passed top.target l.source l.target l.stage d.2)
+    let d = subst (λ i. ItemDone v passed top.target c.levels.inner c.levels.around i) is h.item in
+    settled_link v passed top (idle c) l.source l.target m d.1 (λ rest off apart. h.things rest off) h.folders refl (record l { stage = link_anew_at l.stage }) refl refl (link_anew v passed top c.levels.around l.source l.target l.stage d.2)
 retries_done v passed top c (Stays part) is m h = h

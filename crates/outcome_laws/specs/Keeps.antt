@@ -1,4 +1,4 @@
--- Where a job keeps what stands at the target of a file, or the folder there that a folder is merged with, it has changed nothing; in the words of the history alone. Histories stand newest first here.
+-- Where a job keeps the file or the link at its target, or the folder there that a folder is merged with, it has changed nothing; in the words of the history alone. Histories stand newest first here.
 use Rattle.std.specs.Prelude.{◌≡◌, ℕ, ◌==◌, Bool, true, false, if◌then◌else◌, List, [], ◌∷◌}
 use Rattle.mc_text.specs.Routes.{Route}
 use Rattle.tree_trait.specs.Shape.{IsTree}
@@ -17,7 +17,7 @@ use Rattle.history_laws.specs.Traces.{IsTraced, Stand}
 use Rattle.outcome_laws.specs.Outcomes.{Finishes}
 use Rattle.outcome_laws.specs.Untouched.{tree_begun}
 
--- whether a job has kept something once it has reported this: what stands at the target of a file, or a folder there, with which that of the source is merged
+-- whether a job has kept something once it has reported this: a file or a link at its target, or a folder there, with which that of the source is merged
 abbrev pub keeps_by : Did → Bool → Bool
 keeps_by (Kept path) before = true
 keeps_by (Began part) before = before

@@ -16,7 +16,7 @@ pub fn what_a_finished_job_left_alone()
     ensures { UntouchedLaw }
 {}
 
-/// Where it kept what stands at the target of a file, or merged a folder with that at its target, each path shows what it showed there.
+/// Where it kept the file or the link at its target, or merged a folder with that there, each path shows what it showed where the job began with it.
 pub fn what_a_job_that_kept_a_target_left()
     ensures { KeptLaw }
 {}

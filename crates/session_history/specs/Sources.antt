@@ -1,5 +1,5 @@
 -- How the sources of a job are worked: one after another, in the order of its plan. Histories stand newest first here.
-use Rattle.std.specs.Prelude.{◌≡◌, ◌⊎◌, ℕ, ⊤, Bool, true, false, List, [], ◌∷◌, ◌++◌, map, Option, None, Some, if◌then◌else◌}
+use Rattle.std.specs.Prelude.{◌≡◌, ℕ, ⊤, Bool, true, false, List, [], ◌∷◌, ◌++◌, map, Option, None, if◌then◌else◌}
 use Rattle.std.specs.List.{list_all}
 use Rattle.job_reports.specs.declared.job.Job.{Job}
 use Rattle.job_reports.specs.declared.job.Job.TheVariants.{Copy, CopyTree, Delete, MakeFolder, MakeLink, SetMode}
@@ -70,26 +70,9 @@ abbrev pub sources_left : List Entry → List Job
 sources_left [] = []
 sources_left (e ∷ older) = left_after e.what (sources_left older)
 
--- the same source, copied as a file, which asks before it replaces anything, in place of a thing with all that lies in it, or the other way round
-abbrev pub copied_otherwise : Job → Option Job
-copied_otherwise (Copy []) = None
-copied_otherwise (Copy (pair ∷ [])) = Some (CopyTree (pair ∷ []))
-copied_otherwise (Copy (pair ∷ more ∷ pairs)) = None
-copied_otherwise (CopyTree []) = None
-copied_otherwise (CopyTree (pair ∷ [])) = Some (Copy (pair ∷ []))
-copied_otherwise (CopyTree (pair ∷ more ∷ pairs)) = None
-copied_otherwise (Delete paths) = None
-copied_otherwise (MakeFolder path) = None
-copied_otherwise (MakeLink path text) = None
-copied_otherwise (SetMode paths mode) = None
-
--- A source is worked by its own plan, and one that is copied by that of a file, or of a thing with all that lies in it.
-abbrev pub IsPlanOf : Job → Job → Type 0
-IsPlanOf source plan = (plan ≡ source) ⊎ (copied_otherwise source ≡ Some plan)
-
 -- what a job goes on with is the first source that is left, and it is finished only where none is
 abbrev pub IsInTurn : Event → List Job → Type 0
-IsInTurn (Next id plan) left = (source : Job) × (more : List Job) × (left ≡ source ∷ more) × IsPlanOf source plan
+IsInTurn (Next id plan) left = (more : List Job) × (left ≡ plan ∷ more)
 IsInTurn (Step id (Ended Finished part)) left = left ≡ []
 IsInTurn event left = ⊤
 

@@ -70,6 +70,12 @@ fn things_in(scene: &str) -> &'static str {
         "standing things" => {
             "folder /s 755\nfile /s/x 640 new\nlink /s/y x\nfolder /t 755\nfile /t/x 600 old\nfile /t/y 604 less!"
         }
+        "standing links" => {
+            "folder /s 755\nlink /s/l x\nlink /s/m far\nfile /s/n 640 new\nfolder /t 755\nfile /t/l 600 old\nlink /t/m x\nlink /t/n old"
+        }
+        "special things" => {
+            "folder /s 755\nother /s/a\nfile /s/b 640 new\nother /s/c\nfolder /t 755\nfile /t/b 600 old"
+        }
         "standing tree" => {
             "folder /s 755\nfolder /s/a 750\nfolder /s/a/d 700\nfile /s/a/d/z 644 hi\nfile /s/a/x 640 new\nfile /s/a/y 644 more\nfile /s/b 640 hey\nfolder /a 711\nfolder /a/d 755\nfile /a/x 600 old\nfile /a/y 604 less!\nfile /b 600 old"
         }

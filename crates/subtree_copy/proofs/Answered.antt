@@ -3,6 +3,7 @@ use Rattle.std.proofs.Common.{◌≡◌, ℕ, ◌+◌, ◌^◌, ◌<◌, ◌≤�
 use Rattle.mc_text.specs.Routes.{Route}
 use Rattle.tree_trait.specs.Change.{CallLog}
 use Rattle.job_answers.specs.declared.skips.Skips.{Skips as Kinds}
+use Rattle.job_answers.specs.declared.replies.Replies.{Replies}
 use Rattle.job_reports.specs.declared.report.Cause.{Cause}
 use Rattle.job_reports.specs.declared.report.Did.{Did}
 use Rattle.job_reports.specs.declared.report.StepResult.{StepResult}
@@ -101,17 +102,17 @@ passes_steady : (skips : Kinds) (worked : StepResult) (old new : Seen) (result :
 passes_steady skips worked old new result (inl s) h = same_steady old new s.2 h
 passes_steady skips worked old new result (inr s) h = skip_steady old.item s.0 old new result.did refl s.3 h
 
-list_steady : (free : Route → Bool) (old new : Seen) (worked : StepResult) (dirty dirty_after : List Route) (before after : Option CallLog) (f0 f1 : ℕ) → ListSteps free old new worked dirty dirty_after before after f0 f1 → IsSteady old → IsSteady new
-list_steady free old new worked dirty dirty_after before after f0 f1 (inl s) h = same_steady old new s.stays h
-list_steady free old new worked dirty dirty_after before after f0 f1 (inr s) h = (let l = falling_law free old new worked.did worked.calls before after f0 f1 s.steps h in l.0)
+list_steady : (free : Route → Bool) (replies : Replies) (old new : Seen) (worked : StepResult) (dirty dirty_after : List Route) (before after : Option CallLog) (f0 f1 : ℕ) → ListSteps free replies old new worked dirty dirty_after before after f0 f1 → IsSteady old → IsSteady new
+list_steady free replies old new worked dirty dirty_after before after f0 f1 (inl s) h = same_steady old new s.stays h
+list_steady free replies old new worked dirty dirty_after before after f0 f1 (inr s) h = (let l = falling_law free replies old new worked.did worked.calls before after f0 f1 s.steps h in l.0)
 
 pub steady_law : SteadyLaw
 steady_law = record {
   begins = λ job top. (let law = beginning_law job (named_of top.source) (named_of top.target) in law.1);
-  step = λ free old new did calls dirty dirty_after before after f0 f1 s h.
+  step = λ free replies old new did calls dirty dirty_after before after f0 f1 s h.
       let l = s.leaves in
       let mid = all_leave l.0 old.at s.mid l.1 h in
-      passes_steady old.skips s.worked s.moved new.at (step_result did calls) s.passes (list_steady free s.mid s.moved s.worked dirty dirty_after before after f0 f1 s.works mid.0);
+      passes_steady old.skips s.worked s.moved new.at (step_result did calls) s.passes (list_steady free replies s.mid s.moved s.worked dirty dirty_after before after f0 f1 s.works mid.0);
   skip = λ cause old new did s h. skip_steady old.at.item cause old.at new.at did refl s.skips h;
   retry = λ c h. retry_steady c.at.item c.at refl h;
 }

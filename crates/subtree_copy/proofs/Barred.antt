@@ -3,6 +3,7 @@ use Rattle.std.proofs.Common.{◌≡◌, ℕ, zero, suc, refl, sym, ◌∙◌, �
 use Rattle.std.proofs.lemmas.Bool.{false≢true, true≢false}
 use Rattle.mc_text.specs.Routes.{Route}
 use Rattle.tree_trait.specs.Change.{CallLog}
+use Rattle.job_answers.specs.declared.replies.Replies.{Replies}
 use Rattle.job_reports.specs.declared.job.Pair.{Pair}
 use Rattle.job_reports.specs.declared.report.Cause.{Cause}
 use Rattle.job_reports.specs.declared.report.Did.{Did}
@@ -50,6 +51,7 @@ use Rattle.subtree_copy.specs.Leaving.{may_leave}
 use Rattle.subtree_copy.specs.Passing.{OrPassedOver}
 use Rattle.subtree_copy.specs.Standing.{at_barrier, barrier_at, barrier_at_end, barrier_at_name}
 use Rattle.subtree_copy.specs.SubtreeSteps.{ListSteps, step_result}
+use Rattle.tree_copy.proofs.PartsBegin.{file_taken}
 use Rattle.subtree_copy.proofs.Targets.{works_at_once}
 
 -- what is in a trouble
@@ -70,11 +72,11 @@ unbarred c free clean h =
     ap (λ (i : Item). barrier_at i c.levels) free
     ∙ (ap (λ b. b || barrier_at_name c.levels.inner.names.names c.levels.inner.copy.stage) clean ∙ ap (λ names. barrier_at_name names c.levels.inner.copy.stage) h.2)
 
-pub why_next : (unclaimed : Route → Type 0) (c : Seen) (t : Trouble) (before : Option CallLog) → WhyStopped unclaimed c t before → HasNext c
-why_next unclaimed c t before (inl d) = (d.0, d.1, d.2)
-why_next unclaimed c t before (inr (inl d)) = next_at c.levels.inner.names.names c d.0 d.1
-why_next unclaimed c t before (inr (inr (inl d))) = next_at c.levels.inner.names.names c d.0 d.1
-why_next unclaimed c t before (inr (inr (inr d))) = next_at c.levels.inner.names.names c d.0 d.1
+pub why_next : (unclaimed : Route → Type 0) (replies : Replies) (c : Seen) (t : Trouble) (before : Option CallLog) → WhyStopped unclaimed replies c t before → HasNext c
+why_next unclaimed replies c t before (inl d) = (d.0, d.1, d.2)
+why_next unclaimed replies c t before (inr (inl d)) = next_at c.levels.inner.names.names c d.0 d.1
+why_next unclaimed replies c t before (inr (inr (inl d))) = next_at c.levels.inner.names.names c d.0 d.1
+why_next unclaimed replies c t before (inr (inr (inr d))) = next_at c.levels.inner.names.names c d.0 d.1
 
 -- a trouble of a file leaves its copy where it stood
 pub file_same : (f m : Copying) (report : Did) (t : Trouble) → file.Tells f report m → report ≡ Troubled t → (t.barrier ≡ file.at_barrier f.stage) × (m ≡ f)
@@ -178,40 +180,42 @@ syncs_barred old new did before after t s says free =
     ∙ sym (ap at_barrier s.stands
     ∙ (ap (λ (i : Item). barrier_at i (let l : Levels = record old.levels { around = (let o : Level = record { names = s.outer.names; copy = record s.outer.copy { names = s.names } } in o) ∷ s.around } in l)) free ∙ ap (λ b. b || barrier_at_name old.levels.inner.names.names old.levels.inner.copy.stage) dirty))
 
-takes_barred : (unclaimed : Route → Type 0) (old new : Seen) (did : Did) (before after : Option CallLog) (t : Trouble) → TakesNext unclaimed old new did before after → Says did t → old.item ≡ Next
+takes_barred : (unclaimed : Route → Type 0) (replies : Replies) (old new : Seen) (did : Did) (before after : Option CallLog) (t : Trouble) → TakesNext unclaimed replies old new did before after → Says did t → old.item ≡ Next
     → is_around_dirty old.levels.around ≡ false → IsSteady old → t.barrier ≡ at_barrier new
-takes_barred unclaimed old new did before after t (inl s) says free clean steady =
+takes_barred unclaimed replies old new did before after t (inl s) says free clean steady =
     let same : s.trouble ≡ t = (let e : Troubled s.trouble ≡ Troubled t = sym s.says ∙ says in cc) in
-    (sym (ap (λ (x : Trouble). x.barrier) same) ∙ s.apart) ∙ sym (ap at_barrier s.stands ∙ unbarred old free clean (why_next unclaimed old s.trouble before s.why))
-takes_barred unclaimed old new did before after t (inr (inl w)) says free clean steady =
-    file_begins unclaimed (file.begun old.job w.pair.source w.pair.target) old new did before after t w.works says refl clean (next_at old.levels.inner.names.names old w.pair w.next)
-takes_barred unclaimed old new did before after t (inr (inr (inl w))) says free clean steady =
+    (sym (ap (λ (x : Trouble). x.barrier) same) ∙ s.apart) ∙ sym (ap at_barrier s.stands ∙ unbarred old free clean (why_next unclaimed replies old s.trouble before s.why))
+takes_barred unclaimed replies old new did before after t (inr (inl w)) says free clean steady =
+    file_begins unclaimed (file.begun old.job w.pair.source w.pair.target) old new did None None t (file_taken unclaimed replies old new did before after w) says refl clean (next_at old.levels.inner.names.names old w.pair w.next)
+takes_barred unclaimed replies old new did before after t (inr (inr (inl w))) says free clean steady =
     link_begins (link_begun w.pair w.part) old new did before after t w.works says refl clean (next_at old.levels.inner.names.names old w.pair w.next)
-takes_barred unclaimed old new did before after t (inr (inr (inr (inl w)))) says free clean steady =
+takes_barred unclaimed replies old new did before after t (inr (inr (inr (inl w)))) says free clean steady =
     makes_next w.pair w.names w.mode old new did before after t w.works says free clean (next_at old.levels.inner.names.names old w.pair w.next)
-takes_barred unclaimed old new did before after t (inr (inr (inr (inr (inl m))))) says free clean steady = absurd (let e = sym m.says ∙ says in let g : ⊥ = cc in g)
-takes_barred unclaimed old new did before after t (inr (inr (inr (inr (inr (next, inl (debt, e))))))) says free clean steady = ends_barred old new did before after t e says next debt free clean steady
-takes_barred unclaimed old new did before after t (inr (inr (inr (inr (inr (next, inr (debt, f, same))))))) says free clean steady = absurd (let e = sym f.says ∙ says in let g : ⊥ = cc in g)
+takes_barred unclaimed replies old new did before after t (inr (inr (inr (inr (inl m))))) says free clean steady = absurd (let e = sym m.says ∙ says in let g : ⊥ = cc in g)
+takes_barred unclaimed replies old new did before after t (inr (inr (inr (inr (inr (inl m)))))) says free clean steady = absurd (let e = sym m.says ∙ says in let g : ⊥ = cc in g)
+takes_barred unclaimed replies old new did before after t (inr (inr (inr (inr (inr (inr (inl m))))))) says free clean steady = absurd (let e = sym m.says ∙ says in let g : ⊥ = cc in g)
+takes_barred unclaimed replies old new did before after t (inr (inr (inr (inr (inr (inr (inr (next, inl (debt, e))))))))) says free clean steady = ends_barred old new did before after t e says next debt free clean steady
+takes_barred unclaimed replies old new did before after t (inr (inr (inr (inr (inr (inr (inr (next, inr (debt, f, same))))))))) says free clean steady = absurd (let e = sym f.says ∙ says in let g : ⊥ = cc in g)
 
-goes_barred : (unclaimed : Route → Type 0) (old new : Seen) (did : Did) (before after : Option CallLog) (t : Trouble) → GoesOn unclaimed old new did before after → Says did t → old.item ≡ Next → IsSteady old
+goes_barred : (unclaimed : Route → Type 0) (replies : Replies) (old new : Seen) (did : Did) (before after : Option CallLog) (t : Trouble) → GoesOn unclaimed replies old new did before after → Says did t → old.item ≡ Next → IsSteady old
     → t.barrier ≡ at_barrier new
-goes_barred unclaimed old new did before after t (inl s) says free steady = syncs_barred old new did before after t s says free
-goes_barred unclaimed old new did before after t (inr s) says free steady = takes_barred unclaimed old new did before after t s.1 says free s.0 steady
+goes_barred unclaimed replies old new did before after t (inl s) says free steady = syncs_barred old new did before after t s says free
+goes_barred unclaimed replies old new did before after t (inr s) says free steady = takes_barred unclaimed replies old new did before after t s.1 says free s.0 steady
 
-works_barred : (unclaimed : Route → Type 0) (item : Item) (old new : Seen) (did : Did) (before after : Option CallLog) (t : Trouble) → WorksOn item unclaimed old new did before after → Says did t → old.item ≡ item → IsSteady old
+works_barred : (unclaimed : Route → Type 0) (replies : Replies) (item : Item) (old new : Seen) (did : Did) (before after : Option CallLog) (t : Trouble) → WorksOn item unclaimed replies old new did before after → Says did t → old.item ≡ item → IsSteady old
     → IsWorkable item → t.barrier ≡ at_barrier new
-works_barred unclaimed Next old new did before after t w says is steady can = goes_barred unclaimed old new did before after t w says is steady
-works_barred unclaimed (File f) old new did before after t w says is steady can = file_on unclaimed f old new did before after t w says can.0
-works_barred unclaimed (Link l) old new did before after t w says is steady can = link_on l old new did before after t w says can.0
-works_barred unclaimed (Stays part) old new did before after t w says is steady can = absurd w
+works_barred unclaimed replies Next old new did before after t w says is steady can = goes_barred unclaimed replies old new did before after t w says is steady
+works_barred unclaimed replies (File f) old new did before after t w says is steady can = file_on unclaimed f old new did before after t w says can.0
+works_barred unclaimed replies (Link l) old new did before after t w says is steady can = link_on l old new did before after t w says can.0
+works_barred unclaimed replies (Stays part) old new did before after t w says is steady can = absurd w
 
-pub list_barred : (free : Route → Bool) (old new : Seen) (worked : StepResult) (dirty dirty_after : List Route) (before after : Option CallLog) (f0 f1 : ℕ) (t : Trouble)
-    → ListSteps free old new worked dirty dirty_after before after f0 f1 → worked.did ≡ Troubled t → may_leave old ≡ false → IsSteady old → IsWorkable old.item → t.barrier ≡ at_barrier new
-list_barred free old new worked dirty dirty_after before after f0 f1 t (inl s) says settled steady can =
+pub list_barred : (free : Route → Bool) (replies : Replies) (old new : Seen) (worked : StepResult) (dirty dirty_after : List Route) (before after : Option CallLog) (f0 f1 : ℕ) (t : Trouble)
+    → ListSteps free replies old new worked dirty dirty_after before after f0 f1 → worked.did ≡ Troubled t → may_leave old ≡ false → IsSteady old → IsWorkable old.item → t.barrier ≡ at_barrier new
+list_barred free replies old new worked dirty dirty_after before after f0 f1 t (inl s) says settled steady can =
     let same : out_of_memory_at (at_barrier old) ≡ t = (let e : Troubled (out_of_memory_at (at_barrier old)) ≡ Troubled t = sym (ap (λ (r : StepResult). r.did) s.says) ∙ says in cc) in
     sym (ap (λ (x : Trouble). x.barrier) same) ∙ sym (ap at_barrier s.stays)
-list_barred free old new worked dirty dirty_after before after f0 f1 t (inr s) says settled steady can =
-    works_barred (IsPartPlace free old) old.item old new worked.did before after t (works_at_once free old new worked.did worked.calls before after f0 f1 s.steps settled) says refl steady can
+list_barred free replies old new worked dirty dirty_after before after f0 f1 t (inr s) says settled steady can =
+    works_barred (IsPartPlace free old) replies old.item old new worked.did before after t (works_at_once free replies old new worked.did worked.calls before after f0 f1 s.steps settled) says refl steady can
 
 -- what is left where a trouble was passed over
 end_unbarred : (stage : Stage) → barrier_at_end stage ≡ false → folder.at_barrier stage ≡ false
@@ -316,7 +320,7 @@ left_workable zero old mid is can = subst (λ (c : Seen). IsWorkable c.item) (sy
 left_workable (suc n) old mid l can = let left = l.3 in let r = left.returns in subst IsWorkable (sym (ap (λ (c : Seen). c.item) r.stands ∙ l.2)) tt
 
 pub barrier_law : BarrierLaw
-barrier_law free old new t calls dirty dirty_after before after f0 f1 s steady can =
+barrier_law free replies old new t calls dirty dirty_after before after f0 f1 s steady can =
     let l = s.leaves in
     let m = all_leave l.0 old.at s.mid l.1 steady in
     let there = left_workable l.0 old.at s.mid l.1 can in
@@ -324,8 +328,8 @@ barrier_law free old new t calls dirty dirty_after before after f0 f1 s steady c
   where
     go : IsSteady s.mid → IsWorkable s.mid.item → OrPassedOver old.skips s.worked s.moved new.at (step_result (Troubled t) calls) → t.barrier ≡ at_barrier new.at
     go steady_there can_there (inl p) =
-        list_barred free s.mid s.moved s.worked dirty dirty_after before after f0 f1 t s.works (sym (ap (λ (r : StepResult). r.did) p.1)) s.settled steady_there can_there ∙ sym (ap at_barrier p.2)
+        list_barred free replies s.mid s.moved s.worked dirty dirty_after before after f0 f1 t s.works (sym (ap (λ (r : StepResult). r.did) p.1)) s.settled steady_there can_there ∙ sym (ap at_barrier p.2)
     go steady_there can_there (inr p) =
         let trouble = passed_trouble old.skips s.worked.did p.0 p.1 in
-        let open_at = sym (list_barred free s.mid s.moved s.worked dirty dirty_after before after f0 f1 trouble.0 s.works trouble.1 s.settled steady_there can_there) ∙ trouble.2 in
+        let open_at = sym (list_barred free replies s.mid s.moved s.worked dirty dirty_after before after f0 f1 trouble.0 s.works trouble.1 s.settled steady_there can_there) ∙ trouble.2 in
         skip_barred s.moved.item p.0 s.moved new.at (Troubled t) t p.3 refl refl s.going open_at

@@ -7,6 +7,7 @@ use Rattle.tree_trait.specs.Answers.{IfKnown, HasRisen}
 use Rattle.tree_trait.specs.Change.{CallLog}
 use Rattle.job_answers.specs.Skipping.{holds, kind_in, passed_cause}
 use Rattle.job_answers.specs.declared.skips.Skips.{Skips}
+use Rattle.job_answers.specs.declared.replies.Replies.{Replies}
 use Rattle.job_reports.specs.declared.report.Cause.{Cause}
 use Rattle.job_reports.specs.declared.report.Cause.TheVariants.{Tree}
 use Rattle.job_reports.specs.declared.report.Did.{Did}
@@ -35,6 +36,7 @@ use Rattle.tree_copy.specs.Steps.{FileWorks, LinkWorks, TakesNext, WorksOn}
 use Rattle.subtree_copy.specs.Counted.{CountLaw, MeetsFault, StepCounts}
 use Rattle.subtree_copy.specs.Passing.{OrPassedOver}
 use Rattle.subtree_copy.specs.SubtreeSteps.{ListSteps, step_result}
+use Rattle.tree_copy.proofs.PartsBegin.{file_taken}
 use Rattle.subtree_copy.proofs.Barred.{passed_trouble}
 
 -- no call was made
@@ -79,26 +81,28 @@ told_keeps folder_did.Barrier did told p = let e = sym told ∙ p.2 in let f : �
 told_keeps folder_did.Closed did told p = told
 told_keeps (folder_did.Troubled trouble) did told p = let e = sym told ∙ p.2 in let f : ⊥ = cc in f
 
-takes_keep : (unclaimed : Route → Type 0) (old new : Seen) (did : Did) (before after : Option CallLog) → TakesNext unclaimed old new did before after → Passes did → ⊥
-takes_keep unclaimed old new did before after (inl s) p = let e = sym s.says ∙ p.2 in let f : ⊥ = cc in f
-takes_keep unclaimed old new did before after (inr (inl t)) p = file_keeps unclaimed _ old new did before after t.works p
-takes_keep unclaimed old new did before after (inr (inr (inl t))) p = link_keeps _ old new did before after t.works p
-takes_keep unclaimed old new did before after (inr (inr (inr (inl t)))) p = let w = t.works in told_keeps w.report did w.says p
-takes_keep unclaimed old new did before after (inr (inr (inr (inr (inl t))))) p = let e = sym t.says ∙ p.2 in let g : ⊥ = cc in g
-takes_keep unclaimed old new did before after (inr (inr (inr (inr (inr (next, inl (debt, e))))))) p = told_keeps e.report did e.says p
-takes_keep unclaimed old new did before after (inr (inr (inr (inr (inr (next, inr (debt, f, same))))))) p = let e = sym f.says ∙ p.2 in let g : ⊥ = cc in g
+takes_keep : (unclaimed : Route → Type 0) (replies : Replies) (old new : Seen) (did : Did) (before after : Option CallLog) → TakesNext unclaimed replies old new did before after → Passes did → ⊥
+takes_keep unclaimed replies old new did before after (inl s) p = let e = sym s.says ∙ p.2 in let f : ⊥ = cc in f
+takes_keep unclaimed replies old new did before after (inr (inl t)) p = file_keeps unclaimed _ old new did None None (file_taken unclaimed replies old new did before after t) p
+takes_keep unclaimed replies old new did before after (inr (inr (inl t))) p = link_keeps _ old new did before after t.works p
+takes_keep unclaimed replies old new did before after (inr (inr (inr (inl t)))) p = let w = t.works in told_keeps w.report did w.says p
+takes_keep unclaimed replies old new did before after (inr (inr (inr (inr (inl t))))) p = let e = sym t.says ∙ p.2 in let g : ⊥ = cc in g
+takes_keep unclaimed replies old new did before after (inr (inr (inr (inr (inr (inl t)))))) p = let e = sym t.says ∙ p.2 in let g : ⊥ = cc in g
+takes_keep unclaimed replies old new did before after (inr (inr (inr (inr (inr (inr (inl t))))))) p = let e = sym t.says ∙ p.2 in let g : ⊥ = cc in g
+takes_keep unclaimed replies old new did before after (inr (inr (inr (inr (inr (inr (inr (next, inl (debt, e))))))))) p = told_keeps e.report did e.says p
+takes_keep unclaimed replies old new did before after (inr (inr (inr (inr (inr (inr (inr (next, inr (debt, f, same))))))))) p = let e = sym f.says ∙ p.2 in let g : ⊥ = cc in g
 
-works_keep : (unclaimed : Route → Type 0) (item : Item) (old new : Seen) (did : Did) (before after : Option CallLog) → WorksOn item unclaimed old new did before after → Passes did → ⊥
-works_keep unclaimed Next old new did before after (inl s) p = told_keeps s.report did s.says p
-works_keep unclaimed Next old new did before after (inr s) p = takes_keep unclaimed old new did before after s.1 p
-works_keep unclaimed (File f) old new did before after w p = file_keeps unclaimed f old new did before after w p
-works_keep unclaimed (Link l) old new did before after w p = link_keeps l old new did before after w p
-works_keep unclaimed (Stays part) old new did before after w p = w
+works_keep : (unclaimed : Route → Type 0) (replies : Replies) (item : Item) (old new : Seen) (did : Did) (before after : Option CallLog) → WorksOn item unclaimed replies old new did before after → Passes did → ⊥
+works_keep unclaimed replies Next old new did before after (inl s) p = told_keeps s.report did s.says p
+works_keep unclaimed replies Next old new did before after (inr s) p = takes_keep unclaimed replies old new did before after s.1 p
+works_keep unclaimed replies (File f) old new did before after w p = file_keeps unclaimed f old new did before after w p
+works_keep unclaimed replies (Link l) old new did before after w p = link_keeps l old new did before after w p
+works_keep unclaimed replies (Stays part) old new did before after w p = w
 
 -- a step with the list of dirty folders
-list_counts : (free : Route → Bool) (old new : Seen) (worked : StepResult) (dirty dirty_after : List Route) (before after : Option CallLog) (f0 f1 : ℕ)
-    → ListSteps free old new worked dirty dirty_after before after f0 f1 → StepCounts worked.did worked.calls before after f0 f1
-list_counts free old new worked dirty dirty_after before after f0 f1 (inl s) =
+list_counts : (free : Route → Bool) (replies : Replies) (old new : Seen) (worked : StepResult) (dirty dirty_after : List Route) (before after : Option CallLog) (f0 f1 : ℕ)
+    → ListSteps free replies old new worked dirty dirty_after before after f0 f1 → StepCounts worked.did worked.calls before after f0 f1
+list_counts free replies old new worked dirty dirty_after before after f0 f1 (inl s) =
     subst (λ (r : StepResult). StepCounts r.did r.calls before after f0 f1) (sym s.says) record {
       counted = none_made before after s.same;
       few = omega arith;
@@ -106,7 +110,7 @@ list_counts free old new worked dirty dirty_after before after f0 f1 (inl s) =
       later = (let l = s.later in omega (arith, l));
       fault = λ h. absurd (let f : ⊥ = cc in f);
     }
-list_counts free old new worked dirty dirty_after before after f0 f1 (inr s) =
+list_counts free replies old new worked dirty dirty_after before after f0 f1 (inr s) =
     let steps = s.steps in
     let c = steps.counts in
     record { counted = c.counted; few = c.few; unknown = c.unknown; later = c.later; fault = λ h. risen (meets worked.did h) }
@@ -118,7 +122,7 @@ list_counts free old new worked dirty dirty_after before after f0 f1 (inr s) =
         c.fault (subst IsFault (sym m.1) m.2)
     risen (inr m) =
         let steps = s.steps in
-        absurd (works_keep (IsPartPlace free steps.mid) (let mid = steps.mid in mid.item) steps.mid new worked.did before after steps.works (m.0, m.1, m.2))
+        absurd (works_keep (IsPartPlace free steps.mid) replies (let mid = steps.mid in mid.item) steps.mid new worked.did before after steps.works (m.0, m.1, m.2))
 
 -- what is passed over is told with its cause, or there is no memory to tell it
 abbrev TellsCause : Cause → Did → Type 0
@@ -168,13 +172,13 @@ passed_so : (skips : Skips) (did : Did) (t : Trouble) (why : Cause) → did ≡ 
 passed_so skips did t why says is = cause_so t.barrier (holds skips (kind_in t.cause)) t.cause why (sym (ap (λ d. passed_cause skips d) says) ∙ is)
 
 pub count_law : CountLaw
-count_law free old new did calls dirty dirty_after before after f0 f1 s = go s.passes
+count_law free replies old new did calls dirty dirty_after before after f0 f1 s = go s.passes
   where
     go : OrPassedOver old.skips s.worked s.moved new.at (step_result did calls) → StepCounts did calls before after f0 f1
     go (inl p) =
-        subst (λ (r : StepResult). StepCounts r.did r.calls before after f0 f1) (sym p.1) (list_counts free s.mid s.moved s.worked dirty dirty_after before after f0 f1 s.works)
+        subst (λ (r : StepResult). StepCounts r.did r.calls before after f0 f1) (sym p.1) (list_counts free replies s.mid s.moved s.worked dirty dirty_after before after f0 f1 s.works)
     go (inr p) =
-        let c = list_counts free s.mid s.moved s.worked dirty dirty_after before after f0 f1 s.works in
+        let c = list_counts free replies s.mid s.moved s.worked dirty dirty_after before after f0 f1 s.works in
         let same : calls ≡ (let w = s.worked in w.calls) = p.2 in
         let t = passed_trouble old.skips s.worked.did p.0 p.1 in
         record {

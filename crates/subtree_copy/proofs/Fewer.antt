@@ -5,6 +5,7 @@ use Rattle.std.proofs.lemmas.Bool.{false≢true}
 use Rattle.mc_text.specs.Routes.{Route}
 use Rattle.tree_trait.specs.Change.{CallLog}
 use Rattle.job_reports.specs.declared.job.Pair.{Pair}
+use Rattle.job_answers.specs.declared.replies.Replies.{Replies}
 use Rattle.job_reports.specs.declared.report.Did.{Did}
 use Rattle.job_reports.specs.declared.report.Did.TheVariants.{Began, Chunk, Placed, Removed, Made, Set, Kept, Skipped, Cleaned, Barrier, Asked, Merges, Troubled, Ended}
 use Rattle.file_copy.specs.Copying as file
@@ -40,6 +41,7 @@ use Rattle.tree_copy.specs.Reports.{IsToldAs}
 use Rattle.tree_copy.specs.Standing.{Seen, due_at}
 use Rattle.tree_copy.specs.Steps.{FileWorks, FolderEnds, FolderMakes, GoesOn, LinkWorks, SyncsAround, TakesNext, WorksOn, at_end, idle, link_begun, noted, settled}
 use Rattle.subtree_copy.specs.Ranks.{anew, around_rank, dirt, file_rank, goes_on, item_rank, level_rank, levels_rank, link_rank, rank_by, stage_rank}
+use Rattle.tree_copy.proofs.PartsBegin.{file_taken}
 
 -- one thing fewer is so many steps fewer
 one_fewer : (b t u : ℕ) → u < t → u * b + b ≤ t * b
@@ -286,31 +288,37 @@ some_name (name ∷ names) c pair is = omega arith
 abbrev pub Things : Seen → Seen → Did → Type 0
 Things old new did = (things_left new ≤ things_left old) × (decides did ≡ true → things_left new < things_left old)
 
-takes_falls : (most : ℕ) → 2 ^ 64 ≤ most → (unclaimed : Route → Type 0) (old new : Seen) (did : Did) (before after : Option CallLog) → TakesNext unclaimed old new did before after → old.item ≡ Next → goes_on did ≡ true
+takes_falls : (most : ℕ) → 2 ^ 64 ≤ most → (unclaimed : Route → Type 0) (replies : Replies) (old new : Seen) (did : Did) (before after : Option CallLog) → TakesNext unclaimed replies old new did before after → old.item ≡ Next → goes_on did ≡ true
     → Things old new did → rank_by most new < Before most (anew most) old
-takes_falls most enough unclaimed old new did before after (inl s) free h fewer = absurd (false≢true (sym (ap goes_on s.says) ∙ h))
-takes_falls most enough unclaimed old new did before after (inr (inl t)) free h fewer =
-    file_falls most enough unclaimed (file.begun old.job t.pair.source t.pair.target) old new did before after t.works (some_name old.levels.inner.names.names old t.pair t.next) h
-takes_falls most enough unclaimed old new did before after (inr (inr (inl t))) free h fewer =
+takes_falls most enough unclaimed replies old new did before after (inl s) free h fewer = absurd (false≢true (sym (ap goes_on s.says) ∙ h))
+takes_falls most enough unclaimed replies old new did before after (inr (inl t)) free h fewer =
+    file_falls most enough unclaimed (file.begun old.job t.pair.source t.pair.target) old new did None None (file_taken unclaimed replies old new did before after t) (some_name old.levels.inner.names.names old t.pair t.next) h
+takes_falls most enough unclaimed replies old new did before after (inr (inr (inl t))) free h fewer =
     link_falls most (link_begun t.pair t.part) old new did before after t.works (some_name old.levels.inner.names.names old t.pair t.next) h
-takes_falls most enough unclaimed old new did before after (inr (inr (inr (inl t)))) free h fewer = makes_falls most t.pair t.names t.mode old new did before after t.works free h fewer.1
-takes_falls most enough unclaimed old new did before after (inr (inr (inr (inr (inl t))))) free h fewer =
+takes_falls most enough unclaimed replies old new did before after (inr (inr (inr (inl t)))) free h fewer = makes_falls most t.pair t.names t.mode old new did before after t.works free h fewer.1
+takes_falls most enough unclaimed replies old new did before after (inr (inr (inr (inr (inl t))))) free h fewer =
     let less = subst (λ (c : Seen). things_left c < things_left old) (sym t.stands) (pass_falls false (walked old.levels) (some_name old.levels.inner.names.names old t.pair t.next)) in
     let item : item_rank most new.item ≡ anew most = ap (item_rank most) (ap (λ (c : Seen). c.item) t.stands ∙ free) in
     let same : levels_rank new.levels ≡ levels_rank old.levels = ap (λ (c : Seen). levels_rank c.levels) t.stands in
     fewer_falls (anew most) (things_left old) (things_left new) (anew most + levels_rank old.levels) (item_rank most new.item + levels_rank new.levels) less (omega (arith, item, same))
-takes_falls most enough unclaimed old new did before after (inr (inr (inr (inr (inr (next, inl (debt, e))))))) free h fewer = ends_falls most old new did before after e free h fewer.0
-takes_falls most enough unclaimed old new did before after (inr (inr (inr (inr (inr (next, inr (debt, f, same))))))) free h fewer = absurd (false≢true (sym (ap goes_on f.says) ∙ h))
+takes_falls most enough unclaimed replies old new did before after (inr (inr (inr (inr (inr (inl t)))))) free h fewer =
+    let less = subst (λ (c : Seen). things_left c < things_left old) (sym t.stands) (pass_falls false (walked old.levels) (some_name old.levels.inner.names.names old t.pair t.next)) in
+    let item : item_rank most new.item ≡ anew most = ap (item_rank most) (ap (λ (c : Seen). c.item) t.stands ∙ free) in
+    let same : levels_rank new.levels ≡ levels_rank old.levels = ap (λ (c : Seen). levels_rank c.levels) t.stands in
+    fewer_falls (anew most) (things_left old) (things_left new) (anew most + levels_rank old.levels) (item_rank most new.item + levels_rank new.levels) less (omega (arith, item, same))
+takes_falls most enough unclaimed replies old new did before after (inr (inr (inr (inr (inr (inr (inl t))))))) free h fewer = absurd (false≢true (sym (ap goes_on t.says) ∙ h))
+takes_falls most enough unclaimed replies old new did before after (inr (inr (inr (inr (inr (inr (inr (next, inl (debt, e))))))))) free h fewer = ends_falls most old new did before after e free h fewer.0
+takes_falls most enough unclaimed replies old new did before after (inr (inr (inr (inr (inr (inr (inr (next, inr (debt, f, same))))))))) free h fewer = absurd (false≢true (sym (ap goes_on f.says) ∙ h))
 
-goes_falls : (most : ℕ) → 2 ^ 64 ≤ most → (unclaimed : Route → Type 0) (old new : Seen) (did : Did) (before after : Option CallLog) → GoesOn unclaimed old new did before after → old.item ≡ Next → goes_on did ≡ true
+goes_falls : (most : ℕ) → 2 ^ 64 ≤ most → (unclaimed : Route → Type 0) (replies : Replies) (old new : Seen) (did : Did) (before after : Option CallLog) → GoesOn unclaimed replies old new did before after → old.item ≡ Next → goes_on did ≡ true
     → Things old new did → rank_by most new < Before most (anew most) old
-goes_falls most enough unclaimed old new did before after (inl s) free h fewer = syncs_falls most old new did before after s free h fewer.0
-goes_falls most enough unclaimed old new did before after (inr s) free h fewer = takes_falls most enough unclaimed old new did before after s.1 free h fewer
+goes_falls most enough unclaimed replies old new did before after (inl s) free h fewer = syncs_falls most old new did before after s free h fewer.0
+goes_falls most enough unclaimed replies old new did before after (inr s) free h fewer = takes_falls most enough unclaimed replies old new did before after s.1 free h fewer
 
 -- a step of the machine after which it goes on
-pub works_falls : (most : ℕ) → 2 ^ 64 ≤ most → (unclaimed : Route → Type 0) (item : Item) (old new : Seen) (did : Did) (before after : Option CallLog) → WorksOn item unclaimed old new did before after → old.item ≡ item
+pub works_falls : (most : ℕ) → 2 ^ 64 ≤ most → (unclaimed : Route → Type 0) (replies : Replies) (item : Item) (old new : Seen) (did : Did) (before after : Option CallLog) → WorksOn item unclaimed replies old new did before after → old.item ≡ item
     → HasName item old.levels → goes_on did ≡ true → Things old new did → rank_by most new < Before most (item_rank most item) old
-works_falls most enough unclaimed Next old new did before after w is named h fewer = goes_falls most enough unclaimed old new did before after w is h fewer
-works_falls most enough unclaimed (File f) old new did before after w is named h fewer = file_falls most enough unclaimed f old new did before after w named h
-works_falls most enough unclaimed (Link l) old new did before after w is named h fewer = link_falls most l old new did before after w named h
-works_falls most enough unclaimed (Stays part) old new did before after w is named h fewer = absurd w
+works_falls most enough unclaimed replies Next old new did before after w is named h fewer = goes_falls most enough unclaimed replies old new did before after w is h fewer
+works_falls most enough unclaimed replies (File f) old new did before after w is named h fewer = file_falls most enough unclaimed f old new did before after w named h
+works_falls most enough unclaimed replies (Link l) old new did before after w is named h fewer = link_falls most l old new did before after w named h
+works_falls most enough unclaimed replies (Stays part) old new did before after w is named h fewer = absurd w

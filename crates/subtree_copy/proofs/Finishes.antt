@@ -3,6 +3,7 @@ use Rattle.std.specs.Prelude.{if◌then◌else◌}
 use Rattle.std.proofs.Common.{◌≡◌, ℕ, Bool, true, false, refl, sym, ◌∙◌, ap, subst, inl, inr, List, [], ◌∷◌, Option, Some, None}
 use Rattle.mc_text.specs.Routes.{Route}
 use Rattle.tree_trait.specs.Change.{CallLog}
+use Rattle.job_answers.specs.declared.replies.Replies.{Replies}
 use Rattle.job_reports.specs.declared.report.Cause.{Cause}
 use Rattle.job_reports.specs.declared.report.Did.{Did}
 use Rattle.job_reports.specs.declared.report.Did.TheVariants as common
@@ -69,15 +70,17 @@ record StaysSo (item : Item) (old new : Seen) (before after : Option CallLog) : 
 same_log : (before after : Option CallLog) → after ≡ before → (log : CallLog) → before ≡ Some log → after ≡ Some log
 same_log before after same log known = same ∙ known
 
-takes_stays : (unclaimed : Route → Type 0) (old new : Seen) (part : Option Route) (before after : Option CallLog) → TakesNext unclaimed old new (Ended Finished part) before after → brings_in Next old.levels ≡ false
+takes_stays : (unclaimed : Route → Type 0) (replies : Replies) (old new : Seen) (part : Option Route) (before after : Option CallLog) → TakesNext unclaimed replies old new (Ended Finished part) before after → brings_in Next old.levels ≡ false
     → StaysSo Next old new before after
-takes_stays unclaimed old new part before after (inl s) around = absurd (let e : Ended Finished part ≡ common.Troubled s.trouble = s.says in let f : ⊥ = cc in f)
-takes_stays unclaimed old new part before after (inr (inl t)) around = (let w = t.works in let tells = w.tells in absurd (let e = tells.0 in let f : ⊥ = cc in f))
-takes_stays unclaimed old new part before after (inr (inr (inl t))) around = (let w = t.works in absurd w.tells)
-takes_stays unclaimed old new part before after (inr (inr (inr (inl t)))) around = (let w = t.works in told_no_end w.report part w.says)
-takes_stays unclaimed old new part before after (inr (inr (inr (inr (inl t))))) around = absurd (let e : Ended Finished part ≡ common.Merges t.pair t.names = t.says in let f : ⊥ = cc in f)
-takes_stays unclaimed old new part before after (inr (inr (inr (inr (inr (due, inl (debt, e))))))) around = told_no_end e.report part e.says
-takes_stays unclaimed old new part before after (inr (inr (inr (inr (inr (due, inr (debt, f, same))))))) around =
+takes_stays unclaimed replies old new part before after (inl s) around = absurd (let e : Ended Finished part ≡ common.Troubled s.trouble = s.says in let f : ⊥ = cc in f)
+takes_stays unclaimed replies old new part before after (inr (inl t)) around = (let w = t.works in absurd w.tells)
+takes_stays unclaimed replies old new part before after (inr (inr (inl t))) around = (let w = t.works in absurd w.tells)
+takes_stays unclaimed replies old new part before after (inr (inr (inr (inl t)))) around = (let w = t.works in told_no_end w.report part w.says)
+takes_stays unclaimed replies old new part before after (inr (inr (inr (inr (inl t))))) around = absurd (let e : Ended Finished part ≡ common.Merges t.pair t.names = t.says in let f : ⊥ = cc in f)
+takes_stays unclaimed replies old new part before after (inr (inr (inr (inr (inr (inl t)))))) around = absurd (let e : Ended Finished part ≡ common.Kept t.pair.target = t.says in let f : ⊥ = cc in f)
+takes_stays unclaimed replies old new part before after (inr (inr (inr (inr (inr (inr (inl t))))))) around = absurd (let e : Ended Finished part ≡ common.Asked t.question = t.says in let f : ⊥ = cc in f)
+takes_stays unclaimed replies old new part before after (inr (inr (inr (inr (inr (inr (inr (due, inl (debt, e))))))))) around = told_no_end e.report part e.says
+takes_stays unclaimed replies old new part before after (inr (inr (inr (inr (inr (inr (inr (due, inr (debt, f, same))))))))) around =
     record { around = around; names = ap (λ (c : Seen). is_dirty c.levels.inner.copy.names) f.stands; log = same_log before after same }
 
 -- a file's copy that is finished has nothing owed
@@ -97,30 +100,30 @@ file_stays unclaimed f old new part before after w =
       log = λ log known. w.called log known;
     }
 
-works_stays : (unclaimed : Route → Type 0) (item : Item) (old new : Seen) (part : Option Route) (before after : Option CallLog) → WorksOn item unclaimed old new (Ended Finished part) before after → StaysSo item old new before after
-works_stays unclaimed Next old new part before after (inl s) = told_no_end s.report part s.says
-works_stays unclaimed Next old new part before after (inr (clean, takes)) = takes_stays unclaimed old new part before after takes clean
-works_stays unclaimed (File f) old new part before after w = file_stays unclaimed f old new part before after w
-works_stays unclaimed (Link l) old new part before after w = absurd w.tells
-works_stays unclaimed (Stays left) old new part before after w = absurd w
+works_stays : (unclaimed : Route → Type 0) (replies : Replies) (item : Item) (old new : Seen) (part : Option Route) (before after : Option CallLog) → WorksOn item unclaimed replies old new (Ended Finished part) before after → StaysSo item old new before after
+works_stays unclaimed replies Next old new part before after (inl s) = told_no_end s.report part s.says
+works_stays unclaimed replies Next old new part before after (inr (clean, takes)) = takes_stays unclaimed replies old new part before after takes clean
+works_stays unclaimed replies (File f) old new part before after w = file_stays unclaimed f old new part before after w
+works_stays unclaimed replies (Link l) old new part before after w = absurd w.tells
+works_stays unclaimed replies (Stays left) old new part before after w = absurd w
 
 no_change : (b : Bool) (folder : Route) (dirty : List Route) → with_change b b folder dirty ≡ dirty
 no_change true folder dirty = refl
 no_change false folder dirty = refl
 
-module _ (free : Route → Bool) (old new : SubtreeCopying) (part : Option Route) (calls : ℕ) (dirty dirty_after : List Route) (before after : Option CallLog) (f0 f1 : ℕ)
-    (s : SubtreeSteps free old new (Ended Finished part) calls dirty dirty_after before after f0 f1) where
+module _ (free : Route → Bool) (replies : Replies) (old new : SubtreeCopying) (part : Option Route) (calls : ℕ) (dirty dirty_after : List Route) (before after : Option CallLog) (f0 f1 : ℕ)
+    (s : SubtreeSteps free replies old new (Ended Finished part) calls dirty dirty_after before after f0 f1) where
   -- the list, and the tree's log
   abbrev pub IsStill : Type 0
   IsStill = (dirty_after ≡ dirty) × ((log : CallLog) → before ≡ Some log → after ≡ Some log)
 
-  worked : ListSteps free s.mid s.moved s.worked dirty dirty_after before after f0 f1 → (let w = s.worked in w.did) ≡ Ended Finished part → IsStill
+  worked : ListSteps free replies s.mid s.moved s.worked dirty dirty_after before after f0 f1 → (let w = s.worked in w.did) ≡ Ended Finished part → IsStill
   worked (inl short) is = absurd (let e = sym is ∙ ap (λ (r : StepResult). r.did) short.says in let f : ⊥ = cc in f)
   worked (inr m) is =
       let mid : Seen = s.mid in
       let moved : Seen = s.moved in
-      let here = subst (λ d. WorksOn mid.item (IsPartPlace free mid) mid moved d before after) is (works_at_once free s.mid s.moved _ _ before after f0 f1 m.steps s.settled) in
-      let stays = works_stays (IsPartPlace free mid) mid.item mid moved part before after here in
+      let here = subst (λ d. WorksOn mid.item (IsPartPlace free mid) replies mid moved d before after) is (works_at_once free replies s.mid s.moved _ _ before after f0 f1 m.steps s.settled) in
+      let stays = works_stays (IsPartPlace free mid) replies mid.item mid moved part before after here in
       let was : was_dirty mid ≡ is_dirty mid.levels.inner.copy.names = ap (λ b. if b then true else is_dirty mid.levels.inner.copy.names) stays.around in
       let now : is_dirty_after mid (Ended Finished part) moved ≡ is_dirty mid.levels.inner.copy.names =
       ap (λ b. if b then is_around_dirty moved.levels.around else is_dirty moved.levels.inner.copy.names) stays.around ∙ stays.names in (

@@ -4,6 +4,7 @@ use Rattle.std.proofs.Common.{◌≡◌, ℕ, zero, suc, sym, ◌∙◌, ap, sub
 use Rattle.mc_text.specs.Routes.{Route}
 use Rattle.tree_trait.specs.Change.{CallLog}
 use Rattle.job_answers.specs.declared.skips.Skips.{Skips}
+use Rattle.job_answers.specs.declared.replies.Replies.{Replies}
 use Rattle.job_reports.specs.declared.job.Pair.{Pair}
 use Rattle.job_reports.specs.declared.report.Cause.{Cause}
 use Rattle.job_reports.specs.declared.report.Did.{Did}
@@ -46,13 +47,13 @@ module _ (top : Pair) (folder : Route) where
     windable = windable mid.item w;
   }
 
-  pub worked_held : (free : Route → Bool) (old new : Seen) (result : StepResult) (dirty dirty_after : List Route) (before after : Option CallLog) (f0 f1 : ℕ)
-      → ListSteps free old new result dirty dirty_after before after f0 f1 → IsHeld top folder old → IsWorkable new.item → IsHeld top folder new
-  worked_held free old new result dirty dirty_after before after f0 f1 (inl s) h w = subst (IsHeld top folder) (sym s.stays) h
-  worked_held free old new result dirty dirty_after before after f0 f1 (inr s) h w = record {
+  pub worked_held : (free : Route → Bool) (replies : Replies) (old new : Seen) (result : StepResult) (dirty dirty_after : List Route) (before after : Option CallLog) (f0 f1 : ℕ)
+      → ListSteps free replies old new result dirty dirty_after before after f0 f1 → IsHeld top folder old → IsWorkable new.item → IsHeld top folder new
+  worked_held free replies old new result dirty dirty_after before after f0 f1 (inl s) h w = subst (IsHeld top folder) (sym s.stays) h
+  worked_held free replies old new result dirty dirty_after before after f0 f1 (inr s) h w = record {
     holds = h.holds;
-    in_place = (let p = place_law free top old new result.did result.calls before after f0 f1 s.steps h.in_place in p.0);
-    in_worked = (let law = worked_folder_law in law.step free old new result.did result.calls before after f0 f1 s.steps h.in_worked);
+    in_place = (let p = place_law free replies top old new result.did result.calls before after f0 f1 s.steps h.in_place in p.0);
+    in_worked = (let law = worked_folder_law in law.step free replies old new result.did result.calls before after f0 f1 s.steps h.in_worked);
     windable = windable new.item w;
   }
 

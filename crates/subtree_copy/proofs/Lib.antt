@@ -1,4 +1,5 @@
 pub mod Answered
+pub mod AskedOnes
 pub mod Barred
 pub mod Begun
 pub mod Counts

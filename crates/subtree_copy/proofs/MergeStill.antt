@@ -4,6 +4,7 @@ use Rattle.std.proofs.Common.{◌≡◌, ℕ, Bool, true, false, refl, sym, ◌�
 use Rattle.std.proofs.lemmas.Bool.{false≢true}
 use Rattle.mc_text.specs.Routes.{Route}
 use Rattle.tree_trait.specs.Change.{CallLog}
+use Rattle.job_answers.specs.declared.replies.Replies.{Replies}
 use Rattle.job_reports.specs.declared.job.Pair.{Pair}
 use Rattle.job_reports.specs.declared.report.Did.{Did}
 use Rattle.job_reports.specs.declared.report.Did.TheVariants.{Merges}
@@ -35,13 +36,13 @@ brings_dirty (File f) l h = absurd (false≢true h)
 brings_dirty (Link k) l h = absurd (false≢true h)
 brings_dirty (Stays part) l h = absurd (false≢true h)
 
-module _ (free : Route → Bool) (old new : SubtreeCopying) (pair : Pair) (names : List (List ℕ)) (calls : ℕ) (dirty dirty_after : List Route) (before after : Option CallLog) (f0 f1 : ℕ)
-    (s : SubtreeSteps free old new (Merges pair names) calls dirty dirty_after before after f0 f1) where
+module _ (free : Route → Bool) (replies : Replies) (old new : SubtreeCopying) (pair : Pair) (names : List (List ℕ)) (calls : ℕ) (dirty dirty_after : List Route) (before after : Option CallLog) (f0 f1 : ℕ)
+    (s : SubtreeSteps free replies old new (Merges pair names) calls dirty dirty_after before after f0 f1) where
   -- the list, and the tree's log
   abbrev pub IsStill : Type 0
   IsStill = (dirty_after ≡ dirty) × ((log : CallLog) → before ≡ Some log → after ≡ Some log)
 
-  list_is : ListSteps free s.mid s.moved s.worked dirty dirty_after before after f0 f1 → (let w = s.worked in w.did) ≡ Merges pair names
+  list_is : ListSteps free replies s.mid s.moved s.worked dirty dirty_after before after f0 f1 → (let w = s.worked in w.did) ≡ Merges pair names
       → dirty_after ≡ with_change (was_dirty s.mid) (is_dirty_after s.mid (Merges pair names) s.moved) (folder_worked s.mid) dirty
   list_is (inl short) is = absurd (let e = sym is ∙ ap (λ (r : StepResult). r.did) short.says in let f : ⊥ = cc in f)
   list_is (inr m) is = m.list ∙ ap (λ d. with_change (was_dirty s.mid) (is_dirty_after s.mid d s.moved) (folder_worked s.mid) dirty) is
@@ -50,7 +51,7 @@ module _ (free : Route → Bool) (old new : SubtreeCopying) (pair : Pair) (names
   worked is =
       let mid : Seen = s.mid in
       let moved : Seen = s.moved in
-      let t = list_merged free mid moved s.worked pair names dirty dirty_after before after f0 f1 s.works s.settled is in
+      let t = list_merged free replies mid moved s.worked pair names dirty dirty_after before after f0 f1 s.works s.settled is in
       let around : is_around_dirty moved.levels.around ≡ is_around_dirty mid.levels.around = ap (λ (c : Seen). is_around_dirty c.levels.around) t.stands in
       let inner : is_dirty moved.levels.inner.copy.names ≡ is_dirty mid.levels.inner.copy.names = ap (λ (c : Seen). is_dirty c.levels.inner.copy.names) t.stands in
       let now : is_dirty_after mid (Merges pair names) moved ≡ was_dirty mid =

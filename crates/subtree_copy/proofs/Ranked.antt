@@ -4,6 +4,7 @@ use Rattle.std.proofs.Math.Nat.{mul-le-mul_right, suc-mul}
 use Rattle.std.proofs.lemmas.Bool.{false≢true, true≢false}
 use Rattle.mc_text.specs.Routes.{Route}
 use Rattle.tree_trait.specs.Change.{CallLog}
+use Rattle.job_answers.specs.declared.replies.Replies.{Replies}
 use Rattle.job_reports.specs.declared.job.Pair.{Pair}
 use Rattle.job_reports.specs.declared.report.Cause.{Cause}
 use Rattle.job_reports.specs.declared.report.Did.{Did}
@@ -47,6 +48,7 @@ use Rattle.subtree_copy.specs.Passing.{OrPassedOver}
 use Rattle.subtree_copy.specs.Ranks.{RankLaw, anew, around_rank, file_rank, goes_on, item_rank, level_rank, levels_rank, link_rank, rank_by, stage_rank}
 use Rattle.subtree_copy.specs.Standing.{SubtreeCopying, at_barrier, barrier_at, barrier_at_end, barrier_at_name}
 use Rattle.subtree_copy.specs.SubtreeSteps.{ListSteps, SubtreeSteps, step_result}
+use Rattle.tree_copy.proofs.PartsBegin.{file_taken}
 use Rattle.subtree_copy.proofs.Barred.{IsOpenAt, Says, file_same, folder_same, left_workable, link_same, list_barred, opens_at, passed_trouble}
 use Rattle.subtree_copy.proofs.Fewer.{Before, FitsFile, FitsLink, closing_rank, copy_rank, fewer_falls, file_settles, link_settles, same_things, some_name, works_falls}
 use Rattle.subtree_copy.proofs.Targets.{works_at_once}
@@ -127,21 +129,23 @@ ends_troubled most old new did before after t e says =
     ap (λ (s : Seen). rank_by most s) e.stands ∙ ap (λ (x : FolderCopying). things_left old * anew most + (item_rank most old.item + (copy_rank x + around_rank old.levels.around))) same.1 in
     omega (arith, closed, now)
 
-takes_troubled : (most : ℕ) (unclaimed : Route → Type 0) (old new : Seen) (did : Did) (before after : Option CallLog) (t : Trouble) → TakesNext unclaimed old new did before after → Says did t → old.item ≡ Next
+takes_troubled : (most : ℕ) (unclaimed : Route → Type 0) (replies : Replies) (old new : Seen) (did : Did) (before after : Option CallLog) (t : Trouble) → TakesNext unclaimed replies old new did before after → Says did t → old.item ≡ Next
     → OneMore most old new
-takes_troubled most unclaimed old new did before after t (inl s) says free = no_more _ _ (ap (λ (c : Seen). rank_by most c) s.stands)
-takes_troubled most unclaimed old new did before after t (inr (inl w)) says free =
+takes_troubled most unclaimed replies old new did before after t (inl s) says free = no_more _ _ (ap (λ (c : Seen). rank_by most c) s.stands)
+takes_troubled most unclaimed replies old new did before after t (inr (inl w)) says free =
     let free_rank : item_rank most old.item ≡ anew most = ap (item_rank most) free in
-    let l = file_troubled most unclaimed (file.begun old.job w.pair.source w.pair.target) old new did before after t w.works says (some_name old.levels.inner.names.names old w.pair w.next) in
+    let l = file_troubled most unclaimed (file.begun old.job w.pair.source w.pair.target) old new did None None t (file_taken unclaimed replies old new did before after w) says (some_name old.levels.inner.names.names old w.pair w.next) in
     omega (arith, free_rank, l)
-takes_troubled most unclaimed old new did before after t (inr (inr (inl w))) says free =
+takes_troubled most unclaimed replies old new did before after t (inr (inr (inl w))) says free =
     let free_rank : item_rank most old.item ≡ anew most = ap (item_rank most) free in
     let l = link_troubled most (link_begun w.pair w.part) old new did before after t w.works says (some_name old.levels.inner.names.names old w.pair w.next) in
     omega (arith, free_rank, l)
-takes_troubled most unclaimed old new did before after t (inr (inr (inr (inl w)))) says free = makes_troubled most w.pair w.names w.mode old new did before after t w.works says
-takes_troubled most unclaimed old new did before after t (inr (inr (inr (inr (inl m))))) says free = absurd (let e = sym m.says ∙ says in let g : ⊥ = cc in g)
-takes_troubled most unclaimed old new did before after t (inr (inr (inr (inr (inr (next, inl (debt, e))))))) says free = ends_troubled most old new did before after t e says
-takes_troubled most unclaimed old new did before after t (inr (inr (inr (inr (inr (next, inr (debt, f, same))))))) says free = absurd (let e = sym f.says ∙ says in let g : ⊥ = cc in g)
+takes_troubled most unclaimed replies old new did before after t (inr (inr (inr (inl w)))) says free = makes_troubled most w.pair w.names w.mode old new did before after t w.works says
+takes_troubled most unclaimed replies old new did before after t (inr (inr (inr (inr (inl m))))) says free = absurd (let e = sym m.says ∙ says in let g : ⊥ = cc in g)
+takes_troubled most unclaimed replies old new did before after t (inr (inr (inr (inr (inr (inl m)))))) says free = absurd (let e = sym m.says ∙ says in let g : ⊥ = cc in g)
+takes_troubled most unclaimed replies old new did before after t (inr (inr (inr (inr (inr (inr (inl m))))))) says free = absurd (let e = sym m.says ∙ says in let g : ⊥ = cc in g)
+takes_troubled most unclaimed replies old new did before after t (inr (inr (inr (inr (inr (inr (inr (next, inl (debt, e))))))))) says free = ends_troubled most old new did before after t e says
+takes_troubled most unclaimed replies old new did before after t (inr (inr (inr (inr (inr (inr (inr (next, inr (debt, f, same))))))))) says free = absurd (let e = sym f.says ∙ says in let g : ⊥ = cc in g)
 
 dirty_is : (names : NamesState) → is_dirty names ≡ true → names ≡ Dirty
 dirty_is Dirty h = refl
@@ -156,23 +160,23 @@ syncs_troubled most old new did before after t s says =
     ∙ (ap (λ (n : NamesState). rank_by most (record old { stage = after_report did old.stage; levels = record old.levels { around = level s.outer.names (record s.outer.copy { names = n }) ∷ s.around } })) names
     ∙ ap (λ (os : List Level). rank_by most (record old { stage = after_report did old.stage; levels = record old.levels { around = os } })) (sym s.was)))
 
-goes_troubled : (most : ℕ) (unclaimed : Route → Type 0) (old new : Seen) (did : Did) (before after : Option CallLog) (t : Trouble) → GoesOn unclaimed old new did before after → Says did t → old.item ≡ Next
+goes_troubled : (most : ℕ) (unclaimed : Route → Type 0) (replies : Replies) (old new : Seen) (did : Did) (before after : Option CallLog) (t : Trouble) → GoesOn unclaimed replies old new did before after → Says did t → old.item ≡ Next
     → OneMore most old new
-goes_troubled most unclaimed old new did before after t (inl s) says free = syncs_troubled most old new did before after t s says
-goes_troubled most unclaimed old new did before after t (inr s) says free = takes_troubled most unclaimed old new did before after t s.1 says free
+goes_troubled most unclaimed replies old new did before after t (inl s) says free = syncs_troubled most old new did before after t s says
+goes_troubled most unclaimed replies old new did before after t (inr s) says free = takes_troubled most unclaimed replies old new did before after t s.1 says free
 
-works_troubled : (most : ℕ) (unclaimed : Route → Type 0) (item : Item) (old new : Seen) (did : Did) (before after : Option CallLog) (t : Trouble) → WorksOn item unclaimed old new did before after → Says did t
+works_troubled : (most : ℕ) (unclaimed : Route → Type 0) (replies : Replies) (item : Item) (old new : Seen) (did : Did) (before after : Option CallLog) (t : Trouble) → WorksOn item unclaimed replies old new did before after → Says did t
     → old.item ≡ item → HasName item old.levels → OneMore most old new
-works_troubled most unclaimed Next old new did before after t w says is named = goes_troubled most unclaimed old new did before after t w says is
-works_troubled most unclaimed (File f) old new did before after t w says is named =
+works_troubled most unclaimed replies Next old new did before after t w says is named = goes_troubled most unclaimed replies old new did before after t w says is
+works_troubled most unclaimed replies (File f) old new did before after t w says is named =
     let same : item_rank most old.item ≡ file_rank most f.stage = ap (item_rank most) is in
     let l = file_troubled most unclaimed f old new did before after t w says named in
     omega (arith, same, l)
-works_troubled most unclaimed (Link k) old new did before after t w says is named =
+works_troubled most unclaimed replies (Link k) old new did before after t w says is named =
     let same : item_rank most old.item ≡ link_rank most k.stage = ap (item_rank most) is in
     let l = link_troubled most k old new did before after t w says named in
     omega (arith, same, l)
-works_troubled most unclaimed (Stays part) old new did before after t w says is named = absurd w
+works_troubled most unclaimed replies (Stays part) old new did before after t w says is named = absurd w
 
 -- a skip leaves two fewer at least
 abbrev pub TwoFewer : ℕ → Seen → Seen → Type 0
@@ -308,25 +312,25 @@ skip_falls most (Link l) cause old new did s is open_at named h = link_two most 
 skip_falls most (Stays part) cause old new did s is open_at named h = absurd s
 
 -- a step with the list, of a copy that is steady
-module _ (most : ℕ) (enough : 2 ^ 64 ≤ most) (free : Route → Bool) (old new : Seen) (worked : StepResult) (dirty dirty_after : List Route) (before after : Option CallLog) (f0 f1 : ℕ)
-    (w : ListSteps free old new worked dirty dirty_after before after f0 f1) (settled_at : may_leave old ≡ false) (steady : IsSteady old) where
+module _ (most : ℕ) (enough : 2 ^ 64 ≤ most) (free : Route → Bool) (replies : Replies) (old new : Seen) (worked : StepResult) (dirty dirty_after : List Route) (before after : Option CallLog) (f0 f1 : ℕ)
+    (w : ListSteps free replies old new worked dirty dirty_after before after f0 f1) (settled_at : may_leave old ≡ false) (steady : IsSteady old) where
   list_falls : goes_on worked.did ≡ true → rank_by most new < rank_by most old
   list_falls h = go w
     where
-      go : ListSteps free old new worked dirty dirty_after before after f0 f1 → rank_by most new < rank_by most old
+      go : ListSteps free replies old new worked dirty dirty_after before after f0 f1 → rank_by most new < rank_by most old
       go (inl s) = absurd (false≢true (sym (ap (λ (r : StepResult). goes_on r.did) s.says) ∙ h))
       go (inr s) =
-          let l = falling_law free old new worked.did worked.calls before after f0 f1 s.steps steady in
-          works_falls most enough (IsPartPlace free old) old.item old new worked.did before after (works_at_once free old new worked.did worked.calls before after f0 f1 s.steps settled_at) refl steady.named h (l.1, l.2)
+          let l = falling_law free replies old new worked.did worked.calls before after f0 f1 s.steps steady in
+          works_falls most enough (IsPartPlace free old) replies old.item old new worked.did before after (works_at_once free replies old new worked.did worked.calls before after f0 f1 s.steps settled_at) refl steady.named h (l.1, l.2)
 
   pub list_troubled : (t : Trouble) → worked.did ≡ Troubled t → OneMore most old new × IsSteady new
   list_troubled t says = go w
     where
-      go : ListSteps free old new worked dirty dirty_after before after f0 f1 → OneMore most old new × IsSteady new
+      go : ListSteps free replies old new worked dirty dirty_after before after f0 f1 → OneMore most old new × IsSteady new
       go (inl s) = (no_more _ _ (ap (λ (c : Seen). rank_by most c) s.stays), subst IsSteady (sym s.stays) steady)
       go (inr s) =
-          let l = falling_law free old new worked.did worked.calls before after f0 f1 s.steps steady in (
-            works_troubled most (IsPartPlace free old) old.item old new worked.did before after t (works_at_once free old new worked.did worked.calls before after f0 f1 s.steps settled_at) says refl steady.named,
+          let l = falling_law free replies old new worked.did worked.calls before after f0 f1 s.steps steady in (
+            works_troubled most (IsPartPlace free old) replies old.item old new worked.did before after t (works_at_once free replies old new worked.did worked.calls before after f0 f1 s.steps settled_at) says refl steady.named,
             l.0,
           )
 
@@ -341,9 +345,9 @@ left_lower most n old mid l steady =
     let levels = there.1 in
     (omega (arith, more, item, levels), m.0)
 
-ranked : (most : ℕ) → 2 ^ 64 ≤ most → (free : Route → Bool) (old new : SubtreeCopying) (did : Did) (calls : ℕ) (dirty dirty_after : List Route) (before after : Option CallLog) (f0 f1 : ℕ)
-    → SubtreeSteps free old new did calls dirty dirty_after before after f0 f1 → IsSteady old.at → IsWorkable old.at.item → goes_on did ≡ true → rank_by most new.at < rank_by most old.at
-ranked most enough free old new did calls dirty dirty_after before after f0 f1 s steady can h =
+ranked : (most : ℕ) → 2 ^ 64 ≤ most → (free : Route → Bool) (replies : Replies) (old new : SubtreeCopying) (did : Did) (calls : ℕ) (dirty dirty_after : List Route) (before after : Option CallLog) (f0 f1 : ℕ)
+    → SubtreeSteps free replies old new did calls dirty dirty_after before after f0 f1 → IsSteady old.at → IsWorkable old.at.item → goes_on did ≡ true → rank_by most new.at < rank_by most old.at
+ranked most enough free replies old new did calls dirty dirty_after before after f0 f1 s steady can h =
     let l = s.leaves in
     let there = left_lower most l.0 old.at s.mid l.1 steady in
     go there.1 (left_workable l.0 old.at s.mid l.1 can) there.0 s.passes
@@ -351,18 +355,18 @@ ranked most enough free old new did calls dirty dirty_after before after f0 f1 s
     go : IsSteady s.mid → IsWorkable s.mid.item → rank_by most s.mid ≤ rank_by most old.at → OrPassedOver old.skips s.worked s.moved new.at (step_result did calls) → rank_by most new.at < rank_by most old.at
     go steady_there can_there no_higher (inl p) =
         let same : s.worked.did ≡ did = sym (ap (λ (r : StepResult). r.did) p.1) in
-        let less = list_falls most enough free s.mid s.moved s.worked dirty dirty_after before after f0 f1 s.works s.settled steady_there (ap goes_on same ∙ h) in
+        let less = list_falls most enough free replies s.mid s.moved s.worked dirty dirty_after before after f0 f1 s.works s.settled steady_there (ap goes_on same ∙ h) in
         let now : rank_by most new.at ≡ rank_by most s.moved = ap (λ (c : Seen). rank_by most c) p.2 in
         omega (arith, less, now, no_higher)
     go steady_there can_there no_higher (inr p) =
         let t = passed_trouble old.skips s.worked.did p.0 p.1 in
-        let more = list_troubled most enough free s.mid s.moved s.worked dirty dirty_after before after f0 f1 s.works s.settled steady_there t.0 t.1 in
-        let open_at = sym (list_barred free s.mid s.moved s.worked dirty dirty_after before after f0 f1 t.0 s.works t.1 s.settled steady_there can_there) ∙ t.2 in
+        let more = list_troubled most enough free replies s.mid s.moved s.worked dirty dirty_after before after f0 f1 s.works s.settled steady_there t.0 t.1 in
+        let open_at = sym (list_barred free replies s.mid s.moved s.worked dirty dirty_after before after f0 f1 t.0 s.works t.1 s.settled steady_there can_there) ∙ t.2 in
         let moved_steady = more.1 in
         let less = skip_falls most s.moved.item p.0 s.moved new.at did p.3 refl open_at moved_steady.named h in
         let one = more.0 in
         omega (arith, less, one, no_higher)
 
 pub rank_law : RankLaw
-rank_law free old new did calls dirty dirty_after before after f0 f1 s steady can h =
-    ranked (2 ^ 64) (same_things (2 ^ 64)) free old new did calls dirty dirty_after before after f0 f1 s steady can h
+rank_law free replies old new did calls dirty dirty_after before after f0 f1 s steady can h =
+    ranked (2 ^ 64) (same_things (2 ^ 64)) free replies old new did calls dirty dirty_after before after f0 f1 s steady can h

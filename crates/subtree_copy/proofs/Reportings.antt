@@ -7,6 +7,7 @@ use Rattle.tree_trait.specs.Change.{CallLog}
 use Rattle.tree_trait.proofs.Visible.{same_path-self}
 use Rattle.job_answers.specs.Skipping.{holds, kind_in, passed_cause}
 use Rattle.job_answers.specs.declared.skips.Skips.{Skips as Kinds}
+use Rattle.job_answers.specs.declared.replies.Replies.{Replies}
 use Rattle.job_reports.specs.declared.job.Pair.{Pair}
 use Rattle.job_reports.specs.declared.report.Cause.{Cause}
 use Rattle.job_reports.specs.declared.report.Did.{Did}
@@ -49,6 +50,7 @@ use Rattle.subtree_copy.specs.Passing.{OrPassedOver}
 use Rattle.subtree_copy.specs.Reporting.{ChangesOwn, MayTell, MayWind, ReportingLaw, part_wound}
 use Rattle.subtree_copy.specs.Standing.{SubtreeCopying, part_of}
 use Rattle.subtree_copy.specs.SubtreeSteps.{ListSteps, step_result}
+use Rattle.tree_copy.proofs.PartsBegin.{file_taken}
 use Rattle.subtree_copy.proofs.Barred.{passed_trouble}
 use Rattle.subtree_copy.proofs.Syncs.{cleaned_by_sync, passed_barrier}
 use Rattle.subtree_copy.proofs.Targets.{works_at_once}
@@ -60,8 +62,8 @@ file_may f m (Ended Aborted part) t = t
 file_may f m (Ended Killed part) t = t
 file_may f m (Ended NoMemory part) t = t
 file_may f m (Removed path) t = t
-file_may f m (Kept path) t = t
-file_may f m (Asked question) t = t
+file_may f m (Kept path) t = tt
+file_may f m (Asked question) t = tt
 file_may f m (Merges pair names) t = tt
 file_may f m (Began part) t = tt
 file_may f m (Chunk count) t = tt
@@ -76,8 +78,8 @@ file_may f m (Troubled trouble) t = tt
 link_may : (l m : LinkCopying) (did : Did) → link.Tells l did m → MayTell did
 link_may l m (Ended ending part) t = absurd t
 link_may l m (Removed path) t = t
-link_may l m (Kept path) t = t
-link_may l m (Asked question) t = t
+link_may l m (Kept path) t = tt
+link_may l m (Asked question) t = tt
 link_may l m (Merges pair names) t = tt
 link_may l m (Began part) t = tt
 link_may l m (Chunk count) t = tt
@@ -96,17 +98,19 @@ folder_may folder_did.Barrier did told = subst MayTell (sym told) tt
 folder_may folder_did.Closed did told = absurd told
 folder_may (folder_did.Troubled trouble) did told = subst MayTell (sym told) tt
 
-module _ (unclaimed : Route → Type 0) (old new : Seen) (did : Did) (before after : Option CallLog) where
-  takes_may : TakesNext unclaimed old new did before after → MayTell did
+module _ (unclaimed : Route → Type 0) (replies : Replies) (old new : Seen) (did : Did) (before after : Option CallLog) where
+  takes_may : TakesNext unclaimed replies old new did before after → MayTell did
   takes_may (inl s) = subst MayTell (sym s.says) tt
-  takes_may (inr (inl t)) = (let w = t.works in file_may (file.begun old.job t.pair.source t.pair.target) w.moved did w.tells)
+  takes_may (inr (inl t)) = (let w = file_taken unclaimed replies old new did before after t in file_may (file.begun old.job t.pair.source t.pair.target) w.moved did w.tells)
   takes_may (inr (inr (inl t))) = (let w = t.works in link_may (link_begun t.pair t.part) w.moved did w.tells)
   takes_may (inr (inr (inr (inl t)))) = (let w = t.works in folder_may w.report did w.says)
   takes_may (inr (inr (inr (inr (inl t))))) = subst MayTell (sym t.says) tt
-  takes_may (inr (inr (inr (inr (inr (next, inl (debt, e))))))) = folder_may e.report did e.says
-  takes_may (inr (inr (inr (inr (inr (next, inr (debt, f, same))))))) = subst MayTell (sym f.says) refl
+  takes_may (inr (inr (inr (inr (inr (inl t)))))) = subst MayTell (sym t.says) tt
+  takes_may (inr (inr (inr (inr (inr (inr (inl t))))))) = subst MayTell (sym t.says) tt
+  takes_may (inr (inr (inr (inr (inr (inr (inr (next, inl (debt, e))))))))) = folder_may e.report did e.says
+  takes_may (inr (inr (inr (inr (inr (inr (inr (next, inr (debt, f, same))))))))) = subst MayTell (sym f.says) refl
 
-  works_may : (item : Item) → WorksOn item unclaimed old new did before after → MayTell did
+  works_may : (item : Item) → WorksOn item unclaimed replies old new did before after → MayTell did
   works_may Next (inl s) = folder_may s.report did s.says
   works_may Next (inr t) = takes_may t.1
   works_may (File f) w = file_may f w.moved did w.tells
@@ -129,11 +133,11 @@ skip_may (Link l) cause old new did (moved, inl s, stands) = subst MayTell (sym 
 skip_may (Link l) cause old new did (moved, inr room, stands) = subst MayTell (sym room.0) tt
 skip_may (Stays part) cause old new did s = absurd s
 
-list_may : (free : Route → Bool) (old new : Seen) (worked : StepResult) (dirty dirty_after : List Route) (before after : Option CallLog) (f0 f1 : ℕ) → ListSteps free old new worked dirty dirty_after before after f0 f1
+list_may : (free : Route → Bool) (replies : Replies) (old new : Seen) (worked : StepResult) (dirty dirty_after : List Route) (before after : Option CallLog) (f0 f1 : ℕ) → ListSteps free replies old new worked dirty dirty_after before after f0 f1
     → may_leave old ≡ false → MayTell worked.did
-list_may free old new worked dirty dirty_after before after f0 f1 (inl s) settled = subst MayTell (sym (ap (λ (r : StepResult). r.did) s.says)) tt
-list_may free old new worked dirty dirty_after before after f0 f1 (inr s) settled =
-    works_may (IsPartPlace free old) old new worked.did before after old.item (works_at_once free old new worked.did worked.calls before after f0 f1 s.steps settled)
+list_may free replies old new worked dirty dirty_after before after f0 f1 (inl s) settled = subst MayTell (sym (ap (λ (r : StepResult). r.did) s.says)) tt
+list_may free replies old new worked dirty dirty_after before after f0 f1 (inr s) settled =
+    works_may (IsPartPlace free old) replies old new worked.did before after old.item (works_at_once free replies old new worked.did worked.calls before after f0 f1 s.steps settled)
 
 passes_may : (skips : Kinds) (worked : StepResult) (old new : Seen) (result : StepResult) → OrPassedOver skips worked old new result → MayTell worked.did → MayTell result.did
 passes_may skips worked old new result (inl p) may = subst (λ (r : StepResult). MayTell r.did) (sym p.1) may
@@ -187,28 +191,30 @@ folder_not folder_did.Barrier did told = subst NotSkipped (sym told) tt
 folder_not folder_did.Closed did told = absurd told
 folder_not (folder_did.Troubled trouble) did told = subst NotSkipped (sym told) tt
 
-module _ (unclaimed : Route → Type 0) (old new : Seen) (did : Did) (before after : Option CallLog) where
-  takes_not : TakesNext unclaimed old new did before after → NotSkipped did
+module _ (unclaimed : Route → Type 0) (replies : Replies) (old new : Seen) (did : Did) (before after : Option CallLog) where
+  takes_not : TakesNext unclaimed replies old new did before after → NotSkipped did
   takes_not (inl s) = subst NotSkipped (sym s.says) tt
-  takes_not (inr (inl t)) = (let w = t.works in file_not (file.begun old.job t.pair.source t.pair.target) w.moved did w.tells)
+  takes_not (inr (inl t)) = (let w = file_taken unclaimed replies old new did before after t in file_not (file.begun old.job t.pair.source t.pair.target) w.moved did w.tells)
   takes_not (inr (inr (inl t))) = (let w = t.works in link_not (link_begun t.pair t.part) w.moved did w.tells)
   takes_not (inr (inr (inr (inl t)))) = (let w = t.works in folder_not w.report did w.says)
   takes_not (inr (inr (inr (inr (inl t))))) = subst NotSkipped (sym t.says) tt
-  takes_not (inr (inr (inr (inr (inr (next, inl (debt, e))))))) = folder_not e.report did e.says
-  takes_not (inr (inr (inr (inr (inr (next, inr (debt, f, same))))))) = subst NotSkipped (sym f.says) tt
+  takes_not (inr (inr (inr (inr (inr (inl t)))))) = subst NotSkipped (sym t.says) tt
+  takes_not (inr (inr (inr (inr (inr (inr (inl t))))))) = subst NotSkipped (sym t.says) tt
+  takes_not (inr (inr (inr (inr (inr (inr (inr (next, inl (debt, e))))))))) = folder_not e.report did e.says
+  takes_not (inr (inr (inr (inr (inr (inr (inr (next, inr (debt, f, same))))))))) = subst NotSkipped (sym f.says) tt
 
-  works_not : (item : Item) → WorksOn item unclaimed old new did before after → NotSkipped did
+  works_not : (item : Item) → WorksOn item unclaimed replies old new did before after → NotSkipped did
   works_not Next (inl s) = folder_not s.report did s.says
   works_not Next (inr t) = takes_not t.1
   works_not (File f) w = file_not f w.moved did w.tells
   works_not (Link l) w = link_not l w.moved did w.tells
   works_not (Stays part) w = absurd w
 
-list_not : (free : Route → Bool) (old new : Seen) (worked : StepResult) (dirty dirty_after : List Route) (before after : Option CallLog) (f0 f1 : ℕ) → ListSteps free old new worked dirty dirty_after before after f0 f1
+list_not : (free : Route → Bool) (replies : Replies) (old new : Seen) (worked : StepResult) (dirty dirty_after : List Route) (before after : Option CallLog) (f0 f1 : ℕ) → ListSteps free replies old new worked dirty dirty_after before after f0 f1
     → may_leave old ≡ false → NotSkipped worked.did
-list_not free old new worked dirty dirty_after before after f0 f1 (inl s) settled = subst NotSkipped (sym (ap (λ (r : StepResult). r.did) s.says)) tt
-list_not free old new worked dirty dirty_after before after f0 f1 (inr s) settled =
-    works_not (IsPartPlace free old) old new worked.did before after old.item (works_at_once free old new worked.did worked.calls before after f0 f1 s.steps settled)
+list_not free replies old new worked dirty dirty_after before after f0 f1 (inl s) settled = subst NotSkipped (sym (ap (λ (r : StepResult). r.did) s.says)) tt
+list_not free replies old new worked dirty dirty_after before after f0 f1 (inr s) settled =
+    works_not (IsPartPlace free old) replies old new worked.did before after old.item (works_at_once free replies old new worked.did worked.calls before after f0 f1 s.steps settled)
 
 named_for : (names : List (List ℕ)) (cause : Cause) (old new : Seen) (did : Did) → machine.SkipsNamed names cause old did new → SkippedFor cause did
 named_for [] cause old new did (moved, inl s, stands) = subst (SkippedFor cause) (sym s.0) refl
@@ -369,31 +375,31 @@ worked_own top c h = by (brings_made c) refl
     by true is = around_own top c.levels.inner c.levels.around h.levels (brings_around c.item c is)
     by false is = moved_own top c.levels.inner c.levels.around h.levels
 
-pub list_own : (free : Route → Bool) (c : SubtreeCopying) (old new : Seen) (worked : StepResult) (did : Did) (dirty dirty_after : List Route) (before after : Option CallLog) (f0 f1 : ℕ)
-    → ListSteps free old new worked dirty dirty_after before after f0 f1 → IsInPlace c.top old → may_leave old ≡ false → (worked.did ≡ Barrier → did ≡ Barrier) → ChangesOwn c did dirty dirty_after
-list_own free c old new worked did dirty dirty_after before after f0 f1 (inl s) h settled told =
+pub list_own : (free : Route → Bool) (replies : Replies) (c : SubtreeCopying) (old new : Seen) (worked : StepResult) (did : Did) (dirty dirty_after : List Route) (before after : Option CallLog) (f0 f1 : ℕ)
+    → ListSteps free replies old new worked dirty dirty_after before after f0 f1 → IsInPlace c.top old → may_leave old ≡ false → (worked.did ≡ Barrier → did ≡ Barrier) → ChangesOwn c did dirty dirty_after
+list_own free replies c old new worked did dirty dirty_after before after f0 f1 (inl s) h settled told =
     record { folder = folder_worked old; own = worked_own c.top old h; was = false; now = false; list = s.list; synced = λ was now. absurd (false≢true was) }
-list_own free c old new worked did dirty dirty_after before after f0 f1 (inr s) h settled told = record {
+list_own free replies c old new worked did dirty dirty_after before after f0 f1 (inr s) h settled told = record {
   folder = folder_worked old;
   own = worked_own c.top old h;
   was = was_dirty old;
   now = is_dirty_after old worked.did new;
   list = s.list;
-  synced = λ was now. told (cleaned_by_sync free old new worked.did worked.calls before after f0 f1 s.steps settled was now);
+  synced = λ was now. told (cleaned_by_sync free replies old new worked.did worked.calls before after f0 f1 s.steps settled was now);
 }
 
 pub reporting_law : ReportingLaw
 reporting_law = record {
-  step = λ free old new did calls dirty dirty_after before after f0 f1 s.
-      passes_may old.skips s.worked s.moved new.at (step_result did calls) s.passes (list_may free s.mid s.moved s.worked dirty dirty_after before after f0 f1 s.works s.settled);
+  step = λ free replies old new did calls dirty dirty_after before after f0 f1 s.
+      passes_may old.skips s.worked s.moved new.at (step_result did calls) s.passes (list_may free replies s.mid s.moved s.worked dirty dirty_after before after f0 f1 s.works s.settled);
   last = λ ending old new last dirty dirty_after before after f0 f1 s can.
       let w = winds_wound old.at.item ending old.at new.at last before after f0 f1 s.winds can in
       record { may = w.may; top = ap (λ (c : SubtreeCopying). c.top) s.stands; skips = ap (λ (c : SubtreeCopying). c.skips) s.stands; stage = w.stage; part = w.part };
-  list = λ free old new did calls dirty dirty_after before after f0 f1 s h.
+  list = λ free replies old new did calls dirty dirty_after before after f0 f1 s h.
       let l = s.leaves in
-      list_own free old s.mid s.moved s.worked did dirty dirty_after before after f0 f1 s.works (leaves_all old.top l.0 old.at s.mid l.1 h) s.settled
+      list_own free replies old s.mid s.moved s.worked did dirty dirty_after before after f0 f1 s.works (leaves_all old.top l.0 old.at s.mid l.1 h) s.settled
       (passed_barrier old.skips s.worked s.moved new.at (step_result did calls) s.passes);
-  kinds = λ free old new path cause calls dirty dirty_after before after f0 f1 s.
-      passes_kind old.skips s.worked s.moved new.at path cause calls s.passes (list_not free s.mid s.moved s.worked dirty dirty_after before after f0 f1 s.works s.settled);
+  kinds = λ free replies old new path cause calls dirty dirty_after before after f0 f1 s.
+      passes_kind old.skips s.worked s.moved new.at path cause calls s.passes (list_not free replies s.mid s.moved s.worked dirty dirty_after before after f0 f1 s.works s.settled);
   tried = λ old new same h. moved_own old.top new.at.levels.inner new.at.levels.around h.levels;
 }

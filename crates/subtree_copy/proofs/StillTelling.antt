@@ -6,6 +6,7 @@ use Rattle.tree_trait.specs.declared.calls.TreeError.TheVariants as refused
 use Rattle.tree_trait.specs.Calls.{Call, RemoveFile, SyncFolder}
 use Rattle.tree_trait.specs.Change.{CallLog, current}
 use Rattle.tree_trait.specs.Answers.{Performs}
+use Rattle.job_answers.specs.declared.replies.Replies.{Replies}
 use Rattle.job_reports.specs.declared.report.Cause.{Cause}
 use Rattle.job_reports.specs.declared.report.Cause.TheVariants.{Tree, TargetKind, SpecialSource, TooDeep, PartTaken, TooLong, Unnamed, Changed, Memory}
 use Rattle.job_reports.specs.declared.report.Did.{Did}
@@ -13,10 +14,13 @@ use Rattle.job_reports.specs.declared.report.Did.TheVariants.{Began, Chunk, Plac
 use Rattle.job_reports.specs.CallRuns.{RunStops, StopsAt}
 use Rattle.job_reports.specs.Paths.{folder_of}
 use Rattle.job_reports.proofs.Runs.{all_some}
+use Rattle.file_copy.specs.declared.stage.SourceFacts.{SourceFacts}
 use Rattle.file_copy.specs.declared.stage.Stage.{Stage}
 use Rattle.file_copy.specs.declared.stage.Stage.TheVariants.{Begin, Fill, Clean, Left, Decided}
+use Rattle.file_copy.specs.Copying as file
 use Rattle.file_copy.specs.Copying.{Copying, Places, places_of}
-use Rattle.file_copy.specs.CopyCalls.{CopyCalls, CopyStops, making, placing, writing}
+use Rattle.file_copy.specs.CopyCalls.{CopyCalls, CopyStops, PartStops, making, making_with, placing, writing}
+use Rattle.file_copy.specs.PartSteps.{MadeCalls}
 use Rattle.folder_copy.specs.FolderCopying.{FolderCopying, copying}
 use Rattle.folder_copy.specs.FolderSteps as folder
 use Rattle.folder_copy.specs.FolderSteps.{FolderCalls}
@@ -92,6 +96,27 @@ copy_tells unclaimed c (Merges pair names) new log after h = absurd h
 copy_tells unclaimed c (Skipped path cause) new log after h = (log, h)
 copy_tells unclaimed c (Ended ending part) new log after h = (log, h)
 
+-- the part of a file, of which the looks have said what it is
+part_trouble_tells : (unclaimed : Route → Type 0) (p : Places) (mode : ℕ) (cause : Cause) (path : Option Route) (log : CallLog) (after : Option CallLog) → PartStops unclaimed p mode cause path log after → StillTells after
+part_trouble_tells unclaimed p mode cause path log after (inl names) = (log, names.1)
+part_trouble_tells unclaimed p mode cause path log after (inr made) = run_tells (making_with mode p made.0 ∷ []) cause path log after made.2
+
+part_tells : (unclaimed : Route → Type 0) (facts : SourceFacts) (c : Copying) (did : Did) (log : CallLog) (after : Option CallLog) → MadeCalls unclaimed facts c did log after → StillTells after
+part_tells unclaimed facts c (Began part) log after h = all_some (making_with facts.mode (places_of c) h.0 ∷ []) log after h.3
+part_tells unclaimed facts c (Troubled trouble) log after h = part_trouble_tells unclaimed (places_of c) facts.mode trouble.cause trouble.path log after h
+part_tells unclaimed facts c (Chunk count) log after h = absurd h
+part_tells unclaimed facts c (Placed path) log after h = absurd h
+part_tells unclaimed facts c (Removed path) log after h = absurd h
+part_tells unclaimed facts c (Made path) log after h = absurd h
+part_tells unclaimed facts c (Set path) log after h = absurd h
+part_tells unclaimed facts c (Kept path) log after h = absurd h
+part_tells unclaimed facts c (Skipped path cause) log after h = absurd h
+part_tells unclaimed facts c (Cleaned part) log after h = absurd h
+part_tells unclaimed facts c Barrier log after h = absurd h
+part_tells unclaimed facts c (Asked question) log after h = absurd h
+part_tells unclaimed facts c (Merges pair names) log after h = absurd h
+part_tells unclaimed facts c (Ended ending part) log after h = absurd h
+
 -- a link
 link_trouble_tells : (l : LinkCopying) (stage : LinkStage) (cause : Cause) (path : Option Route) (log : CallLog) (after : Option CallLog) → LinkStops l stage cause path log after → StillTells after
 link_trouble_tells l link_stage.Make cause path log after (inl read) = (log, read.1)
@@ -127,34 +152,36 @@ folder_tells c folder_did.Barrier log after h = all_some (folder.next_call c.tar
 folder_tells c folder_did.Closed log after h = (log, h)
 
 -- a step
-module _ (unclaimed : Route → Type 0) (old new : Seen) (did : Did) (log : CallLog) (after : Option CallLog) where
+module _ (unclaimed : Route → Type 0) (replies : Replies) (old new : Seen) (did : Did) (log : CallLog) (after : Option CallLog) where
   file_works : (f : Copying) → FileWorks unclaimed f old new did (Some log) after → StillTells after
   file_works f w = copy_tells unclaimed f did w.moved log after (w.called log refl)
 
   link_works : (l : LinkCopying) → LinkWorks l old new did (Some log) after → StillTells after
   link_works l w = link_tells l did log after (w.called log refl)
 
-  takes_tells : TakesNext unclaimed old new did (Some log) after → StillTells after
+  takes_tells : TakesNext unclaimed replies old new did (Some log) after → StillTells after
   takes_tells (inl s) = (log, s.same)
-  takes_tells (inr (inl t)) = file_works _ t.works
+  takes_tells (inr (inl t)) = (let w = t.works in part_tells unclaimed t.facts (file.begun old.job t.pair.source t.pair.target) did log after (w.called log refl))
   takes_tells (inr (inr (inl t))) = link_works _ t.works
   takes_tells (inr (inr (inr (inl t)))) = (let w = t.works in folder_tells (copying t.pair.source t.pair.target (Make t.mode) Synced) w.report log after (w.called log refl))
   takes_tells (inr (inr (inr (inr (inl t))))) = (log, t.same)
-  takes_tells (inr (inr (inr (inr (inr (next, inl (debt, e))))))) = folder_tells (let c : Seen = at_end old in c.levels.inner.copy) e.report log after (e.called log refl)
-  takes_tells (inr (inr (inr (inr (inr (next, inr (debt, f, same))))))) = (log, same)
+  takes_tells (inr (inr (inr (inr (inr (inl t)))))) = (log, t.same)
+  takes_tells (inr (inr (inr (inr (inr (inr (inl t))))))) = (log, t.same)
+  takes_tells (inr (inr (inr (inr (inr (inr (inr (next, inl (debt, e))))))))) = folder_tells (let c : Seen = at_end old in c.levels.inner.copy) e.report log after (e.called log refl)
+  takes_tells (inr (inr (inr (inr (inr (inr (inr (next, inr (debt, f, same))))))))) = (log, same)
 
-  works_tells : (item : Item) → WorksOn item unclaimed old new did (Some log) after → StillTells after
+  works_tells : (item : Item) → WorksOn item unclaimed replies old new did (Some log) after → StillTells after
   works_tells Next (inl s) = folder_tells (folder.at_sync s.outer.copy) s.report log after (s.called log refl)
   works_tells Next (inr t) = takes_tells t.1
   works_tells (File f) w = file_works f w
   works_tells (Link l) w = link_works l w
   works_tells (Stays part) w = absurd w
 
-list_tells : (free : Route → Bool) (old new : Seen) (worked : StepResult) (dirty dirty_after : List Route) (log : CallLog) (after : Option CallLog) (f0 f1 : ℕ) → ListSteps free old new worked dirty dirty_after (Some log) after f0 f1
+list_tells : (free : Route → Bool) (replies : Replies) (old new : Seen) (worked : StepResult) (dirty dirty_after : List Route) (log : CallLog) (after : Option CallLog) (f0 f1 : ℕ) → ListSteps free replies old new worked dirty dirty_after (Some log) after f0 f1
     → may_leave old ≡ false → StillTells after
-list_tells free old new worked dirty dirty_after log after f0 f1 (inl s) settled = (log, s.same)
-list_tells free old new worked dirty dirty_after log after f0 f1 (inr s) settled =
-    works_tells (IsPartPlace free old) old new worked.did log after old.item (works_at_once free old new worked.did worked.calls (Some log) after f0 f1 s.steps settled)
+list_tells free replies old new worked dirty dirty_after log after f0 f1 (inl s) settled = (log, s.same)
+list_tells free replies old new worked dirty dirty_after log after f0 f1 (inr s) settled =
+    works_tells (IsPartPlace free old) replies old new worked.did log after old.item (works_at_once free replies old new worked.did worked.calls (Some log) after f0 f1 s.steps settled)
 
 pub known_law : KnownLaw
-known_law free old new did calls dirty dirty_after log after f0 f1 s = list_tells free s.mid s.moved s.worked dirty dirty_after log after f0 f1 s.works s.settled
+known_law free replies old new did calls dirty dirty_after log after f0 f1 s = list_tells free replies s.mid s.moved s.worked dirty dirty_after log after f0 f1 s.works s.settled

@@ -1,9 +1,10 @@
 -- A dirty folder is clean after a step only where the step reports its sync.
-use Rattle.std.proofs.Common.{◌≡◌, ℕ, refl, sym, ◌∙◌, ap, inl, inr, Bool, true, false, List, Option}
+use Rattle.std.proofs.Common.{◌≡◌, ℕ, refl, sym, ◌∙◌, ap, inl, inr, Bool, true, false, List, Option, None}
 use Rattle.std.specs.Prelude.{if◌then◌else◌}
 use Rattle.std.proofs.lemmas.Bool.{true≢false}
 use Rattle.mc_text.specs.Routes.{Route}
 use Rattle.tree_trait.specs.Change.{CallLog}
+use Rattle.job_answers.specs.declared.replies.Replies.{Replies}
 use Rattle.file_copy.specs.Copying as file
 use Rattle.file_copy.specs.Copying.{Copying}
 use Rattle.link_copy.specs.LinkCopying as link
@@ -33,6 +34,7 @@ use Rattle.tree_copy.specs.Steps.{CopySteps, FileWorks, FolderEnds, FolderMakes,
 use Rattle.subtree_copy.specs.Leaving.{may_leave}
 use Rattle.subtree_copy.specs.Marks.{brings_in, is_dirty_after, is_left_dirty, was_dirty}
 use Rattle.subtree_copy.specs.Passing.{OrPassedOver}
+use Rattle.tree_copy.proofs.PartsBegin.{file_taken}
 use Rattle.subtree_copy.proofs.Barred.{passed_trouble}
 use Rattle.subtree_copy.proofs.Targets.{unmade, works_at_once}
 
@@ -99,35 +101,37 @@ ends_sync : (old new : Seen) (did : Did) (before after : Option CallLog) → Fol
 ends_sync old new did before after e was now =
     folder_syncs (let c = at_end old in c.levels.inner.copy) e.moved e.report did e.says e.tells was (sym (ap inner_dirty e.stands) ∙ left_clean did new now)
 
-takes_sync : (unclaimed : Route → Type 0) (old new : Seen) (did : Did) (before after : Option CallLog) → TakesNext unclaimed old new did before after → inner_dirty old ≡ true → is_left_dirty did new ≡ false → did ≡ Barrier
-takes_sync unclaimed old new did before after (inl s) was now = never did new (ap inner_dirty s.stands ∙ was) now
-takes_sync unclaimed old new did before after (inr (inl t)) was now = never did new (file_stays unclaimed _ old new did before after t.works was) now
-takes_sync unclaimed old new did before after (inr (inr (inl t))) was now = never did new (link_stays _ old new did before after t.works was) now
-takes_sync unclaimed old new did before after (inr (inr (inr (inl t)))) was now = never did new (makes_stay t.pair t.names t.mode old new did before after t.works now ∙ was) now
-takes_sync unclaimed old new did before after (inr (inr (inr (inr (inl t))))) was now = never did new (ap inner_dirty t.stands ∙ was) now
-takes_sync unclaimed old new did before after (inr (inr (inr (inr (inr (next, inl (debt, e))))))) was now = ends_sync old new did before after e was now
-takes_sync unclaimed old new did before after (inr (inr (inr (inr (inr (next, inr (debt, f, same))))))) was now = never did new (ap inner_dirty f.stands ∙ was) now
+takes_sync : (unclaimed : Route → Type 0) (replies : Replies) (old new : Seen) (did : Did) (before after : Option CallLog) → TakesNext unclaimed replies old new did before after → inner_dirty old ≡ true → is_left_dirty did new ≡ false → did ≡ Barrier
+takes_sync unclaimed replies old new did before after (inl s) was now = never did new (ap inner_dirty s.stands ∙ was) now
+takes_sync unclaimed replies old new did before after (inr (inl t)) was now = never did new (file_stays unclaimed _ old new did None None (file_taken unclaimed replies old new did before after t) was) now
+takes_sync unclaimed replies old new did before after (inr (inr (inl t))) was now = never did new (link_stays _ old new did before after t.works was) now
+takes_sync unclaimed replies old new did before after (inr (inr (inr (inl t)))) was now = never did new (makes_stay t.pair t.names t.mode old new did before after t.works now ∙ was) now
+takes_sync unclaimed replies old new did before after (inr (inr (inr (inr (inl t))))) was now = never did new (ap inner_dirty t.stands ∙ was) now
+takes_sync unclaimed replies old new did before after (inr (inr (inr (inr (inr (inl t)))))) was now = never did new (ap inner_dirty t.stands ∙ was) now
+takes_sync unclaimed replies old new did before after (inr (inr (inr (inr (inr (inr (inl t))))))) was now = never did new (ap inner_dirty t.stands ∙ was) now
+takes_sync unclaimed replies old new did before after (inr (inr (inr (inr (inr (inr (inr (next, inl (debt, e))))))))) was now = ends_sync old new did before after e was now
+takes_sync unclaimed replies old new did before after (inr (inr (inr (inr (inr (inr (inr (next, inr (debt, f, same))))))))) was now = never did new (ap inner_dirty f.stands ∙ was) now
 
 around_syncs : (old new : Seen) (did : Did) (before after : Option CallLog) → SyncsAround old new did before after → is_around_dirty new.levels.around ≡ false → did ≡ Barrier
 around_syncs old new did before after s now =
     folder_syncs (at_sync s.outer.copy) (record (at_sync s.outer.copy) { names = s.names }) s.report did s.says s.tells refl (sym (ap (λ (c : Seen). is_around_dirty c.levels.around) s.stands) ∙ now)
 
-works_sync : (unclaimed : Route → Type 0) (item : Item) (old new : Seen) (did : Did) (before after : Option CallLog) → WorksOn item unclaimed old new did before after
+works_sync : (unclaimed : Route → Type 0) (replies : Replies) (item : Item) (old new : Seen) (did : Did) (before after : Option CallLog) → WorksOn item unclaimed replies old new did before after
     → (if brings_in item old.levels then true else inner_dirty old) ≡ true → (if brings_in item old.levels then is_around_dirty new.levels.around else is_left_dirty did new) ≡ false → did ≡ Barrier
-works_sync unclaimed Next old new did before after (inl s) was now =
+works_sync unclaimed replies Next old new did before after (inl s) was now =
     around_syncs old new did before after s (sym (ap (λ b. if b then is_around_dirty new.levels.around else is_left_dirty did new) s.dirty) ∙ now)
-works_sync unclaimed Next old new did before after (inr s) was now =
-    takes_sync unclaimed old new did before after s.1 (sym (ap (λ b. if b then true else inner_dirty old) s.0) ∙ was)
+works_sync unclaimed replies Next old new did before after (inr s) was now =
+    takes_sync unclaimed replies old new did before after s.1 (sym (ap (λ b. if b then true else inner_dirty old) s.0) ∙ was)
     (sym (ap (λ b. if b then is_around_dirty new.levels.around else is_left_dirty did new) s.0) ∙ now)
-works_sync unclaimed (File f) old new did before after w was now = never did new (file_stays unclaimed f old new did before after w was) now
-works_sync unclaimed (Link l) old new did before after w was now = never did new (link_stays l old new did before after w was) now
-works_sync unclaimed (Stays part) old new did before after w was now = absurd w
+works_sync unclaimed replies (File f) old new did before after w was now = never did new (file_stays unclaimed f old new did before after w was) now
+works_sync unclaimed replies (Link l) old new did before after w was now = never did new (link_stays l old new did before after w was) now
+works_sync unclaimed replies (Stays part) old new did before after w was now = absurd w
 
 -- the folder that a step of the machine works
-pub cleaned_by_sync : (free : Route → Bool) (old new : Seen) (did : Did) (calls : ℕ) (before after : Option CallLog) (f0 f1 : ℕ) → CopySteps free old new did calls before after f0 f1 → may_leave old ≡ false
+pub cleaned_by_sync : (free : Route → Bool) (replies : Replies) (old new : Seen) (did : Did) (calls : ℕ) (before after : Option CallLog) (f0 f1 : ℕ) → CopySteps free replies old new did calls before after f0 f1 → may_leave old ≡ false
     → was_dirty old ≡ true → is_dirty_after old did new ≡ false → did ≡ Barrier
-cleaned_by_sync free old new did calls before after f0 f1 s settled was now =
-    works_sync (IsPartPlace free old) old.item old new did before after (works_at_once free old new did calls before after f0 f1 s settled) was now
+cleaned_by_sync free replies old new did calls before after f0 f1 s settled was now =
+    works_sync (IsPartPlace free old) replies old.item old new did before after (works_at_once free replies old new did calls before after f0 f1 s settled) was now
 
 -- a sync is no trouble, and so is never passed over
 pub passed_barrier : (skips : Skips) (worked : StepResult) (old new : Seen) (result : StepResult) → OrPassedOver skips worked old new result → worked.did ≡ Barrier → result.did ≡ Barrier

@@ -1,8 +1,9 @@
 -- The folder that a step works is the one that was to be worked before it.
-use Rattle.std.proofs.Common.{◌≡◌, ℕ, refl, sym, ◌∙◌, ap, subst, inl, inr, Bool, true, false, List, Option}
+use Rattle.std.proofs.Common.{◌≡◌, ℕ, refl, sym, ◌∙◌, ap, subst, inl, inr, Bool, true, false, List, Option, None}
 use Rattle.std.proofs.lemmas.Bool.{false≢true, true≢false}
 use Rattle.mc_text.specs.Routes.{Route}
 use Rattle.tree_trait.specs.Change.{CallLog}
+use Rattle.job_answers.specs.declared.replies.Replies.{Replies}
 use Rattle.file_copy.specs.Copying as file
 use Rattle.file_copy.specs.Copying.{Copying}
 use Rattle.link_copy.specs.LinkCopying as link
@@ -30,6 +31,7 @@ use Rattle.tree_copy.specs.Standing.{Seen}
 use Rattle.tree_copy.specs.Steps.{CopySteps, FileWorks, FolderEnds, FolderMakes, GoesOn, LinkWorks, TakesNext, WorksOn, at_end, idle, noted, settled}
 use Rattle.subtree_copy.specs.Leaving.{may_leave}
 use Rattle.subtree_copy.specs.Marks.{brings_in, brings_made, is_left_dirty}
+use Rattle.tree_copy.proofs.PartsBegin.{file_taken}
 use Rattle.subtree_copy.proofs.Left.{settled_stays}
 
 abbrev target_of : Seen → Route
@@ -81,55 +83,57 @@ makes_there pair names mode old new did before after w clean =
 ends_there : (old new : Seen) (did : Did) (before after : Option CallLog) → FolderEnds (at_end old) new did before after → target_of new ≡ target_of old
 ends_there old new did before after e = ap target_of e.stands ∙ folder_there (let c = at_end old in c.levels.inner.copy) e.moved e.report e.tells
 
-takes_there : (unclaimed : Route → Type 0) (old new : Seen) (did : Did) (before after : Option CallLog) → TakesNext unclaimed old new did before after → is_left_dirty did new ≡ false → target_of new ≡ target_of old
-takes_there unclaimed old new did before after (inl s) clean = ap target_of s.stands
-takes_there unclaimed old new did before after (inr (inl t)) clean = file_there unclaimed _ old new did before after t.works
-takes_there unclaimed old new did before after (inr (inr (inl t))) clean = link_there _ old new did before after t.works
-takes_there unclaimed old new did before after (inr (inr (inr (inl t)))) clean = makes_there t.pair t.names t.mode old new did before after t.works clean
-takes_there unclaimed old new did before after (inr (inr (inr (inr (inl t))))) clean = ap target_of t.stands
-takes_there unclaimed old new did before after (inr (inr (inr (inr (inr (next, inl (debt, e))))))) clean = ends_there old new did before after e
-takes_there unclaimed old new did before after (inr (inr (inr (inr (inr (next, inr (debt, f, same))))))) clean = ap target_of f.stands
+takes_there : (unclaimed : Route → Type 0) (replies : Replies) (old new : Seen) (did : Did) (before after : Option CallLog) → TakesNext unclaimed replies old new did before after → is_left_dirty did new ≡ false → target_of new ≡ target_of old
+takes_there unclaimed replies old new did before after (inl s) clean = ap target_of s.stands
+takes_there unclaimed replies old new did before after (inr (inl t)) clean = file_there unclaimed _ old new did None None (file_taken unclaimed replies old new did before after t)
+takes_there unclaimed replies old new did before after (inr (inr (inl t))) clean = link_there _ old new did before after t.works
+takes_there unclaimed replies old new did before after (inr (inr (inr (inl t)))) clean = makes_there t.pair t.names t.mode old new did before after t.works clean
+takes_there unclaimed replies old new did before after (inr (inr (inr (inr (inl t))))) clean = ap target_of t.stands
+takes_there unclaimed replies old new did before after (inr (inr (inr (inr (inr (inl t)))))) clean = ap target_of t.stands
+takes_there unclaimed replies old new did before after (inr (inr (inr (inr (inr (inr (inl t))))))) clean = ap target_of t.stands
+takes_there unclaimed replies old new did before after (inr (inr (inr (inr (inr (inr (inr (next, inl (debt, e))))))))) clean = ends_there old new did before after e
+takes_there unclaimed replies old new did before after (inr (inr (inr (inr (inr (inr (inr (next, inr (debt, f, same))))))))) clean = ap target_of f.stands
 
-goes_there : (unclaimed : Route → Type 0) (old new : Seen) (did : Did) (before after : Option CallLog) → GoesOn unclaimed old new did before after → is_around_dirty old.levels.around ≡ false → is_left_dirty did new ≡ false
+goes_there : (unclaimed : Route → Type 0) (replies : Replies) (old new : Seen) (did : Did) (before after : Option CallLog) → GoesOn unclaimed replies old new did before after → is_around_dirty old.levels.around ≡ false → is_left_dirty did new ≡ false
     → target_of new ≡ target_of old
-goes_there unclaimed old new did before after (inl s) inner clean = absurd (false≢true (sym inner ∙ s.dirty))
-goes_there unclaimed old new did before after (inr s) inner clean = takes_there unclaimed old new did before after s.1 clean
+goes_there unclaimed replies old new did before after (inl s) inner clean = absurd (false≢true (sym inner ∙ s.dirty))
+goes_there unclaimed replies old new did before after (inr s) inner clean = takes_there unclaimed replies old new did before after s.1 clean
 
-works_there : (unclaimed : Route → Type 0) (item : Item) (old new : Seen) (did : Did) (before after : Option CallLog) → WorksOn item unclaimed old new did before after → brings_in item old.levels ≡ false
+works_there : (unclaimed : Route → Type 0) (replies : Replies) (item : Item) (old new : Seen) (did : Did) (before after : Option CallLog) → WorksOn item unclaimed replies old new did before after → brings_in item old.levels ≡ false
     → is_left_dirty did new ≡ false → target_of new ≡ target_of old
-works_there unclaimed Next old new did before after w inner clean = goes_there unclaimed old new did before after w inner clean
-works_there unclaimed (File f) old new did before after w inner clean = file_there unclaimed f old new did before after w
-works_there unclaimed (Link l) old new did before after w inner clean = link_there l old new did before after w
-works_there unclaimed (Stays part) old new did before after w inner clean = absurd w
+works_there unclaimed replies Next old new did before after w inner clean = goes_there unclaimed replies old new did before after w inner clean
+works_there unclaimed replies (File f) old new did before after w inner clean = file_there unclaimed f old new did before after w
+works_there unclaimed replies (Link l) old new did before after w inner clean = link_there l old new did before after w
+works_there unclaimed replies (Stays part) old new did before after w inner clean = absurd w
 
 -- the step of a copy in which no folder is left to be left is work on what is due
-pub works_at_once : (free : Route → Bool) (old new : Seen) (did : Did) (calls : ℕ) (before after : Option CallLog) (f0 f1 : ℕ) → CopySteps free old new did calls before after f0 f1 → may_leave old ≡ false
-    → WorksOn old.item (IsPartPlace free old) old new did before after
-works_at_once free old new did calls before after f0 f1 s settled =
-    subst (λ (c : Seen). WorksOn c.item (IsPartPlace free c) c new did before after) (settled_stays s.folders old s.mid settled s.leaves) s.works
+pub works_at_once : (free : Route → Bool) (replies : Replies) (old new : Seen) (did : Did) (calls : ℕ) (before after : Option CallLog) (f0 f1 : ℕ) → CopySteps free replies old new did calls before after f0 f1 → may_leave old ≡ false
+    → WorksOn old.item (IsPartPlace free old) replies old new did before after
+works_at_once free replies old new did calls before after f0 f1 s settled =
+    subst (λ (c : Seen). WorksOn c.item (IsPartPlace free c) replies c new did before after) (settled_stays s.folders old s.mid settled s.leaves) s.works
 
 -- an innermost folder that is clean after a step is the one that was the innermost
-pub stays_inner : (free : Route → Bool) (old new : Seen) (did : Did) (calls : ℕ) (before after : Option CallLog) (f0 f1 : ℕ) → CopySteps free old new did calls before after f0 f1 → may_leave old ≡ false
+pub stays_inner : (free : Route → Bool) (replies : Replies) (old new : Seen) (did : Did) (calls : ℕ) (before after : Option CallLog) (f0 f1 : ℕ) → CopySteps free replies old new did calls before after f0 f1 → may_leave old ≡ false
     → brings_made old ≡ false → is_left_dirty did new ≡ false → new.levels.inner.copy.target ≡ old.levels.inner.copy.target
-stays_inner free old new did calls before after f0 f1 s settled inner clean =
-    works_there (IsPartPlace free old) old.item old new did before after (works_at_once free old new did calls before after f0 f1 s settled) inner clean
+stays_inner free replies old new did calls before after f0 f1 s settled inner clean =
+    works_there (IsPartPlace free old) replies old.item old new did before after (works_at_once free replies old new did calls before after f0 f1 s settled) inner clean
 
 -- the folder around stays there
 abbrev StaysAround : Seen → Seen → Type 0
 StaysAround old new = (is_empty new.levels.around ≡ false) × (target_around new.levels.around ≡ target_around old.levels.around)
 
-goes_around : (unclaimed : Route → Type 0) (old new : Seen) (did : Did) (before after : Option CallLog) → GoesOn unclaimed old new did before after → is_around_dirty old.levels.around ≡ true → StaysAround old new
-goes_around unclaimed old new did before after (inl s) outer =
+goes_around : (unclaimed : Route → Type 0) (replies : Replies) (old new : Seen) (did : Did) (before after : Option CallLog) → GoesOn unclaimed replies old new did before after → is_around_dirty old.levels.around ≡ true → StaysAround old new
+goes_around unclaimed replies old new did before after (inl s) outer =
     (ap (λ (c : Seen). is_empty c.levels.around) s.stands, ap (λ (c : Seen). target_around c.levels.around) s.stands ∙ sym (ap (λ (xs : List Level). target_around xs) s.was))
-goes_around unclaimed old new did before after (inr s) outer = absurd (false≢true (sym s.0 ∙ outer))
+goes_around unclaimed replies old new did before after (inr s) outer = absurd (false≢true (sym s.0 ∙ outer))
 
-works_around : (unclaimed : Route → Type 0) (item : Item) (old new : Seen) (did : Did) (before after : Option CallLog) → WorksOn item unclaimed old new did before after → brings_in item old.levels ≡ true → StaysAround old new
-works_around unclaimed Next old new did before after w outer = goes_around unclaimed old new did before after w outer
-works_around unclaimed (File f) old new did before after w outer = absurd (false≢true outer)
-works_around unclaimed (Link l) old new did before after w outer = absurd (false≢true outer)
-works_around unclaimed (Stays part) old new did before after w outer = absurd w
+works_around : (unclaimed : Route → Type 0) (replies : Replies) (item : Item) (old new : Seen) (did : Did) (before after : Option CallLog) → WorksOn item unclaimed replies old new did before after → brings_in item old.levels ≡ true → StaysAround old new
+works_around unclaimed replies Next old new did before after w outer = goes_around unclaimed replies old new did before after w outer
+works_around unclaimed replies (File f) old new did before after w outer = absurd (false≢true outer)
+works_around unclaimed replies (Link l) old new did before after w outer = absurd (false≢true outer)
+works_around unclaimed replies (Stays part) old new did before after w outer = absurd w
 
-pub stays_around : (free : Route → Bool) (old new : Seen) (did : Did) (calls : ℕ) (before after : Option CallLog) (f0 f1 : ℕ) → CopySteps free old new did calls before after f0 f1 → may_leave old ≡ false
+pub stays_around : (free : Route → Bool) (replies : Replies) (old new : Seen) (did : Did) (calls : ℕ) (before after : Option CallLog) (f0 f1 : ℕ) → CopySteps free replies old new did calls before after f0 f1 → may_leave old ≡ false
     → brings_made old ≡ true → StaysAround old new
-stays_around free old new did calls before after f0 f1 s settled outer =
-    works_around (IsPartPlace free old) old.item old new did before after (works_at_once free old new did calls before after f0 f1 s settled) outer
+stays_around free replies old new did calls before after f0 f1 s settled outer =
+    works_around (IsPartPlace free old) replies old.item old new did before after (works_at_once free replies old new did calls before after f0 f1 s settled) outer

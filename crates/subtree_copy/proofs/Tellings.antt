@@ -3,6 +3,7 @@ use Rattle.std.proofs.Common.{◌≡◌, ℕ, suc, zero, Bool, false, List, [], 
 use Rattle.std.specs.Prelude.{if◌then◌else◌}
 use Rattle.mc_text.specs.Routes.{Route}
 use Rattle.tree_trait.specs.Change.{CallLog}
+use Rattle.job_answers.specs.declared.replies.Replies.{Replies}
 use Rattle.job_reports.specs.declared.report.Cause.{Cause}
 use Rattle.job_reports.specs.declared.report.Did.{Did}
 use Rattle.job_reports.specs.declared.report.Did.TheVariants.{Began, Chunk, Placed, Removed, Made, Set, Kept, Skipped, Cleaned, Barrier, Asked, Merges, Troubled, Ended}
@@ -39,6 +40,7 @@ use Rattle.subtree_copy.specs.Passing.{OrPassedOver}
 use Rattle.subtree_copy.specs.Standing.{SubtreeCopying, part_of}
 use Rattle.subtree_copy.specs.SubtreeSteps.{ListSteps, SubtreeSteps, step_result}
 use Rattle.subtree_copy.specs.Told.{ToldLaw, part_after}
+use Rattle.tree_copy.proofs.PartsBegin.{file_taken}
 use Rattle.subtree_copy.proofs.Barred.{passed_trouble}
 use Rattle.subtree_copy.proofs.Targets.{works_at_once}
 
@@ -126,8 +128,8 @@ told_none folder_did.Closed did told = absurd told
 told_none (folder_did.Troubled trouble) did told = ap (λ d. part_after d None) told
 
 module _ (old new : Seen) (did : Did) (before after : Option CallLog) where
-  file_goes : (unclaimed : Route → Type 0) (f : Copying) → part_of old.item ≡ part_at f.stage → FileWorks unclaimed f old new did before after → Goes did old new
-  file_goes unclaimed f was w =
+  file_goes : (unclaimed : Route → Type 0) (f : Copying) (log log_after : Option CallLog) → part_of old.item ≡ part_at f.stage → FileWorks unclaimed f old new did log log_after → Goes did old new
+  file_goes unclaimed f log log_after was w =
       let m = w.moved in
       let c = noted did (file.is_dirty m.folder) (idle old) in record {
         part = ap (λ (s : Seen). part_of s.item) w.stands ∙ (settled_file m.stage m c refl refl ∙ (file_after f m did w.tells ∙ ap (part_after did) (sym was)));
@@ -146,25 +148,29 @@ module _ (old new : Seen) (did : Did) (before after : Option CallLog) where
   none_goes : old.item ≡ Next → new.item ≡ old.item → part_after did None ≡ None → new.stage ≡ after_report did old.stage → Goes did old new
   none_goes none same gone stage = record { part = ap part_of (same ∙ none) ∙ (sym gone ∙ ap (λ (i : Item). part_after did (part_of i)) (sym none)); stage = stage }
 
-  takes_goes : (unclaimed : Route → Type 0) → old.item ≡ Next → TakesNext unclaimed old new did before after → Goes did old new
-  takes_goes unclaimed none (inl s) =
+  takes_goes : (unclaimed : Route → Type 0) (replies : Replies) → old.item ≡ Next → TakesNext unclaimed replies old new did before after → Goes did old new
+  takes_goes unclaimed replies none (inl s) =
       none_goes none (ap (λ (c : Seen). c.item) s.stands) (ap (λ d. part_after d None) s.says) (ap (λ (c : Seen). c.stage) s.stands ∙ sym (ap (λ d. after_report d old.stage) s.says))
-  takes_goes unclaimed none (inr (inl t)) = file_goes unclaimed _ (ap part_of none) t.works
-  takes_goes unclaimed none (inr (inr (inl t))) = link_goes _ (ap part_of none) t.works
-  takes_goes unclaimed none (inr (inr (inr (inl t)))) =
+  takes_goes unclaimed replies none (inr (inl t)) = file_goes unclaimed _ None None (ap part_of none) (file_taken unclaimed replies old new did before after t)
+  takes_goes unclaimed replies none (inr (inr (inl t))) = link_goes _ (ap part_of none) t.works
+  takes_goes unclaimed replies none (inr (inr (inr (inl t)))) =
       let w = t.works in none_goes none (ap (λ (c : Seen). c.item) w.stands) (told_none w.report did w.says) (ap (λ (c : Seen). c.stage) w.stands)
-  takes_goes unclaimed none (inr (inr (inr (inr (inl t))))) =
+  takes_goes unclaimed replies none (inr (inr (inr (inr (inl t))))) =
       none_goes none (ap (λ (c : Seen). c.item) t.stands) (ap (λ d. part_after d None) t.says) (ap (λ (c : Seen). c.stage) t.stands ∙ sym (ap (λ d. after_report d old.stage) t.says))
-  takes_goes unclaimed none (inr (inr (inr (inr (inr (next, inl (debt, e))))))) = none_goes none (ap (λ (c : Seen). c.item) e.stands) (told_none e.report did e.says) (ap (λ (c : Seen). c.stage) e.stands)
-  takes_goes unclaimed none (inr (inr (inr (inr (inr (next, inr (debt, f, same))))))) =
+  takes_goes unclaimed replies none (inr (inr (inr (inr (inr (inl t)))))) =
+      none_goes none (ap (λ (c : Seen). c.item) t.stands) (ap (λ d. part_after d None) t.says) (ap (λ (c : Seen). c.stage) t.stands ∙ sym (ap (λ d. after_report d old.stage) t.says))
+  takes_goes unclaimed replies none (inr (inr (inr (inr (inr (inr (inl t))))))) =
+      none_goes none (ap (λ (c : Seen). c.item) t.stands) (ap (λ d. part_after d None) t.says) (ap (λ (c : Seen). c.stage) t.stands ∙ sym (ap (λ d. after_report d old.stage) t.says))
+  takes_goes unclaimed replies none (inr (inr (inr (inr (inr (inr (inr (next, inl (debt, e))))))))) = none_goes none (ap (λ (c : Seen). c.item) e.stands) (told_none e.report did e.says) (ap (λ (c : Seen). c.stage) e.stands)
+  takes_goes unclaimed replies none (inr (inr (inr (inr (inr (inr (inr (next, inr (debt, f, same))))))))) =
       none_goes none (ap (λ (c : Seen). c.item) f.stands) (ap (λ d. part_after d None) f.says) (ap (λ (c : Seen). c.stage) f.stands ∙ sym (ap (λ d. after_report d old.stage) f.says))
 
-  works_goes : (unclaimed : Route → Type 0) (item : Item) → old.item ≡ item → WorksOn item unclaimed old new did before after → Goes did old new
-  works_goes unclaimed Next is (inl s) = none_goes is (ap (λ (c : Seen). c.item) s.stands) (told_none s.report did s.says) (ap (λ (c : Seen). c.stage) s.stands)
-  works_goes unclaimed Next is (inr t) = takes_goes unclaimed is t.1
-  works_goes unclaimed (File f) is w = file_goes unclaimed f (ap part_of is) w
-  works_goes unclaimed (Link l) is w = link_goes l (ap part_of is) w
-  works_goes unclaimed (Stays part) is w = absurd w
+  works_goes : (unclaimed : Route → Type 0) (replies : Replies) (item : Item) → old.item ≡ item → WorksOn item unclaimed replies old new did before after → Goes did old new
+  works_goes unclaimed replies Next is (inl s) = none_goes is (ap (λ (c : Seen). c.item) s.stands) (told_none s.report did s.says) (ap (λ (c : Seen). c.stage) s.stands)
+  works_goes unclaimed replies Next is (inr t) = takes_goes unclaimed replies is t.1
+  works_goes unclaimed replies (File f) is w = file_goes unclaimed f before after (ap part_of is) w
+  works_goes unclaimed replies (Link l) is w = link_goes l (ap part_of is) w
+  works_goes unclaimed replies (Stays part) is w = absurd w
 
 -- A skip and a retry leave the part of what is at work where it stands.
 same_file : (stage : FileStage) → progress stage ≡ UnderWay → part_at (file.skipped stage) ≡ part_at stage
@@ -263,18 +269,18 @@ leaves_item (suc n) old mid (last, all, none, one) =
     let r = one.returns in
     (ap (λ (c : Seen). c.item) r.stands ∙ k.0, ap (λ (c : Seen). c.stage) r.stands ∙ k.1)
 
-pub list_goes : (free : Route → Bool) (old new : Seen) (worked : StepResult) (dirty dirty_after : List Route) (before after : Option CallLog) (f0 f1 : ℕ) → ListSteps free old new worked dirty dirty_after before after f0 f1
+pub list_goes : (free : Route → Bool) (replies : Replies) (old new : Seen) (worked : StepResult) (dirty dirty_after : List Route) (before after : Option CallLog) (f0 f1 : ℕ) → ListSteps free replies old new worked dirty dirty_after before after f0 f1
     → may_leave old ≡ false → Goes worked.did old new
-list_goes free old new worked dirty dirty_after before after f0 f1 (inl s) settled_at = same_goes worked.did old new (quiet_trouble worked.did _ (ap (λ (r : StepResult). r.did) s.says)) s.stays
-list_goes free old new worked dirty dirty_after before after f0 f1 (inr s) settled_at =
-    works_goes old new worked.did before after (IsPartPlace free old) old.item refl (works_at_once free old new worked.did worked.calls before after f0 f1 s.steps settled_at)
+list_goes free replies old new worked dirty dirty_after before after f0 f1 (inl s) settled_at = same_goes worked.did old new (quiet_trouble worked.did _ (ap (λ (r : StepResult). r.did) s.says)) s.stays
+list_goes free replies old new worked dirty dirty_after before after f0 f1 (inr s) settled_at =
+    works_goes old new worked.did before after (IsPartPlace free old) replies old.item refl (works_at_once free replies old new worked.did worked.calls before after f0 f1 s.steps settled_at)
 
-step_goes : (free : Route → Bool) (old new : SubtreeCopying) (did : Did) (calls : ℕ) (dirty dirty_after : List Route) (before after : Option CallLog) (f0 f1 : ℕ) → SubtreeSteps free old new did calls dirty dirty_after before after f0 f1
+step_goes : (free : Route → Bool) (replies : Replies) (old new : SubtreeCopying) (did : Did) (calls : ℕ) (dirty dirty_after : List Route) (before after : Option CallLog) (f0 f1 : ℕ) → SubtreeSteps free replies old new did calls dirty dirty_after before after f0 f1
     → Goes did old.at new.at
-step_goes free old new did calls dirty dirty_after before after f0 f1 s = by s.passes
+step_goes free replies old new did calls dirty dirty_after before after f0 f1 s = by s.passes
   where
     worked : Goes s.worked.did s.mid s.moved
-    worked = list_goes free s.mid s.moved s.worked dirty dirty_after before after f0 f1 s.works s.settled
+    worked = list_goes free replies s.mid s.moved s.worked dirty dirty_after before after f0 f1 s.works s.settled
 
     same : (s.mid.item ≡ old.at.item) × (s.mid.stage ≡ old.at.stage)
     same = (let l = s.leaves in leaves_item l.0 old.at s.mid l.1)
@@ -295,8 +301,8 @@ step_goes free old new did calls dirty dirty_after before after f0 f1 s = by s.p
 
 pub told_law : ToldLaw
 told_law = record {
-  step = λ free old new did calls dirty dirty_after before after f0 f1 s going.
-      let g = step_goes free old new did calls dirty dirty_after before after f0 f1 s in
+  step = λ free replies old new did calls dirty dirty_after before after f0 f1 s going.
+      let g = step_goes free replies old new did calls dirty dirty_after before after f0 f1 s in
       record { top = ap (λ (c : SubtreeCopying). c.top) s.stands; part = g.part; stage = g.stage; skips = ap (λ (c : SubtreeCopying). c.skips) s.stands };
   skip = λ cause old new did s going.
       let g = skips_goes old.at.item cause old.at new.at did refl going s.skips in

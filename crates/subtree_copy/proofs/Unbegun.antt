@@ -4,6 +4,7 @@ use Rattle.std.specs.Prelude.{drop, if◌then◌else◌}
 use Rattle.std.proofs.lemmas.Bool.{false≢true, true≢false}
 use Rattle.mc_text.specs.Routes.{Route}
 use Rattle.tree_trait.specs.Change.{CallLog}
+use Rattle.job_answers.specs.declared.replies.Replies.{Replies}
 use Rattle.job_reports.specs.declared.job.Pair.{Pair}
 use Rattle.job_reports.specs.declared.report.Cause.{Cause}
 use Rattle.job_reports.specs.declared.report.Did.{Did}
@@ -44,6 +45,7 @@ use Rattle.subtree_copy.specs.Passing.{OrPassedOver}
 use Rattle.subtree_copy.specs.Standing.{IsGoing, SubtreeCopying, at_barrier}
 use Rattle.subtree_copy.specs.SubtreeSteps.{ListSteps, SubtreeSteps, step_result}
 use Rattle.subtree_copy.specs.Unbegun.{IsOutside, IsUnbegun, MayBegin, UnbegunLaw}
+use Rattle.tree_copy.proofs.PartsBegin.{file_taken}
 use Rattle.subtree_copy.proofs.Barred.{HasNext, Says, file_same, folder_same, left_workable, link_same, list_barred, passed_trouble, unbarred}
 use Rattle.subtree_copy.proofs.Targets.{works_at_once}
 use Rattle.subtree_copy.proofs.Tellings.{leaves_item, list_goes, settled_stage, skips_goes}
@@ -157,8 +159,8 @@ begins_file f m (Cleaned part) begin (next, stage, is) = (let e = sym begin ∙ 
 begins_file f m Barrier begin (stage, dirty, is) = (let e = sym begin ∙ stage in let g : ⊥ = cc in g)
 begins_file f m (Removed path) begin t = t
 begins_file f m (Set path) begin t = t
-begins_file f m (Kept path) begin t = t
-begins_file f m (Asked question) begin t = t
+begins_file f m (Kept path) begin t = tt
+begins_file f m (Asked question) begin t = tt
 begins_file f m (Merges pair names) begin t = tt
 
 begins_link : (l m : LinkCopying) (did : Did) → l.stage ≡ link_stage.Make → link.Tells l did m → MayBegin did
@@ -173,8 +175,8 @@ begins_link l m Barrier make (stage, dirty, is) = (let e = sym make ∙ stage in
 begins_link l m (Chunk count) make t = t
 begins_link l m (Removed path) make t = t
 begins_link l m (Set path) make t = t
-begins_link l m (Kept path) make t = t
-begins_link l m (Asked question) make t = t
+begins_link l m (Kept path) make t = tt
+begins_link l m (Asked question) make t = tt
 begins_link l m (Merges pair names) make t = tt
 
 begins_folder : (pair : Pair) (mode : ℕ) (m : FolderCopying) (report : FolderDid) (did : Did) → IsToldAs report did → folder.Tells (folder.copying pair.source pair.target (Make mode) marks.Synced) report m → MayBegin did
@@ -184,8 +186,8 @@ begins_folder pair mode m folder_did.Barrier did told t = absurd (let e = t.0 in
 begins_folder pair mode m folder_did.Closed did told t = absurd told
 begins_folder pair mode m (folder_did.Troubled trouble) did told t = subst MayBegin (sym told) tt
 
-module _ (unclaimed : Route → Type 0) (old new : Seen) (did : Did) (before after : Option CallLog) (o : IsOutside old) where
-  file_outside : (pair : Pair) → FileWorks unclaimed (file.begun old.job pair.source pair.target) old new did before after → changes did ≡ false → IsOutside new
+module _ (unclaimed : Route → Type 0) (replies : Replies) (old new : Seen) (did : Did) (before after : Option CallLog) (o : IsOutside old) where
+  file_outside : (pair : Pair) → FileWorks unclaimed (file.begun old.job pair.source pair.target) old new did None None → changes did ≡ false → IsOutside new
   file_outside pair w quiet =
       let f = file.begun old.job pair.source pair.target in
       let same = quiet_file f w.moved did refl w.tells quiet in
@@ -214,19 +216,23 @@ module _ (unclaimed : Route → Type 0) (old new : Seen) (did : Did) (before aft
   no_debt : has_debt (at_end old) ≡ true → ⊥
   no_debt debt = false≢true (sym (ap (λ b. owed_at (closing old.levels.inner.copy.stage) b) o.clean ∙ o.owes) ∙ debt)
 
-  takes_outside : TakesNext unclaimed old new did before after → changes did ≡ false → IsOutside new
+  takes_outside : TakesNext unclaimed replies old new did before after → changes did ≡ false → IsOutside new
   takes_outside (inl s) quiet = same_seen old new s.stands o
-  takes_outside (inr (inl t)) quiet = file_outside t.pair t.works quiet
+  takes_outside (inr (inl t)) quiet = file_outside t.pair (file_taken unclaimed replies old new did before after t) quiet
   takes_outside (inr (inr (inl t))) quiet = link_outside t.pair t.part t.works quiet
   takes_outside (inr (inr (inr (inl t)))) quiet = makes_outside t.pair t.names t.mode t.works quiet
   takes_outside (inr (inr (inr (inr (inl t))))) quiet =
       like old new (ap (λ (c : Seen). c.item) t.stands ∙ o.none) (ap (λ (c : Seen). c.levels.around) t.stands) (with_fewer old new (ap (λ (c : Seen). c.levels.inner.names.names) t.stands)) (ap (λ (c : Seen). owes_at_end c.levels.inner.copy.stage false) t.stands ∙ o.owes)
       (ap (λ (c : Seen). is_dirty c.levels.inner.copy.names) t.stands) o
-  takes_outside (inr (inr (inr (inr (inr (next, inl (debt, e))))))) quiet = absurd (no_debt debt)
-  takes_outside (inr (inr (inr (inr (inr (next, inr (debt, f, same))))))) quiet =
+  takes_outside (inr (inr (inr (inr (inr (inl t)))))) quiet =
+      like old new (ap (λ (c : Seen). c.item) t.stands ∙ o.none) (ap (λ (c : Seen). c.levels.around) t.stands) (with_fewer old new (ap (λ (c : Seen). c.levels.inner.names.names) t.stands)) (ap (λ (c : Seen). owes_at_end c.levels.inner.copy.stage false) t.stands ∙ o.owes)
+      (ap (λ (c : Seen). is_dirty c.levels.inner.copy.names) t.stands) o
+  takes_outside (inr (inr (inr (inr (inr (inr (inl t))))))) quiet = same_seen old new t.stands o
+  takes_outside (inr (inr (inr (inr (inr (inr (inr (next, inl (debt, e))))))))) quiet = absurd (no_debt debt)
+  takes_outside (inr (inr (inr (inr (inr (inr (inr (next, inr (debt, f, same))))))))) quiet =
       subst IsOutside (sym f.stands) (like old (at_end old) o.none refl (as_many old (at_end old) refl) (closes old.levels.inner.copy.stage o.owes) refl o)
 
-  works_outside : (item : Item) → old.item ≡ item → WorksOn item unclaimed old new did before after → changes did ≡ false → IsOutside new
+  works_outside : (item : Item) → old.item ≡ item → WorksOn item unclaimed replies old new did before after → changes did ≡ false → IsOutside new
   works_outside Next is (inl s) quiet = absurd (false≢true (sym (ap is_around_dirty o.around) ∙ s.dirty))
   works_outside Next is (inr t) quiet = takes_outside t.1 quiet
   works_outside (File f) is w quiet = absurd (let e = sym o.none ∙ is in let g : ⊥ = cc in g)
@@ -234,16 +240,18 @@ module _ (unclaimed : Route → Type 0) (old new : Seen) (did : Did) (before aft
   works_outside (Stays part) is w quiet = absurd w
 
   -- its troubles are at no barrier
-  takes_apart : (u : Trouble) → TakesNext unclaimed old new did before after → Says did u → u.barrier ≡ false
+  takes_apart : (u : Trouble) → TakesNext unclaimed replies old new did before after → Says did u → u.barrier ≡ false
   takes_apart u (inl s) says = (let same : s.trouble ≡ u = (let e : Troubled s.trouble ≡ Troubled u = sym s.says ∙ says in cc) in sym (ap (λ (t : Trouble). t.barrier) same) ∙ s.apart)
-  takes_apart u (inr (inl t)) says = (let w = t.works in (file_same (file.begun old.job t.pair.source t.pair.target) w.moved did u w.tells says).0)
+  takes_apart u (inr (inl t)) says = (let w = file_taken unclaimed replies old new did before after t in (file_same (file.begun old.job t.pair.source t.pair.target) w.moved did u w.tells says).0)
   takes_apart u (inr (inr (inl t))) says = (let w = t.works in (link_same (link_begun t.pair t.part) w.moved did u w.tells says).0)
   takes_apart u (inr (inr (inr (inl t)))) says = (let w = t.works in (folder_same (folder.copying t.pair.source t.pair.target (Make t.mode) marks.Synced) w.moved w.report did u w.says w.tells says).0)
   takes_apart u (inr (inr (inr (inr (inl t))))) says = absurd (let e = sym t.says ∙ says in let g : ⊥ = cc in g)
-  takes_apart u (inr (inr (inr (inr (inr (next, inl (debt, e))))))) says = absurd (no_debt debt)
-  takes_apart u (inr (inr (inr (inr (inr (next, inr (debt, f, same))))))) says = absurd (let e = sym f.says ∙ says in let g : ⊥ = cc in g)
+  takes_apart u (inr (inr (inr (inr (inr (inl t)))))) says = absurd (let e = sym t.says ∙ says in let g : ⊥ = cc in g)
+  takes_apart u (inr (inr (inr (inr (inr (inr (inl t))))))) says = absurd (let e = sym t.says ∙ says in let g : ⊥ = cc in g)
+  takes_apart u (inr (inr (inr (inr (inr (inr (inr (next, inl (debt, e))))))))) says = absurd (no_debt debt)
+  takes_apart u (inr (inr (inr (inr (inr (inr (inr (next, inr (debt, f, same))))))))) says = absurd (let e = sym f.says ∙ says in let g : ⊥ = cc in g)
 
-  works_apart : (item : Item) → old.item ≡ item → WorksOn item unclaimed old new did before after → (u : Trouble) → Says did u → u.barrier ≡ false
+  works_apart : (item : Item) → old.item ≡ item → WorksOn item unclaimed replies old new did before after → (u : Trouble) → Says did u → u.barrier ≡ false
   works_apart Next is (inl s) u says = absurd (false≢true (sym (ap is_around_dirty o.around) ∙ s.dirty))
   works_apart Next is (inr t) u says = takes_apart u t.1 says
   works_apart (File f) is w u says = absurd (let e = sym o.none ∙ is in let g : ⊥ = cc in g)
@@ -251,16 +259,18 @@ module _ (unclaimed : Route → Type 0) (old new : Seen) (did : Did) (before aft
   works_apart (Stays part) is w u says = absurd w
 
   -- and its first change begins a part or makes a folder
-  takes_first : TakesNext unclaimed old new did before after → MayBegin did
+  takes_first : TakesNext unclaimed replies old new did before after → MayBegin did
   takes_first (inl s) = subst MayBegin (sym s.says) tt
-  takes_first (inr (inl t)) = (let w = t.works in begins_file (file.begun old.job t.pair.source t.pair.target) w.moved did refl w.tells)
+  takes_first (inr (inl t)) = (let w = file_taken unclaimed replies old new did before after t in begins_file (file.begun old.job t.pair.source t.pair.target) w.moved did refl w.tells)
   takes_first (inr (inr (inl t))) = (let w = t.works in begins_link (link_begun t.pair t.part) w.moved did refl w.tells)
   takes_first (inr (inr (inr (inl t)))) = (let w = t.works in begins_folder t.pair t.mode w.moved w.report did w.says w.tells)
   takes_first (inr (inr (inr (inr (inl t))))) = subst MayBegin (sym t.says) tt
-  takes_first (inr (inr (inr (inr (inr (next, inl (debt, e))))))) = absurd (no_debt debt)
-  takes_first (inr (inr (inr (inr (inr (next, inr (debt, f, same))))))) = subst MayBegin (sym f.says) tt
+  takes_first (inr (inr (inr (inr (inr (inl t)))))) = subst MayBegin (sym t.says) tt
+  takes_first (inr (inr (inr (inr (inr (inr (inl t))))))) = subst MayBegin (sym t.says) tt
+  takes_first (inr (inr (inr (inr (inr (inr (inr (next, inl (debt, e))))))))) = absurd (no_debt debt)
+  takes_first (inr (inr (inr (inr (inr (inr (inr (next, inr (debt, f, same))))))))) = subst MayBegin (sym f.says) tt
 
-  works_first : (item : Item) → old.item ≡ item → WorksOn item unclaimed old new did before after → MayBegin did
+  works_first : (item : Item) → old.item ≡ item → WorksOn item unclaimed replies old new did before after → MayBegin did
   works_first Next is (inl s) = absurd (false≢true (sym (ap is_around_dirty o.around) ∙ s.dirty))
   works_first Next is (inr t) = takes_first t.1
   works_first (File f) is w = absurd (let e = sym o.none ∙ is in let g : ⊥ = cc in g)
@@ -338,37 +348,37 @@ next_left c o left = by c.levels.inner.names.names refl
         let owes : not (owes_at_end c.levels.inner.copy.stage (is_dirty c.levels.inner.copy.names)) ≡ true = ap (λ b. not (owes_at_end c.levels.inner.copy.stage b)) o.clean ∙ ap not o.owes in
         absurd (true≢false (sym owes ∙ at))
 
-module _ (free : Route → Bool) (old new : Seen) (worked : StepResult) (dirty dirty_after : List Route) (before after : Option CallLog) (f0 f1 : ℕ) (w : ListSteps free old new worked dirty dirty_after before after f0 f1)
+module _ (free : Route → Bool) (replies : Replies) (old new : Seen) (worked : StepResult) (dirty dirty_after : List Route) (before after : Option CallLog) (f0 f1 : ℕ) (w : ListSteps free replies old new worked dirty dirty_after before after f0 f1)
     (settled_at : may_leave old ≡ false) where
   list_outside : IsOutside old → changes worked.did ≡ false → IsOutside new
   list_outside o quiet = by w
     where
-      by : ListSteps free old new worked dirty dirty_after before after f0 f1 → IsOutside new
+      by : ListSteps free replies old new worked dirty dirty_after before after f0 f1 → IsOutside new
       by (inl s) = same_seen old new s.stays o
-      by (inr s) = works_outside (IsPartPlace free old) old new worked.did before after o old.item refl (works_at_once free old new worked.did worked.calls before after f0 f1 s.steps settled_at) quiet
+      by (inr s) = works_outside (IsPartPlace free old) replies old new worked.did before after o old.item refl (works_at_once free replies old new worked.did worked.calls before after f0 f1 s.steps settled_at) quiet
 
   list_apart : IsOutside old → (u : Trouble) → worked.did ≡ Troubled u → u.barrier ≡ false
   list_apart o u says = by w
     where
-      by : ListSteps free old new worked dirty dirty_after before after f0 f1 → u.barrier ≡ false
+      by : ListSteps free replies old new worked dirty dirty_after before after f0 f1 → u.barrier ≡ false
       by (inl s) =
           let same : out_of_memory_at (at_barrier old) ≡ u = (let e : Troubled (out_of_memory_at (at_barrier old)) ≡ Troubled u = sym (ap (λ (r : StepResult). r.did) s.says) ∙ says in cc) in
           sym (ap (λ (t : Trouble). t.barrier) same) ∙ unbarred old o.none (ap is_around_dirty o.around) (next_left old o s.left)
-      by (inr s) = works_apart (IsPartPlace free old) old new worked.did before after o old.item refl (works_at_once free old new worked.did worked.calls before after f0 f1 s.steps settled_at) u says
+      by (inr s) = works_apart (IsPartPlace free old) replies old new worked.did before after o old.item refl (works_at_once free replies old new worked.did worked.calls before after f0 f1 s.steps settled_at) u says
 
   list_first : IsOutside old → MayBegin worked.did
   list_first o = by w
     where
-      by : ListSteps free old new worked dirty dirty_after before after f0 f1 → MayBegin worked.did
+      by : ListSteps free replies old new worked dirty dirty_after before after f0 f1 → MayBegin worked.did
       by (inl s) = subst MayBegin (sym (ap (λ (r : StepResult). r.did) s.says)) tt
-      by (inr s) = works_first (IsPartPlace free old) old new worked.did before after o old.item refl (works_at_once free old new worked.did worked.calls before after f0 f1 s.steps settled_at)
+      by (inr s) = works_first (IsPartPlace free old) replies old new worked.did before after o old.item refl (works_at_once free replies old new worked.did worked.calls before after f0 f1 s.steps settled_at)
 
-module _ (free : Route → Bool) (old new : SubtreeCopying) (did : Did) (calls : ℕ) (dirty dirty_after : List Route) (before after : Option CallLog) (f0 f1 : ℕ)
-    (s : SubtreeSteps free old new did calls dirty dirty_after before after f0 f1) (h : IsUnbegun old.at) where
+module _ (free : Route → Bool) (replies : Replies) (old new : SubtreeCopying) (did : Did) (calls : ℕ) (dirty dirty_after : List Route) (before after : Option CallLog) (f0 f1 : ℕ)
+    (s : SubtreeSteps free replies old new did calls dirty dirty_after before after f0 f1) (h : IsUnbegun old.at) where
   -- where nothing was changed after the machine's step, nothing was before
   moved_fresh : is_fresh (let m = s.moved in m.stage) ≡ true → (changes (let w = s.worked in w.did) ≡ false) × IsOutside s.mid
   moved_fresh fresh =
-      let g = list_goes free s.mid s.moved s.worked dirty dirty_after before after f0 f1 s.works s.settled in
+      let g = list_goes free replies s.mid s.moved s.worked dirty dirty_after before after f0 f1 s.works s.settled in
       let b = fresh_before s.worked.did s.mid s.moved g.stage fresh in
       let l = s.leaves in
       (b.0, left_outside l.0 old.at s.mid l.1 h b.1)
@@ -376,7 +386,7 @@ module _ (free : Route → Bool) (old new : SubtreeCopying) (did : Did) (calls :
   moved_unbegun : IsUnbegun s.moved
   moved_unbegun fresh =
       let b = moved_fresh fresh in
-      list_outside free s.mid s.moved s.worked dirty dirty_after before after f0 f1 s.works s.settled b.1 b.0
+      list_outside free replies s.mid s.moved s.worked dirty dirty_after before after f0 f1 s.works s.settled b.1 b.0
 
   step_unbegun : IsUnbegun new.at
   step_unbegun = by s.passes
@@ -389,30 +399,30 @@ comes_apart : (cause : Cause) (old new : Seen) (t : Trouble) → Comes false cau
 comes_apart cause old new t (inl s) = (let e = s.1 in let g : ⊥ = cc in absurd g)
 comes_apart cause old new t (inr room) = (let same : t ≡ out_of_memory_at false = (let e = room.0 in cc) in ap (λ (x : Trouble). x.barrier) same)
 
-step_apart : (free : Route → Bool) (old new : SubtreeCopying) (t : Trouble) (calls : ℕ) (dirty dirty_after : List Route) (before after : Option CallLog) (f0 f1 : ℕ)
-    → SubtreeSteps free old new (Troubled t) calls dirty dirty_after before after f0 f1 → IsSteady old.at → IsGoing old → IsUnbegun old.at → is_fresh new.at.stage ≡ true → t.barrier ≡ false
-step_apart free old new t calls dirty dirty_after before after f0 f1 s steady can h fresh = by s.passes
+step_apart : (free : Route → Bool) (replies : Replies) (old new : SubtreeCopying) (t : Trouble) (calls : ℕ) (dirty dirty_after : List Route) (before after : Option CallLog) (f0 f1 : ℕ)
+    → SubtreeSteps free replies old new (Troubled t) calls dirty dirty_after before after f0 f1 → IsSteady old.at → IsGoing old → IsUnbegun old.at → is_fresh new.at.stage ≡ true → t.barrier ≡ false
+step_apart free replies old new t calls dirty dirty_after before after f0 f1 s steady can h fresh = by s.passes
   where
     by : OrPassedOver old.skips s.worked s.moved new.at (step_result (Troubled t) calls) → t.barrier ≡ false
     by (inl p) =
-        let m = moved_fresh free old new (Troubled t) calls dirty dirty_after before after f0 f1 s h (sym (ap (λ (c : Seen). is_fresh c.stage) p.2) ∙ fresh) in
-        list_apart free s.mid s.moved s.worked dirty dirty_after before after f0 f1 s.works s.settled m.1 t (sym (ap (λ (r : StepResult). r.did) p.1))
+        let m = moved_fresh free replies old new (Troubled t) calls dirty dirty_after before after f0 f1 s h (sym (ap (λ (c : Seen). is_fresh c.stage) p.2) ∙ fresh) in
+        list_apart free replies s.mid s.moved s.worked dirty dirty_after before after f0 f1 s.works s.settled m.1 t (sym (ap (λ (r : StepResult). r.did) p.1))
     by (inr p) =
         let l = s.leaves in
         let there = all_leave l.0 old.at s.mid l.1 steady in
         let u = passed_trouble old.skips s.worked.did p.0 p.1 in
-        let barred = list_barred free s.mid s.moved s.worked dirty dirty_after before after f0 f1 u.0 s.works u.1 s.settled there.0 (left_workable l.0 old.at s.mid l.1 can) in
+        let barred = list_barred free replies s.mid s.moved s.worked dirty dirty_after before after f0 f1 u.0 s.works u.1 s.settled there.0 (left_workable l.0 old.at s.mid l.1 can) in
         comes_apart p.0 s.moved new.at t (skip_comes s.moved.item p.0 s.moved new.at (Troubled t) refl p.3 s.going (sym barred ∙ u.2))
 
-step_first : (free : Route → Bool) (old new : SubtreeCopying) (did : Did) (calls : ℕ) (dirty dirty_after : List Route) (before after : Option CallLog) (f0 f1 : ℕ) → SubtreeSteps free old new did calls dirty dirty_after before after f0 f1
+step_first : (free : Route → Bool) (replies : Replies) (old new : SubtreeCopying) (did : Did) (calls : ℕ) (dirty dirty_after : List Route) (before after : Option CallLog) (f0 f1 : ℕ) → SubtreeSteps free replies old new did calls dirty dirty_after before after f0 f1
     → IsUnbegun old.at → is_fresh old.at.stage ≡ true → MayBegin did
-step_first free old new did calls dirty dirty_after before after f0 f1 s h fresh = by s.passes
+step_first free replies old new did calls dirty dirty_after before after f0 f1 s h fresh = by s.passes
   where
     mid_outside : IsOutside s.mid
     mid_outside = (let l = s.leaves in left_outside l.0 old.at s.mid l.1 h (ap is_fresh (leaves_item l.0 old.at s.mid l.1).1 ∙ fresh))
 
     by : OrPassedOver old.skips s.worked s.moved new.at (step_result did calls) → MayBegin did
-    by (inl p) = subst MayBegin (sym (ap (λ (r : StepResult). r.did) p.1)) (list_first free s.mid s.moved s.worked dirty dirty_after before after f0 f1 s.works s.settled mid_outside)
+    by (inl p) = subst MayBegin (sym (ap (λ (r : StepResult). r.did) p.1)) (list_first free replies s.mid s.moved s.worked dirty dirty_after before after f0 f1 s.works s.settled mid_outside)
     by (inr p) = skip_first s.moved.item p.0 s.moved new.at did p.3
 
 retry_unbegun : (item : Item) (c : Seen) → c.item ≡ item → IsUnbegun c → IsUnbegun (machine.retried_at item c)
@@ -426,9 +436,9 @@ retry_unbegun (Stays part) c is h = h
 pub unbegun_law : UnbegunLaw
 unbegun_law = record {
   begins = λ job top fresh. record { none = refl; around = refl; one = omega arith; owes = refl; clean = refl };
-  step = λ free old new did calls dirty dirty_after before after f0 f1 s can h. step_unbegun free old new did calls dirty dirty_after before after f0 f1 s h;
+  step = λ free replies old new did calls dirty dirty_after before after f0 f1 s can h. step_unbegun free replies old new did calls dirty dirty_after before after f0 f1 s h;
   skip = λ cause old new did s can h. skips_unbegun cause old.at new.at did s.skips can h;
   retry = λ c h. retry_unbegun c.at.item c.at refl h;
-  first = λ free old new did calls dirty dirty_after before after f0 f1 s h fresh. step_first free old new did calls dirty dirty_after before after f0 f1 s h fresh;
-  trouble = λ free old new t calls dirty dirty_after before after f0 f1 s steady can h fresh. step_apart free old new t calls dirty dirty_after before after f0 f1 s steady can h fresh;
+  first = λ free replies old new did calls dirty dirty_after before after f0 f1 s h fresh. step_first free replies old new did calls dirty dirty_after before after f0 f1 s h fresh;
+  trouble = λ free replies old new t calls dirty dirty_after before after f0 f1 s steady can h fresh. step_apart free replies old new t calls dirty dirty_after before after f0 f1 s steady can h fresh;
 }

@@ -4,9 +4,11 @@ use Rattle.std.proofs.lemmas.Bool.{true≢false}
 use Rattle.std.specs.Prelude.{◌⊎◌, ◌||◌}
 use Rattle.mc_text.specs.Routes.{Route}
 use Rattle.tree_trait.specs.Change.{CallLog}
+use Rattle.job_answers.specs.declared.replies.Replies.{Replies}
+use Rattle.job_reports.specs.declared.question.Question.{Question}
 use Rattle.job_reports.specs.declared.report.Cause.{Cause}
 use Rattle.job_reports.specs.declared.report.Did.{Did}
-use Rattle.job_reports.specs.declared.report.Did.TheVariants.{Skipped, Troubled}
+use Rattle.job_reports.specs.declared.report.Did.TheVariants.{Asked, Skipped, Troubled}
 use Rattle.job_reports.specs.declared.report.StepResult.{StepResult}
 use Rattle.job_reports.specs.declared.report.Trouble.{Trouble}
 use Rattle.job_reports.specs.Stops.{out_of_memory_at}
@@ -32,6 +34,7 @@ use Rattle.subtree_copy.specs.Standing.{IsGoing, SubtreeCopying, barrier_at, bar
 use Rattle.subtree_copy.specs.SubtreeSteps.{SubtreeSteps, step_result}
 use Rattle.subtree_copy.specs.Troubles.{TroubleLaw}
 use Rattle.subtree_copy.proofs.Answered.{waiting_law}
+use Rattle.subtree_copy.proofs.AskedOnes.{list_asked, skip_no_ask}
 use Rattle.subtree_copy.proofs.Barred.{left_workable, list_barred, passed_trouble}
 use Rattle.subtree_copy.proofs.Fewer.{same_things}
 use Rattle.subtree_copy.proofs.Ranked.{left_lower, list_troubled}
@@ -94,11 +97,11 @@ still : (barrier : Bool) (cause : Cause) (old new : Seen) (t : Trouble) → Come
 still barrier cause old new t (inl (path, says)) = (let f : ⊥ = cc in absurd f)
 still barrier cause old new t (inr room) = room.1
 
-module _ (free : Route → Bool) (old new : SubtreeCopying) (t : Trouble) (calls : ℕ) (dirty dirty_after : List Route) (before after : Option CallLog) (f0 f1 : ℕ)
-    (s : SubtreeSteps free old new (Troubled t) calls dirty dirty_after before after f0 f1) (steady : IsSteady old.at) where
+module _ (free : Route → Bool) (replies : Replies) (old new : SubtreeCopying) (t : Trouble) (calls : ℕ) (dirty dirty_after : List Route) (before after : Option CallLog) (f0 f1 : ℕ)
+    (s : SubtreeSteps free replies old new (Troubled t) calls dirty dirty_after before after f0 f1) (steady : IsSteady old.at) where
   one_more : (u : Trouble) → s.worked.did ≡ Troubled u → new.at ≡ s.moved → IsSteady s.mid → rank s.mid ≤ rank old.at → rank new.at ≤ rank old.at + 1
   one_more u says same there lower =
-      let more = list_troubled (2 ^ 64) (same_things (2 ^ 64)) free s.mid s.moved s.worked dirty dirty_after before after f0 f1 s.works s.settled there u says in
+      let more = list_troubled (2 ^ 64) (same_things (2 ^ 64)) free replies s.mid s.moved s.worked dirty dirty_after before after f0 f1 s.works s.settled there u says in
       let one = more.0 in
       let now : rank new.at ≡ rank s.moved = ap rank same in
       omega (arith, one, now, lower)
@@ -123,12 +126,32 @@ module _ (free : Route → Bool) (old new : SubtreeCopying) (t : Trouble) (calls
           let l = s.leaves in
           let there = left_lower (2 ^ 64) l.0 old.at s.mid l.1 steady in
           let u = passed_trouble old.skips s.worked.did p.0 p.1 in
-          let barred = list_barred free s.mid s.moved s.worked dirty dirty_after before after f0 f1 u.0 s.works u.1 s.settled there.1 (left_workable l.0 old.at s.mid l.1 can) in
+          let barred = list_barred free replies s.mid s.moved s.worked dirty dirty_after before after f0 f1 u.0 s.works u.1 s.settled there.1 (left_workable l.0 old.at s.mid l.1 can) in
           fewer u.0 u.1 (still false p.0 s.moved new.at t (skip_comes s.moved.item p.0 s.moved new.at (Troubled t) refl p.3 s.going (sym barred ∙ u.2)))
+
+-- one that asks
+step_asks : (free : Route → Bool) (replies : Replies) (old new : SubtreeCopying) (question : Question) (calls : ℕ) (dirty dirty_after : List Route) (before after : Option CallLog) (f0 f1 : ℕ)
+    → SubtreeSteps free replies old new (Asked question) calls dirty dirty_after before after f0 f1 → IsSteady old.at → (new.at.item ≡ Next) × (last_rank new.at ≤ rank old.at)
+step_asks free replies old new question calls dirty dirty_after before after f0 f1 s steady = by s.passes
+  where
+    by : OrPassedOver old.skips s.worked s.moved new.at (step_result (Asked question) calls) → (new.at.item ≡ Next) × (last_rank new.at ≤ rank old.at)
+    by (inl p) =
+        let l = s.leaves in
+        let there = left_lower (2 ^ 64) l.0 old.at s.mid l.1 steady in
+        let lower = there.0 in
+        let t = list_asked free replies s.mid s.moved s.worked question dirty dirty_after before after f0 f1 s.works s.settled (ap (λ (r : StepResult). r.did) (sym p.1)) in
+        let asks = t.1 in
+        let same : new.at ≡ s.mid = p.2 ∙ asks.stands in
+        let item : new.at.item ≡ Next = ap (λ (c : Seen). c.item) same ∙ t.0 in
+        let now : rank new.at ≡ rank s.mid = ap rank same in
+        let waits = waiting_law new (subst IsWorkable (sym item) tt) in
+        (item, omega (arith, lower, now, waits))
+    by (inr p) = (let m : Seen = s.moved in absurd (skip_no_ask m.item p.0 m new.at question p.3))
 
 pub trouble_law : TroubleLaw
 trouble_law = record {
-  step = λ free old new t calls dirty dirty_after before after f0 f1 s steady can. step_waits free old new t calls dirty dirty_after before after f0 f1 s steady can;
+  step = λ free replies old new t calls dirty dirty_after before after f0 f1 s steady can. step_waits free replies old new t calls dirty dirty_after before after f0 f1 s steady can;
+  ask = λ free replies old new question calls dirty dirty_after before after f0 f1 s steady. step_asks free replies old new question calls dirty dirty_after before after f0 f1 s steady;
   skip = λ cause old new did s can apart. by cause old new did s.stands (skip_comes old.at.item cause old.at new.at did refl s.skips can apart);
 }
   where

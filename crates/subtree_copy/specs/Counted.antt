@@ -4,6 +4,7 @@ use Rattle.mc_text.specs.Routes.{Route}
 use Rattle.tree_trait.specs.declared.calls.TreeError.TheVariants as refused
 use Rattle.tree_trait.specs.Answers.{IfKnown, HasRisen}
 use Rattle.tree_trait.specs.Change.{CallLog}
+use Rattle.job_answers.specs.declared.replies.Replies.{Replies}
 use Rattle.job_reports.specs.declared.report.Cause.TheVariants.{Tree}
 use Rattle.job_reports.specs.declared.report.Did.{Did}
 use Rattle.job_reports.specs.declared.report.Did.TheVariants.{Skipped, Troubled}
@@ -28,8 +29,8 @@ pub record StepCounts (did : Did) (calls : ℕ) (before after : Option CallLog) 
 
 abbrev pub CountLaw : Type 0
 CountLaw =
-    (free : Route → Bool) (old new : SubtreeCopying) (did : Did) (calls : ℕ) (dirty dirty_after : List Route) (before after : Option CallLog) (faults faults_after : ℕ)
-    → SubtreeSteps free old new did calls dirty dirty_after before after faults faults_after → StepCounts did calls before after faults faults_after
+    (free : Route → Bool) (replies : Replies) (old new : SubtreeCopying) (did : Did) (calls : ℕ) (dirty dirty_after : List Route) (before after : Option CallLog) (faults faults_after : ℕ)
+    → SubtreeSteps free replies old new did calls dirty dirty_after before after faults faults_after → StepCounts did calls before after faults faults_after
 
 -- the same of a last step, which makes two calls at most, and tells the refusal of the sync that it tried
 pub record LastStepCounts (last : LastStepResult) (before after : Option CallLog) (faults faults_after : ℕ) : Type 0 where

@@ -2,6 +2,7 @@
 use Rattle.std.specs.Prelude.{◌≡◌, ℕ, Bool, List, Option, Some}
 use Rattle.mc_text.specs.Routes.{Route}
 use Rattle.tree_trait.specs.Change.{CallLog}
+use Rattle.job_answers.specs.declared.replies.Replies.{Replies}
 use Rattle.job_reports.specs.declared.report.Did.{Did}
 use Rattle.subtree_copy.specs.Standing.{SubtreeCopying}
 use Rattle.subtree_copy.specs.SubtreeSteps.{SubtreeSteps}
@@ -11,5 +12,5 @@ StillTells after = (now : CallLog) × (after ≡ Some now)
 
 abbrev pub KnownLaw : Type 0
 KnownLaw =
-    (free : Route → Bool) (old new : SubtreeCopying) (did : Did) (calls : ℕ) (dirty dirty_after : List Route) (log : CallLog) (after : Option CallLog) (faults faults_after : ℕ)
-    → SubtreeSteps free old new did calls dirty dirty_after (Some log) after faults faults_after → StillTells after
+    (free : Route → Bool) (replies : Replies) (old new : SubtreeCopying) (did : Did) (calls : ℕ) (dirty dirty_after : List Route) (log : CallLog) (after : Option CallLog) (faults faults_after : ℕ)
+    → SubtreeSteps free replies old new did calls dirty dirty_after (Some log) after faults faults_after → StillTells after

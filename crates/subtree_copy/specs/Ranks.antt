@@ -2,10 +2,11 @@
 use Rattle.std.specs.Prelude.{◌≡◌, ◌<◌, ◌≤◌, ℕ, ◌+◌, ◌-◌, ◌*◌, ◌^◌, Bool, true, false, List, [], ◌∷◌, Option, Some, None}
 use Rattle.mc_text.specs.Routes.{Route}
 use Rattle.tree_trait.specs.Change.{CallLog}
+use Rattle.job_answers.specs.declared.replies.Replies.{Replies}
 use Rattle.job_reports.specs.declared.job.Pair.{Pair}
 use Rattle.job_reports.specs.declared.report.Cause.{Cause}
 use Rattle.job_reports.specs.declared.report.Did.{Did}
-use Rattle.job_reports.specs.declared.report.Did.TheVariants.{Troubled, Ended}
+use Rattle.job_reports.specs.declared.report.Did.TheVariants.{Asked, Troubled, Ended}
 use Rattle.job_reports.specs.declared.report.Ending.{Ending}
 use Rattle.job_reports.specs.declared.report.LastStepResult.{LastStepResult}
 use Rattle.job_reports.specs.Reports.{ends}
@@ -87,23 +88,24 @@ rank_by most c = things_left c * anew most + (item_rank most c.item + levels_ran
 abbrev pub rank : Seen → ℕ
 rank c = rank_by (2 ^ 64) c
 
--- the copy goes on after this report
+-- The copy goes on after this report. After a question it stands where it stood, and waits for the answer.
 abbrev pub goes_on : Did → Bool
 goes_on (Troubled trouble) = false
+goes_on (Asked question) = false
 goes_on (Ended ending part) = false
 goes_on did = true
 
 -- Each step after which the copy goes on leaves fewer.
 abbrev pub RankLaw : Type 0
 RankLaw =
-    (free : Route → Bool) (old new : SubtreeCopying) (did : Did) (calls : ℕ) (dirty dirty_after : List Route) (before after : Option CallLog) (faults faults_after : ℕ)
-    → SubtreeSteps free old new did calls dirty dirty_after before after faults faults_after → IsSteady old.at → IsGoing old → goes_on did ≡ true → rank new.at < rank old.at
+    (free : Route → Bool) (replies : Replies) (old new : SubtreeCopying) (did : Did) (calls : ℕ) (dirty dirty_after : List Route) (before after : Option CallLog) (faults faults_after : ℕ)
+    → SubtreeSteps free replies old new did calls dirty dirty_after before after faults faults_after → IsSteady old.at → IsGoing old → goes_on did ≡ true → rank new.at < rank old.at
 
 -- A copy that begins is steady, as this law wants it, and each step, skip and retry keeps it so.
 pub record SteadyLaw : Type 0 where
   pub begins : (job : ℕ) (top : Pair) → (let copy : SubtreeCopying = started job top in IsSteady copy.at)
-  pub step : (free : Route → Bool) (old new : SubtreeCopying) (did : Did) (calls : ℕ) (dirty dirty_after : List Route) (before after : Option CallLog) (faults faults_after : ℕ)
-      → SubtreeSteps free old new did calls dirty dirty_after before after faults faults_after → IsSteady old.at → IsSteady new.at
+  pub step : (free : Route → Bool) (replies : Replies) (old new : SubtreeCopying) (did : Did) (calls : ℕ) (dirty dirty_after : List Route) (before after : Option CallLog) (faults faults_after : ℕ)
+      → SubtreeSteps free replies old new did calls dirty dirty_after before after faults faults_after → IsSteady old.at → IsSteady new.at
   pub skip : (cause : Cause) (old new : SubtreeCopying) (did : Did) → SubtreeSkips cause old did new → IsSteady old.at → IsSteady new.at
   pub retry : (c : SubtreeCopying) → IsSteady c.at → (let again : SubtreeCopying = retries c in IsSteady again.at)
 

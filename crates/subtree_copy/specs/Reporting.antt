@@ -3,6 +3,7 @@ use Rattle.std.specs.Prelude.{◌≡◌, ℕ, ⊤, Bool, true, false, List, Opti
 use Rattle.mc_text.specs.Routes.{Route}
 use Rattle.tree_trait.specs.Change.{CallLog}
 use Rattle.job_answers.specs.Skipping.{holds, kind_in}
+use Rattle.job_answers.specs.declared.replies.Replies.{Replies}
 use Rattle.job_reports.specs.declared.report.Cause.{Cause}
 use Rattle.job_reports.specs.declared.report.Did.{Did}
 use Rattle.job_reports.specs.declared.report.Did.TheVariants.{Began, Chunk, Placed, Removed, Made, Set, Kept, Skipped, Cleaned, Barrier, Asked, Merges, Troubled, Ended}
@@ -15,11 +16,11 @@ use Rattle.tree_copy.specs.InPlace.{IsInPlace}
 use Rattle.subtree_copy.specs.Standing.{SubtreeCopying, is_own, part_of}
 use Rattle.subtree_copy.specs.SubtreeSteps.{LastSubtreeStep, SubtreeSteps}
 
--- it removes nothing but its own part, and keeps nothing; its own end is that of all, and then no part stands
+-- it removes nothing but its own part; its own end is that of all, and then no part stands
 abbrev pub MayTell : Did → Type 0
 MayTell (Removed path) = ⊥
-MayTell (Kept path) = ⊥
-MayTell (Asked question) = ⊥
+MayTell (Kept path) = ⊤
+MayTell (Asked question) = ⊤
 MayTell (Merges pair names) = ⊤
 MayTell (Ended Finished part) = part ≡ None
 MayTell (Ended Aborted part) = ⊥
@@ -74,14 +75,14 @@ pub record ChangesOwn (c : SubtreeCopying) (did : Did) (dirty dirty_after : List
   pub synced : was ≡ true → now ≡ false → did ≡ Barrier
 
 pub record ReportingLaw : Type 0 where
-  pub step : (free : Route → Bool) (old new : SubtreeCopying) (did : Did) (calls : ℕ) (dirty dirty_after : List Route) (before after : Option CallLog) (faults faults_after : ℕ)
-      → SubtreeSteps free old new did calls dirty dirty_after before after faults faults_after → MayTell did
+  pub step : (free : Route → Bool) (replies : Replies) (old new : SubtreeCopying) (did : Did) (calls : ℕ) (dirty dirty_after : List Route) (before after : Option CallLog) (faults faults_after : ℕ)
+      → SubtreeSteps free replies old new did calls dirty dirty_after before after faults faults_after → MayTell did
   pub last : (ending : Ending) (old new : SubtreeCopying) (last : LastStepResult) (dirty dirty_after : List Route) (before after : Option CallLog) (faults faults_after : ℕ)
       → LastSubtreeStep ending old new last dirty dirty_after before after faults faults_after → IsWindable old.at.item → IsWound ending old last.did new
-  pub list : (free : Route → Bool) (old new : SubtreeCopying) (did : Did) (calls : ℕ) (dirty dirty_after : List Route) (before after : Option CallLog) (faults faults_after : ℕ)
-      → SubtreeSteps free old new did calls dirty dirty_after before after faults faults_after → IsInPlace old.top old.at → ChangesOwn old did dirty dirty_after
+  pub list : (free : Route → Bool) (replies : Replies) (old new : SubtreeCopying) (did : Did) (calls : ℕ) (dirty dirty_after : List Route) (before after : Option CallLog) (faults faults_after : ℕ)
+      → SubtreeSteps free replies old new did calls dirty dirty_after before after faults faults_after → IsInPlace old.top old.at → ChangesOwn old did dirty dirty_after
   -- what is passed over is in a trouble of a kind that is skipped
-  pub kinds : (free : Route → Bool) (old new : SubtreeCopying) (path : Route) (cause : Cause) (calls : ℕ) (dirty dirty_after : List Route) (before after : Option CallLog) (faults faults_after : ℕ)
-      → SubtreeSteps free old new (Skipped path cause) calls dirty dirty_after before after faults faults_after → holds old.skips (kind_in cause) ≡ true
+  pub kinds : (free : Route → Bool) (replies : Replies) (old new : SubtreeCopying) (path : Route) (cause : Cause) (calls : ℕ) (dirty dirty_after : List Route) (before after : Option CallLog) (faults faults_after : ℕ)
+      → SubtreeSteps free replies old new (Skipped path cause) calls dirty dirty_after before after faults faults_after → holds old.skips (kind_in cause) ≡ true
   -- the folder that a last step tries is the one that is worked then
   pub tried : (old new : SubtreeCopying) → new.top ≡ old.top → IsInPlace old.top new.at → is_own old new.at.levels.inner.copy.target ≡ true

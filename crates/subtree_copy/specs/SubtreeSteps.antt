@@ -2,6 +2,7 @@
 use Rattle.std.specs.Prelude.{◌≡◌, ◌⊎◌, ℕ, Bool, false, List, Option}
 use Rattle.mc_text.specs.Routes.{Route}
 use Rattle.tree_trait.specs.Change.{CallLog}
+use Rattle.job_answers.specs.declared.replies.Replies.{Replies}
 use Rattle.job_reports.specs.declared.report.Cause.{Cause}
 use Rattle.job_reports.specs.declared.report.Did.{Did}
 use Rattle.job_reports.specs.declared.report.Did.TheVariants.{Troubled}
@@ -32,25 +33,25 @@ pub record RunsShort (old new : Seen) (result : StepResult) (dirty dirty_after :
   pub later : faults_after ≡ faults
 
 -- A step of the machine. The folder that it works joins the dirty ones with its first change, and leaves them with its sync.
-pub record MachineSteps (free : Route → Bool) (old new : Seen) (result : StepResult) (dirty dirty_after : List Route) (before after : Option CallLog) (faults faults_after : ℕ) : Type 0 where
-  pub steps : CopySteps free old new result.did result.calls before after faults faults_after
+pub record MachineSteps (free : Route → Bool) (replies : Replies) (old new : Seen) (result : StepResult) (dirty dirty_after : List Route) (before after : Option CallLog) (faults faults_after : ℕ) : Type 0 where
+  pub steps : CopySteps free replies old new result.did result.calls before after faults faults_after
   pub list : dirty_after ≡ with_change (was_dirty old) (is_dirty_after old result.did new) (folder_worked old) dirty
 
 -- a step with the list of dirty folders, where no folder is left to be left
-abbrev pub ListSteps : (Route → Bool) → Seen → Seen → StepResult → List Route → List Route → Option CallLog → Option CallLog → ℕ → ℕ → Type 0
-ListSteps free old new result dirty dirty_after before after faults faults_after =
+abbrev pub ListSteps : (Route → Bool) → Replies → Seen → Seen → StepResult → List Route → List Route → Option CallLog → Option CallLog → ℕ → ℕ → Type 0
+ListSteps free replies old new result dirty dirty_after before after faults faults_after =
     RunsShort old new result dirty dirty_after before after faults faults_after
-    ⊎ MachineSteps free old new result dirty dirty_after before after faults faults_after
+    ⊎ MachineSteps free replies old new result dirty dirty_after before after faults faults_after
 
 -- A step: folders that owe nothing are left; the machine makes a step; and what it is in trouble with is passed over, where troubles of
 -- that kind are skipped.
-pub record SubtreeSteps (free : Route → Bool) (old new : SubtreeCopying) (did : Did) (calls : ℕ) (dirty dirty_after : List Route) (before after : Option CallLog) (faults faults_after : ℕ) : Type 0 where
+pub record SubtreeSteps (free : Route → Bool) (replies : Replies) (old new : SubtreeCopying) (did : Did) (calls : ℕ) (dirty dirty_after : List Route) (before after : Option CallLog) (faults faults_after : ℕ) : Type 0 where
   pub mid : Seen
   pub leaves : LeavesSettled old.at mid
   pub settled : may_leave mid ≡ false
   pub worked : StepResult
   pub moved : Seen
-  pub works : ListSteps free mid moved worked dirty dirty_after before after faults faults_after
+  pub works : ListSteps free replies mid moved worked dirty dirty_after before after faults faults_after
   pub going : IsWorkable moved.item
   pub passes : OrPassedOver old.skips worked moved new.at (step_result did calls)
   pub stands : new ≡ record old { at = new.at }

@@ -3,6 +3,7 @@
 use Rattle.std.specs.Prelude.{◌≡◌, ℕ, Bool, List, Option, Some, None}
 use Rattle.mc_text.specs.Routes.{Route}
 use Rattle.tree_trait.specs.Change.{CallLog}
+use Rattle.job_answers.specs.declared.replies.Replies.{Replies}
 use Rattle.job_reports.specs.declared.report.Cause.{Cause}
 use Rattle.job_reports.specs.declared.report.Did.{Did}
 use Rattle.job_reports.specs.declared.report.Did.TheVariants.{Began, Placed, Cleaned}
@@ -30,7 +31,7 @@ pub record IsKept (old new : SubtreeCopying) : Type 0 where
 
 -- So it stands after each step and each skip; and a retry changes nothing of that.
 pub record ToldLaw : Type 0 where
-  pub step : (free : Route → Bool) (old new : SubtreeCopying) (did : Did) (calls : ℕ) (dirty dirty_after : List Route) (before after : Option CallLog) (faults faults_after : ℕ)
-      → SubtreeSteps free old new did calls dirty dirty_after before after faults faults_after → IsGoing old → IsAfter did old new
+  pub step : (free : Route → Bool) (replies : Replies) (old new : SubtreeCopying) (did : Did) (calls : ℕ) (dirty dirty_after : List Route) (before after : Option CallLog) (faults faults_after : ℕ)
+      → SubtreeSteps free replies old new did calls dirty dirty_after before after faults faults_after → IsGoing old → IsAfter did old new
   pub skip : (cause : Cause) (old new : SubtreeCopying) (did : Did) → SubtreeSkips cause old did new → IsGoing old → IsAfter did old new
   pub retry : (c : SubtreeCopying) → IsKept c (retries c)

@@ -2,6 +2,7 @@
 use Rattle.std.specs.Prelude.{◌≡◌, ◌≤◌, ℕ, ⊤, Bool, true, false, List, [], length, Option}
 use Rattle.mc_text.specs.Routes.{Route}
 use Rattle.tree_trait.specs.Change.{CallLog}
+use Rattle.job_answers.specs.declared.replies.Replies.{Replies}
 use Rattle.job_reports.specs.declared.job.Pair.{Pair}
 use Rattle.job_reports.specs.declared.report.Cause.{Cause}
 use Rattle.job_reports.specs.declared.report.Did.{Did}
@@ -37,8 +38,8 @@ MayBegin (Chunk count) = ⊥
 MayBegin (Placed path) = ⊥
 MayBegin (Removed path) = ⊥
 MayBegin (Set path) = ⊥
-MayBegin (Kept path) = ⊥
-MayBegin (Asked question) = ⊥
+MayBegin (Kept path) = ⊤
+MayBegin (Asked question) = ⊤
 MayBegin (Merges pair names) = ⊤
 MayBegin (Cleaned part) = ⊥
 MayBegin Barrier = ⊥
@@ -46,12 +47,12 @@ MayBegin Barrier = ⊥
 -- So it is of a copy that begins, and each step, skip and retry keeps it. No trouble of such a copy is at a barrier.
 pub record UnbegunLaw : Type 0 where
   pub begins : (job : ℕ) (top : Pair) → (let copy : SubtreeCopying = started job top in IsUnbegun copy.at)
-  pub step : (free : Route → Bool) (old new : SubtreeCopying) (did : Did) (calls : ℕ) (dirty dirty_after : List Route) (before after : Option CallLog) (faults faults_after : ℕ)
-      → SubtreeSteps free old new did calls dirty dirty_after before after faults faults_after → IsGoing old → IsUnbegun old.at → IsUnbegun new.at
+  pub step : (free : Route → Bool) (replies : Replies) (old new : SubtreeCopying) (did : Did) (calls : ℕ) (dirty dirty_after : List Route) (before after : Option CallLog) (faults faults_after : ℕ)
+      → SubtreeSteps free replies old new did calls dirty dirty_after before after faults faults_after → IsGoing old → IsUnbegun old.at → IsUnbegun new.at
   pub skip : (cause : Cause) (old new : SubtreeCopying) (did : Did) → SubtreeSkips cause old did new → IsGoing old → IsUnbegun old.at → IsUnbegun new.at
   pub retry : (c : SubtreeCopying) → IsUnbegun c.at → (let again : SubtreeCopying = retries c in IsUnbegun again.at)
-  pub trouble : (free : Route → Bool) (old new : SubtreeCopying) (trouble : Trouble) (calls : ℕ) (dirty dirty_after : List Route) (before after : Option CallLog) (faults faults_after : ℕ)
-      → SubtreeSteps free old new (Troubled trouble) calls dirty dirty_after before after faults faults_after → IsSteady old.at → IsGoing old → IsUnbegun old.at → is_fresh new.at.stage ≡ true
+  pub trouble : (free : Route → Bool) (replies : Replies) (old new : SubtreeCopying) (trouble : Trouble) (calls : ℕ) (dirty dirty_after : List Route) (before after : Option CallLog) (faults faults_after : ℕ)
+      → SubtreeSteps free replies old new (Troubled trouble) calls dirty dirty_after before after faults faults_after → IsSteady old.at → IsGoing old → IsUnbegun old.at → is_fresh new.at.stage ≡ true
       → trouble.barrier ≡ false
-  pub first : (free : Route → Bool) (old new : SubtreeCopying) (did : Did) (calls : ℕ) (dirty dirty_after : List Route) (before after : Option CallLog) (faults faults_after : ℕ)
-      → SubtreeSteps free old new did calls dirty dirty_after before after faults faults_after → IsUnbegun old.at → is_fresh old.at.stage ≡ true → MayBegin did
+  pub first : (free : Route → Bool) (replies : Replies) (old new : SubtreeCopying) (did : Did) (calls : ℕ) (dirty dirty_after : List Route) (before after : Option CallLog) (faults faults_after : ℕ)
+      → SubtreeSteps free replies old new did calls dirty dirty_after before after faults faults_after → IsUnbegun old.at → is_fresh old.at.stage ≡ true → MayBegin did

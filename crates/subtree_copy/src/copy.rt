@@ -16,7 +16,7 @@ use crate::passing::or_passed_over;
 use crate::standing::{into_part, is_at_barrier, named, part};
 use crate::working::work;
 use file_copy::PartTest;
-use job_answers::{Skips, kind_of};
+use job_answers::{Replies, Skips, kind_of};
 use job_reports::{Cause, Did, Ending, LastStepResult, Pair, StepResult};
 use mc_text::{NoMemory, Path};
 use std::alloc::Global;
@@ -46,7 +46,7 @@ impl Model for SubtreeCopy {
 }
 
 impl SubtreeCopy {
-    /// The copy of the thing at the source of `top`, to its target, at which nothing stands. Neither is the root.
+    /// The copy of the thing at the source of `top`, to its target. Neither is the root.
     pub fn begin(alloc: Global, job: u32, top: Pair) -> Result<SubtreeCopy, NoMemory>
         requires source { is_some (parent_of top.source) ≡ true }
         requires target { is_some (parent_of top.target) ≡ true }
@@ -64,23 +64,25 @@ impl SubtreeCopy {
         })
     }
 
-    /// Does the next piece of work. Where that is in a trouble of a kind that is skipped, it is passed over.
+    /// Does the next piece of work, where this was answered to the job's questions. Where that is in a trouble of a kind that is skipped, it is
+    /// passed over.
     pub fn step<T: Tree, P: PartTest>(
         &mut self,
         alloc: Global,
         tree: &mut T,
         parts: &P,
         dirty: &mut Dirty,
+        replies: Replies,
     ) -> StepResult
         requires going { IsGoing self.old }
-        ensures steps { SubtreeSteps (P.is_free parts.now) self.old self.new result.did result.calls
+        ensures steps { SubtreeSteps (P.is_free parts.now) replies self.old self.new result.did result.calls
             dirty.old dirty.new (T.contents tree.old) (T.contents tree.new) (T.fault_count tree.old) (T.fault_count tree.new) }
         ensures own { ChangesOwn self.old result.did dirty.old dirty.new }
         ensures in_place { IsInPlace self.old.top self.old.at }
         ensures going { IsGoing self.new }
     {
         leave_settled(&mut self.machine);
-        let worked = work(&mut self.machine, alloc, tree, parts, dirty);
+        let worked = work(&mut self.machine, alloc, tree, parts, replies, dirty);
         or_passed_over(&mut self.machine, alloc, self.skips, worked)
     }
 

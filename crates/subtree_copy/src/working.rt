@@ -14,6 +14,7 @@ use crate::dirt::{brings_made, is_left_dirty};
 use crate::leaving::is_done;
 use crate::standing::is_at_barrier;
 use file_copy::PartTest;
+use job_answers::Replies;
 use job_reports::{Did, StepResult, out_of_memory};
 use std::alloc::Global;
 use tree_copy::TreeCopy;
@@ -26,22 +27,23 @@ pub(crate) fn work<T: Tree, P: PartTest>(
     alloc: Global,
     tree: &mut T,
     parts: &P,
+    replies: Replies,
     dirty: &mut Dirty,
 ) -> StepResult
     requires workable { IsWorkable machine.old.item }
     requires settled { may_leave (seen machine.old) ≡ false }
-    ensures works { ListSteps (P.is_free parts.now) (seen machine.old) (seen machine.new) result dirty.old dirty.new
+    ensures works { ListSteps (P.is_free parts.now) replies (seen machine.old) (seen machine.new) result dirty.old dirty.new
         (T.contents tree.old) (T.contents tree.new) (T.fault_count tree.old) (T.fault_count tree.new) }
     ensures workable { IsWorkable machine.new.item }
 {
     if brings_made(machine) {
-        bring_made(machine, alloc, tree, parts, dirty)
+        bring_made(machine, alloc, tree, parts, replies, dirty)
     } else if is_done(machine) {
-        finish(machine, alloc, tree, parts)
+        finish(machine, alloc, tree, parts, replies)
     } else if machine.is_dirty() {
-        work_in_dirty(machine, alloc, tree, parts, dirty)
+        work_in_dirty(machine, alloc, tree, parts, replies, dirty)
     } else {
-        work_in_clean(machine, alloc, tree, parts, dirty)
+        work_in_clean(machine, alloc, tree, parts, replies, dirty)
     }
 }
 
@@ -51,16 +53,17 @@ fn bring_made<T: Tree, P: PartTest>(
     alloc: Global,
     tree: &mut T,
     parts: &P,
+    replies: Replies,
     dirty: &mut Dirty,
 ) -> StepResult
     requires workable { IsWorkable machine.old.item }
     requires settled { may_leave (seen machine.old) ≡ false }
     requires brings { brings (seen machine.old) ≡ true }
-    ensures works { ListSteps (P.is_free parts.now) (seen machine.old) (seen machine.new) result dirty.old dirty.new
+    ensures works { ListSteps (P.is_free parts.now) replies (seen machine.old) (seen machine.new) result dirty.old dirty.new
         (T.contents tree.old) (T.contents tree.new) (T.fault_count tree.old) (T.fault_count tree.new) }
     ensures workable { IsWorkable machine.new.item }
 {
-    let stepped = machine.step(alloc, tree, parts);
+    let stepped = machine.step(alloc, tree, parts, replies);
     let synced = !machine.stack.is_around_dirty();
     dirty.remove_if(synced, machine.stack.target_around());
     stepped
@@ -72,16 +75,17 @@ fn finish<T: Tree, P: PartTest>(
     alloc: Global,
     tree: &mut T,
     parts: &P,
+    replies: Replies,
 ) -> StepResult
     requires workable { IsWorkable machine.old.item }
     requires settled { may_leave (seen machine.old) ≡ false }
     requires inner { brings (seen machine.old) ≡ false }
     requires ended { has_ended (seen machine.old) ≡ true }
-    ensures works { (dirty : List Route) → ListSteps (P.is_free parts.now) (seen machine.old) (seen machine.new) result dirty dirty
+    ensures works { (dirty : List Route) → ListSteps (P.is_free parts.now) replies (seen machine.old) (seen machine.new) result dirty dirty
         (T.contents tree.old) (T.contents tree.new) (T.fault_count tree.old) (T.fault_count tree.new) }
     ensures workable { IsWorkable machine.new.item }
 {
-    machine.step(alloc, tree, parts)
+    machine.step(alloc, tree, parts, replies)
 }
 
 /// The folder that is worked, which is dirty, leaves the list with its sync.
@@ -90,17 +94,18 @@ fn work_in_dirty<T: Tree, P: PartTest>(
     alloc: Global,
     tree: &mut T,
     parts: &P,
+    replies: Replies,
     dirty: &mut Dirty,
 ) -> StepResult
     requires workable { IsWorkable machine.old.item }
     requires settled { may_leave (seen machine.old) ≡ false }
     requires inner { brings (seen machine.old) ≡ false }
     requires marked { is_dirty machine.old.stack.levels.inner.copy.names ≡ true }
-    ensures works { ListSteps (P.is_free parts.now) (seen machine.old) (seen machine.new) result dirty.old dirty.new
+    ensures works { ListSteps (P.is_free parts.now) replies (seen machine.old) (seen machine.new) result dirty.old dirty.new
         (T.contents tree.old) (T.contents tree.new) (T.fault_count tree.old) (T.fault_count tree.new) }
     ensures workable { IsWorkable machine.new.item }
 {
-    let stepped = machine.step(alloc, tree, parts);
+    let stepped = machine.step(alloc, tree, parts, replies);
     let synced = !is_left_dirty(machine, &stepped.did);
     dirty.remove_if(synced, machine.folder());
     stepped
@@ -112,6 +117,7 @@ fn work_in_clean<T: Tree, P: PartTest>(
     alloc: Global,
     tree: &mut T,
     parts: &P,
+    replies: Replies,
     dirty: &mut Dirty,
 ) -> StepResult
     requires workable { IsWorkable machine.old.item }
@@ -119,14 +125,14 @@ fn work_in_clean<T: Tree, P: PartTest>(
     requires inner { brings (seen machine.old) ≡ false }
     requires left { has_ended (seen machine.old) ≡ false }
     requires clean { is_dirty machine.old.stack.levels.inner.copy.names ≡ false }
-    ensures works { ListSteps (P.is_free parts.now) (seen machine.old) (seen machine.new) result dirty.old dirty.new
+    ensures works { ListSteps (P.is_free parts.now) replies (seen machine.old) (seen machine.new) result dirty.old dirty.new
         (T.contents tree.old) (T.contents tree.new) (T.fault_count tree.old) (T.fault_count tree.new) }
     ensures workable { IsWorkable machine.new.item }
 {
     let Ok(joined) = dirty.join(alloc, machine.folder()) else {
         return without_memory(is_at_barrier(machine));
     };
-    let stepped = machine.step(alloc, tree, parts);
+    let stepped = machine.step(alloc, tree, parts, replies);
     let changed = is_left_dirty(machine, &stepped.did);
     dirty.drop_last_if(but_not(joined, changed));
     stepped

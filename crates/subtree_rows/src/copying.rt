@@ -6,7 +6,8 @@ ghost use Rattle.subtree_copy.specs.Standing.{IsGoing};
 use crate::orders::Orders;
 use crate::telling::{Told, tell_skip, tell_step};
 use file_copy::PartTest;
-use job_reports::{Cause, Did, Ending, Pair};
+use job_answers::Replies;
+use job_reports::{Answer, Cause, Did, Ending, Pair};
 use mc_text::Path;
 use row_page::{Page, number};
 use row_reports::tell_of;
@@ -37,6 +38,7 @@ impl PartTest for Claims {
 #[derive(Clone, Copy)]
 enum Then {
     Step,
+    Ask,
     Answer(Cause),
     Nothing,
 }
@@ -127,13 +129,20 @@ fn has_ended<T: Tree>(
         free: orders.claimed.is_empty(),
     };
     let mut answered = 0usize;
+    let mut replies = Replies::new();
     for made in 0..MOST_STEPS {
         if is_after(orders.abort, made) {
             return false;
         }
-        match step(page, tree, copy, &claims, dirty, told) {
+        match step(page, tree, copy, &claims, replies, dirty, told) {
             Then::Step => {}
             Then::Nothing => return true,
+            Then::Ask => {
+                if !is_replied(&mut replies, letter(orders.answers, answered)) {
+                    return false;
+                }
+                answered = answered.saturating_add(1);
+            }
             Then::Answer(cause) => {
                 if !is_answered(page, copy, cause, letter(orders.answers, answered)) {
                     return false;
@@ -149,6 +158,20 @@ fn has_ended<T: Tree>(
 /// The letter that stands there.
 fn letter(answers: &str, place: usize) -> Option<u8> {
     answers.as_bytes().get(place).copied()
+}
+
+/// Answers a question; whether the copy goes on.
+fn is_replied(replies: &mut Replies, answer: Option<u8>) -> bool {
+    match answer {
+        Some(b'y') => replies.note(Answer::Yes),
+        Some(b'n') => replies.note(Answer::No),
+        Some(b'a') => replies.note(Answer::All),
+        Some(b'u') => replies.note(Answer::Update),
+        Some(b'o') => replies.note(Answer::Nothing),
+        Some(b's') => replies.note(Answer::SizeDiffers),
+        _ => return false,
+    }
+    true
 }
 
 /// Answers a trouble; whether the copy goes on.
@@ -176,13 +199,14 @@ fn step<T: Tree>(
     tree: &mut T,
     copy: &mut SubtreeCopy,
     claims: &Claims,
+    replies: Replies,
     dirty: &mut Dirty,
     told: &mut Told,
 ) -> Then
     requires going { IsGoing copy.old }
     ensures going { IsGoing copy.new }
 {
-    let stepped = copy.step(page.alloc(), tree, claims, dirty);
+    let stepped = copy.step(page.alloc(), tree, claims, dirty, replies);
     tell_step(page, told, &stepped.did, stepped.calls);
     after(&stepped.did)
 }
@@ -190,6 +214,7 @@ fn step<T: Tree>(
 fn after(did: &Did) -> Then {
     match did {
         Did::Troubled(trouble) => Then::Answer(trouble.cause),
+        Did::Asked(_) => Then::Ask,
         Did::Ended { .. } => Then::Nothing,
         _ => Then::Step,
     }

@@ -1,5 +1,5 @@
 -- A copy that begins is in its place, and steady.
-use Rattle.std.proofs.Common.{◌≡◌, ℕ, refl, ap, inl, inr, List, [], ◌∷◌}
+use Rattle.std.proofs.Common.{◌≡◌, ℕ, refl, ap, inl, inr, List, [], ◌∷◌, arith}
 use Rattle.tree_trait.specs.CrashImages.{Among}
 use Rattle.tree_copy.specs.declared.copy.Named.{Named}
 use Rattle.tree_copy.specs.Beginning.{BeginningLaw}
@@ -10,6 +10,6 @@ only source name (inr none) = absurd none
 
 pub beginning_law : BeginningLaw
 beginning_law job source target = (
-  record { name = refl; levels = record { from = refl; to = refl; keeps = refl; only = λ name is. only source name is }; item = tt },
+  record { name = refl; levels = record { from = refl; to = refl; keeps = refl; only = λ name is. only source name is; one = omega arith }; alone = tt; item = tt },
   record { named = tt; made = refl },
 )

@@ -1,10 +1,11 @@
 -- Each changing call of a step, and of a last step, is one that a copy may make; and its part stays beside its target.
 use Rattle.std.specs.Prelude.{◌⊎◌}
-use Rattle.std.proofs.Common.{◌≡◌, ℕ, zero, suc, refl, sym, ◌∙◌, ap, subst, inl, inr, Bool, true, List, [], ◌∷◌, Option, Some, None, Err}
+use Rattle.std.proofs.Common.{◌≡◌, ℕ, zero, suc, refl, sym, ◌∙◌, ap, subst, inl, inr, Bool, true, List, [], ◌∷◌, length, arith, Option, Some, None, Err}
 use Rattle.mc_text.specs.Routes.{Route}
 use Rattle.tree_trait.specs.declared.calls.TreeError.{TreeError}
 use Rattle.tree_trait.specs.Calls.{RemoveFile, SyncFolder}
 use Rattle.tree_trait.specs.Change.{CallLog}
+use Rattle.job_answers.specs.declared.replies.Replies.{Replies}
 use Rattle.tree_trait.specs.Answers.{IfKnown, Performs}
 use Rattle.job_reports.specs.declared.job.Pair.{Pair}
 use Rattle.job_reports.specs.declared.report.Cause.{Cause}
@@ -14,6 +15,7 @@ use Rattle.job_reports.specs.declared.report.LastStepResult.{LastStepResult}
 use Rattle.file_copy.specs.Copying as file
 use Rattle.file_copy.specs.Copying.{Copying, part_at}
 use Rattle.file_copy.specs.CopySteps as file_steps
+use Rattle.file_copy.specs.declared.stage.SourceFacts.{SourceFacts}
 use Rattle.file_copy.specs.declared.stage.Stage.{Stage as FileStage}
 use Rattle.file_copy.specs.declared.stage.Stage.TheVariants as file_stage
 use Rattle.folder_copy.specs.FolderCopying.{FolderCopying}
@@ -36,9 +38,9 @@ use Rattle.tree_copy.specs.Parts.{IsPartPlace}
 use Rattle.tree_copy.specs.Progress.{link_progress, progress}
 use Rattle.tree_copy.specs.Skipping.{SkipsAt, SkipsFile, SkipsLink, SkipsName, SkipsNamed, SkipsRest, retried_at}
 use Rattle.tree_copy.specs.Standing.{Seen}
-use Rattle.tree_copy.specs.Steps.{FileWorks, GoesOn, Leaves, LeavesAll, LinkWorks, SyncsAround, TakesNext, WorksOn, at_end, idle, link_begun, noted, settled}
+use Rattle.tree_copy.specs.Steps.{FileBegins, FileWorks, GoesOn, Leaves, LeavesAll, LinkWorks, SyncsAround, TakesNext, WorksOn, at_end, idle, link_begun, noted, settled}
 use Rattle.tree_copy.proofs.Callings.{followed, none, one, told_after}
-use Rattle.tree_copy.proofs.CallsMade.{KeepsFile, file_makes, file_winds, folder_sync, level_makes, link_makes, make_makes, part_of}
+use Rattle.tree_copy.proofs.CallsMade.{KeepsFile, file_makes, file_winds, folder_sync, level_makes, link_makes, make_makes, part_makes, part_of}
 use Rattle.tree_copy.proofs.InPlaces.{closed_in_place, leaves_all, levels_keep, pair_moved}
 use Rattle.tree_copy.proofs.Staying.{left_moved}
 
@@ -78,6 +80,17 @@ module _ (top : Pair) (job : ℕ) where
       (settled_part job (progress w.moved.stage) (File w.moved) (noted did (file.is_dirty w.moved.folder) (idle old)) (k.0 ∙ by, k.2) (noted_part job did (file.is_dirty w.moved.folder) (idle old) (idle_part job old h))))
       makes.1
 
+  -- the part of a file is made
+  file_begins : (unclaimed : Route → Type 0) (facts : SourceFacts) (f : Copying) (old new : Seen) (did : Did) (before after : Option CallLog) → FileBegins unclaimed facts f old new did before after
+      → IsMoved top f.source f.target → f.job ≡ job → IsBeside job f.target (part_at f.stage) → HasPart job old → Makes before after new
+  file_begins unclaimed facts f old new did before after w m by beside h log known =
+      let makes = part_makes top job unclaimed facts f w.moved did log after by (f.source, m) beside w.tells (w.called log known) in
+      let k : KeepsFile top job f w.moved = makes.0 in
+      kept new log after
+      (subst (HasPart job) (sym w.stands)
+      (settled_part job (progress w.moved.stage) (File w.moved) (noted did (file.is_dirty w.moved.folder) (idle old)) (k.0 ∙ by, k.2) (noted_part job did (file.is_dirty w.moved.folder) (idle old) (idle_part job old h))))
+      makes.1
+
   link_step : (l : LinkCopying) (old new : Seen) (did : Did) (before after : Option CallLog) → LinkWorks l old new did before after → IsMoved top l.source l.target
       → IfKnown before (λ log. IsPartFor job l.target l.part) → HasPart job old → Makes before after new
   link_step l old new did before after w m beside h log known =
@@ -90,45 +103,48 @@ module _ (top : Pair) (job : ℕ) where
   no_call : (old new : Seen) (before after : Option CallLog) → after ≡ before → new ≡ old → HasPart job old → Makes before after new
   no_call old new before after same stays h log known = (subst (HasPart job) (sym stays) h, none (MayCall top job) log after (same ∙ known))
 
-  takes : (unclaimed : Route → Type 0) (old new : Seen) (did : Did) (before after : Option CallLog) → TakesNext unclaimed old new did before after → IsInPlace top old → HasPart job old → Makes before after new
-  takes unclaimed old new did before after (inl s) p h = no_call old new before after s.same s.stands h
-  takes unclaimed old new did before after (inr (inl t)) p h =
-      file_step unclaimed (file.begun old.job t.pair.source t.pair.target) old new did before after t.works (pair_moved top old.levels.inner.names.names old t.pair refl t.next p) h.by tt h
-  takes unclaimed old new did before after (inr (inr (inl t))) p h =
+  takes : (unclaimed : Route → Type 0) (replies : Replies) (old new : Seen) (did : Did) (before after : Option CallLog) → TakesNext unclaimed replies old new did before after → IsInPlace top old → HasPart job old → Makes before after new
+  takes unclaimed replies old new did before after (inl s) p h = no_call old new before after s.same s.stands h
+  takes unclaimed replies old new did before after (inr (inl t)) p h =
+      file_begins unclaimed t.facts (file.begun old.job t.pair.source t.pair.target) old new did before after t.works (pair_moved top old.levels.inner.names.names old t.pair refl t.next p) h.by tt h
+  takes unclaimed replies old new did before after (inr (inr (inl t))) p h =
       link_step (link_begun t.pair t.part) old new did before after t.works (pair_moved top old.levels.inner.names.names old t.pair refl t.next p)
       (λ log known. let chosen = t.chosen log known in subst (λ n. IsPartFor n t.pair.target t.part) h.by (chosen.0, chosen.1)) h
-  takes unclaimed old new did before after (inr (inr (inr (inl t)))) p h = λ log known.
+  takes unclaimed replies old new did before after (inr (inr (inr (inl t)))) p h = λ log known.
       let w = t.works in (
         subst (HasPart job) (sym w.stands) record { by = h.by; beside = h.beside },
         make_makes top job t.pair t.mode w.report log after (pair_moved top old.levels.inner.names.names old t.pair refl t.next p) (w.called log known),
       )
-  takes unclaimed old new did before after (inr (inr (inr (inr (inl t))))) p h = λ log known.
+  takes unclaimed replies old new did before after (inr (inr (inr (inr (inl t))))) p h = λ log known.
       (subst (HasPart job) (sym t.stands) record { by = h.by; beside = h.beside }, none (MayCall top job) log after (t.same ∙ known))
-  takes unclaimed old new did before after (inr (inr (inr (inr (inr (next, inl (debt, e))))))) p h = λ log known.
+  takes unclaimed replies old new did before after (inr (inr (inr (inr (inr (inl t)))))) p h = λ log known.
+      (subst (HasPart job) (sym t.stands) record { by = h.by; beside = h.beside }, none (MayCall top job) log after (t.same ∙ known))
+  takes unclaimed replies old new did before after (inr (inr (inr (inr (inr (inr (inl t))))))) p h = no_call old new before after t.same t.stands h
+  takes unclaimed replies old new did before after (inr (inr (inr (inr (inr (inr (inr (next, inl (debt, e))))))))) p h = λ log known.
       let at = closed_in_place top old p in (
         subst (HasPart job) (sym e.stands) record { by = h.by; beside = h.beside },
         level_makes top job old.levels.around (let c = at_end old in c.levels.inner) e.report log after at.levels (e.called log known),
       )
-  takes unclaimed old new did before after (inr (inr (inr (inr (inr (next, inr (debt, f, same))))))) p h = no_call (at_end old) new before after same f.stands record { by = h.by; beside = h.beside }
+  takes unclaimed replies old new did before after (inr (inr (inr (inr (inr (inr (inr (next, inr (debt, f, same))))))))) p h = no_call (at_end old) new before after same f.stands record { by = h.by; beside = h.beside }
 
   syncs : (old new : Seen) (did : Did) (before after : Option CallLog) → SyncsAround old new did before after → IsInPlace top old → HasPart job old → Makes before after new
   syncs old new did before after s p h = λ log known.
       let k = subst (λ (xs : List Level). AreMoved top old.levels.inner xs) s.was p.levels in (
         subst (HasPart job) (sym s.stands) record { by = h.by; beside = h.beside },
         level_makes top job s.around (level s.outer.names (at_sync s.outer.copy)) s.report log after
-            (levels_keep top s.outer (level s.outer.names (at_sync s.outer.copy)) s.around refl refl (λ o. refl) (λ name n. n) k.1) (s.called log known),
+            (levels_keep top s.outer (level s.outer.names (at_sync s.outer.copy)) s.around refl refl (λ o. refl) (λ name n. n) (omega arith) k.1) (s.called log known),
       )
 
-  goes : (unclaimed : Route → Type 0) (old new : Seen) (did : Did) (before after : Option CallLog) → GoesOn unclaimed old new did before after → IsInPlace top old → HasPart job old → Makes before after new
-  goes unclaimed old new did before after (inl s) p h = syncs old new did before after s p h
-  goes unclaimed old new did before after (inr s) p h = takes unclaimed old new did before after s.1 p h
+  goes : (unclaimed : Route → Type 0) (replies : Replies) (old new : Seen) (did : Did) (before after : Option CallLog) → GoesOn unclaimed replies old new did before after → IsInPlace top old → HasPart job old → Makes before after new
+  goes unclaimed replies old new did before after (inl s) p h = syncs old new did before after s p h
+  goes unclaimed replies old new did before after (inr s) p h = takes unclaimed replies old new did before after s.1 p h
 
-  works : (unclaimed : Route → Type 0) (item : Item) (old new : Seen) (did : Did) (before after : Option CallLog) → WorksOn item unclaimed old new did before after → ItemMoved top item → ItemBeside job item
+  works : (unclaimed : Route → Type 0) (replies : Replies) (item : Item) (old new : Seen) (did : Did) (before after : Option CallLog) → WorksOn item unclaimed replies old new did before after → ItemMoved top item → ItemBeside job item
       → IsInPlace top old → HasPart job old → Makes before after new
-  works unclaimed Next old new did before after w m b p h = goes unclaimed old new did before after w p h
-  works unclaimed (File f) old new did before after w m b p h = file_step unclaimed f old new did before after w m b.0 b.1 h
-  works unclaimed (Link l) old new did before after w m b p h = link_step l old new did before after w m (λ log known. b) h
-  works unclaimed (Stays part) old new did before after w m b p h = absurd w
+  works unclaimed replies Next old new did before after w m b p h = goes unclaimed replies old new did before after w p h
+  works unclaimed replies (File f) old new did before after w m b p h = file_step unclaimed f old new did before after w m b.0 b.1 h
+  works unclaimed replies (Link l) old new did before after w m b p h = link_step l old new did before after w m (λ log known. b) h
+  works unclaimed replies (Stays part) old new did before after w m b p h = absurd w
 
   -- the last steps
   stays_beside : (part : Option Route) → ItemBeside job (stays_if part)
@@ -244,10 +260,10 @@ retries_at job (Stays part) c b h = h
 
 pub call_law : CallLaw
 call_law = record {
-  step = λ free top job old new did calls before after f0 f1 s p h.
+  step = λ free replies top job old new did calls before after f0 f1 s p h.
       let mid = all_leave job s.folders old s.mid s.leaves h in
       let at = leaves_all top s.folders old s.mid s.leaves p in
-      works top job (IsPartPlace free s.mid) s.mid.item s.mid new did before after s.works at.item mid.beside at mid;
+      works top job (IsPartPlace free s.mid) replies s.mid.item s.mid new did before after s.works at.item mid.beside at mid;
   last_step = λ top job ending old new last before after f0 f1 w p h. winds top job old.item ending old new last before after f0 f1 w p.item h.beside p h;
   skip = λ job cause old new did s h. skips_at job old.item cause old new did s h.beside h;
   retry = λ job old h. retries_at job old.item old h.beside h;

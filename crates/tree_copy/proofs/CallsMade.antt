@@ -19,11 +19,13 @@ use Rattle.job_reports.specs.CallRuns.{AllDone}
 use Rattle.job_reports.specs.Paths.{folder_of}
 use Rattle.file_copy.specs.Copying as file
 use Rattle.file_copy.specs.Copying.{Copying, part_at, places_of}
-use Rattle.file_copy.specs.CopyCalls.{CopyCalls, CopyStops, making, part_mode, placing, writing}
+use Rattle.file_copy.specs.CopyCalls.{CopyCalls, CopyStops, PartStops, making, making_with, part_mode, placing, writing}
 use Rattle.file_copy.specs.CopySteps as file_steps
+use Rattle.file_copy.specs.PartSteps.{MadeCalls, TellsMade}
 use Rattle.file_copy.specs.LastSteps as file_last
 use Rattle.file_copy.specs.declared.stage.Next.{Next as FileNext}
 use Rattle.file_copy.specs.declared.stage.Next.TheVariants as file_next
+use Rattle.file_copy.specs.declared.stage.SourceFacts.{SourceFacts}
 use Rattle.file_copy.specs.declared.stage.Stage.{Stage as FileStage}
 use Rattle.file_copy.specs.declared.stage.Stage.TheVariants as file_stage
 use Rattle.folder_copy.specs.FolderCopying as folder
@@ -133,6 +135,34 @@ module _ (top : Pair) (job : ℕ) where
   file_makes unclaimed f new (Asked question) log after by is beside t c = absurd t
   file_makes unclaimed f new (Merges pair names) log after by is beside t c = absurd t
   file_makes unclaimed f new (Skipped path cause) log after by is beside t c = absurd t
+
+  -- what stops the making of a part
+  part_stops : (unclaimed : Route → Type 0) (mode : ℕ) (f : Copying) (cause : Cause) (path : Option Route) (log : CallLog) (after : Option CallLog) → f.job ≡ job → IsTargetOf top f.target
+      → PartStops unclaimed (places_of f) mode cause path log after → MakesOnly May log after
+  part_stops unclaimed mode f cause path log after by is (inl s) = none May log after s.1
+  part_stops unclaimed mode f cause path log after by is (inr s) =
+      stopped May (making_with mode (places_of f) s.0 ∷ []) cause path log after (part_of f.target (part_path (places_of f) s.0) is (chosen f s.0 by), tt) s.2
+
+  pub part_makes : (unclaimed : Route → Type 0) (facts : SourceFacts) (f new : Copying) (did : Did) (log : CallLog) (after : Option CallLog) → f.job ≡ job → IsTargetOf top f.target
+      → IsBeside job f.target (part_at f.stage) → TellsMade facts f did new → MadeCalls unclaimed facts f did log after → KeepsFile f new × MakesOnly May log after
+  part_makes unclaimed facts f new (Began part) log after by is beside t c =
+      let part_is : IsPartFor job f.target part = subst (λ n. IsPartFor n f.target part) by (c.0, c.1) in (
+        keeps_file f _ new t refl refl part_is,
+        all_done May (making_with facts.mode (places_of f) c.0 ∷ []) log after (part_of f.target (part_path (places_of f) c.0) is (chosen f c.0 by), tt) c.3,
+      )
+  part_makes unclaimed facts f new (Troubled trouble) log after by is beside t c = (keeps_file f f new t.1 refl refl beside, part_stops unclaimed facts.mode f trouble.cause trouble.path log after by is c)
+  part_makes unclaimed facts f new (Chunk count) log after by is beside t c = absurd t
+  part_makes unclaimed facts f new (Placed path) log after by is beside t c = absurd t
+  part_makes unclaimed facts f new (Removed path) log after by is beside t c = absurd t
+  part_makes unclaimed facts f new (Made path) log after by is beside t c = absurd t
+  part_makes unclaimed facts f new (Set path) log after by is beside t c = absurd t
+  part_makes unclaimed facts f new (Kept path) log after by is beside t c = absurd t
+  part_makes unclaimed facts f new (Skipped path cause) log after by is beside t c = absurd t
+  part_makes unclaimed facts f new (Cleaned part) log after by is beside t c = absurd t
+  part_makes unclaimed facts f new Barrier log after by is beside t c = absurd t
+  part_makes unclaimed facts f new (Asked question) log after by is beside t c = absurd t
+  part_makes unclaimed facts f new (Merges pair names) log after by is beside t c = absurd t
+  part_makes unclaimed facts f new (Ended ending part) log after by is beside t c = absurd t
 
   -- a link's calls, by its stage
   link_may : (s : FileSystem) (l : LinkCopying) (stage : LinkStage) → IsTargetOf top l.target → IsPartFor job l.target l.part → AllMay May (link_call s l stage)

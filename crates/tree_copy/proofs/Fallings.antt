@@ -1,8 +1,9 @@
 -- Each thing that is decided leaves fewer.
-use Rattle.std.proofs.Common.{◌≡◌, ℕ, ◌<◌, ◌≤◌, ◌^◌, suc, zero, refl, sym, ◌∙◌, ap, subst, inl, inr, Bool, true, false, List, [], ◌∷◌, length, arith, Option}
+use Rattle.std.proofs.Common.{◌≡◌, ℕ, ◌<◌, ◌≤◌, ◌^◌, suc, zero, refl, sym, ◌∙◌, ap, subst, inl, inr, Bool, true, false, List, [], ◌∷◌, length, arith, Option, None}
 use Rattle.std.specs.Prelude.{◌||◌, map}
 use Rattle.std.proofs.lemmas.Bool.{false≢true}
 use Rattle.mc_text.specs.Routes.{Route}
+use Rattle.job_answers.specs.declared.replies.Replies.{Replies}
 use Rattle.tree_trait.specs.Change.{CallLog}
 use Rattle.job_reports.specs.declared.job.Pair.{Pair}
 use Rattle.job_reports.specs.declared.report.Did.{Did}
@@ -35,6 +36,7 @@ use Rattle.tree_copy.specs.Progress.{link_progress, progress}
 use Rattle.tree_copy.specs.Reports.{IsToldAs}
 use Rattle.tree_copy.specs.Standing.{Seen, after_report, due_at}
 use Rattle.tree_copy.specs.Steps.{FileWorks, FolderEnds, FolderMakes, GoesOn, Leaves, LeavesAll, LinkWorks, SyncsAround, TakesNext, WorksOn, at_end, idle, noted, settled}
+use Rattle.tree_copy.proofs.PartsBegin.{file_taken}
 
 or_false : (b : Bool) → (b || false) ≡ b
 or_false true = refl
@@ -231,15 +233,15 @@ named_at (name ∷ names) c pair is = omega arith
 stays_so : (old new : Seen) (did : Did) → new ≡ old → decides did ≡ false → IsSteady old → Leaving old new (decides did ≡ true)
 stays_so old new did is none h = subst (λ (s : Seen). Leaving old s (decides did ≡ true)) (sym is) (h, same_many (things_left old), λ yes. absurd (false≢true (sym none ∙ yes)))
 
-takes_leave : (unclaimed : Route → Type 0) (old new : Seen) (did : Did) (before after : Option CallLog) → TakesNext unclaimed old new did before after → old.item ≡ Next → IsSteady old
+takes_leave : (unclaimed : Route → Type 0) (replies : Replies) (old new : Seen) (did : Did) (before after : Option CallLog) → TakesNext unclaimed replies old new did before after → old.item ≡ Next → IsSteady old
     → Leaving old new (decides did ≡ true)
-takes_leave unclaimed old new did before after (inl s) free h = stays_so old new did s.stands (ap decides s.says) h
-takes_leave unclaimed old new did before after (inr (inl t)) free h =
-    file_leaves unclaimed (file.begun old.job t.pair.source t.pair.target) old new did before after t.works (named_at old.levels.inner.names.names old t.pair t.next) h.made
-takes_leave unclaimed old new did before after (inr (inr (inl t))) free h = link_leaves _ old new did before after t.works (named_at old.levels.inner.names.names old t.pair t.next) h.made
-takes_leave unclaimed old new did before after (inr (inr (inr (inl t)))) free h =
+takes_leave unclaimed replies old new did before after (inl s) free h = stays_so old new did s.stands (ap decides s.says) h
+takes_leave unclaimed replies old new did before after (inr (inl t)) free h =
+    file_leaves unclaimed (file.begun old.job t.pair.source t.pair.target) old new did None None (file_taken unclaimed replies old new did before after t) (named_at old.levels.inner.names.names old t.pair t.next) h.made
+takes_leave unclaimed replies old new did before after (inr (inr (inl t))) free h = link_leaves _ old new did before after t.works (named_at old.levels.inner.names.names old t.pair t.next) h.made
+takes_leave unclaimed replies old new did before after (inr (inr (inr (inl t)))) free h =
     folder_leaves t.pair t.names t.mode old new did before after t.works (let r = t.reach in r.0) (named_at old.levels.inner.names.names old t.pair t.next) free h.made
-takes_leave unclaimed old new did before after (inr (inr (inr (inr (inl t))))) free h =
+takes_leave unclaimed replies old new did before after (inr (inr (inr (inr (inl t))))) free h =
     let less = pass_falls false (walked old.levels) (named_at old.levels.inner.names.names old t.pair t.next) in
     subst (λ (s : Seen). Leaving old s (decides did ≡ true)) (sym t.stands) (
       record {
@@ -249,8 +251,19 @@ takes_leave unclaimed old new did before after (inr (inr (inr (inr (inl t))))) f
       omega (arith, less),
       λ yes. less,
     )
-takes_leave unclaimed old new did before after (inr (inr (inr (inr (inr (next, inl (debt, e))))))) free h = end_leaves (at_end old) new did before after e free (closed_made old h.made)
-takes_leave unclaimed old new did before after (inr (inr (inr (inr (inr (next, inr (debt, f, same))))))) free h =
+takes_leave unclaimed replies old new did before after (inr (inr (inr (inr (inr (inl t)))))) free h =
+    let less = pass_falls false (walked old.levels) (named_at old.levels.inner.names.names old t.pair t.next) in
+    subst (λ (s : Seen). Leaving old s (decides did ≡ true)) (sym t.stands) (
+      record {
+        named = subst (λ (i : Item). HasName i (passed false old.levels)) (sym free) tt;
+        made = made_inner old.levels.inner _ old.levels.around (inner_made old.levels.inner old.levels.around h.made) h.made;
+      },
+      omega (arith, less),
+      λ yes. less,
+    )
+takes_leave unclaimed replies old new did before after (inr (inr (inr (inr (inr (inr (inl t))))))) free h = stays_so old new did t.stands (ap decides t.says) h
+takes_leave unclaimed replies old new did before after (inr (inr (inr (inr (inr (inr (inr (next, inl (debt, e))))))))) free h = end_leaves (at_end old) new did before after e free (closed_made old h.made)
+takes_leave unclaimed replies old new did before after (inr (inr (inr (inr (inr (inr (inr (next, inr (debt, f, same))))))))) free h =
     stays_so (at_end old) new did f.stands (ap decides f.says) (record { named = subst (λ (i : Item). HasName i (let c = at_end old in c.levels)) (sym free) tt; made = closed_made old h.made })
 
 -- the folder around is synced
@@ -272,23 +285,23 @@ syncs_leave old new did before after s free h =
       λ yes. absurd (end_decides_not (at_sync s.outer.copy) (record (at_sync s.outer.copy) { names = s.names }) s.report did s.says s.tells refl yes),
     )
 
-goes_leave : (unclaimed : Route → Type 0) (old new : Seen) (did : Did) (before after : Option CallLog) → GoesOn unclaimed old new did before after → old.item ≡ Next → IsSteady old
+goes_leave : (unclaimed : Route → Type 0) (replies : Replies) (old new : Seen) (did : Did) (before after : Option CallLog) → GoesOn unclaimed replies old new did before after → old.item ≡ Next → IsSteady old
     → Leaving old new (decides did ≡ true)
-goes_leave unclaimed old new did before after (inl s) free h = syncs_leave old new did before after s free h
-goes_leave unclaimed old new did before after (inr s) free h = takes_leave unclaimed old new did before after s.1 free h
+goes_leave unclaimed replies old new did before after (inl s) free h = syncs_leave old new did before after s free h
+goes_leave unclaimed replies old new did before after (inr s) free h = takes_leave unclaimed replies old new did before after s.1 free h
 
-works_leave : (unclaimed : Route → Type 0) (item : Item) (old new : Seen) (did : Did) (before after : Option CallLog) → old.item ≡ item → WorksOn item unclaimed old new did before after → IsSteady old
+works_leave : (unclaimed : Route → Type 0) (replies : Replies) (item : Item) (old new : Seen) (did : Did) (before after : Option CallLog) → old.item ≡ item → WorksOn item unclaimed replies old new did before after → IsSteady old
     → Leaving old new (decides did ≡ true)
-works_leave unclaimed Next old new did before after is w h = goes_leave unclaimed old new did before after w is h
-works_leave unclaimed (File f) old new did before after is w h =
+works_leave unclaimed replies Next old new did before after is w h = goes_leave unclaimed replies old new did before after w is h
+works_leave unclaimed replies (File f) old new did before after is w h =
     file_leaves unclaimed f old new did before after w (let n = subst (λ (i : Item). HasName i old.levels) is h.named in n) h.made
-works_leave unclaimed (Link l) old new did before after is w h =
+works_leave unclaimed replies (Link l) old new did before after is w h =
     link_leaves l old new did before after w (let n = subst (λ (i : Item). HasName i old.levels) is h.named in n) h.made
-works_leave unclaimed (Stays part) old new did before after is w h = absurd w
+works_leave unclaimed replies (Stays part) old new did before after is w h = absurd w
 
 pub falling_law : FallingLaw
-falling_law free old new did calls before after f0 f1 s h =
+falling_law free replies old new did calls before after f0 f1 s h =
     let m = all_leave s.folders old s.mid s.leaves h in
-    let l = works_leave (IsPartPlace free s.mid) s.mid.item s.mid new did before after refl s.works m.0 in
+    let l = works_leave (IsPartPlace free s.mid) replies s.mid.item s.mid new did before after refl s.works m.0 in
     let a = m.1 in let b = l.1 in
     (l.0, omega (arith, a, b), λ yes. let less = l.2 yes in omega (arith, a, less))

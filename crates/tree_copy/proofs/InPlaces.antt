@@ -1,7 +1,8 @@
 -- The copy keeps to its place with each step.
-use Rattle.std.proofs.Common.{◌≡◌, ℕ, suc, zero, refl, sym, ◌∙◌, ap, subst, inl, inr, Bool, true, false, List, [], ◌∷◌, drop, Option, None}
+use Rattle.std.proofs.Common.{◌≡◌, ℕ, suc, zero, refl, sym, ◌∙◌, ap, subst, inl, inr, Bool, true, false, List, [], ◌∷◌, drop, length, arith, ◌≤◌, Option, None}
 use Rattle.std.specs.Prelude.{if◌then◌else◌}
 use Rattle.mc_text.specs.Routes.{Route}
+use Rattle.job_answers.specs.declared.replies.Replies.{Replies}
 use Rattle.tree_trait.specs.Change.{CallLog}
 use Rattle.tree_trait.specs.CrashImages.{Among}
 use Rattle.job_reports.specs.declared.job.Pair.{Pair}
@@ -28,13 +29,14 @@ use Rattle.tree_copy.specs.declared.item.Item.TheVariants.{Next, File, Link, Sta
 use Rattle.copy_levels.specs.declared.level.Level.{Level}
 use Rattle.tree_copy.specs.declared.progress.Progress.{Progress}
 use Rattle.tree_copy.specs.declared.progress.Progress.TheVariants.{UnderWay, Decided, Anew}
-use Rattle.tree_copy.specs.InPlace.{AreMoved, IsInPlace, IsMoved, IsTargetOf, ItemMoved, NamesTarget, PlaceLaw, owed_of}
+use Rattle.tree_copy.specs.InPlace.{AreMoved, IsInPlace, IsMoved, IsTargetOf, ItemMoved, NamesTarget, NoneBeside, PlaceLaw, owed_of}
 use Rattle.copy_levels.specs.Levels.{closed, dirtied, level, made_levels, passed, with_copy}
 use Rattle.tree_copy.specs.Parts.{IsPartPlace}
 use Rattle.tree_copy.specs.Progress.{link_progress, progress}
 use Rattle.tree_copy.specs.Reports.{IsToldAs}
 use Rattle.tree_copy.specs.Standing.{Seen, after_report, due_at, pair_of}
 use Rattle.tree_copy.specs.Steps.{FileWorks, FolderEnds, FolderMakes, GoesOn, Leaves, LeavesAll, LinkWorks, SyncsAround, TakesNext, WorksOn, at_end, idle, noted as noted_seen, settled}
+use Rattle.tree_copy.proofs.PartsBegin.{file_taken}
 
 -- the paths of a copy stay
 pub file_paths : (f new : Copying) (did : Did) → file.Tells f did new → (new.source ≡ f.source) × (new.target ≡ f.target)
@@ -84,14 +86,37 @@ moved_to top source target s t a b m = record { rest = m.rest; from = a ∙ m.fr
 
 -- a level changes while its paths stay
 pub levels_keep : (top : Pair) (old new : Level) (around : List Level) → new.copy.source ≡ old.copy.source → new.copy.target ≡ old.copy.target
-    → (owed_of old.copy.stage ≡ None → owed_of new.copy.stage ≡ None) → ((name : List ℕ) → Among new.names.names name → Among old.names.names name)
+    → (owed_of old.copy.stage ≡ None → owed_of new.copy.stage ≡ None) → ((name : List ℕ) → Among new.names.names name → Among old.names.names name) → length new.names.names ≤ length old.names.names
     → AreMoved top old around → AreMoved top new around
-levels_keep top old new [] s t owed among h = record { from = s ∙ h.from; to = t ∙ h.to; keeps = owed h.keeps; only = λ name is. h.only name (among name is) }
-levels_keep top old new (outer ∷ around) s t owed among h = (moved_to top old.copy.source old.copy.target new.copy.source new.copy.target s t h.0, h.1)
+levels_keep top old new [] s t owed among many h =
+    record { from = s ∙ h.from; to = t ∙ h.to; keeps = owed h.keeps; only = λ name is. h.only name (among name is); one = (let one = h.one in omega (arith, many, one)) }
+levels_keep top old new (outer ∷ around) s t owed among many h = (moved_to top old.copy.source old.copy.target new.copy.source new.copy.target s t h.0, h.1)
 
 pub fewer : (names : List (List ℕ)) (name : List ℕ) → Among (let d = drop 1 names in d) name → Among names name
 fewer [] name h = h
 fewer (x ∷ names) name h = inr h
+
+-- where a name is gone into none is left beside it
+none_more : (names : List (List ℕ)) → length names ≤ 1 → (let d = drop 1 names in d) ≡ []
+none_more [] one = refl
+none_more (x ∷ []) one = refl
+none_more (x ∷ y ∷ names) one = absurd (omega (arith, one))
+
+gone_into : (top : Pair) (inner : Level) (around : List Level) (outer : Level) → outer.names.names ≡ (let d = drop 1 inner.names.names in d) → AreMoved top inner around → NoneBeside around → NoneBeside (outer ∷ around)
+gone_into top inner [] outer is h alone = is ∙ none_more inner.names.names h.one
+gone_into top inner (next ∷ around) outer is h alone = alone
+
+pub left_beside : (outer : Level) (was around : List Level) → was ≡ outer ∷ around → NoneBeside was → NoneBeside around
+left_beside outer was [] is alone = tt
+left_beside outer was (next ∷ around) is alone = subst NoneBeside is alone
+
+synced_beside : (outer : Level) (names : NamesState) (was around : List Level) → was ≡ outer ∷ around → NoneBeside was → NoneBeside (level outer.names (record outer.copy { names = names }) ∷ around)
+synced_beside outer names was [] is alone = subst NoneBeside is alone
+synced_beside outer names was (next ∷ around) is alone = subst NoneBeside is alone
+
+pub fewer_many : (names : List (List ℕ)) → length (let d = drop 1 names in d) ≤ length names
+fewer_many [] = omega arith
+fewer_many (x ∷ names) = omega arith
 
 closing_owed : (stage : Stage) → owed_of stage ≡ None → owed_of (folder.closing stage) ≡ None
 closing_owed (Make mode) h = h
@@ -109,21 +134,22 @@ owes_none c new (folder_did.Troubled trouble) t h = ap (λ (x : FolderCopying). 
 
 pub dirty_keeps : (changed : Bool) (top : Pair) (inner : Level) (around : List Level) → AreMoved top inner around
     → AreMoved top (let l = dirtied changed (record { inner = inner; around = around; left = 0 }) in l.inner) around
-dirty_keeps true top inner around h = levels_keep top inner (record inner { copy = record inner.copy { names = Dirty } }) around refl refl (λ o. o) (λ name is. is) h
-dirty_keeps false top inner around h = levels_keep top inner (record inner { copy = inner.copy }) around refl refl (λ o. o) (λ name is. is) h
+dirty_keeps true top inner around h = levels_keep top inner (record inner { copy = record inner.copy { names = Dirty } }) around refl refl (λ o. o) (λ name is. is) (omega arith) h
+dirty_keeps false top inner around h = levels_keep top inner (record inner { copy = inner.copy }) around refl refl (λ o. o) (λ name is. is) (omega arith) h
 
 module _ (top : Pair) where
   pub idle_in_place : (c : Seen) → IsInPlace top c → IsInPlace top (idle c)
-  idle_in_place c h = record { name = h.name; levels = h.levels; item = tt }
+  idle_in_place c h = record { name = h.name; levels = h.levels; alone = h.alone; item = tt }
 
   noted_in_place : (did : Did) (changed : Bool) (c : Seen) → IsInPlace top c → IsInPlace top (noted_seen did changed c)
-  noted_in_place did changed c h = record { name = h.name; levels = dirty_keeps changed top c.levels.inner c.levels.around h.levels; item = h.item }
+  noted_in_place did changed c h = record { name = h.name; levels = dirty_keeps changed top c.levels.inner c.levels.around h.levels; alone = h.alone; item = h.item }
 
   pub settled_in_place : (p : Progress) (item : Item) (c : Seen) → ItemMoved top item → IsInPlace top c → IsInPlace top (settled p item c)
-  settled_in_place UnderWay item c moved h = record { name = h.name; levels = h.levels; item = moved }
+  settled_in_place UnderWay item c moved h = record { name = h.name; levels = h.levels; alone = h.alone; item = moved }
   settled_in_place Decided item c moved h = record {
     name = h.name;
-    levels = levels_keep top c.levels.inner (let l = passed false c.levels in l.inner) c.levels.around refl refl (λ o. o) (λ name is. fewer c.levels.inner.names.names name is) h.levels;
+    levels = levels_keep top c.levels.inner (let l = passed false c.levels in l.inner) c.levels.around refl refl (λ o. o) (λ name is. fewer c.levels.inner.names.names name is) (fewer_many c.levels.inner.names.names) h.levels;
+    alone = h.alone;
     item = h.item;
   }
   settled_in_place Anew item c moved h = h
@@ -209,13 +235,14 @@ module _ (top : Pair) where
     levels = (
       m,
       levels_keep top c.levels.inner (let l = dirtied true c.levels in record { names = without_next c.levels.inner.names; copy = l.inner.copy }) c.levels.around refl refl (λ o. o)
-          (λ name is. fewer c.levels.inner.names.names name is) h.levels,
+          (λ name is. fewer c.levels.inner.names.names name is) (fewer_many c.levels.inner.names.names) h.levels,
     );
+    alone = gone_into top c.levels.inner c.levels.around (let l = dirtied true c.levels in record { names = without_next c.levels.inner.names; copy = l.inner.copy }) refl h.levels h.alone;
     item = h.item;
   }
-  made_in_place (Make mode) names moved c to m h = record { name = h.name; levels = h.levels; item = h.item }
-  made_in_place (Close owed) names moved c to m h = record { name = h.name; levels = h.levels; item = h.item }
-  made_in_place Done names moved c to m h = record { name = h.name; levels = h.levels; item = h.item }
+  made_in_place (Make mode) names moved c to m h = record { name = h.name; levels = h.levels; alone = h.alone; item = h.item }
+  made_in_place (Close owed) names moved c to m h = record { name = h.name; levels = h.levels; alone = h.alone; item = h.item }
+  made_in_place Done names moved c to m h = record { name = h.name; levels = h.levels; alone = h.alone; item = h.item }
 
   names_made : (c new : FolderCopying) (mode : ℕ) (report : FolderDid) (did : Did) → c.stage ≡ Make mode → IsToldAs report did → folder.Tells c report new → IsMoved top c.source c.target → NamesTarget top did
   names_made c new mode (folder_did.Made path) did is told t m = subst (NamesTarget top) (sym told) (c.source, moved_to top c.source c.target c.source path refl t.2 m)
@@ -237,7 +264,8 @@ module _ (top : Pair) where
   pub closed_in_place : (c : Seen) → IsInPlace top c → IsInPlace top (at_end c)
   closed_in_place c h = record {
     name = h.name;
-    levels = levels_keep top c.levels.inner (let l = closed c.levels in l.inner) c.levels.around refl refl (closing_owed c.levels.inner.copy.stage) (λ name is. is) h.levels;
+    levels = levels_keep top c.levels.inner (let l = closed c.levels in l.inner) c.levels.around refl refl (closing_owed c.levels.inner.copy.stage) (λ name is. is) (omega arith) h.levels;
+    alone = h.alone;
     item = h.item;
   }
 
@@ -261,7 +289,8 @@ module _ (top : Pair) where
       let same = folder_paths old.levels.inner.copy w.moved w.report w.tells in (
         subst (IsInPlace top) (sym w.stands) record {
           name = h.name;
-          levels = levels_keep top old.levels.inner (let l = with_copy w.moved old.levels in l.inner) old.levels.around same.0 same.1 (owes_none old.levels.inner.copy w.moved w.report w.tells) (λ name is. is) h.levels;
+          levels = levels_keep top old.levels.inner (let l = with_copy w.moved old.levels in l.inner) old.levels.around same.0 same.1 (owes_none old.levels.inner.copy w.moved w.report w.tells) (λ name is. is) (omega arith) h.levels;
+          alone = h.alone;
           item = h.item;
         },
         names_end old.levels.around old.levels.inner w.moved w.report did w.says w.tells h.levels,
@@ -278,6 +307,7 @@ module _ (top : Pair) where
       subst (IsInPlace top) (sym r.stands) record {
         name = b.name;
         levels = around_moved (let c = at_end old in c.levels.inner) new.levels.inner old.levels.around new.levels.around (let x = r.left in x.was) b.levels;
+        alone = left_beside new.levels.inner old.levels.around new.levels.around (let x = r.left in x.was) b.alone;
         item = b.item;
       }
 
@@ -285,30 +315,41 @@ module _ (top : Pair) where
   leaves_all zero old new is h = subst (IsInPlace top) (sym is) h
   leaves_all (suc n) old new l h = leaves_keep l.0 new l.3 (leaves_all n old l.0 l.1 h)
 
-  takes_keep : (unclaimed : Route → Type 0) (old new : Seen) (did : Did) (before after : Option CallLog) → TakesNext unclaimed old new did before after → IsInPlace top old → IsInPlace top new × NamesTarget top did
-  takes_keep unclaimed old new did before after (inl s) h = (subst (IsInPlace top) (sym s.stands) h, subst (NamesTarget top) (sym s.says) tt)
-  takes_keep unclaimed old new did before after (inr (inl t)) h =
-      file_keeps unclaimed (file.begun old.job t.pair.source t.pair.target) old new did before after t.works (pair_moved old.levels.inner.names.names old t.pair refl t.next h) h
-  takes_keep unclaimed old new did before after (inr (inr (inl t))) h = link_keeps _ old new did before after t.works (pair_moved old.levels.inner.names.names old t.pair refl t.next h) h
-  takes_keep unclaimed old new did before after (inr (inr (inr (inl t)))) h =
+  takes_keep : (unclaimed : Route → Type 0) (replies : Replies) (old new : Seen) (did : Did) (before after : Option CallLog) → TakesNext unclaimed replies old new did before after → IsInPlace top old → IsInPlace top new × NamesTarget top did
+  takes_keep unclaimed replies old new did before after (inl s) h = (subst (IsInPlace top) (sym s.stands) h, subst (NamesTarget top) (sym s.says) tt)
+  takes_keep unclaimed replies old new did before after (inr (inl t)) h =
+      file_keeps unclaimed (file.begun old.job t.pair.source t.pair.target) old new did None None (file_taken unclaimed replies old new did before after t) (pair_moved old.levels.inner.names.names old t.pair refl t.next h) h
+  takes_keep unclaimed replies old new did before after (inr (inr (inl t))) h = link_keeps _ old new did before after t.works (pair_moved old.levels.inner.names.names old t.pair refl t.next h) h
+  takes_keep unclaimed replies old new did before after (inr (inr (inr (inl t)))) h =
       folder_keeps t.pair t.names t.mode old new did before after t.works (pair_moved old.levels.inner.names.names old t.pair refl t.next h) h
-  takes_keep unclaimed old new did before after (inr (inr (inr (inr (inl t))))) h = (
+  takes_keep unclaimed replies old new did before after (inr (inr (inr (inr (inl t))))) h = (
     subst (IsInPlace top) (sym t.stands) record {
       name = h.name;
-      levels = levels_keep top old.levels.inner (let l = passed false old.levels in l.inner) old.levels.around refl refl (λ o. o) (λ name is. fewer old.levels.inner.names.names name is) h.levels;
+      levels = levels_keep top old.levels.inner (let l = passed false old.levels in l.inner) old.levels.around refl refl (λ o. o) (λ name is. fewer old.levels.inner.names.names name is) (fewer_many old.levels.inner.names.names) h.levels;
+      alone = h.alone;
       item = h.item;
     },
     subst (NamesTarget top) (sym t.says) tt,
   )
-  takes_keep unclaimed old new did before after (inr (inr (inr (inr (inr (next, inl (debt, e))))))) h = ends_keep (at_end old) new did before after e (closed_in_place old h)
-  takes_keep unclaimed old new did before after (inr (inr (inr (inr (inr (next, inr (debt, f, same))))))) h =
+  takes_keep unclaimed replies old new did before after (inr (inr (inr (inr (inr (inl t)))))) h = (
+    subst (IsInPlace top) (sym t.stands) record {
+      name = h.name;
+      levels = levels_keep top old.levels.inner (let l = passed false old.levels in l.inner) old.levels.around refl refl (λ o. o) (λ name is. fewer old.levels.inner.names.names name is) (fewer_many old.levels.inner.names.names) h.levels;
+      alone = h.alone;
+      item = h.item;
+    },
+    subst (NamesTarget top) (sym t.says) tt,
+  )
+  takes_keep unclaimed replies old new did before after (inr (inr (inr (inr (inr (inr (inl t))))))) h = (subst (IsInPlace top) (sym t.stands) h, subst (NamesTarget top) (sym t.says) tt)
+  takes_keep unclaimed replies old new did before after (inr (inr (inr (inr (inr (inr (inr (next, inl (debt, e))))))))) h = ends_keep (at_end old) new did before after e (closed_in_place old h)
+  takes_keep unclaimed replies old new did before after (inr (inr (inr (inr (inr (inr (inr (next, inr (debt, f, same))))))))) h =
       (subst (IsInPlace top) (sym f.stands) (closed_in_place old h), subst (NamesTarget top) (sym f.says) tt)
 
   -- the folder around is synced
   pub synced_around : (inner outer : Level) (names : NamesState) (was around : List Level) → was ≡ outer ∷ around → AreMoved top inner was → AreMoved top inner (level outer.names (record outer.copy { names = names }) ∷ around)
   synced_around inner outer names was around is h =
       let k = subst (λ (xs : List Level). AreMoved top inner xs) is h in
-      (k.0, levels_keep top outer (level outer.names (record outer.copy { names = names })) around refl refl (λ o. o) (λ name n. n) k.1)
+      (k.0, levels_keep top outer (level outer.names (record outer.copy { names = names })) around refl refl (λ o. o) (λ name n. n) (omega arith) k.1)
 
   names_sync : (c new : FolderCopying) (report : FolderDid) (did : Did) → c.stage ≡ Close None → IsToldAs report did → folder.Tells c report new → owed_of c.stage ≡ None → NamesTarget top did
   names_sync c new (folder_did.Made path) did at told t h = absurd (let e = sym at ∙ t.1 in let f : ⊥ = cc in f)
@@ -319,22 +360,22 @@ module _ (top : Pair) where
 
   syncs_keep : (old new : Seen) (did : Did) (before after : Option CallLog) → SyncsAround old new did before after → IsInPlace top old → IsInPlace top new × NamesTarget top did
   syncs_keep old new did before after s h = (
-    subst (IsInPlace top) (sym s.stands) record { name = h.name; levels = synced_around old.levels.inner s.outer s.names old.levels.around s.around s.was h.levels; item = h.item },
+    subst (IsInPlace top) (sym s.stands) record { name = h.name; levels = synced_around old.levels.inner s.outer s.names old.levels.around s.around s.was h.levels; alone = synced_beside s.outer s.names old.levels.around s.around s.was h.alone; item = h.item },
     names_sync (at_sync s.outer.copy) (record (at_sync s.outer.copy) { names = s.names }) s.report did refl s.says s.tells refl,
   )
 
-  goes_keep : (unclaimed : Route → Type 0) (old new : Seen) (did : Did) (before after : Option CallLog) → GoesOn unclaimed old new did before after → IsInPlace top old → IsInPlace top new × NamesTarget top did
-  goes_keep unclaimed old new did before after (inl s) h = syncs_keep old new did before after s h
-  goes_keep unclaimed old new did before after (inr s) h = takes_keep unclaimed old new did before after s.1 h
+  goes_keep : (unclaimed : Route → Type 0) (replies : Replies) (old new : Seen) (did : Did) (before after : Option CallLog) → GoesOn unclaimed replies old new did before after → IsInPlace top old → IsInPlace top new × NamesTarget top did
+  goes_keep unclaimed replies old new did before after (inl s) h = syncs_keep old new did before after s h
+  goes_keep unclaimed replies old new did before after (inr s) h = takes_keep unclaimed replies old new did before after s.1 h
 
-  works_keep : (unclaimed : Route → Type 0) (item : Item) (old new : Seen) (did : Did) (before after : Option CallLog) → WorksOn item unclaimed old new did before after → ItemMoved top item
+  works_keep : (unclaimed : Route → Type 0) (replies : Replies) (item : Item) (old new : Seen) (did : Did) (before after : Option CallLog) → WorksOn item unclaimed replies old new did before after → ItemMoved top item
       → IsInPlace top old → IsInPlace top new × NamesTarget top did
-  works_keep unclaimed Next old new did before after w m h = goes_keep unclaimed old new did before after w h
-  works_keep unclaimed (File f) old new did before after w m h = file_keeps unclaimed f old new did before after w m h
-  works_keep unclaimed (Link l) old new did before after w m h = link_keeps l old new did before after w m h
-  works_keep unclaimed (Stays part) old new did before after w m h = absurd w
+  works_keep unclaimed replies Next old new did before after w m h = goes_keep unclaimed replies old new did before after w h
+  works_keep unclaimed replies (File f) old new did before after w m h = file_keeps unclaimed f old new did before after w m h
+  works_keep unclaimed replies (Link l) old new did before after w m h = link_keeps l old new did before after w m h
+  works_keep unclaimed replies (Stays part) old new did before after w m h = absurd w
 
 pub place_law : PlaceLaw
-place_law free top old new did calls before after f0 f1 s h =
+place_law free replies top old new did calls before after f0 f1 s h =
     let m = leaves_all top s.folders old s.mid s.leaves h in
-    works_keep top (IsPartPlace free s.mid) s.mid.item s.mid new did before after s.works m.item m
+    works_keep top (IsPartPlace free s.mid) replies s.mid.item s.mid new did before after s.works m.item m

@@ -5,8 +5,10 @@ mod CallsMade
 pub mod Counting
 pub mod Fallings
 pub mod InPlaces
+mod Judged
 mod OnDisks
 mod Placed
+pub mod PartsBegin
 pub mod Staying
 mod TakenUp
 pub mod Windable

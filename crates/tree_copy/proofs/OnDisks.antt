@@ -4,6 +4,7 @@ use Rattle.std.proofs.Common.{◌≡◌, ℕ, zero, suc, refl, sym, ◌∙◌, a
 use Rattle.std.proofs.lemmas.Bool.{false≢true}
 use Rattle.mc_text.specs.Routes.{Route}
 use Rattle.tree_trait.specs.Change.{CallLog}
+use Rattle.job_answers.specs.declared.replies.Replies.{Replies}
 use Rattle.job_reports.specs.declared.report.Cause.{Cause}
 use Rattle.job_reports.specs.declared.report.Did.{Did}
 use Rattle.job_reports.specs.declared.report.Ending.{Ending}
@@ -34,6 +35,7 @@ use Rattle.tree_copy.specs.Progress.{link_progress, progress}
 use Rattle.tree_copy.specs.Skipping.{SkipsAt, SkipsName, SkipsNamed, SkipsRest, retried_at}
 use Rattle.tree_copy.specs.Standing.{Seen, after_report}
 use Rattle.tree_copy.specs.Steps.{FileWorks, GoesOn, LeavesAll, LinkWorks, SyncsAround, TakesNext, WorksOn, idle, settled}
+use Rattle.tree_copy.proofs.PartsBegin.{file_taken}
 
 -- where none of the folders around is dirty, all may go on
 from_all : (item : Item) (inner : Level) (around : List Level) → AllSynced around → AroundSynced item inner around
@@ -96,16 +98,18 @@ made_on_disk (Make mode) names moved c did clean free h = from_all c.item c.leve
 made_on_disk (Close owed) names moved c did clean free h = from_all c.item c.levels.inner c.levels.around h
 made_on_disk Done names moved c did clean free h = from_all c.item c.levels.inner c.levels.around h
 
-takes : (unclaimed : Route → Type 0) (old new : Seen) (did : Did) (before after : Option CallLog) → TakesNext unclaimed old new did before after → old.item ≡ Next → AllSynced old.levels.around → IsOnDisk new
-takes unclaimed old new did before after (inl s) free h = kept old.levels.around new (ap (λ (c : Seen). c.levels.around) s.stands) h
-takes unclaimed old new did before after (inr (inl t)) free h = kept old.levels.around new (file_around unclaimed _ old new did before after t.works) h
-takes unclaimed old new did before after (inr (inr (inl t))) free h = kept old.levels.around new (link_around _ old new did before after t.works) h
-takes unclaimed old new did before after (inr (inr (inr (inl t)))) free h =
+takes : (unclaimed : Route → Type 0) (replies : Replies) (old new : Seen) (did : Did) (before after : Option CallLog) → TakesNext unclaimed replies old new did before after → old.item ≡ Next → AllSynced old.levels.around → IsOnDisk new
+takes unclaimed replies old new did before after (inl s) free h = kept old.levels.around new (ap (λ (c : Seen). c.levels.around) s.stands) h
+takes unclaimed replies old new did before after (inr (inl t)) free h = kept old.levels.around new (file_around unclaimed _ old new did None None (file_taken unclaimed replies old new did before after t)) h
+takes unclaimed replies old new did before after (inr (inr (inl t))) free h = kept old.levels.around new (link_around _ old new did before after t.works) h
+takes unclaimed replies old new did before after (inr (inr (inr (inl t)))) free h =
     let w = t.works in
     subst IsOnDisk (sym w.stands) (made_on_disk w.moved.stage (opened t.pair.source t.names) w.moved old did (made_clean t.pair.source t.pair.target t.mode w.moved w.report w.tells) free h)
-takes unclaimed old new did before after (inr (inr (inr (inr (inl t))))) free h = kept old.levels.around new (ap (λ (c : Seen). c.levels.around) t.stands) h
-takes unclaimed old new did before after (inr (inr (inr (inr (inr (next, inl (debt, e))))))) free h = kept old.levels.around new (ap (λ (c : Seen). c.levels.around) e.stands) h
-takes unclaimed old new did before after (inr (inr (inr (inr (inr (next, inr (debt, f, same))))))) free h = kept old.levels.around new (ap (λ (c : Seen). c.levels.around) f.stands) h
+takes unclaimed replies old new did before after (inr (inr (inr (inr (inl t))))) free h = kept old.levels.around new (ap (λ (c : Seen). c.levels.around) t.stands) h
+takes unclaimed replies old new did before after (inr (inr (inr (inr (inr (inl t)))))) free h = kept old.levels.around new (ap (λ (c : Seen). c.levels.around) t.stands) h
+takes unclaimed replies old new did before after (inr (inr (inr (inr (inr (inr (inl t))))))) free h = kept old.levels.around new (ap (λ (c : Seen). c.levels.around) t.stands) h
+takes unclaimed replies old new did before after (inr (inr (inr (inr (inr (inr (inr (next, inl (debt, e))))))))) free h = kept old.levels.around new (ap (λ (c : Seen). c.levels.around) e.stands) h
+takes unclaimed replies old new did before after (inr (inr (inr (inr (inr (inr (inr (next, inr (debt, f, same))))))))) free h = kept old.levels.around new (ap (λ (c : Seen). c.levels.around) f.stands) h
 
 nearest : (item : Item) (inner outer : Level) (was around : List Level) → was ≡ outer ∷ around → AroundSynced item inner was → AroundSynced item inner (outer ∷ around)
 nearest item inner outer was around is h = subst (AroundSynced item inner) is h
@@ -116,16 +120,16 @@ syncs old new did before after s h =
     let dirty : is_dirty s.outer.copy.names ≡ true = ap is_around_dirty (sym s.was) ∙ s.dirty in
     subst IsOnDisk (sym s.stands) (λ still. k.0 dirty, k.1)
 
-goes : (unclaimed : Route → Type 0) (old new : Seen) (did : Did) (before after : Option CallLog) → GoesOn unclaimed old new did before after → old.item ≡ Next → IsOnDisk old → IsOnDisk new
-goes unclaimed old new did before after (inl s) free h = syncs old new did before after s h
-goes unclaimed old new did before after (inr s) free h = takes unclaimed old new did before after s.1 free (quiet old.item old.levels.inner old.levels.around s.0 h)
+goes : (unclaimed : Route → Type 0) (replies : Replies) (old new : Seen) (did : Did) (before after : Option CallLog) → GoesOn unclaimed replies old new did before after → old.item ≡ Next → IsOnDisk old → IsOnDisk new
+goes unclaimed replies old new did before after (inl s) free h = syncs old new did before after s h
+goes unclaimed replies old new did before after (inr s) free h = takes unclaimed replies old new did before after s.1 free (quiet old.item old.levels.inner old.levels.around s.0 h)
 
-works : (unclaimed : Route → Type 0) (item : Item) (old new : Seen) (did : Did) (before after : Option CallLog) → WorksOn item unclaimed old new did before after → old.item ≡ item
+works : (unclaimed : Route → Type 0) (replies : Replies) (item : Item) (old new : Seen) (did : Did) (before after : Option CallLog) → WorksOn item unclaimed replies old new did before after → old.item ≡ item
     → AroundSynced item old.levels.inner old.levels.around → IsOnDisk new
-works unclaimed Next old new did before after w is h = goes unclaimed old new did before after w is (subst (λ (i : Item). AroundSynced i old.levels.inner old.levels.around) (sym is) h)
-works unclaimed (File f) old new did before after w is h = kept old.levels.around new (file_around unclaimed f old new did before after w) (file_busy f old.levels.inner old.levels.around h)
-works unclaimed (Link l) old new did before after w is h = kept old.levels.around new (link_around l old new did before after w) (link_busy l old.levels.inner old.levels.around h)
-works unclaimed (Stays part) old new did before after w is h = absurd w
+works unclaimed replies Next old new did before after w is h = goes unclaimed replies old new did before after w is (subst (λ (i : Item). AroundSynced i old.levels.inner old.levels.around) (sym is) h)
+works unclaimed replies (File f) old new did before after w is h = kept old.levels.around new (file_around unclaimed f old new did before after w) (file_busy f old.levels.inner old.levels.around h)
+works unclaimed replies (Link l) old new did before after w is h = kept old.levels.around new (link_around l old new did before after w) (link_busy l old.levels.inner old.levels.around h)
+works unclaimed replies (Stays part) old new did before after w is h = absurd w
 
 -- folders that are left
 leaves : (n : ℕ) (old new : Seen) → LeavesAll n old new → IsOnDisk old → IsOnDisk new
@@ -205,8 +209,8 @@ winds_stay (Stays part) ending old new last before after f0 f1 w h = folders_sta
 pub on_disk_law : OnDiskLaw
 on_disk_law = record {
   begins = λ job source target. tt;
-  step = λ free old new did calls before after f0 f1 s h.
-      works (IsPartPlace free s.mid) s.mid.item s.mid new did before after s.works refl (leaves s.folders old s.mid s.leaves h);
+  step = λ free replies old new did calls before after f0 f1 s h.
+      works (IsPartPlace free s.mid) replies s.mid.item s.mid new did before after s.works refl (leaves s.folders old s.mid s.leaves h);
   skip = λ cause old new did s h. skips_stay old.item cause old new did s refl h;
   retry = λ old h. retries_stay old.item old refl h;
   last_step = λ ending old new last before after f0 f1 w h. winds_stay old.item ending old new last before after f0 f1 w h;

@@ -1,6 +1,6 @@
 -- A skip, a retry and a last step keep a copy in its place.
 use Rattle.std.specs.Prelude.{◌⊎◌}
-use Rattle.std.proofs.Common.{◌≡◌, ℕ, zero, suc, refl, sym, ◌∙◌, ap, subst, inl, inr, Bool, true, List, [], ◌∷◌, Option, Some, None}
+use Rattle.std.proofs.Common.{◌≡◌, ℕ, zero, suc, refl, sym, ◌∙◌, ap, subst, inl, inr, Bool, true, List, [], ◌∷◌, length, arith, Option, Some, None}
 use Rattle.mc_text.specs.Routes.{Route}
 use Rattle.tree_trait.specs.Change.{CallLog}
 use Rattle.tree_trait.specs.CrashImages.{Among}
@@ -25,14 +25,14 @@ use Rattle.tree_copy.specs.declared.item.Item.{Item}
 use Rattle.tree_copy.specs.declared.item.Item.TheVariants.{Next, File, Link, Stays}
 use Rattle.copy_levels.specs.declared.level.Level.{Level}
 use Rattle.tree_copy.specs.Ending.{EndsAll, FileWinds, FoldersWind, LinkWinds, TriesFolder, WindsAt, stays_if}
-use Rattle.tree_copy.specs.InPlace.{AreMoved, IsInPlace, IsMoved, ItemMoved, owed_of}
+use Rattle.tree_copy.specs.InPlace.{AreMoved, IsInPlace, IsMoved, ItemMoved, NoneBeside, owed_of}
 use Rattle.copy_levels.specs.Levels.{LeftAll, Levels, dirtied, emptied, level, passed, with_copy}
 use Rattle.tree_copy.specs.MadeCalls.{StayingLaw}
 use Rattle.tree_copy.specs.Progress.{link_progress, progress}
 use Rattle.tree_copy.specs.Skipping.{SkipsAt, SkipsFile, SkipsLink, SkipsName, SkipsNamed, SkipsRest, retried_at}
 use Rattle.tree_copy.specs.Standing.{Seen}
 use Rattle.tree_copy.specs.Steps.{idle}
-use Rattle.tree_copy.proofs.InPlaces.{dirty_keeps, fewer, idle_in_place, levels_keep, moved_to, settled_in_place}
+use Rattle.tree_copy.proofs.InPlaces.{dirty_keeps, fewer, fewer_many, idle_in_place, left_beside, levels_keep, moved_to, settled_in_place}
 
 skipped_owed : (stage : Stage) → owed_of stage ≡ None → owed_of (folder.skipped stage) ≡ None
 skipped_owed (Make mode) h = refl
@@ -53,12 +53,13 @@ synced_keeps c new is = subst (KeepsFolder c) (sym is) (refl, refl, λ h. h)
 
 module _ (top : Pair) where
   copy_keeps : (moved : FolderCopying) (l : Levels) → KeepsFolder l.inner.copy moved → AreMoved top l.inner l.around → AreMoved top (let n = with_copy moved l in n.inner) l.around
-  copy_keeps moved l k h = levels_keep top l.inner (level l.inner.names moved) l.around k.0 k.1 k.2 (λ name is. is) h
+  copy_keeps moved l k h = levels_keep top l.inner (level l.inner.names moved) l.around k.0 k.1 k.2 (λ name is. is) (omega arith) h
 
   rest_stays : (cause : Cause) (old new : Seen) (did : Did) → SkipsRest cause old did new → IsInPlace top old → IsInPlace top new
   rest_stays cause old new did (inl s) h = subst (IsInPlace top) (sym s.1) record {
     name = h.name;
-    levels = levels_keep top old.levels.inner (let l = emptied old.levels in l.inner) old.levels.around refl refl (λ o. o) (λ name is. absurd is) h.levels;
+    levels = levels_keep top old.levels.inner (let l = emptied old.levels in l.inner) old.levels.around refl refl (λ o. o) (λ name is. absurd is) (omega arith) h.levels;
+    alone = h.alone;
     item = h.item;
   }
   rest_stays cause old new did (inr s) h = subst (IsInPlace top) (sym s.1) h
@@ -66,7 +67,8 @@ module _ (top : Pair) where
   name_stays : (name : List ℕ) (cause : Cause) (old new : Seen) (did : Did) → SkipsName name cause old did new → IsInPlace top old → IsInPlace top new
   name_stays name cause old new did (inl s) h = subst (IsInPlace top) (sym s.1) record {
     name = h.name;
-    levels = levels_keep top old.levels.inner (let l = passed true old.levels in l.inner) old.levels.around refl refl (λ o. o) (λ n is. fewer old.levels.inner.names.names n is) h.levels;
+    levels = levels_keep top old.levels.inner (let l = passed true old.levels in l.inner) old.levels.around refl refl (λ o. o) (λ n is. fewer old.levels.inner.names.names n is) (fewer_many old.levels.inner.names.names) h.levels;
+    alone = h.alone;
     item = h.item;
   }
   name_stays name cause old new did (inr (inl s)) h = rest_stays cause old new did s.1 h
@@ -76,6 +78,7 @@ module _ (top : Pair) where
   named_stays [] cause old new did s h = subst (IsInPlace top) (sym s.2) record {
     name = h.name;
     levels = copy_keeps s.0 old.levels (folder_skipped cause old.levels.inner.copy s.0 did s.1) h.levels;
+    alone = h.alone;
     item = h.item;
   }
   named_stays (name ∷ names) cause old new did s h = name_stays name cause old new did s h
@@ -110,20 +113,24 @@ module _ (top : Pair) where
       around_stays : (inner outer : Level) (was around : List Level) → was ≡ outer ∷ around → AreMoved top inner was → AreMoved top outer around
       around_stays inner outer was around is k = let m = subst (λ (xs : List Level). AreMoved top inner xs) is k in m.1
 
+  left_all_beside : (n : ℕ) (old new : Levels) → LeftAll n old new → NoneBeside old.around → NoneBeside new.around
+  left_all_beside zero old new is h = subst (λ (l : Levels). NoneBeside l.around) (sym is) h
+  left_all_beside (suc n) old new l h = left_beside new.inner l.0.around new.around (let e = l.3 in e.was) (left_all_beside n old l.0 l.1 h)
+
   stays_moved : (part : Option Route) → ItemMoved top (stays_if part)
   stays_moved (Some part) = tt
   stays_moved None = tt
 
   winding : (ending : Ending) (part : Option Route) (mid : Levels) (old new : Seen) (last : LastStepResult) (before after : Option CallLog) (f0 f1 : ℕ)
-      → TriesFolder part mid old new last before after f0 f1 ⊎ EndsAll ending part mid old new last before after f0 f1 → AreMoved top mid.inner mid.around → IsInPlace top old → IsInPlace top new
-  winding ending part mid old new last before after f0 f1 (inl t) m h =
+      → TriesFolder part mid old new last before after f0 f1 ⊎ EndsAll ending part mid old new last before after f0 f1 → AreMoved top mid.inner mid.around → NoneBeside mid.around → IsInPlace top old → IsInPlace top new
+  winding ending part mid old new last before after f0 f1 (inl t) m a h =
       let s = t.tried in
-      subst (IsInPlace top) (sym t.stands) record { name = h.name; levels = copy_keeps t.moved mid (synced_keeps mid.inner.copy t.moved s.stands) m; item = stays_moved part }
-  winding ending part mid old new last before after f0 f1 (inr e) m h = subst (IsInPlace top) (sym e.stands) record { name = h.name; levels = m; item = tt }
+      subst (IsInPlace top) (sym t.stands) record { name = h.name; levels = copy_keeps t.moved mid (synced_keeps mid.inner.copy t.moved s.stands) m; alone = a; item = stays_moved part }
+  winding ending part mid old new last before after f0 f1 (inr e) m a h = subst (IsInPlace top) (sym e.stands) record { name = h.name; levels = m; alone = a; item = tt }
 
   folders_stay : (ending : Ending) (part : Option Route) (old new : Seen) (last : LastStepResult) (before after : Option CallLog) (f0 f1 : ℕ) → FoldersWind ending part old new last before after f0 f1
       → IsInPlace top old → IsInPlace top new
-  folders_stay ending part old new last before after f0 f1 w h = winding ending part w.mid old new last before after f0 f1 w.winds (left_moved w.count old.levels w.mid w.left h.levels) h
+  folders_stay ending part old new last before after f0 f1 w h = winding ending part w.mid old new last before after f0 f1 w.winds (left_moved w.count old.levels w.mid w.left h.levels) (left_all_beside w.count old.levels w.mid w.left h.alone) h
 
   file_stays : (ending : Ending) (f : Copying) (old new : Seen) (last : LastStepResult) (before after : Option CallLog) (f0 f1 : ℕ) → FileWinds ending f old new last before after f0 f1
       → IsInPlace top old → IsInPlace top new
@@ -133,13 +140,14 @@ module _ (top : Pair) where
       subst (IsInPlace top) (sym w.stands) record {
         name = h.name;
         levels = dirty_keeps (file.is_dirty w.moved.folder) top l.inner old.levels.around (copy_keeps synced old.levels (refl, refl, λ o. o) h.levels);
+        alone = h.alone;
         item = stays_moved (part_at w.moved.stage);
       }
 
   link_stays : (ending : Ending) (l : LinkCopying) (old new : Seen) (last : LastStepResult) (before after : Option CallLog) (f0 f1 : ℕ) → LinkWinds ending l old new last before after f0 f1
       → IsInPlace top old → IsInPlace top new
   link_stays ending l old new last before after f0 f1 (inl c) h =
-      subst (IsInPlace top) (sym c.stands) record { name = h.name; levels = dirty_keeps true top old.levels.inner old.levels.around h.levels; item = h.item }
+      subst (IsInPlace top) (sym c.stands) record { name = h.name; levels = dirty_keeps true top old.levels.inner old.levels.around h.levels; alone = h.alone; item = h.item }
   link_stays ending l old new last before after f0 f1 (inr s) h =
       let later = s.winds in folders_stay ending (Some l.part) old new later.next s.mid after s.since f1 later.winds h
 

@@ -1,6 +1,7 @@
 -- The folder of the file or link at work is the one that is worked.
-use Rattle.std.proofs.Common.{◌≡◌, ℕ, zero, suc, refl, sym, ◌∙◌, ap, subst, inl, inr, Bool, true, false, List, [], ◌∷◌, Option}
+use Rattle.std.proofs.Common.{◌≡◌, ℕ, zero, suc, refl, sym, ◌∙◌, ap, subst, inl, inr, Bool, true, false, List, [], ◌∷◌, Option, None}
 use Rattle.mc_text.specs.Routes.{Route}
+use Rattle.job_answers.specs.declared.replies.Replies.{Replies}
 use Rattle.tree_trait.specs.Change.{CallLog}
 use Rattle.job_reports.specs.declared.job.Pair.{Pair}
 use Rattle.job_reports.specs.declared.report.Cause.{Cause}
@@ -25,6 +26,7 @@ use Rattle.tree_copy.specs.Standing.{Seen, due_at, pair_of}
 use Rattle.tree_copy.specs.Steps.{FileWorks, GoesOn, LeavesAll, LinkWorks, TakesNext, WorksOn, at_end, idle, link_begun, noted, settled}
 use Rattle.tree_copy.specs.WorkedFolder.{IsInWorked, ItemIn, WorkedFolderLaw}
 use Rattle.tree_copy.proofs.InPlaces.{file_paths, link_paths}
+use Rattle.tree_copy.proofs.PartsBegin.{file_taken}
 
 -- the folder that is worked
 abbrev folder_at : Seen → Route
@@ -61,27 +63,29 @@ link_step l old new did before after w here =
     let changed = link.is_dirty w.moved.folder in
     subst IsInWorked (sym w.stands) (settled_in (link_progress w.moved.stage) (Link w.moved) (noted did changed (idle old)) refl ((ap folder_of same.1 ∙ here) ∙ sym (same_folder changed did (idle old))))
 
-takes : (unclaimed : Route → Type 0) (old new : Seen) (did : Did) (before after : Option CallLog) → TakesNext unclaimed old new did before after → old.item ≡ Next → IsInWorked new
-takes unclaimed old new did before after (inl s) free = subst IsInWorked (sym s.stands) (none_in old free)
-takes unclaimed old new did before after (inr (inl t)) free =
-    file_step unclaimed (file.begun old.job t.pair.source t.pair.target) old new did before after t.works (pair_in old.levels.inner.names.names old t.pair t.next)
-takes unclaimed old new did before after (inr (inr (inl t))) free =
+takes : (unclaimed : Route → Type 0) (replies : Replies) (old new : Seen) (did : Did) (before after : Option CallLog) → TakesNext unclaimed replies old new did before after → old.item ≡ Next → IsInWorked new
+takes unclaimed replies old new did before after (inl s) free = subst IsInWorked (sym s.stands) (none_in old free)
+takes unclaimed replies old new did before after (inr (inl t)) free =
+    file_step unclaimed (file.begun old.job t.pair.source t.pair.target) old new did None None (file_taken unclaimed replies old new did before after t) (pair_in old.levels.inner.names.names old t.pair t.next)
+takes unclaimed replies old new did before after (inr (inr (inl t))) free =
     link_step (link_begun t.pair t.part) old new did before after t.works (pair_in old.levels.inner.names.names old t.pair t.next)
-takes unclaimed old new did before after (inr (inr (inr (inl t)))) free = let w = t.works in none_in new (ap (λ (c : Seen). c.item) w.stands ∙ free)
-takes unclaimed old new did before after (inr (inr (inr (inr (inl t))))) free = none_in new (ap (λ (c : Seen). c.item) t.stands ∙ free)
-takes unclaimed old new did before after (inr (inr (inr (inr (inr (next, inl (debt, e))))))) free = none_in new (ap (λ (c : Seen). c.item) e.stands ∙ free)
-takes unclaimed old new did before after (inr (inr (inr (inr (inr (next, inr (debt, f, same))))))) free = none_in new (ap (λ (c : Seen). c.item) f.stands ∙ free)
+takes unclaimed replies old new did before after (inr (inr (inr (inl t)))) free = let w = t.works in none_in new (ap (λ (c : Seen). c.item) w.stands ∙ free)
+takes unclaimed replies old new did before after (inr (inr (inr (inr (inl t))))) free = none_in new (ap (λ (c : Seen). c.item) t.stands ∙ free)
+takes unclaimed replies old new did before after (inr (inr (inr (inr (inr (inl t)))))) free = none_in new (ap (λ (c : Seen). c.item) t.stands ∙ free)
+takes unclaimed replies old new did before after (inr (inr (inr (inr (inr (inr (inl t))))))) free = none_in new (ap (λ (c : Seen). c.item) t.stands ∙ free)
+takes unclaimed replies old new did before after (inr (inr (inr (inr (inr (inr (inr (next, inl (debt, e))))))))) free = none_in new (ap (λ (c : Seen). c.item) e.stands ∙ free)
+takes unclaimed replies old new did before after (inr (inr (inr (inr (inr (inr (inr (next, inr (debt, f, same))))))))) free = none_in new (ap (λ (c : Seen). c.item) f.stands ∙ free)
 
-goes : (unclaimed : Route → Type 0) (old new : Seen) (did : Did) (before after : Option CallLog) → GoesOn unclaimed old new did before after → old.item ≡ Next → IsInWorked new
-goes unclaimed old new did before after (inl s) free = none_in new (ap (λ (c : Seen). c.item) s.stands ∙ free)
-goes unclaimed old new did before after (inr s) free = takes unclaimed old new did before after s.1 free
+goes : (unclaimed : Route → Type 0) (replies : Replies) (old new : Seen) (did : Did) (before after : Option CallLog) → GoesOn unclaimed replies old new did before after → old.item ≡ Next → IsInWorked new
+goes unclaimed replies old new did before after (inl s) free = none_in new (ap (λ (c : Seen). c.item) s.stands ∙ free)
+goes unclaimed replies old new did before after (inr s) free = takes unclaimed replies old new did before after s.1 free
 
-works : (unclaimed : Route → Type 0) (item : Item) (old new : Seen) (did : Did) (before after : Option CallLog) → WorksOn item unclaimed old new did before after → old.item ≡ item
+works : (unclaimed : Route → Type 0) (replies : Replies) (item : Item) (old new : Seen) (did : Did) (before after : Option CallLog) → WorksOn item unclaimed replies old new did before after → old.item ≡ item
     → ItemIn (folder_at old) item → IsInWorked new
-works unclaimed Next old new did before after w is here = goes unclaimed old new did before after w is
-works unclaimed (File f) old new did before after w is here = file_step unclaimed f old new did before after w here
-works unclaimed (Link l) old new did before after w is here = link_step l old new did before after w here
-works unclaimed (Stays part) old new did before after w is here = absurd w
+works unclaimed replies Next old new did before after w is here = goes unclaimed replies old new did before after w is
+works unclaimed replies (File f) old new did before after w is here = file_step unclaimed f old new did before after w here
+works unclaimed replies (Link l) old new did before after w is here = link_step l old new did before after w here
+works unclaimed replies (Stays part) old new did before after w is here = absurd w
 
 leaves : (n : ℕ) (old new : Seen) → LeavesAll n old new → IsInWorked old → IsInWorked new
 leaves zero old new is here = subst IsInWorked (sym is) here
@@ -126,9 +130,9 @@ retries_in (Stays part) c is here = subst (ItemIn (folder_at c)) (sym is) tt
 pub worked_folder_law : WorkedFolderLaw
 worked_folder_law = record {
   begins = λ job source target. tt;
-  step = λ free old new did calls before after f0 f1 s here.
+  step = λ free replies old new did calls before after f0 f1 s here.
       let mid = leaves s.folders old s.mid s.leaves here in
-      works (IsPartPlace free s.mid) s.mid.item s.mid new did before after s.works refl mid;
+      works (IsPartPlace free s.mid) replies s.mid.item s.mid new did before after s.works refl mid;
   skip = λ cause old new did s here. skips_in old.item cause old new did s refl here;
   retry = λ old here. retries_in old.item old refl here;
 }

@@ -2,6 +2,7 @@
 use Rattle.std.specs.Prelude.{◌≡◌, ◌<◌, ◌≤◌, ℕ, ⊤, Bool, true, false, List, [], ◌∷◌, length, Option}
 use Rattle.mc_text.specs.Routes.{Route}
 use Rattle.tree_trait.specs.Change.{CallLog}
+use Rattle.job_answers.specs.declared.replies.Replies.{Replies}
 use Rattle.job_reports.specs.declared.report.Did.TheVariants as common
 use Rattle.folder_copy.specs.declared.stage.Stage.{Stage}
 use Rattle.folder_copy.specs.declared.stage.Stage.TheVariants.{Make, Fill, Close, Done}
@@ -50,6 +51,6 @@ decides did = false
 -- No step leaves more things, and each that places a thing or makes a folder leaves fewer.
 abbrev pub FallingLaw : Type 0
 FallingLaw =
-    (free : Route → Bool) (old new : Seen) (did : Did) (calls : ℕ) (before after : Option CallLog) (faults faults_after : ℕ)
-    → CopySteps free old new did calls before after faults faults_after → IsSteady old
+    (free : Route → Bool) (replies : Replies) (old new : Seen) (did : Did) (calls : ℕ) (before after : Option CallLog) (faults faults_after : ℕ)
+    → CopySteps free replies old new did calls before after faults faults_after → IsSteady old
     → IsSteady new × (things_left new ≤ things_left old) × (decides did ≡ true → things_left new < things_left old)

@@ -8,8 +8,10 @@ pub mod Standing
 pub mod Steps
 pub mod Taking
 pub mod Skipping
+pub mod Asking
 pub mod Beginning
 pub mod Ending
 pub mod Falling
 pub mod InPlace
+pub mod Judging
 pub mod WorkedFolder

@@ -6,6 +6,7 @@ use Rattle.tree_trait.specs.Calls.{Call, Stat, ListFolder, ReadAt, ReadLink, Mak
 use Rattle.tree_trait.specs.declared.calls.TreeError.{TreeError}
 use Rattle.tree_trait.specs.Change.{CallLog}
 use Rattle.tree_trait.specs.Answers.{IfKnown, Performs}
+use Rattle.job_answers.specs.declared.replies.Replies.{Replies}
 use Rattle.job_reports.specs.declared.job.Pair.{Pair}
 use Rattle.job_reports.specs.declared.report.Cause.{Cause}
 use Rattle.job_reports.specs.declared.report.Did.{Did}
@@ -78,8 +79,8 @@ pub record HasPart (job : ℕ) (c : Seen) : Type 0 where
 
 -- Each changing call of a step, and of a last step, is one of these; and the part stays beside its target.
 pub record CallLaw : Type 0 where
-  pub step : (free : Route → Bool) (top : Pair) (job : ℕ) (old new : Seen) (did : Did) (calls : ℕ) (before after : Option CallLog) (faults faults_after : ℕ)
-      → CopySteps free old new did calls before after faults faults_after → IsInPlace top old → HasPart job old
+  pub step : (free : Route → Bool) (replies : Replies) (top : Pair) (job : ℕ) (old new : Seen) (did : Did) (calls : ℕ) (before after : Option CallLog) (faults faults_after : ℕ)
+      → CopySteps free replies old new did calls before after faults faults_after → IsInPlace top old → HasPart job old
       → IfKnown before (λ log. HasPart job new × MakesOnly (MayCall top job) log after)
   pub last_step : (top : Pair) (job : ℕ) (ending : Ending) (old new : Seen) (last : LastStepResult) (before after : Option CallLog) (faults faults_after : ℕ)
       → WindsAt old.item ending old new last before after faults faults_after → IsInPlace top old → HasPart job old

@@ -19,7 +19,8 @@ use Rattle.tree_copy.specs.declared.looking.Onto.{Onto}
 use Rattle.tree_copy.specs.declared.looking.Onto.TheVariants as onto
 use Rattle.tree_copy.specs.declared.looking.Taken.{Taken}
 use Rattle.tree_copy.specs.declared.looking.Taken.TheVariants as taken
-use Rattle.tree_copy.specs.Taking.{AreShort, ChildStops, IsFree, IsOnFolder, IsShort}
+use Rattle.tree_copy.specs.Asking.{IsFree}
+use Rattle.tree_copy.specs.Taking.{AreShort, ChildStops, IsOnFolder, IsShort}
 
 -- a copy that has changed nothing yet merges a folder with a folder
 abbrev pub joins_folders : Stage → Kind → Bool

@@ -3,6 +3,7 @@
 use Rattle.std.specs.Prelude.{◌≡◌, ℕ, ⊤, Bool, true, false, List, [], ◌∷◌, Option}
 use Rattle.mc_text.specs.Routes.{Route}
 use Rattle.tree_trait.specs.Change.{CallLog}
+use Rattle.job_answers.specs.declared.replies.Replies.{Replies}
 use Rattle.job_reports.specs.declared.report.Cause.{Cause}
 use Rattle.job_reports.specs.declared.report.Did.{Did}
 use Rattle.job_reports.specs.declared.report.Ending.{Ending}
@@ -38,8 +39,8 @@ IsOnDisk c = AroundSynced c.item c.levels.inner c.levels.around
 -- A copy that begins is so, and each step, skip, retry and last step keeps it.
 pub record OnDiskLaw : Type 0 where
   pub begins : (job : ℕ) (source target : Named) → IsOnDisk (begun job source target)
-  pub step : (free : Route → Bool) (old new : Seen) (did : Did) (calls : ℕ) (before after : Option CallLog) (faults faults_after : ℕ)
-      → CopySteps free old new did calls before after faults faults_after → IsOnDisk old → IsOnDisk new
+  pub step : (free : Route → Bool) (replies : Replies) (old new : Seen) (did : Did) (calls : ℕ) (before after : Option CallLog) (faults faults_after : ℕ)
+      → CopySteps free replies old new did calls before after faults faults_after → IsOnDisk old → IsOnDisk new
   pub skip : (cause : Cause) (old new : Seen) (did : Did) → Skips cause old did new → IsOnDisk old → IsOnDisk new
   pub retry : (old : Seen) → IsOnDisk old → IsOnDisk (retried old)
   pub last_step : (ending : Ending) (old new : Seen) (last : LastStepResult) (before after : Option CallLog) (faults faults_after : ℕ)

@@ -5,6 +5,8 @@ use Rattle.mc_text.specs.Routes.{Route}
 use Rattle.tree_trait.specs.Change.{CallLog, current}
 use Rattle.tree_trait.specs.Answers.{IfKnown, HasRisen, IsAscending}
 use Rattle.job_reports.specs.declared.job.Pair.{Pair}
+use Rattle.job_answers.specs.declared.replies.Replies.{Replies}
+use Rattle.job_reports.specs.declared.question.Question.{Question}
 use Rattle.job_reports.specs.declared.report.Trouble.{Trouble}
 use Rattle.job_reports.specs.declared.report.Did.{Did}
 use Rattle.job_reports.specs.declared.report.Did.TheVariants as common
@@ -17,7 +19,10 @@ use Rattle.file_copy.specs.Copying.{Copying}
 use Rattle.file_copy.specs.CopyCalls.{CopyCalls}
 use Rattle.file_copy.specs.CopySteps.{Falls as FileFalls}
 use Rattle.file_copy.specs.LastSteps.{left_at}
+use Rattle.file_copy.specs.Looking.{HasRange}
 use Rattle.file_copy.specs.PartNames.{IsChosen, NameStops}
+use Rattle.file_copy.specs.PartSteps.{MadeCalls, TellsMade}
+use Rattle.file_copy.specs.declared.stage.SourceFacts.{SourceFacts}
 use Rattle.file_copy.specs.declared.stage.FolderState.TheVariants as names_state
 use Rattle.link_copy.specs.LinkCopying as link
 use Rattle.link_copy.specs.LinkCopying.{LinkCopying}
@@ -31,7 +36,7 @@ use Rattle.folder_copy.specs.declared.stage.FolderDid.{FolderDid}
 use Rattle.folder_copy.specs.declared.stage.Stage.TheVariants as folder_stage
 use Rattle.folder_copy.specs.declared.stage.NamesState.{NamesState}
 use Rattle.folder_copy.specs.declared.stage.NamesState.TheVariants as folder_names
-use Rattle.subtree_walk.specs.Places.{opened}
+use Rattle.subtree_walk.specs.Places.{is_empty, opened}
 use Rattle.tree_copy.specs.declared.copy.Stage.TheVariants.{Begin}
 use Rattle.tree_copy.specs.declared.due.Due.TheVariants.{End, Thing}
 use Rattle.tree_copy.specs.declared.item.Item.{Item}
@@ -104,25 +109,40 @@ pub record LinkWorks (l : LinkCopying) (old new : Seen) (did : Did) (before afte
   pub falls : LinkFalls did l moved
   pub stands : new ≡ after_link did moved (idle old)
 
+-- the first step of the copy of a file of which this is said: its part is made
+pub record FileBegins (unclaimed : Route → Type 0) (facts : SourceFacts) (f : Copying) (old new : Seen) (did : Did) (before after : Option CallLog) : Type 0 where
+  pub moved : Copying
+  pub tells : TellsMade facts f did moved
+  pub called : IfKnown before (λ log. MadeCalls unclaimed facts f did log after)
+  pub sound : file.IsSound moved.stage moved.folder
+  pub short : IsShortPart (file.part_at moved.stage)
+  pub stands : new ≡ after_file did moved (idle old)
+
+-- what is taken up is copied itself, and doesn't lie in something that is
+abbrev pub is_top : Seen → Bool
+is_top c = is_empty c.levels.around
+
 -- a file is taken up
-pub record TakesFile (unclaimed : Route → Type 0) (old new : Seen) (did : Did) (before after : Option CallLog) : Type 0 where
+pub record TakesFile (unclaimed : Route → Type 0) (replies : Replies) (old new : Seen) (did : Did) (before after : Option CallLog) : Type 0 where
   pub pair : Pair
+  pub facts : SourceFacts
   pub next : due old ≡ Thing pair
   pub reach : IsInReach old.levels.left (Thing pair)
-  pub is : IfKnown before (λ log. IsTaken (current log) pair taken.File)
-  pub works : FileWorks unclaimed (file.begun old.job pair.source pair.target) old new did before after
+  pub is : IfKnown before (λ log. IsTaken (current log) (is_top old) replies pair (taken.File facts))
+  pub range : HasRange facts
+  pub works : FileBegins unclaimed facts (file.begun old.job pair.source pair.target) old new did before after
 
 -- the copy of the link at these paths, by way of this part
 abbrev pub link_begun : Pair → Route → LinkCopying
 link_begun pair part = link.copying (link.places pair.source pair.target part) link_stage.Make names_state.Synced
 
 -- a link is taken up; its part has the first name that is free
-pub record TakesLink (unclaimed : Route → Type 0) (old new : Seen) (did : Did) (before after : Option CallLog) : Type 0 where
+pub record TakesLink (unclaimed : Route → Type 0) (replies : Replies) (old new : Seen) (did : Did) (before after : Option CallLog) : Type 0 where
   pub pair : Pair
   pub part : Route
   pub next : due old ≡ Thing pair
   pub reach : IsInReach old.levels.left (Thing pair)
-  pub is : IfKnown before (λ log. IsTaken (current log) pair taken.Link)
+  pub is : IfKnown before (λ log. IsTaken (current log) (is_top old) replies pair taken.Link)
   pub chosen : IfKnown before (λ log. IsChosen (current log) unclaimed (file.places old.job pair.source pair.target) part)
   pub short : IsShort part
   pub works : LinkWorks (link_begun pair part) old new did before after
@@ -138,30 +158,53 @@ pub record FolderMakes (pair : Pair) (names : List (List ℕ)) (mode : ℕ) (old
   pub stands : new ≡ record old { stage = after_report did old.stage; levels = made_levels moved.stage (opened pair.source names) moved old.levels }
 
 -- a folder is taken up
-pub record TakesFolder (old new : Seen) (did : Did) (before after : Option CallLog) : Type 0 where
+pub record TakesFolder (replies : Replies) (old new : Seen) (did : Did) (before after : Option CallLog) : Type 0 where
   pub pair : Pair
   pub names : List (List ℕ)
   pub mode : ℕ
   pub next : due old ≡ Thing pair
   pub reach : IsInReach old.levels.left (Thing pair)
-  pub is : IfKnown before (λ log. IsTaken (current log) pair (taken.Folder names mode))
+  pub is : IfKnown before (λ log. IsTaken (current log) (is_top old) replies pair (taken.Folder names mode))
   pub in_order : IsAscending names
   pub works : FolderMakes pair names mode old new did before after
 
 -- A folder is to be copied onto a folder: it is told that the two are merged, and the copy is done with it. What lies in it is copied by others.
-pub record TakesMerged (old new : Seen) (did : Did) (before after : Option CallLog) : Type 0 where
+pub record TakesMerged (replies : Replies) (old new : Seen) (did : Did) (before after : Option CallLog) : Type 0 where
   pub pair : Pair
   pub names : List (List ℕ)
   pub next : due old ≡ Thing pair
   pub reach : IsInReach old.levels.left (Thing pair)
   pub fresh : old.stage ≡ Begin
-  pub is : IfKnown before (λ log. IsTaken (current log) pair (taken.Merged names))
+  pub is : IfKnown before (λ log. IsTaken (current log) (is_top old) replies pair (taken.Merged names))
   pub short : AreShort pair names
   pub few : length names ≤ 2 ^ 64
   pub in_order : IsAscending names
   pub says : did ≡ common.Merges pair names
   pub same : after ≡ before
   pub stands : new ≡ record old { levels = passed false old.levels }
+
+-- What stands at the target of what is copied itself stays, by an answer that stands, and the copy is done with it.
+pub record TakesKept (replies : Replies) (old new : Seen) (did : Did) (before after : Option CallLog) : Type 0 where
+  pub pair : Pair
+  pub next : due old ≡ Thing pair
+  pub reach : IsInReach old.levels.left (Thing pair)
+  pub top : is_top old ≡ true
+  pub is : IfKnown before (λ log. IsTaken (current log) (is_top old) replies pair taken.Kept)
+  pub says : did ≡ common.Kept pair.target
+  pub same : after ≡ before
+  pub stands : new ≡ record old { levels = passed false old.levels }
+
+-- It is asked whether what is copied itself replaces what stands at its target; the copy stands where it stood.
+pub record TakesAsked (replies : Replies) (old new : Seen) (did : Did) (before after : Option CallLog) : Type 0 where
+  pub pair : Pair
+  pub question : Question
+  pub next : due old ≡ Thing pair
+  pub reach : IsInReach old.levels.left (Thing pair)
+  pub top : is_top old ≡ true
+  pub is : IfKnown before (λ log. IsTaken (current log) (is_top old) replies pair (taken.Asked question))
+  pub says : did ≡ common.Asked question
+  pub same : after ≡ before
+  pub stands : new ≡ old
 
 -- a step at a folder whose children are decided
 pub record FolderEnds (old new : Seen) (did : Did) (before after : Option CallLog) : Type 0 where
@@ -196,19 +239,19 @@ WorksAtEnd old new did before after =
 
 -- A thing can't be taken up: it is out of reach; a look at it is stopped; it is a link for whose part there is no name; or there is no
 -- memory.
-abbrev pub WhyStopped : (Route → Type 0) → Seen → Trouble → Option CallLog → Type 0
-WhyStopped unclaimed c t before =
+abbrev pub WhyStopped : (Route → Type 0) → Replies → Seen → Trouble → Option CallLog → Type 0
+WhyStopped unclaimed replies c t before =
     DueStops c t
-    ⊎ ((pair : Pair) × (due c ≡ Thing pair) × IsInReach c.levels.left (Thing pair) × IfKnown before (λ log. LooksStop (current log) c.stage pair t))
+    ⊎ ((pair : Pair) × (due c ≡ Thing pair) × IsInReach c.levels.left (Thing pair) × IfKnown before (λ log. LooksStop (current log) c.stage (is_top c) pair t))
     ⊎ ((pair : Pair) × (due c ≡ Thing pair) × IsInReach c.levels.left (Thing pair)
-    × IfKnown before (λ log. IsTaken (current log) pair taken.Link × NameStops (current log) unclaimed (file.places c.job pair.source pair.target) t.cause t.path))
+    × IfKnown before (λ log. IsTaken (current log) (is_top c) replies pair taken.Link × NameStops (current log) unclaimed (file.places c.job pair.source pair.target) t.cause t.path))
     ⊎ ((pair : Pair) × (due c ≡ Thing pair) × (t ≡ out_of_memory_at false))
 
 -- a trouble before any call that changes the tree
-pub record Stops (unclaimed : Route → Type 0) (old new : Seen) (did : Did) (before after : Option CallLog) : Type 0 where
+pub record Stops (unclaimed : Route → Type 0) (replies : Replies) (old new : Seen) (did : Did) (before after : Option CallLog) : Type 0 where
   pub trouble : Trouble
   pub says : did ≡ common.Troubled trouble
-  pub why : WhyStopped unclaimed old trouble before
+  pub why : WhyStopped unclaimed replies old trouble before
   pub apart : trouble.barrier ≡ false
   pub same : after ≡ before
   pub stands : new ≡ old
@@ -227,26 +270,28 @@ pub record SyncsAround (old new : Seen) (did : Did) (before after : Option CallL
   pub stands : new ≡ record old { stage = after_report did old.stage; levels = record old.levels { around = level outer.names (record outer.copy { names = names }) ∷ around } }
 
 -- What a step does with the next name, or the end of a folder, in a folder that is on the disk.
-abbrev pub TakesNext : (Route → Type 0) → Seen → Seen → Did → Option CallLog → Option CallLog → Type 0
-TakesNext unclaimed old new did before after =
-    Stops unclaimed old new did before after
-    ⊎ TakesFile unclaimed old new did before after
-    ⊎ TakesLink unclaimed old new did before after
-    ⊎ TakesFolder old new did before after
-    ⊎ TakesMerged old new did before after
+abbrev pub TakesNext : (Route → Type 0) → Replies → Seen → Seen → Did → Option CallLog → Option CallLog → Type 0
+TakesNext unclaimed replies old new did before after =
+    Stops unclaimed replies old new did before after
+    ⊎ TakesFile unclaimed replies old new did before after
+    ⊎ TakesLink unclaimed replies old new did before after
+    ⊎ TakesFolder replies old new did before after
+    ⊎ TakesMerged replies old new did before after
+    ⊎ TakesKept replies old new did before after
+    ⊎ TakesAsked replies old new did before after
     ⊎ WorksAtEnd old new did before after
 
 -- What a step does where nothing is at work: a folder that was made is brought onto the disk, and only then something is put into it.
-abbrev pub GoesOn : (Route → Type 0) → Seen → Seen → Did → Option CallLog → Option CallLog → Type 0
-GoesOn unclaimed old new did before after =
-    SyncsAround old new did before after ⊎ ((is_around_dirty old.levels.around ≡ false) × TakesNext unclaimed old new did before after)
+abbrev pub GoesOn : (Route → Type 0) → Replies → Seen → Seen → Did → Option CallLog → Option CallLog → Type 0
+GoesOn unclaimed replies old new did before after =
+    SyncsAround old new did before after ⊎ ((is_around_dirty old.levels.around ≡ false) × TakesNext unclaimed replies old new did before after)
 
 -- What a step does, by what is at work.
-abbrev pub WorksOn : Item → (Route → Type 0) → Seen → Seen → Did → Option CallLog → Option CallLog → Type 0
-WorksOn Next unclaimed old new did before after = GoesOn unclaimed old new did before after
-WorksOn (File f) unclaimed old new did before after = FileWorks unclaimed f old new did before after
-WorksOn (Link l) unclaimed old new did before after = LinkWorks l old new did before after
-WorksOn (Stays part) unclaimed old new did before after = ⊥
+abbrev pub WorksOn : Item → (Route → Type 0) → Replies → Seen → Seen → Did → Option CallLog → Option CallLog → Type 0
+WorksOn Next unclaimed replies old new did before after = GoesOn unclaimed replies old new did before after
+WorksOn (File f) unclaimed replies old new did before after = FileWorks unclaimed f old new did before after
+WorksOn (Link l) unclaimed replies old new did before after = LinkWorks l old new did before after
+WorksOn (Stays part) unclaimed replies old new did before after = ⊥
 
 -- there is no memory, and nothing was done
 abbrev pub RunsOut : Seen → Seen → Did → Option CallLog → Option CallLog → Type 0
@@ -289,28 +334,28 @@ AdvancesEnd old new (Some stepped) before after faults faults_after =
     WorksAtEnd old new stepped.did before after × Counts stepped.did stepped.calls before after faults faults_after
 
 -- The next piece of a step in a folder that is on the disk: a folder is left, or something is done that is reported.
-abbrev pub AdvancesIn : (Route → Type 0) → Seen → Seen → Option StepResult → Option CallLog → Option CallLog → ℕ → ℕ → Type 0
-AdvancesIn unclaimed old new None before after faults faults_after = Leaves old new × (after ≡ before) × (faults ≤ faults_after)
-AdvancesIn unclaimed old new (Some stepped) before after faults faults_after =
-    TakesNext unclaimed old new stepped.did before after × Counts stepped.did stepped.calls before after faults faults_after
+abbrev pub AdvancesIn : (Route → Type 0) → Replies → Seen → Seen → Option StepResult → Option CallLog → Option CallLog → ℕ → ℕ → Type 0
+AdvancesIn unclaimed replies old new None before after faults faults_after = Leaves old new × (after ≡ before) × (faults ≤ faults_after)
+AdvancesIn unclaimed replies old new (Some stepped) before after faults faults_after =
+    TakesNext unclaimed replies old new stepped.did before after × Counts stepped.did stepped.calls before after faults faults_after
 
 -- The next piece of a step where nothing is at work: a folder is left, or something is done that is reported.
-abbrev pub AdvancesNext : (Route → Type 0) → Seen → Seen → Option StepResult → Option CallLog → Option CallLog → ℕ → ℕ → Type 0
-AdvancesNext unclaimed old new None before after faults faults_after = Leaves old new × (after ≡ before) × (faults ≤ faults_after)
-AdvancesNext unclaimed old new (Some stepped) before after faults faults_after =
-    GoesOn unclaimed old new stepped.did before after × Counts stepped.did stepped.calls before after faults faults_after
+abbrev pub AdvancesNext : (Route → Type 0) → Replies → Seen → Seen → Option StepResult → Option CallLog → Option CallLog → ℕ → ℕ → Type 0
+AdvancesNext unclaimed replies old new None before after faults faults_after = Leaves old new × (after ≡ before) × (faults ≤ faults_after)
+AdvancesNext unclaimed replies old new (Some stepped) before after faults faults_after =
+    GoesOn unclaimed replies old new stepped.did before after × Counts stepped.did stepped.calls before after faults faults_after
 
 -- the same of any piece of a step
-abbrev pub Advances : (Route → Bool) → Seen → Seen → Option StepResult → Option CallLog → Option CallLog → ℕ → ℕ → Type 0
-Advances free old new None before after faults faults_after = (old.item ≡ Next) × Leaves old new × (after ≡ before) × (faults ≤ faults_after)
-Advances free old new (Some stepped) before after faults faults_after =
-    WorksOn old.item (IsPartPlace free old) old new stepped.did before after × Counts stepped.did stepped.calls before after faults faults_after
+abbrev pub Advances : (Route → Bool) → Replies → Seen → Seen → Option StepResult → Option CallLog → Option CallLog → ℕ → ℕ → Type 0
+Advances free replies old new None before after faults faults_after = (old.item ≡ Next) × Leaves old new × (after ≡ before) × (faults ≤ faults_after)
+Advances free replies old new (Some stepped) before after faults faults_after =
+    WorksOn old.item (IsPartPlace free old) replies old new stepped.did before after × Counts stepped.did stepped.calls before after faults faults_after
 
 -- A step: folders that owe nothing are left, and then something is done that is reported. No job claims the path of a part that is begun, and
 -- no thing has its name that is yet to be met.
-pub record CopySteps (free : Route → Bool) (old new : Seen) (did : Did) (calls : ℕ) (before after : Option CallLog) (faults faults_after : ℕ) : Type 0 where
+pub record CopySteps (free : Route → Bool) (replies : Replies) (old new : Seen) (did : Did) (calls : ℕ) (before after : Option CallLog) (faults faults_after : ℕ) : Type 0 where
   pub folders : ℕ
   pub mid : Seen
   pub leaves : LeavesAll folders old mid
-  pub works : WorksOn mid.item (IsPartPlace free mid) mid new did before after
+  pub works : WorksOn mid.item (IsPartPlace free mid) replies mid new did before after
   pub counts : Counts did calls before after faults faults_after

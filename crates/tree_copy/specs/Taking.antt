@@ -1,30 +1,35 @@
 -- What a copy takes up next, and what stops it before anything is changed.
-use Rattle.std.specs.Prelude.{◌≡◌, ◌≢◌, ◌⊎◌, ◌<◌, ◌≤◌, ℕ, ⊤, false, List, ◌∷◌, length, Option, Some, None, Result, Ok, Err}
+use Rattle.std.specs.Prelude.{◌≡◌, ◌⊎◌, ◌<◌, ◌≤◌, ℕ, ⊤, Bool, true, false, List, ◌∷◌, length, Option, Some, None, Result, Ok, Err}
 use Rattle.mc_text.specs.Routes.{Route, spelled}
 use Rattle.mc_text.specs.declared.kind.Kind.{Kind}
 use Rattle.mc_text.specs.declared.kind.Kind.TheVariants as kind
 use Rattle.tree_trait.specs.declared.file_system.FileSystem.{FileSystem}
 use Rattle.tree_trait.specs.declared.calls.Children.{Children}
-use Rattle.tree_trait.specs.declared.calls.TreeError.TheVariants as refused
 use Rattle.tree_trait.specs.Calls.{Stat, ListFolder}
 use Rattle.tree_trait.specs.FileSystem.{node}
 use Rattle.tree_trait.specs.Change.{found}
 use Rattle.tree_trait.specs.CrashImages.{Among}
 use Rattle.tree_trait.specs.Refusals.{refusal_of}
 use Rattle.tree_trait.specs.Answers.{IsAscending, IsListing}
+use Rattle.job_answers.specs.declared.replies.Decision.TheVariants.{Ask, Keep}
+use Rattle.job_answers.specs.declared.replies.Replies.{Replies}
 use Rattle.job_reports.specs.declared.job.Pair.{Pair}
+use Rattle.job_reports.specs.declared.question.Question.{Question}
 use Rattle.job_reports.specs.declared.report.Cause.{Cause}
 use Rattle.job_reports.specs.declared.report.Cause.TheVariants.{Tree, TargetKind, SpecialSource, TooDeep, PartTaken, TooLong, Unnamed, Changed, Memory}
 use Rattle.job_reports.specs.declared.report.Trouble.{Trouble}
 use Rattle.job_reports.specs.Paths.{folder_of}
 use Rattle.job_reports.specs.Reading.{IsRefusedWith, StatStops, TargetStops}
 use Rattle.job_reports.specs.Stops.{IsTroubleWithPath, out_of_memory_at}
+use Rattle.file_copy.specs.AskedCopies.{IsReplaceable}
+use Rattle.file_copy.specs.Looking.{AreFactsOf, HasRange}
 use Rattle.tree_copy.specs.declared.copy.Stage.{Stage}
 use Rattle.tree_copy.specs.declared.copy.Stage.TheVariants.{Begin}
 use Rattle.tree_copy.specs.declared.due.Due.{Due}
 use Rattle.tree_copy.specs.declared.due.Due.TheVariants.{End, Thing}
 use Rattle.tree_copy.specs.declared.looking.Taken.{Taken}
 use Rattle.tree_copy.specs.declared.looking.Taken.TheVariants as taken
+use Rattle.tree_copy.specs.Asking.{AreBothSingle, IsDecided, IsFree, IsOpen}
 use Rattle.tree_copy.specs.Standing.{Seen, due, pair_of}
 
 -- a path has at most so many bytes (PATH_MAX of 4,096)
@@ -63,14 +68,6 @@ Joins path named (Err t) = (IsTroubleWithPath TooLong named t × (4096 < length 
 abbrev pub SourceIs : FileSystem → Pair → Kind → Type 0
 SourceIs s pair k = (refusal_of s (Stat pair.source) ≡ None) × ((node s (found s pair.source)).kind ≡ k)
 
--- nothing stands at the target
-abbrev pub IsFree : FileSystem → Pair → Type 0
-IsFree s pair = refusal_of s (Stat pair.target) ≡ Some refused.Missing
-
--- a thing that is no file stands at the source: a file is looked at by its own copy
-abbrev pub SourceIsNoFile : FileSystem → Pair → Type 0
-SourceIsNoFile s pair = (k : Kind) × SourceIs s pair k × (k ≢ kind.File)
-
 -- the listing of a folder is refused
 abbrev pub ListStops : FileSystem → Route → Cause → Option Route → Type 0
 ListStops s folder (Tree e) named = (named ≡ Some folder) × IsRefusedWith s (ListFolder folder) e
@@ -89,12 +86,6 @@ FolderStops s folder t =
     ListStops s folder t.cause t.path
     ⊎ ((count : ℕ) × (0 < count) × ((node s (found s folder)).unnamed ≡ count) × IsTroubleWithPath (Unnamed count) folder t)
 
--- the trouble of the look at a target: it is refused, or something stands there
-abbrev pub TargetRefuses : FileSystem → Pair → Trouble → Type 0
-TargetRefuses s pair t =
-    TargetStops s pair.target t.cause t.path
-    ⊎ ((refusal_of s (Stat pair.target) ≡ None) × IsTroubleWithPath (TargetKind (node s (found s pair.target)).kind) pair.target t)
-
 -- all names of a folder, each of which can be shown
 abbrev pub Lists : FileSystem → Route → List (List ℕ) → Type 0
 Lists s folder names = (refusal_of s (ListFolder folder) ≡ None) × IsListing s (found s folder) (record { names = names; unnamed = 0 })
@@ -107,11 +98,20 @@ IsOnFolder s pair = (refusal_of s (Stat pair.target) ≡ None) × ((node s (foun
 abbrev pub CanMerge : FileSystem → Stage → Pair → Type 0
 CanMerge s stage pair = (stage ≡ Begin) × SourceIs s pair kind.Folder × IsOnFolder s pair
 
--- The trouble of what stands at a target: the look there is refused; or something stands there, and the two aren't folders that can be merged.
-abbrev pub TargetHinders : FileSystem → Stage → Pair → Trouble → Type 0
-TargetHinders s stage pair t =
+-- A file or a link that is copied itself may replace a file or a link.
+abbrev pub CanReplace : FileSystem → Bool → Pair → Type 0
+CanReplace s top pair = (top ≡ true) × AreBothSingle s pair
+
+-- what can't be copied at all stands at the source, and what could be replaced at the target
+abbrev pub IsSpecialOnSingle : FileSystem → Pair → Type 0
+IsSpecialOnSingle s pair = SourceIs s pair kind.Other × (refusal_of s (Stat pair.target) ≡ None) × IsReplaceable (node s (found s pair.target)).kind
+
+-- The trouble of what stands at a target: the look there is refused; or something stands there that is neither merged nor replaced, and goes before the trouble of a special source.
+abbrev pub TargetHinders : FileSystem → Stage → Bool → Pair → Trouble → Type 0
+TargetHinders s stage top pair t =
     TargetStops s pair.target t.cause t.path
-    ⊎ ((refusal_of s (Stat pair.target) ≡ None) × IsTroubleWithPath (TargetKind (node s (found s pair.target)).kind) pair.target t × (CanMerge s stage pair → ⊥))
+    ⊎ ((refusal_of s (Stat pair.target) ≡ None) × IsTroubleWithPath (TargetKind (node s (found s pair.target)).kind) pair.target t
+    × (CanMerge s stage pair → ⊥) × (CanReplace s top pair → ⊥) × (IsSpecialOnSingle s pair → ⊥))
 
 -- The trouble of a thing with this name in a folder that is merged: its path, or that of its target, would be too long.
 abbrev pub ChildStops : Pair → List ℕ → Trouble → Type 0
@@ -123,43 +123,49 @@ ChildStops pair name t =
 abbrev pub AreShort : Pair → List (List ℕ) → Type 0
 AreShort pair names = (name : List ℕ) → Among names name → IsShort (name ∷ pair.source) × IsShort (name ∷ pair.target)
 
--- The trouble of looks at a thing, in their order: at the source; at the target, unless it is a file, whose copy looks there, or the two are folders that
--- can be merged; the source is a special file; it is a folder that can't be listed; something that lies in a folder to be merged has too long a path.
-abbrev pub LooksStop : FileSystem → Stage → Pair → Trouble → Type 0
-LooksStop s stage pair t =
+-- The trouble of looks at a thing, in their order: at the source; at the target, unless what stands there is merged or replaced; the source is a special file; it is a
+-- folder that can't be listed; something that lies in a folder to be merged has too long a path.
+abbrev pub LooksStop : FileSystem → Stage → Bool → Pair → Trouble → Type 0
+LooksStop s stage top pair t =
     StatStops s pair.source t.cause t.path
-    ⊎ (SourceIsNoFile s pair × TargetHinders s stage pair t)
-    ⊎ (SourceIs s pair kind.Other × IsFree s pair × IsTroubleWithPath SpecialSource pair.source t)
+    ⊎ ((k : Kind) × SourceIs s pair k × TargetHinders s stage top pair t)
+    ⊎ ((SourceIs s pair kind.Other × IsFree s pair ⊎ IsSpecialOnSingle s pair) × IsTroubleWithPath SpecialSource pair.source t)
     ⊎ (SourceIs s pair kind.Folder × (IsFree s pair ⊎ CanMerge s stage pair) × FolderStops s pair.source t)
     ⊎ (CanMerge s stage pair × ((name : List ℕ) × (names : List (List ℕ)) × Lists s pair.source names × Among names name × ChildStops pair name t))
 
--- What is taken up is a file; a link, or a folder with these names and this mode, at whose target nothing stands; or a folder with these names, at whose
--- target a folder stands.
-abbrev pub IsTaken : FileSystem → Pair → Taken → Type 0
-IsTaken s pair taken.File = SourceIs s pair kind.File
-IsTaken s pair taken.Link = SourceIs s pair kind.Link × IsFree s pair
-IsTaken s pair (taken.Folder names mode) =
+-- What is taken up is a file, of which this is said, or a link, at whose target nothing stands, or what is replaced; or a folder with these names and this mode, at
+-- whose target nothing stands; or a folder with these names, at whose target a folder stands. Or what stands at the target is kept, or it is asked.
+abbrev pub IsTaken : FileSystem → Bool → Replies → Pair → Taken → Type 0
+IsTaken s top replies pair (taken.File facts) = SourceIs s pair kind.File × AreFactsOf s pair.source facts × IsOpen s top replies pair
+IsTaken s top replies pair taken.Link = SourceIs s pair kind.Link × IsOpen s top replies pair
+IsTaken s top replies pair (taken.Folder names mode) =
     SourceIs s pair kind.Folder × IsFree s pair × Lists s pair.source names × (mode ≡ (node s (found s pair.source)).mode)
-IsTaken s pair (taken.Merged names) = SourceIs s pair kind.Folder × IsOnFolder s pair × Lists s pair.source names
+IsTaken s top replies pair (taken.Merged names) = SourceIs s pair kind.Folder × IsOnFolder s pair × Lists s pair.source names
+IsTaken s top replies pair taken.Kept = (question : Question) × IsDecided s pair replies question Keep
+IsTaken s top replies pair (taken.Asked question) = IsDecided s pair replies question Ask
 
--- where a folder is merged the copy has changed nothing yet, and all that lies in it can be told
-abbrev pub MayTake : Stage → Pair → Taken → Type 0
-MayTake stage pair taken.File = ⊤
-MayTake stage pair taken.Link = ⊤
-MayTake stage pair (taken.Folder names mode) = ⊤
-MayTake stage pair (taken.Merged names) = (stage ≡ Begin) × AreShort pair names
+-- Where a folder is merged the copy has changed nothing yet, and all that lies in it can be told; where something is kept or asked, that is copied itself.
+abbrev pub MayTake : Stage → Bool → Pair → Taken → Type 0
+MayTake stage top pair (taken.File facts) = ⊤
+MayTake stage top pair taken.Link = ⊤
+MayTake stage top pair (taken.Folder names mode) = ⊤
+MayTake stage top pair (taken.Merged names) = (stage ≡ Begin) × AreShort pair names
+MayTake stage top pair taken.Kept = top ≡ true
+MayTake stage top pair (taken.Asked question) = top ≡ true
 
 -- what looks at a thing come to
-abbrev pub Looks : FileSystem → Stage → Pair → Result Taken Trouble → Type 0
-Looks s stage pair (Ok what) = IsTaken s pair what
-Looks s stage pair (Err t) = LooksStop s stage pair t
+abbrev pub Looks : FileSystem → Stage → Bool → Replies → Pair → Result Taken Trouble → Type 0
+Looks s stage top replies pair (Ok what) = IsTaken s top replies pair what
+Looks s stage top replies pair (Err t) = LooksStop s stage top pair t
 
--- names come in byte order, each once, and a mode has twelve bits
+-- names come in byte order, each once, a mode has twelve bits, and a file at most 2^63 bytes
 abbrev pub IsSound : Taken → Type 0
-IsSound taken.File = ⊤
+IsSound (taken.File facts) = HasRange facts
 IsSound taken.Link = ⊤
 IsSound (taken.Folder names mode) = IsAscending names × (mode ≤ 0o7777)
 IsSound (taken.Merged names) = IsAscending names
+IsSound taken.Kept = ⊤
+IsSound (taken.Asked question) = ⊤
 
 -- the names of a listing, or the trouble where some can't be shown
 abbrev pub IsShown : Route → Children → Result (List (List ℕ)) Trouble → Type 0

@@ -2,6 +2,7 @@
 use Rattle.std.specs.Prelude.{◌≡◌, ℕ, ⊤, Bool, true, Option}
 use Rattle.mc_text.specs.Routes.{Route}
 use Rattle.tree_trait.specs.Change.{CallLog}
+use Rattle.job_answers.specs.declared.replies.Replies.{Replies}
 use Rattle.job_reports.specs.declared.report.Cause.{Cause}
 use Rattle.job_reports.specs.declared.report.Did.{Did}
 use Rattle.job_reports.specs.Paths.{folder_of}
@@ -25,7 +26,7 @@ IsInWorked c = ItemIn c.levels.inner.copy.target c.item
 -- A copy that begins is so, and each step, skip and retry keeps it.
 pub record WorkedFolderLaw : Type 0 where
   pub begins : (job : ℕ) (source target : Named) → IsInWorked (begun job source target)
-  pub step : (free : Route → Bool) (old new : Seen) (did : Did) (calls : ℕ) (before after : Option CallLog) (faults faults_after : ℕ)
-      → CopySteps free old new did calls before after faults faults_after → IsInWorked old → IsInWorked new
+  pub step : (free : Route → Bool) (replies : Replies) (old new : Seen) (did : Did) (calls : ℕ) (before after : Option CallLog) (faults faults_after : ℕ)
+      → CopySteps free replies old new did calls before after faults faults_after → IsInWorked old → IsInWorked new
   pub skip : (cause : Cause) (old new : Seen) (did : Did) → Skips cause old did new → IsInWorked old → IsInWorked new
   pub retry : (old : Seen) → IsInWorked old → IsInWorked (retried old)

@@ -1,6 +1,7 @@
 //! The copy of a thing with all that lies in it, step by step, over any tree.
 #![tactic(auto)]
 
+mod asking;
 mod copy;
 mod due;
 mod ending;

@@ -4,17 +4,19 @@ ghost use Rattle.mc_text.specs.declared.kind.Kind.TheVariants as kind;
 ghost use Rattle.tree_trait.specs.Calls.{Stat};
 ghost use Rattle.tree_trait.specs.Change.{current};
 ghost use Rattle.tree_trait.specs.Refusals.{refusal_of};
-ghost use Rattle.tree_trait.specs.Answers.{IfKnown, IsAscending, IsMeta};
+ghost use Rattle.tree_trait.specs.Answers.{IfKnown, IsAscending, IsInRange, IsMeta};
 ghost use Rattle.tree_trait.specs.FileSystem.{node};
 ghost use Rattle.tree_trait.specs.Change.{found};
 ghost use Rattle.job_reports.specs.Reading.{Peeks};
-ghost use Rattle.tree_copy.specs.Taking.{FolderStops, IsFree, IsShort, IsShown, IsSound, Lists, Looks, MayTake, SourceIs, TargetRefuses};
+ghost use Rattle.tree_copy.specs.Judging.{IsNoFolder};
+ghost use Rattle.tree_copy.specs.Taking.{FolderStops, IsShort, IsShown, IsSound, Lists, Looks, MayTake, SourceIs};
 ghost use Rattle.tree_copy.specs.Merging.{AreChildrenOr, IsChildOr, IsFreshOnto, IsMergedOr, IsOnto, IsOntoKind, OntoStops, joins_folders};
 
+use crate::asking::{Asks, judge};
 use crate::copy::Stage;
 use crate::due::joined;
-use file_copy::{look, look_at_target};
-use job_reports::{Cause, Pair, Trouble, reading_trouble, trouble_with_path};
+use file_copy::{SourceFacts, look, look_at_target};
+use job_reports::{Cause, Pair, Question, Trouble, reading_trouble, trouble_with_path};
 use mc_text::{Kind, Name, Names, Path};
 use std::alloc::Global;
 use tree_trait::{Children, Meta, Tree};
@@ -22,14 +24,18 @@ use tree_trait::{Children, Meta, Tree};
 /// What is taken up.
 #[derive(Drop)]
 pub enum Taken {
-    /// A file, whose target is looked at by its own copy.
-    File,
-    /// A link, at whose target nothing stands.
+    /// A file, of which this is said. At its target nothing stands, or what is replaced.
+    File(SourceFacts),
+    /// A link. At its target nothing stands, or what is replaced.
     Link,
     /// A folder with these names and this mode, at whose target nothing stands.
     Folder { names: Names, mode: u16 },
     /// A folder with these names, at whose target a folder stands.
     Merged { names: Names },
+    /// What stands at the target stays.
+    Kept,
+    /// It is to be asked whether what stands at the target is replaced.
+    Asked(Question),
 }
 
 /// Looks at source and target; a folder is listed. A folder onto a folder is merged by a copy that stands at its beginning.
@@ -38,14 +44,15 @@ pub(crate) fn look_at_pair<T: Tree>(
     tree: &mut T,
     pair: &Pair,
     stage: Stage,
+    asks: Asks,
 ) -> Result<Taken, Trouble>
-    ensures known { IfKnown (T.contents tree.old) (λ log. Looks (current log) stage pair.now result) }
+    ensures known { IfKnown (T.contents tree.old) (λ log. Looks (current log) stage asks.top asks.replies pair.now result) }
     ensures sound { IfOk result IsSound }
-    ensures may { IfOk result (MayTake stage pair.now) }
+    ensures may { IfOk result (MayTake stage asks.top pair.now) }
     ensures peeks { Peeks result (T.contents tree.old) (T.contents tree.new) (T.fault_count tree.old) (T.fault_count tree.new) }
 {
     match look(alloc, tree, &pair.source) {
-        Ok(meta) => look_on(alloc, tree, pair, stage, meta),
+        Ok(meta) => look_on(alloc, tree, pair, stage, asks, meta),
         Err(trouble) => Err(trouble),
     }
 }
@@ -56,56 +63,43 @@ fn look_on<T: Tree>(
     tree: &mut T,
     pair: &Pair,
     stage: Stage,
+    asks: Asks,
     source: Meta,
 ) -> Result<Taken, Trouble>
     requires known { IfKnown (T.contents tree.old) (λ log. (refusal_of (current log) (Stat pair.now.source) ≡ None) × IsMeta (current log) pair.now.source source) }
-    requires mode { source.mode ≤ 0o7777 }
-    ensures known { IfKnown (T.contents tree.old) (λ log. Looks (current log) stage pair.now result) }
+    requires range { IsInRange source }
+    ensures known { IfKnown (T.contents tree.old) (λ log. Looks (current log) stage asks.top asks.replies pair.now result) }
     ensures sound { IfOk result IsSound }
-    ensures may { IfOk result (MayTake stage pair.now) }
+    ensures may { IfOk result (MayTake stage asks.top pair.now) }
     ensures peeks { Peeks result (T.contents tree.old) (T.contents tree.new) (T.fault_count tree.old) (T.fault_count tree.new) }
 {
     match source.kind {
-        Kind::File => Ok(Taken::File),
-        Kind::Folder => look_at_folder(alloc, tree, pair, stage, source.mode),
-        Kind::Link => look_at_link(alloc, tree, pair, stage),
-        Kind::Other => look_at_special(alloc, tree, pair, stage),
+        Kind::Folder => look_at_folder(alloc, tree, pair, stage, asks, source.mode),
+        Kind::File | Kind::Link | Kind::Other => look_at_single(
+            alloc, tree, pair, stage, asks, source,
+        ),
     }
 }
 
-fn look_at_link<T: Tree>(
+/// A thing that is no folder: what stands at its target is in its way, or is replaced, or is asked about.
+fn look_at_single<T: Tree>(
     alloc: Global,
     tree: &mut T,
     pair: &Pair,
     stage: Stage,
+    asks: Asks,
+    source: Meta,
 ) -> Result<Taken, Trouble>
-    requires known { IfKnown (T.contents tree.old) (λ log. SourceIs (current log) pair.now kind.Link) }
-    ensures known { IfKnown (T.contents tree.old) (λ log. Looks (current log) stage pair.now result) }
+    requires known { IfKnown (T.contents tree.old) (λ log. (refusal_of (current log) (Stat pair.now.source) ≡ None) × IsMeta (current log) pair.now.source source) }
+    requires range { IsInRange source }
+    requires single { IsNoFolder source.kind }
+    ensures known { IfKnown (T.contents tree.old) (λ log. Looks (current log) stage asks.top asks.replies pair.now result) }
     ensures sound { IfOk result IsSound }
-    ensures may { IfOk result (MayTake stage pair.now) }
+    ensures may { IfOk result (MayTake stage asks.top pair.now) }
     ensures peeks { Peeks result (T.contents tree.old) (T.contents tree.new) (T.fault_count tree.old) (T.fault_count tree.new) }
 {
-    match free_target(alloc, tree, pair) {
-        Ok(()) => Ok(Taken::Link),
-        Err(trouble) => Err(trouble),
-    }
-}
-
-/// A special file can't be copied. What stands at its target goes first.
-fn look_at_special<T: Tree>(
-    alloc: Global,
-    tree: &mut T,
-    pair: &Pair,
-    stage: Stage,
-) -> Result<Taken, Trouble>
-    requires known { IfKnown (T.contents tree.old) (λ log. SourceIs (current log) pair.now kind.Other) }
-    ensures known { IfKnown (T.contents tree.old) (λ log. Looks (current log) stage pair.now result) }
-    ensures sound { IfOk result IsSound }
-    ensures may { IfOk result (MayTake stage pair.now) }
-    ensures peeks { Peeks result (T.contents tree.old) (T.contents tree.new) (T.fault_count tree.old) (T.fault_count tree.new) }
-{
-    match free_target(alloc, tree, pair) {
-        Ok(()) => Err(trouble_with_path(alloc, Cause::SpecialSource, &pair.source)),
+    match look_at_target(alloc, tree, &pair.target) {
+        Ok(target) => judge(alloc, pair, asks, source, target),
         Err(trouble) => Err(trouble),
     }
 }
@@ -115,17 +109,18 @@ fn look_at_folder<T: Tree>(
     tree: &mut T,
     pair: &Pair,
     stage: Stage,
+    asks: Asks,
     mode: u16,
 ) -> Result<Taken, Trouble>
     requires known { IfKnown (T.contents tree.old) (λ log. SourceIs (current log) pair.now kind.Folder × (mode ≡ (node (current log) (found (current log) pair.now.source)).mode)) }
     requires mode { mode ≤ 0o7777 }
-    ensures known { IfKnown (T.contents tree.old) (λ log. Looks (current log) stage pair.now result) }
+    ensures known { IfKnown (T.contents tree.old) (λ log. Looks (current log) stage asks.top asks.replies pair.now result) }
     ensures sound { IfOk result IsSound }
-    ensures may { IfOk result (MayTake stage pair.now) }
+    ensures may { IfOk result (MayTake stage asks.top pair.now) }
     ensures peeks { Peeks result (T.contents tree.old) (T.contents tree.new) (T.fault_count tree.old) (T.fault_count tree.new) }
 {
     match folder_target(alloc, tree, pair, stage) {
-        Ok(onto) => list_folder(alloc, tree, pair, stage, mode, onto),
+        Ok(onto) => list_folder(alloc, tree, pair, stage, asks, mode, onto),
         Err(trouble) => Err(trouble),
     }
 }
@@ -186,6 +181,7 @@ fn list_folder<T: Tree>(
     tree: &mut T,
     pair: &Pair,
     stage: Stage,
+    asks: Asks,
     mode: u16,
     onto: Onto,
 ) -> Result<Taken, Trouble>
@@ -193,9 +189,9 @@ fn list_folder<T: Tree>(
     requires mode { mode ≤ 0o7777 }
     requires onto { IfKnown (T.contents tree.old) (λ log. IsOnto (current log) pair.now onto) }
     requires fresh { IsFreshOnto stage onto }
-    ensures known { IfKnown (T.contents tree.old) (λ log. Looks (current log) stage pair.now result) }
+    ensures known { IfKnown (T.contents tree.old) (λ log. Looks (current log) stage asks.top asks.replies pair.now result) }
     ensures sound { IfOk result IsSound }
-    ensures may { IfOk result (MayTake stage pair.now) }
+    ensures may { IfOk result (MayTake stage asks.top pair.now) }
     ensures peeks { Peeks result (T.contents tree.old) (T.contents tree.new) (T.fault_count tree.old) (T.fault_count tree.new) }
 {
     let names = match names_in(alloc, tree, &pair.source) {
@@ -250,18 +246,6 @@ fn target_of_child(alloc: Global, pair: &Pair, name: &Name, source: &Path) -> Re
 {
     match joined(alloc, &pair.target, name, source) {
         Ok(_) => Ok(()),
-        Err(trouble) => Err(trouble),
-    }
-}
-
-/// Nothing stands at the target, or the trouble of it.
-fn free_target<T: Tree>(alloc: Global, tree: &mut T, pair: &Pair) -> Result<(), Trouble>
-    ensures known { IfKnown (T.contents tree.old) (λ log. MatchResult result (λ _. IsFree (current log) pair.now) (TargetRefuses (current log) pair.now)) }
-    ensures peeks { Peeks result (T.contents tree.old) (T.contents tree.new) (T.fault_count tree.old) (T.fault_count tree.new) }
-{
-    match look_at_target(alloc, tree, &pair.target) {
-        Ok(None) => Ok(()),
-        Ok(Some(meta)) => Err(trouble_with_path(alloc, Cause::TargetKind(meta.kind), &pair.target)),
         Err(trouble) => Err(trouble),
     }
 }

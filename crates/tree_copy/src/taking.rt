@@ -3,20 +3,24 @@ ghost use Rattle.std.specs.Prelude.{◌≡◌, ◌≤◌, ◌⊎◌, ◌^◌, fa
 ghost use Rattle.tree_trait.specs.Change.{current};
 ghost use Rattle.tree_trait.specs.Answers.{IfKnown};
 ghost use Rattle.file_copy.specs.Copying.{begun as file_begun, places};
+ghost use Rattle.file_copy.specs.Looking.{HasRange};
+ghost use Rattle.file_copy.specs.declared.stage.Stage.TheVariants as FileStage;
 ghost use Rattle.copy_levels.specs.Levels.{is_around_dirty, passed};
 ghost use Rattle.tree_copy.specs.Parts.{IsPartPlace};
 ghost use Rattle.tree_copy.specs.Standing.{due, seen};
-ghost use Rattle.tree_copy.specs.Steps.{AdvancesIn, AdvancesNext, Counts, FileWorks, IsWorkable, LinkWorks, RunsOut, TakesNext, link_begun};
+ghost use Rattle.tree_copy.specs.Steps.{AdvancesIn, AdvancesNext, Counts, FileBegins, IsWorkable, LinkWorks, RunsOut, TakesNext, is_top, link_begun};
 ghost use Rattle.tree_copy.specs.Taking.{IsInReach, IsSound, IsTaken, MayTake};
 
+use crate::asking::Asks;
 use crate::copy::TreeCopy;
 use crate::due::Due;
 use crate::item::Item;
 use crate::looking::{Taken, look_at_pair};
-use crate::parts::{PartPlaces, see_path};
+use crate::parts::{PartPlaces, see_part, see_path};
 use crate::report::stopped;
-use file_copy::{FileCopy, Item as Places, PartTest, choose_part};
-use job_reports::{Did, Pair, StepResult, out_of_memory};
+use file_copy::{FileCopy, Item as Places, PartTest, SourceFacts, choose_part};
+use job_answers::Replies;
+use job_reports::{Did, Pair, Question, StepResult, out_of_memory};
 use link_copy::LinkCopy;
 use mc_text::{Names, NoMemory, Path};
 use std::alloc::Global;
@@ -29,16 +33,17 @@ impl TreeCopy {
         alloc: Global,
         tree: &mut T,
         parts: &P,
+        replies: Replies,
     ) -> Option<StepResult>
         requires free { self.old.item ≡ Item.Next }
-        ensures advances { AdvancesNext (IsPartPlace (P.is_free parts.now) (seen self.old)) (seen self.old) (seen self.new) result
+        ensures advances { AdvancesNext (IsPartPlace (P.is_free parts.now) (seen self.old)) replies (seen self.old) (seen self.new) result
             (T.contents tree.old) (T.contents tree.new) (T.fault_count tree.old) (T.fault_count tree.new) }
         ensures workable { IsWorkable self.new.item }
     {
         if self.stack.is_around_dirty() {
             Some(self.sync_around(alloc, tree))
         } else {
-            self.take_next(alloc, tree, parts)
+            self.take_next(alloc, tree, parts, replies)
         }
     }
 
@@ -48,15 +53,16 @@ impl TreeCopy {
         alloc: Global,
         tree: &mut T,
         parts: &P,
+        replies: Replies,
     ) -> Option<StepResult>
         requires free { self.old.item ≡ Item.Next }
         requires synced { is_around_dirty self.old.stack.levels.around ≡ false }
-        ensures advances { AdvancesIn (IsPartPlace (P.is_free parts.now) (seen self.old)) (seen self.old) (seen self.new) result
+        ensures advances { AdvancesIn (IsPartPlace (P.is_free parts.now) (seen self.old)) replies (seen self.old) (seen self.new) result
             (T.contents tree.old) (T.contents tree.new) (T.fault_count tree.old) (T.fault_count tree.new) }
         ensures workable { IsWorkable self.new.item }
     {
         match self.due(alloc) {
-            Ok(next) => self.take_due(alloc, tree, parts, next),
+            Ok(next) => self.take_due(alloc, tree, parts, replies, next),
             Err(trouble) => Some(stopped(trouble)),
         }
     }
@@ -66,19 +72,20 @@ impl TreeCopy {
         alloc: Global,
         tree: &mut T,
         parts: &P,
+        replies: Replies,
         next: Due,
     ) -> Option<StepResult>
         requires free { self.old.item ≡ Item.Next }
         requires synced { is_around_dirty self.old.stack.levels.around ≡ false }
         requires next { next ≡ due (seen self.old) }
         requires reach { IsInReach self.old.stack.levels.left next }
-        ensures advances { AdvancesIn (IsPartPlace (P.is_free parts.now) (seen self.old)) (seen self.old) (seen self.new) result
+        ensures advances { AdvancesIn (IsPartPlace (P.is_free parts.now) (seen self.old)) replies (seen self.old) (seen self.new) result
             (T.contents tree.old) (T.contents tree.new) (T.fault_count tree.old) (T.fault_count tree.new) }
         ensures workable { IsWorkable self.new.item }
     {
         match next {
             Due::End => self.end_folder(alloc, tree),
-            Due::Thing(pair) => Some(self.take_up(alloc, tree, parts, pair)),
+            Due::Thing(pair) => Some(self.take_up(alloc, tree, parts, replies, pair)),
         }
     }
 
@@ -88,17 +95,22 @@ impl TreeCopy {
         alloc: Global,
         tree: &mut T,
         parts: &P,
+        replies: Replies,
         pair: Pair,
     ) -> StepResult
         requires free { self.old.item ≡ Item.Next }
         requires next { due (seen self.old) ≡ Due.Thing pair }
         requires reach { IsInReach self.old.stack.levels.left (Due.Thing pair) }
-        ensures works { TakesNext (IsPartPlace (P.is_free parts.now) (seen self.old)) (seen self.old) (seen self.new) result.did (T.contents tree.old) (T.contents tree.new) }
+        ensures works { TakesNext (IsPartPlace (P.is_free parts.now) (seen self.old)) replies (seen self.old) (seen self.new) result.did (T.contents tree.old) (T.contents tree.new) }
         ensures counts { Counts result.did result.calls (T.contents tree.old) (T.contents tree.new) (T.fault_count tree.old) (T.fault_count tree.new) }
         ensures workable { IsWorkable self.new.item }
     {
-        match look_at_pair(alloc, tree, &pair, self.stage) {
-            Ok(taken) => self.begin(alloc, tree, parts, pair, taken),
+        let asks = Asks {
+            top: self.stack.is_outermost(),
+            replies,
+        };
+        match look_at_pair(alloc, tree, &pair, self.stage, asks) {
+            Ok(taken) => self.begin(alloc, tree, parts, replies, pair, taken),
             Err(trouble) => stopped(trouble),
         }
     }
@@ -109,24 +121,27 @@ impl TreeCopy {
         alloc: Global,
         tree: &mut T,
         parts: &P,
+        replies: Replies,
         pair: Pair,
         taken: Taken,
     ) -> StepResult
         requires free { self.old.item ≡ Item.Next }
         requires next { due (seen self.old) ≡ Due.Thing pair }
         requires reach { IsInReach self.old.stack.levels.left (Due.Thing pair) }
-        requires known { IfKnown (T.contents tree.old) (λ log. IsTaken (current log) pair taken) }
+        requires known { IfKnown (T.contents tree.old) (λ log. IsTaken (current log) (is_top (seen self.old)) replies pair taken) }
         requires sound { IsSound taken }
-        requires may { MayTake self.old.stage pair taken }
-        ensures works { TakesNext (IsPartPlace (P.is_free parts.now) (seen self.old)) (seen self.old) (seen self.new) result.did (T.contents tree.old) (T.contents tree.new) }
+        requires may { MayTake self.old.stage (is_top (seen self.old)) pair taken }
+        ensures works { TakesNext (IsPartPlace (P.is_free parts.now) (seen self.old)) replies (seen self.old) (seen self.new) result.did (T.contents tree.old) (T.contents tree.new) }
         ensures counts { Counts result.did result.calls (T.contents tree.old) (T.contents tree.new) (T.fault_count tree.old) (T.fault_count tree.new) }
         ensures workable { IsWorkable self.new.item }
     {
         match taken {
-            Taken::File => self.begin_file(alloc, tree, parts, pair),
-            Taken::Link => self.begin_link(alloc, tree, parts, pair),
+            Taken::File(facts) => self.begin_file(alloc, tree, parts, pair, facts),
+            Taken::Link => self.begin_link(alloc, tree, parts, replies, pair),
             Taken::Folder { names, mode } => self.make_folder(alloc, tree, pair, names, mode),
             Taken::Merged { names } => self.merge(pair, names),
+            Taken::Kept => self.keep(pair),
+            Taken::Asked(question) => asked(question),
         }
     }
 
@@ -145,25 +160,69 @@ impl TreeCopy {
         }
     }
 
-    /// The first step of a file's copy.
+    /// What stands at the target stays, so the copy is done with it.
+    fn keep(&mut self, pair: Pair) -> StepResult
+        requires next { due (seen self.old) ≡ Due.Thing pair }
+        ensures passed { seen self.new ≡ record (seen self.old) { levels = passed false self.old.stack.levels } }
+        ensures told { result ≡ record { did = Did.Kept pair.target; calls = 0 } }
+    {
+        self.stack.pass(false);
+        StepResult {
+            did: Did::Kept(pair.target),
+            calls: 0,
+        }
+    }
+
+    /// The first step of a file's copy, of which this is said.
     fn begin_file<T: Tree, P: PartTest>(
         &mut self,
         alloc: Global,
         tree: &mut T,
         parts: &P,
         pair: Pair,
+        facts: SourceFacts,
     ) -> StepResult
         requires free { self.old.item ≡ Item.Next }
         requires next { due (seen self.old) ≡ Due.Thing pair }
+        requires range { HasRange facts }
         ensures works { RunsOut (seen self.old) (seen self.new) result.did (T.contents tree.old) (T.contents tree.new)
-            ⊎ FileWorks (IsPartPlace (P.is_free parts.now) (seen self.old)) (file_begun self.old.job pair.source pair.target) (seen self.old) (seen self.new) result.did (T.contents tree.old) (T.contents tree.new) }
+            ⊎ FileBegins (IsPartPlace (P.is_free parts.now) (seen self.old)) facts (file_begun self.old.job pair.source pair.target) (seen self.old) (seen self.new) result.did (T.contents tree.old) (T.contents tree.new) }
         ensures counts { Counts result.did result.calls (T.contents tree.old) (T.contents tree.new) (T.fault_count tree.old) (T.fault_count tree.new) }
         ensures workable { IsWorkable self.new.item }
     {
         match self.file_copy(alloc, pair) {
-            Ok(copy) => self.work_file(alloc, tree, parts, copy),
+            Ok(copy) => self.make_part(alloc, tree, parts, copy, facts),
             Err(NoMemory) => stopped(out_of_memory(false)),
         }
+    }
+
+    /// The part of a file is made.
+    fn make_part<T: Tree, P: PartTest>(
+        &mut self,
+        alloc: Global,
+        tree: &mut T,
+        parts: &P,
+        copy: FileCopy,
+        facts: SourceFacts,
+    ) -> StepResult
+        requires free { self.old.item ≡ Item.Next }
+        requires stage { copy.stage ≡ FileStage.Begin }
+        requires range { HasRange facts }
+        ensures works { FileBegins (IsPartPlace (P.is_free parts.now) (seen self.old)) facts copy (seen self.old) (seen self.new) result.did (T.contents tree.old) (T.contents tree.new) }
+        ensures counts { Counts result.did result.calls (T.contents tree.old) (T.contents tree.new) (T.fault_count tree.old) (T.fault_count tree.new) }
+        ensures workable { IsWorkable self.new.item }
+    {
+        let mut copy = copy;
+        let places = PartPlaces {
+            given: parts,
+            top: &self.name,
+            stack: &self.stack,
+        };
+        let stepped = copy.begin_with(alloc, tree, &places, facts);
+        see_part(&copy);
+        self.note(&stepped.did, copy.is_dirty());
+        self.put_file(copy);
+        stepped
     }
 
     fn file_copy(&self, alloc: Global, pair: Pair) -> Result<FileCopy, NoMemory>
@@ -180,13 +239,14 @@ impl TreeCopy {
         alloc: Global,
         tree: &mut T,
         parts: &P,
+        replies: Replies,
         pair: Pair,
     ) -> StepResult
         requires free { self.old.item ≡ Item.Next }
         requires next { due (seen self.old) ≡ Due.Thing pair }
         requires reach { IsInReach self.old.stack.levels.left (Due.Thing pair) }
-        requires taken { IfKnown (T.contents tree.old) (λ log. IsTaken (current log) pair Taken.Link) }
-        ensures works { TakesNext (IsPartPlace (P.is_free parts.now) (seen self.old)) (seen self.old) (seen self.new) result.did (T.contents tree.old) (T.contents tree.new) }
+        requires taken { IfKnown (T.contents tree.old) (λ log. IsTaken (current log) (is_top (seen self.old)) replies pair Taken.Link) }
+        ensures works { TakesNext (IsPartPlace (P.is_free parts.now) (seen self.old)) replies (seen self.old) (seen self.new) result.did (T.contents tree.old) (T.contents tree.new) }
         ensures counts { Counts result.did result.calls (T.contents tree.old) (T.contents tree.new) (T.fault_count tree.old) (T.fault_count tree.new) }
         ensures workable { IsWorkable self.new.item }
     {
@@ -246,5 +306,15 @@ impl TreeCopy {
         let target = pair.target.copy(alloc)?;
         let folder = self.stack.target().copy(alloc)?;
         Ok(Places::new(self.job, source, source_folder, target, folder))
+    }
+}
+
+/// It is asked whether what stands at the target is replaced.
+fn asked(question: Question) -> StepResult
+    ensures { result ≡ record { did = Did.Asked question; calls = 0 } }
+{
+    StepResult {
+        did: Did::Asked(question),
+        calls: 0,
     }
 }

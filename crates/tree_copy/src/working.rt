@@ -13,6 +13,7 @@ use crate::parts::{PartPlaces, see_part};
 use crate::progress::{Progress, progress_of, progress_of_link};
 use crate::report::stage_after;
 use file_copy::{FileCopy, PartTest};
+use job_answers::Replies;
 use job_reports::{Did, StepResult};
 use link_copy::LinkCopy;
 use std::alloc::Global;
@@ -26,14 +27,15 @@ impl TreeCopy {
         alloc: Global,
         tree: &mut T,
         parts: &P,
+        replies: Replies,
     ) -> StepResult
         requires workable { IsWorkable self.old.item }
-        ensures steps { CopySteps (P.is_free parts.now) (seen self.old) (seen self.new) result.did result.calls
+        ensures steps { CopySteps (P.is_free parts.now) replies (seen self.old) (seen self.new) result.did result.calls
             (T.contents tree.old) (T.contents tree.new) (T.fault_count tree.old) (T.fault_count tree.new) }
         ensures workable { IsWorkable self.new.item }
     {
         loop {
-            if let Some(stepped) = self.advance(alloc, tree, parts) {
+            if let Some(stepped) = self.advance(alloc, tree, parts, replies) {
                 return stepped;
             }
         }
@@ -45,14 +47,15 @@ impl TreeCopy {
         alloc: Global,
         tree: &mut T,
         parts: &P,
+        replies: Replies,
     ) -> Option<StepResult>
         requires workable { IsWorkable self.old.item }
-        ensures advances { Advances (P.is_free parts.now) (seen self.old) (seen self.new) result
+        ensures advances { Advances (P.is_free parts.now) replies (seen self.old) (seen self.new) result
             (T.contents tree.old) (T.contents tree.new) (T.fault_count tree.old) (T.fault_count tree.new) }
         ensures workable { IsWorkable self.new.item }
     {
         match mem::replace(&mut self.item, Item::Next) {
-            Item::Next => self.go_on(alloc, tree, parts),
+            Item::Next => self.go_on(alloc, tree, parts, replies),
             Item::File(copy) => Some(self.work_file(alloc, tree, parts, copy)),
             Item::Link(copy) => Some(self.work_link(alloc, tree, copy)),
             Item::Stays(_) => unreachable!(),

@@ -81,13 +81,7 @@ impl<N: Tag, T: Tree, S: Sink, P: Spawner> Session<N, T, S, P> {
             return StepReply::Did;
         }
         let made = job.step(alloc, &mut self.tree, &NoClaims, &mut self.dirty);
-        let Stepped { what, calls, job } = go_on(
-            alloc,
-            &mut self.tree,
-            job,
-            made,
-            &mut self.standing.later,
-        );
+        let Stepped { what, calls, job } = go_on(alloc, job, made, &mut self.standing.later);
         let calls = self.standing.calls.saturating_add(calls);
         let ended = has_ended(&job);
         self.log.note(Entry {

@@ -9,11 +9,6 @@ invariant_of-result g c =
     let at = subst (ArePathsIn c.folder.result.now c.args.names.now) c.in-Some.is c.in_ok-paths.ensures in
     record { within = several_within c.folder.result.now c.args.names.now c.in-Some.paths at.1 c.requires.several }
 
-pub invariant_of-result-in-SourceMask : goal.invariant_of-result-in-SourceMask
-invariant_of-result-in-SourceMask g c =
-    let at = subst (ArePathsIn c.folder.result.now c.args.names.now) c.in-Some.is c.in_ok-paths.ensures in
-    record { within = several_within c.folder.result.now c.args.names.now c.in-Some.paths at.1 c.requires.several }
-
 pub invariant_of-with_first_mode : goal.invariant_of-with_first_mode
 invariant_of-with_first_mode g c =
     let at = subst (ArePathsIn c.folder.result.now c.args.names.now) c.in-Some.is c.in_ok-paths.ensures in

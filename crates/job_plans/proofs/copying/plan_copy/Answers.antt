@@ -22,7 +22,7 @@ plan_to-requires g c =
 
 pub returns-in-Ok-clause-leads : goal.returns-in-Ok-clause-leads
 returns-in-Ok-clause-leads g c =
-    copy_leads c.args.chosen.now.paths c.args.mask.now c.args.from.now c.args.typed.now c.args.chosen.now.kind (g.T.ReadTree.contents c.args.tree.now)
+    copy_leads c.args.chosen.now.paths c.args.mask.now c.args.from.now c.args.typed.now (g.T.ReadTree.contents c.args.tree.now)
     c.in_ok-request.request c.in-Ok.job c.pairs_of.result c.plan_to.result
     (sym c.is_below_home.ensures ∙ c.if-is_below_home.false) c.in_ok-request.ensures c.in-Ok.ensures.sound c.in-Ok.ensures.asked
     c.in-Ok.ensures.answer c.pairs_of.ensures c.plan_to.ensures

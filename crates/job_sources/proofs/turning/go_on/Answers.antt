@@ -18,8 +18,10 @@ turned_by : (job : Running) (did : Did) (calls : ℕ) (old taken new : List Job)
     → (Turns job source stepped × (new ≡ taken)) ⊎ (RunsShort job stepped × (new ≡ [])) → GoesOn job did calls old stepped new
 turned_by job did calls old taken new source stepped result is got takes goes = turned job did calls old taken new source stepped is (subst (λ r. IfOk r (λ next. Takes old next taken)) got takes) goes
 
-pub returns-in-Ok-Some-clause-goes : goal.returns-in-Ok-Some-clause-goes
-returns-in-Ok-Some-clause-goes g c =
+pub returns-in-Ok-Some : goal.returns-in-Ok-Some
+returns-in-Ok-Some c =
     let is : finishes c.args.made.did ≡ true = search rules in
     let got : c.take_next.result ≡ Ok (Some c.in-Ok-Some.source) = search rules in
-    turned_by c.args.job c.args.made.did c.args.made.calls c.args.later.now c.take_next.new.self c.turn.new.later c.in-Ok-Some.source c.turn.result c.take_next.result is got c.take_next.ensures c.turn.ensures.goes
+    record {
+      goes = turned_by c.args.job c.args.made.did c.args.made.calls c.args.later.now c.take_next.new.self c.turn.new.later c.in-Ok-Some.source c.turn.result c.take_next.result is got c.take_next.ensures c.turn.ensures.goes;
+    }

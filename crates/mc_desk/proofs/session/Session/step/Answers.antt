@@ -68,15 +68,13 @@ invariant_of-self-2 g c =
     let room : 2 ≤ c.note-2.new.self.spare = omega (arith, had, kept) in
     let bounded : length c.reserve.new.self.newest + 3 ≤ 2 ^ 56 = not_refused c.reserve.result granted c.reserve.ensures.bounded in
     let fits : length inside.log.newest + 3 ≤ 2 ^ 56 = subst (λ es. length es + 3 ≤ 2 ^ 56) c.reserve.ensures.same bounded in
-    let standing : Standing = record inside.standing { job = c.put_back-2.new.place; later = c.go_on-what.new.later; calls = total; has_unseen_end = c.end_waits-self-inside.result } in
-    let new : Seen = seen_of c.note-2.new.self inside.ui standing c.step-made.new.dirty inside.terminal inside.taken inside.keys in
     record {
-      desk = subst (λ k. IsDesk g.N.Tag.start g.N.Tag.opening k g.N.Tag.tree_faults new) (sym c.go_on-what.ensures.same) (desk_went g.N.Tag.start g.N.Tag.opening (g.T.ReadTree.contents inside.tree) (g.T.ReadTree.contents c.step-made.new.tree) g.N.Tag.tree_faults _ _ c.args.seat count made.calls total _ _ c.in-Some.job c.step-made.new.self made.did went
-          c.requires.main c.self.invariant.desk is c.step-made.ensures.steps c.self.invariant.counted (let l = c.go_on-what.ensures.later in omega (arith, l, counted)) (sym c.waits.ensures ∙ c.if-waits.false) c.go_on-what.ensures.goes fits c.saturating_add-calls.ensures
+      desk = desk_went g.N.Tag.start g.N.Tag.opening (g.T.ReadTree.contents inside.tree) (g.T.ReadTree.contents c.step-made.new.tree) g.N.Tag.tree_faults _ _ c.args.seat count made.calls total _ _ c.in-Some.job c.step-made.new.self made.did went
+          c.requires.main c.self.invariant.desk is c.step-made.ensures.steps c.self.invariant.counted (omega (arith, counted)) (sym c.waits.ensures ∙ c.if-waits.false) c.go_on-what.ensures.goes fits c.saturating_add-calls.ensures
           more (c.put_back-2.ensures ∙ c.unless_waiting-kept.ensures)
           (ap (λ u. let t : Tally = record { job = option_map told c.put_back-2.new.place; last = inside.standing.last_id; has_unseen_end = u; closed = inside.standing.closed; due = awaited inside.standing.due; lost = inside.standing.lost; calls = total } in t)
           (c.end_waits-self-inside.ensures ∙ ap (λ b. b || inside.standing.has_unseen_end) c.has_ended-ended.ensures))
-          refl refl room refl);
+          refl refl room refl;
       counted = search rules;
       spawner = c.self.invariant.spawner;
     }
@@ -94,7 +92,7 @@ returns-clause-dirty g c =
     let more : c.note-2.new.self.newest ≡ entry c.args.seat total count 0 went.what ∷ inside.log.newest =
     c.note-2.ensures.added ∙ ap (λ es. entry c.args.seat total count 0 went.what ∷ es) c.reserve.ensures.same in
     subst (λ (d : Seen). MovesDirty d.job new.newest d.dirty new.dirty) c.self.view_is (went_moves g.N.Tag.start g.N.Tag.opening (g.T.ReadTree.contents inside.tree) (g.T.ReadTree.contents c.step-made.new.tree) g.N.Tag.tree_faults _ new c.args.seat count made.calls total _ _ c.in-Some.job c.step-made.new.self made.did went
-    c.requires.main c.self.invariant.desk is c.step-made.ensures.steps c.self.invariant.counted (let l = c.go_on-what.ensures.later in let n = c.faults-2.ensures in omega (arith, l, n)) (sym c.waits.ensures ∙ c.if-waits.false) c.go_on-what.ensures.goes more)
+    c.requires.main c.self.invariant.desk is c.step-made.ensures.steps c.self.invariant.counted (let n = c.faults-2.ensures in omega (arith, n)) (sym c.waits.ensures ∙ c.if-waits.false) c.go_on-what.ensures.goes more)
 
 pub returns-clause-nearer : goal.returns-clause-nearer
 returns-clause-nearer g c closed live =
@@ -107,7 +105,7 @@ returns-clause-nearer g c closed live =
     let standing : Standing = record inside.standing { job = c.put_back-2.new.place; later = c.go_on-what.new.later; calls = total; has_unseen_end = c.end_waits-self-inside.result } in
     let new : Seen = seen_of c.note-2.new.self inside.ui standing c.step-made.new.dirty inside.terminal inside.taken inside.keys in
     subst (λ (d : Seen). rank_of new < rank_of d) c.self.view_is (went_nearer g.N.Tag.start g.N.Tag.opening (g.T.ReadTree.contents inside.tree) (g.T.ReadTree.contents c.step-made.new.tree) g.N.Tag.tree_faults _ new c.args.seat count made.calls total _ _ c.in-Some.job c.step-made.new.self made.did went
-    c.requires.main c.self.invariant.desk is c.step-made.ensures.steps c.self.invariant.counted (let l = c.go_on-what.ensures.later in let n = c.faults-2.ensures in omega (arith, l, n)) (sym c.waits.ensures ∙ c.if-waits.false) c.go_on-what.ensures.goes (c.put_back-2.ensures ∙ c.unless_waiting-kept.ensures))
+    c.requires.main c.self.invariant.desk is c.step-made.ensures.steps c.self.invariant.counted (let n = c.faults-2.ensures in omega (arith, n)) (sym c.waits.ensures ∙ c.if-waits.false) c.go_on-what.ensures.goes (c.put_back-2.ensures ∙ c.unless_waiting-kept.ensures))
 
 pub returns-clause-worked : goal.returns-clause-worked
 returns-clause-worked g c ready =
@@ -120,4 +118,4 @@ returns-clause-worked g c ready =
     let standing : Standing = record inside.standing { job = c.put_back-2.new.place; later = c.go_on-what.new.later; calls = total; has_unseen_end = c.end_waits-self-inside.result } in
     let new : Seen = seen_of c.note-2.new.self inside.ui standing c.step-made.new.dirty inside.terminal inside.taken inside.keys in
     subst (λ (d : Seen). rank_of new < rank_of d) c.self.view_is (went_nearer g.N.Tag.start g.N.Tag.opening (g.T.ReadTree.contents inside.tree) (g.T.ReadTree.contents c.step-made.new.tree) g.N.Tag.tree_faults _ new c.args.seat count made.calls total _ _ c.in-Some.job c.step-made.new.self made.did went
-    c.requires.main c.self.invariant.desk is c.step-made.ensures.steps c.self.invariant.counted (let l = c.go_on-what.ensures.later in let n = c.faults-2.ensures in omega (arith, l, n)) (sym c.waits.ensures ∙ c.if-waits.false) c.go_on-what.ensures.goes (c.put_back-2.ensures ∙ c.unless_waiting-kept.ensures))
+    c.requires.main c.self.invariant.desk is c.step-made.ensures.steps c.self.invariant.counted (let n = c.faults-2.ensures in omega (arith, n)) (sym c.waits.ensures ∙ c.if-waits.false) c.go_on-what.ensures.goes (c.put_back-2.ensures ∙ c.unless_waiting-kept.ensures))

@@ -15,7 +15,7 @@ returns-in-Some-clause-steps g c =
       folders = before.leaves.0;
       mid = seen c.loop-stepped.self;
       leaves = before.leaves.1;
-      works = subst (λ (x : Option CallLog). WorksOn c.loop-stepped.self.item (IsPartPlace (g.P.PartTest.is_free c.args.parts.now) (seen c.loop-stepped.self)) (seen c.loop-stepped.self) (seen c.advance.new.self) c.in-Some.stepped.did x (g.T.ReadTree.contents c.advance.new.tree)) before.same a.0;
+      works = subst (λ (x : Option CallLog). WorksOn c.loop-stepped.self.item (IsPartPlace (g.P.PartTest.is_free c.args.parts.now) (seen c.loop-stepped.self)) c.args.replies (seen c.loop-stepped.self) (seen c.advance.new.self) c.in-Some.stepped.did x (g.T.ReadTree.contents c.advance.new.tree)) before.same a.0;
       counts = counts_later c.in-Some.stepped.did c.in-Some.stepped.calls _ _ _ _ _ _ before.same before.later a.1;
     }
 
