@@ -10,6 +10,7 @@ use Rattle.history_laws.proofs.Calmed.{calm_law}
 use Rattle.history_laws.proofs.Done.{done_law}
 use Rattle.history_laws.proofs.Histories.{traced_reached}
 use Rattle.history_laws.proofs.Moments.{replay_law, session_law}
+use Rattle.outcome_laws.proofs.AnswersLaw.{answered_law}
 use Rattle.outcome_laws.proofs.Elsewhere.{untouched_law}
 use Rattle.outcome_laws.proofs.KeptSessions.{kept_law}
 use Rattle.outcome_laws.proofs.Outcome.{outcome_law}
@@ -23,7 +24,7 @@ use Rattle.mc_desk.proofs.Terminals.{since_is}
 use Rattle.mc_main.specs.declared.session.SessionEnd.{SessionEnd}
 use Rattle.mc_main.specs.declared.session.SessionEnd.TheVariants.{Quit, KeysEnded}
 use Rattle.mc_main.proofs.Starting.{can_read}
-use Rattle.mc_main.specs.Headline.{IsCalmedRun, IsCut, ShowsRun, IsFinishedRun, IsOutcomeRun, IsReplayedRun, IsSafeRun, IsStatusOf, IsStatusOr, MayRefuseStart, IsComplete, RanSession, TookAll}
+use Rattle.mc_main.specs.Headline.{IsAnsweredRun, IsCalmedRun, IsCut, ShowsRun, IsFinishedRun, IsOutcomeRun, IsReplayedRun, IsSafeRun, IsStatusOf, IsStatusOr, MayRefuseStart, IsComplete, RanSession, TookAll}
 
 -- the trace of a tree that tells
 told_trace : (o contents : Option CallLog) (newest : List Entry) (opening now : CallLog) → o ≡ Some opening → contents ≡ Some now → IsTracedTo o contents newest → (dirty : List Route) × IsTraced opening newest (at_rest dirty) now
@@ -52,6 +53,11 @@ outcome_to o contents newest traced opening o_is now is tree settled =
       kept = kept_law opening now newest (at_rest t.0) tree settled t.1;
       all = all_sources_law opening now newest (at_rest t.0) tree settled t.1;
     }
+
+-- and what it replaced, kept or asked about is as was answered
+pub answered_to : (o contents : Option CallLog) (newest : List Entry) → IsTracedTo o contents newest → IfKnown o (λ opening. IfKnown contents (λ now. IsAnsweredRun opening now newest))
+answered_to o contents newest traced opening o_is now is tree settled =
+    let t = told_trace o contents newest opening now o_is is traced in answered_law opening now newest (at_rest t.0) tree settled t.1
 
 -- a first change comes where nothing is in doubt
 pub calmed_to : (o contents : Option CallLog) (newest : List Entry) → IsTracedTo o contents newest → IfKnown o (λ opening. IfKnown contents (λ now. IsCalmedRun opening now newest))

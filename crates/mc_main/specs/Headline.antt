@@ -17,6 +17,7 @@ use Rattle.session_history.specs.Entries.{IsMoment}
 use Rattle.history_laws.specs.Safe.{IsSafe}
 use Rattle.history_laws.specs.Staying.{StaysDone}
 use Rattle.outcome_laws.specs.AllSources.{LeavesAll}
+use Rattle.outcome_laws.specs.Answered.{FollowsAnswers}
 use Rattle.outcome_laws.specs.Keeps.{LeavesKept}
 use Rattle.outcome_laws.specs.Outcomes.{IsOutcome, Leaves}
 use Rattle.outcome_laws.specs.Untouched.{LeavesAlone}
@@ -137,7 +138,7 @@ abbrev pub IsFinishedRun : CallLog → CallLog → List Entry → Type 0
 IsFinishedRun opening now newest = IsTree (current opening) → all_settled opening.changes ≡ true → StaysDone opening now newest
 
 -- Where a job is done with one of its sources, all that it was to do with it is done, but for what it passed over, and what it doesn't touch for it is as it
--- was where the job began with it; where it kept what stands at the target of a file, or merged a folder with the one at its target, all is. So what it did with one is still so at its end, where no later one touches what
+-- was where the job began with it; where it kept the file or the link at its target, or merged a folder with the one there, all is. So what it did with one is still so at its end, where no later one touches what
 -- concerns that.
 pub record HasOutcomes (opening now : CallLog) (newest : List Entry) : Type 0 where
   pub done : Leaves IsOutcome opening now newest
@@ -147,6 +148,10 @@ pub record HasOutcomes (opening now : CallLog) (newest : List Entry) : Type 0 wh
 
 abbrev pub IsOutcomeRun : CallLog → CallLog → List Entry → Type 0
 IsOutcomeRun opening now newest = IsTree (current opening) → all_settled opening.changes ≡ true → HasOutcomes opening now newest
+
+-- What stands at the target of a copy is replaced, kept or asked about only as was answered before.
+abbrev pub IsAnsweredRun : CallLog → CallLog → List Entry → Type 0
+IsAnsweredRun opening now newest = IsTree (current opening) → all_settled opening.changes ≡ true → FollowsAnswers opening now newest
 
 -- once a job has made its first change, nothing is in doubt on its mount but what that change names
 abbrev pub IsCalmedRun : CallLog → CallLog → List Entry → Type 0

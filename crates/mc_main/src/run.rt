@@ -8,7 +8,7 @@ ghost use Rattle.mc_desk.specs.Shown.{put_since};
 ghost use Rattle.mc_desk.specs.Tallies.{faults_in, has_lost};
 ghost use Rattle.mc_desk.specs.Desks.{RanNothing};
 ghost use Rattle.mc_main.specs.Beginnings.{asked_in, printed_for, surroundings_in, start_in, status_with, text_of};
-ghost use Rattle.mc_main.specs.Headline.{IsStatusOr, MayRefuseStart, RefusesStart, IsRun, ReadsKeys, TookAll, IsSafeRun, IsFinishedRun, IsOutcomeRun, IsCalmedRun, IsReplayedRun, ShowsRun, IsComplete};
+ghost use Rattle.mc_main.specs.Headline.{IsStatusOr, MayRefuseStart, RefusesStart, IsRun, ReadsKeys, TookAll, IsSafeRun, IsFinishedRun, IsOutcomeRun, IsAnsweredRun, IsCalmedRun, IsReplayedRun, ShowsRun, IsComplete};
 ghost use Rattle.mc_main.specs.Printed.{PrintsStart};
 
 use crate::endings::{refuse, refuse_start, run_desk, without_session};
@@ -79,6 +79,11 @@ pub fn mc_run<N: Tag, T: Tree, K: Source, S: Sink, P: Spawner, C: Clock, G: Gate
     // So at its end all is done with all its sources, where no later one touches what concerns an earlier one.
     ensures outcome { IfKnown (T.contents tree) (λ opening. IfKnown (T.contents result.tree) (λ now.
         IsOutcomeRun opening now (reverse result.history.entries))) }
+
+    // A job asks what is to become of a file or a link at the target of its copy where no answer decides that, keeps it where one says so, and begins a part
+    // beside it only where one says that it is replaced.
+    ensures answered { IfKnown (T.contents tree) (λ opening. IfKnown (T.contents result.tree) (λ now.
+        IsAnsweredRun opening now (reverse result.history.entries))) }
 
     // Once a job has made its first change, nothing is in doubt on its mount but what that change names.
     ensures calmed { IfKnown (T.contents tree) (λ opening. IfKnown (T.contents result.tree) (λ now.

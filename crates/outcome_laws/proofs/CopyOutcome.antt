@@ -82,7 +82,7 @@ covered_not : {A : Type 0} (passed : List Route) (path : Route) → IsReached pa
 covered_not passed path reached (left, among, above) = absurd (both_ways _ (reached left among) above)
 
 -- where no part stands the history shows the tree
-shows_all : (told : Said) (dirty : List Route) (marks : Marks) (log : CallLog) → IsKept told dirty marks log → told.part ≡ None → ShowsTree told.tree log
+pub shows_all : (told : Said) (dirty : List Route) (marks : Marks) (log : CallLog) → IsKept told dirty marks log → told.part ≡ None → ShowsTree told.tree log
 shows_all told dirty marks log kept none p = ap (λ (s : Spot). s.value) (kept.known.shows p (λ part. let e : (let o : Option Route = None in o) ≡ Some p = sym none ∙ part in let f : ⊥ = cc in f))
 
 -- the copy of a file
@@ -109,11 +109,11 @@ file_ends c new part passed v (stage, synced, part_is, new_is) done = λ rest of
     by (inr all) rest off reached = all rest off
 
 -- the next name is that of what is taken up
-next_of : (c : Seen) (names : List (List ℕ)) (pair : Pair) → c.levels.inner.names.names ≡ names → due_at names c ≡ Thing pair → IsNext c.levels.inner pair.source
+pub next_of : (c : Seen) (names : List (List ℕ)) (pair : Pair) → c.levels.inner.names.names ≡ names → due_at names c ≡ Thing pair → IsNext c.levels.inner pair.source
 next_of c [] pair names_is is = absurd (let f : ⊥ = cc in f)
 next_of c (name ∷ names) pair names_is is = let same : pair_of c name ≡ pair = cc in (name, names, names_is, sym (ap (λ (p : Pair). p.source) same))
 
-not_begun : (stage : FileStage) → progress stage ≡ UnderWay → stage ≡ file_stage.Begin → ⊥
+pub not_begun : (stage : FileStage) → progress stage ≡ UnderWay → stage ≡ file_stage.Begin → ⊥
 not_begun stage under is = (let e : progress file_stage.Begin ≡ UnderWay = sym (ap progress is) ∙ under in let f : ⊥ = cc in f)
 
 -- what is copied itself is taken up where no folder is open around

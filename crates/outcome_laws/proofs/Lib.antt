@@ -1,4 +1,7 @@
 pub mod Accounts
+pub mod Answering
+pub mod AnswersLaw
+pub mod AnswersSaid
 pub mod CopyOutcome
 pub mod CopyTouches
 pub mod Deciding

@@ -9,12 +9,13 @@ use Rattle.tree_trait.specs.declared.file_system.Node.{Node}
 use Rattle.tree_trait.specs.FileSystem.{value}
 use Rattle.tree_trait.specs.Change.{Change, Makes, Moves, Syncs, Writes, CallLog, current}
 use Rattle.job_reports.specs.declared.answer.Answer.TheVariants.{Yes}
+use Rattle.job_reports.specs.declared.question.Question.{Question}
 use Rattle.job_reports.specs.declared.report.Did.TheVariants.{Barrier, Began, Chunk, Ended, Placed}
 use Rattle.job_reports.specs.declared.report.Ending.TheVariants.{Finished}
 use Rattle.job_reports.specs.Jobs as jobs
 use Rattle.job_answers.specs.declared.replies.Decision.TheVariants.{Replace}
 use Rattle.job_answers.specs.declared.replies.Replies.{Replies}
-use Rattle.job_answers.specs.Decisions.{no_replies, with_reply}
+use Rattle.job_answers.specs.Decisions.{decided, no_replies, with_reply}
 use Rattle.file_copy.specs.declared.stage.FolderState.TheVariants.{Dirty, Synced}
 use Rattle.file_copy.specs.declared.stage.SourceFacts.{SourceFacts}
 use Rattle.file_copy.specs.declared.stage.Stage.TheVariants.{Begin, Decided, Fill}
@@ -48,6 +49,8 @@ use Rattle.history_laws.proofs.CopyExampleSteps.{counts}
 use Rattle.history_laws.proofs.ExampleParts.{entry, file, known_is, own_step, stand}
 use Rattle.outcome_laws.proofs.ExampleSteps.{IsStep, anywhere, at_last, job, tells_own, works}
 use Rattle.outcome_laws.proofs.KeptExample.{asked_entries, asked_traced, asks, begun, holder, is_decided, log, own_folder, pair, question, small, small_tree, source, stays, target}
+use Rattle.outcome_laws.specs.Answered.{IsQuestionOf, replies_said}
+use Rattle.outcome_laws.proofs.AnswersLaw.{answered_law}
 use Rattle.outcome_laws.proofs.Outcome.{outcome_law}
 
 abbrev said_yes : Replies
@@ -385,3 +388,9 @@ pub target_is_replaced : (replayed_tree (log []) done_log done_entries target).v
 target_is_replaced =
     outcome_law (log []) done_log (end ∷ done_entries) (stand [] []) small_tree refl ended_traced end done_entries 1 (jobs.Copies source target) (record { ended = refl; its = refl }) (inl (refl, refl, refl))
     [] refl (λ left among. absurd among)
+
+-- and its part was begun since an answer said so
+pub part_is_answered : (asks : Question) × IsQuestionOf (replayed_tree (log []) done_log yes_entries) source target asks × (decided (replies_said 1 yes_entries) asks ≡ Replace)
+part_is_answered =
+    answered_law (log []) done_log (end ∷ done_entries) (stand [] []) small_tree refl ended_traced (entry 1 (Step 1 (Began part))) yes_entries 1 (Began part) source target refl refl
+    (inr (inr (inr (inr (inr (inr (inr (inr (inl (refl, refl, refl)))))))))) refl refl

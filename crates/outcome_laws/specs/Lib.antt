@@ -1,4 +1,5 @@
 pub mod AllSources
+pub mod Answered
 pub mod Keeps
 pub mod Outcomes
 pub mod Untouched

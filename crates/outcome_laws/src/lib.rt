@@ -2,6 +2,7 @@
 #![tactic(auto)]
 
 ghost use Rattle.outcome_laws.specs.AllSources.{AllSourcesLaw};
+ghost use Rattle.outcome_laws.specs.Answered.{AnsweredLaw};
 ghost use Rattle.outcome_laws.specs.Keeps.{KeptLaw};
 ghost use Rattle.outcome_laws.specs.Outcomes.{OutcomeLaw};
 ghost use Rattle.outcome_laws.specs.Untouched.{UntouchedLaw};
@@ -24,4 +25,9 @@ pub fn what_a_job_that_kept_a_target_left()
 /// So what it did with one source is still so at its end, where no later one touches what concerns that.
 pub fn what_a_finished_job_has_done_with_all()
     ensures { AllSourcesLaw }
+{}
+
+/// What a copy replaces, keeps or asks about at its target is as was answered to it.
+pub fn what_was_answered_decides()
+    ensures { AnsweredLaw }
 {}

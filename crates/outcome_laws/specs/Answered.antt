@@ -1,0 +1,128 @@
+-- What stands at the target of a copy is replaced, kept or asked about only as was answered; in the words of the history alone. Histories stand newest first here.
+use Rattle.std.specs.Prelude.{◌≡◌, ℕ, ⊤, ◌==◌, Bool, true, false, ◌&&◌, not, if◌then◌else◌, List, [], ◌∷◌, length, is_some, Some, None}
+use Rattle.mc_text.specs.Routes.{Route}
+use Rattle.tree_trait.specs.FileSystem.{Value, View}
+use Rattle.tree_trait.specs.Shape.{IsTree}
+use Rattle.tree_trait.specs.Change.{CallLog, current}
+use Rattle.tree_trait.specs.CrashImages.{all_settled}
+use Rattle.job_reports.specs.declared.answer.Answer.{Answer}
+use Rattle.job_reports.specs.declared.answer.Answer.TheVariants.{Yes, No, All, Update, Nothing, SizeDiffers, Retry, Skip, SkipAll, Abort}
+use Rattle.job_reports.specs.declared.question.Question.{Question}
+use Rattle.job_reports.specs.declared.report.Did.{Did}
+use Rattle.job_reports.specs.declared.report.Did.TheVariants.{Began, Chunk, Placed, Removed, Made, Set, Kept, Skipped, Cleaned, Barrier, Asked, Merges, Troubled, Ended}
+use Rattle.job_reports.specs.Jobs.{Copies}
+use Rattle.job_reports.specs.Paths.{folder_of}
+use Rattle.job_answers.specs.declared.replies.Decision.TheVariants.{Ask, Keep, Replace}
+use Rattle.job_answers.specs.declared.replies.Replies.{Replies}
+use Rattle.job_answers.specs.Decisions.{decided, no_replies, with_reply}
+use Rattle.file_copy.specs.AskedCopies.{IsReplaceable}
+use Rattle.session_history.specs.declared.history.Event.{Event}
+use Rattle.session_history.specs.declared.history.Event.TheVariants.{Key, Look, Sought, Order, Step, Next, Closed}
+use Rattle.session_history.specs.declared.history.Event.TheVariants as event
+use Rattle.session_history.specs.declared.history.JobOrder.TheVariants.{Answered}
+use Rattle.session_history.specs.declared.history.Entry.{Entry}
+use Rattle.session_history.specs.Entries.{IsMoment, is_closed}
+use Rattle.session_history.specs.LiveJobs.{live_item, live_jobs}
+use Rattle.history_laws.specs.Replayed.{replayed_tree}
+use Rattle.history_laws.specs.Traces.{IsTraced, Stand}
+
+-- the report is a question
+abbrev pub asks_by : Did → Bool
+asks_by (Asked question) = true
+asks_by (Began part) = false
+asks_by (Chunk count) = false
+asks_by (Placed path) = false
+asks_by (Removed path) = false
+asks_by (Made made) = false
+asks_by (Set path) = false
+asks_by (Kept path) = false
+asks_by (Skipped path cause) = false
+asks_by (Cleaned part) = false
+asks_by Barrier = false
+asks_by (Merges pair names) = false
+asks_by (Troubled trouble) = false
+asks_by (Ended ending part) = false
+
+-- a question takes the answer
+abbrev pub settles : Answer → Bool
+settles Yes = true
+settles No = true
+settles All = true
+settles Update = true
+settles Nothing = true
+settles SizeDiffers = true
+settles Abort = true
+settles Retry = false
+settles Skip = false
+settles SkipAll = false
+
+abbrev pub asks_after : ℕ → Event → Bool → Bool
+asks_after id (event.Began number plan background) before = if number == id then false else before
+asks_after id (Step number did) before = if number == id then asks_by did else before
+asks_after id (Next number plan) before = if number == id then false else before
+asks_after id (Order number (Answered answer)) before = if id == number then before && not (settles answer) else before
+asks_after id (Key key now refusals lost) before = before
+asks_after id (Look refusals) before = before
+asks_after id Sought before = before
+asks_after id Closed before = before
+
+-- The job with this number waits for the answer to its question: that was what it reported last, and nothing was answered since. On a closed session no job waits.
+abbrev pub asks_still : ℕ → List Entry → Bool
+asks_still id [] = false
+asks_still id (e ∷ older) = if is_closed (e ∷ older) then false else asks_after id e.what (asks_still id older)
+
+-- What was answered to its questions and still holds: nothing as it begins; what was answered for one thing goes with the next source.
+abbrev pub said_after : ℕ → Event → Bool → Replies → Replies
+said_after id (event.Began number plan background) asks before = if number == id then no_replies else before
+said_after id (Next number plan) asks before = if number == id then record before { item = None } else before
+said_after id (Order number (Answered answer)) asks before = if id == number then (if asks then with_reply answer before else before) else before
+said_after id (Step number did) asks before = before
+said_after id (Key key now refusals lost) asks before = before
+said_after id (Look refusals) asks before = before
+said_after id Sought asks before = before
+said_after id Closed asks before = before
+
+abbrev pub replies_said : ℕ → List Entry → Replies
+replies_said id [] = no_replies
+replies_said id (e ∷ older) = said_after id e.what (asks_still id older) (replies_said id older)
+
+-- a file or a link of so many bytes stands at the path
+abbrev pub IsSized : View → Route → ℕ → Type 0
+IsSized v path size = (x : Value) × ((v path).value ≡ Some x) × IsReplaceable x.kind × (size ≡ length x.bytes)
+
+-- The question is whether what stands at this source replaces what stands at this target, each a file or a link.
+pub record IsQuestionOf (v : View) (source target : Route) (question : Question) : Type 0 where
+  pub from : question.source ≡ source
+  pub to : question.target ≡ target
+  pub source_is : IsSized v source question.source_size
+  pub target_is : IsSized v target question.target_size
+
+-- A copy asks where no answer that stands decides; it keeps what stands at its target where one says so; and it begins a part beside its target, by which that is replaced if anything stands
+-- there, only where one says that.
+abbrev pub IsAsAnswered : Replies → Route → Route → View → Did → Type 0
+IsAsAnswered replies source target v (Asked question) = IsQuestionOf v source target question × (decided replies question ≡ Ask)
+IsAsAnswered replies source target v (Kept path) = (path ≡ target) × ((question : Question) × IsQuestionOf v source target question × (decided replies question ≡ Keep))
+IsAsAnswered replies source target v (Began part) =
+    folder_of part ≡ folder_of target → is_some (v target).value ≡ true → (question : Question) × IsQuestionOf v source target question × (decided replies question ≡ Replace)
+IsAsAnswered replies source target v (Chunk count) = ⊤
+IsAsAnswered replies source target v (Placed path) = ⊤
+IsAsAnswered replies source target v (Removed path) = ⊤
+IsAsAnswered replies source target v (Made made) = ⊤
+IsAsAnswered replies source target v (Set path) = ⊤
+IsAsAnswered replies source target v (Skipped path cause) = ⊤
+IsAsAnswered replies source target v (Cleaned part) = ⊤
+IsAsAnswered replies source target v Barrier = ⊤
+IsAsAnswered replies source target v (Merges pair names) = ⊤
+IsAsAnswered replies source target v (Troubled trouble) = ⊤
+IsAsAnswered replies source target v (Ended ending part) = ⊤
+
+-- Wherever in a history a job that copies reports something, that is as was answered to it before.
+abbrev pub FollowsAnswers : CallLog → CallLog → List Entry → Type 0
+FollowsAnswers opening now newest =
+    (e : Entry) (older : List Entry) (id : ℕ) (did : Did) (source target : Route)
+    → e.what ≡ Step id did → live_item id (live_jobs older) ≡ Some (Copies source target) → IsMoment newest (e ∷ older) (e ∷ older) e.calls
+    → IsAsAnswered (replies_said id older) source target (replayed_tree opening now older) did
+
+abbrev pub AnsweredLaw : Type 0
+AnsweredLaw = (opening now : CallLog) (newest : List Entry) (stand : Stand)
+    → IsTree (current opening) → all_settled opening.changes ≡ true → IsTraced opening newest stand now → FollowsAnswers opening now newest
