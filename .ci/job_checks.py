@@ -135,6 +135,41 @@ def check_questions(program, base, check):
     check("a folder at the target is no question", status == 0 and b"target is of another kind" in told and os.path.isdir(there))
 
 
+def check_questions_of_links(program, base, check):
+    """Where a link comes onto a file or a link it is asked about as a file is; onto a folder it is a trouble."""
+    source, target = (os.path.join(base, f"{side} of linked questions") for side in ("source", "target"))
+    for folder in (source, target):
+        os.mkdir(folder)
+    new, there = os.path.join(source, "l"), os.path.join(target, "l")
+    os.symlink("new", new)
+
+    def answered(key, stands):
+        """What stands at the target after this key, where a file, a link or a folder stood there."""
+        if stands == "file":
+            make_file(there, 9, 0o600)
+        elif stands == "link":
+            os.symlink("old one", there)
+        else:
+            os.mkdir(there)
+        before = things_at(there)
+        status, told, same = run(program, [source, target], COPY + [key, F10])
+        left = things_at(there)
+        if stands == "folder":
+            os.rmdir(there)
+        else:
+            os.remove(there)
+        return told, status == 0 and same and os.listdir(target) == [], left, before
+
+    told, fine, left, _ = answered(b"y", "link")
+    check("a link onto a link is asked about, with both sizes", fine and any("source 3 bytes, target 7 bytes" in row for row in told.screens[4].rows()))
+    check("and replaces it after Yes", left == "new")
+    for key, stands, copied in [(b"n", "link", False), (b"a", "link", True), (b"o", "link", False), (b"s", "link", True), (b"y", "file", True), (b"n", "file", False), (b"b", "file", False)]:
+        _, fine, left, before = answered(key, stands)
+        check(f"a link onto a {stands}: {key.decode()}", fine and left == ("new" if copied else before))
+    told, fine, left, before = answered(b"s", "folder")
+    check("a link onto a folder is no question", fine and b"target is of another kind" in told and left == before)
+
+
 def check_copied_folders(program, base, check):
     """Folders and links are copied by keys, with all that lies in them and nothing that a link leads to."""
     source, target, ways = (os.path.join(base, f"{what} of folders") for what in ("source", "target", "ways"))
@@ -156,11 +191,15 @@ def check_copied_folders(program, base, check):
     status, _, same = run(program, [source, target], COPY + [F10])
     check("a folder is copied with all that lies in it", status == 0 and same and os.listdir(target) == ["top"] and things_at(os.path.join(target, "top")) == before)
     check("and stays as it was", things_at(source)[1] == {"top": before})
-    for words, keys in [(b"inside itself", [source, top]), (b"target is of another kind", [source, target]), (b"same file", [source, source])]:
+    for words, keys in [(b"inside itself", [source, top]), (b"same file", [source, source])]:
         status, told, _ = run(program, keys, COPY + [ENTER, F10, F10])
         check(f"a folder is not copied: {words.decode()}", status == 0 and words in told and things_at(top) == before and os.listdir(target) == ["top"])
+    status, told, same = run(program, [source, target], COPY + [b"o", F10])
+    check("a folder onto itself is merged, and what lies in it stays where it is not to be replaced", status == 0 and same and b"Target exists" in told and things_at(os.path.join(target, "top")) == before)
     status, told, _ = run(program, [source, target], [F5, ENTER, DOWN, F5, EMPTY + b"*", ENTER, EMPTY + b"../ways of folders/\\0.\\0", ENTER, F10])
     check("on `..` nothing is selected, and a mask names the copy of a folder", status == 0 and b"nothing selected" in told and things_at(ways)[1] == {"top.top": before})
+
+    check_questions_of_links(program, base, check)
 
     for name, text in [("l", "nowhere"), ("w", top)]:
         source, target = (os.path.join(base, f"{side} of {name}") for side in ("source", "target"))

@@ -1,4 +1,4 @@
-"""Checks of folders that are copied onto folders: they are merged, and each file that is there already is asked about."""
+"""Checks of folders that are copied onto folders: they are merged, and each file or link that is there already is asked about."""
 import os
 import time
 
@@ -59,6 +59,13 @@ def change(top, text):
     return grown, newer, older
 
 
+def point(path, text, second):
+    """A link that says this, last changed at this second."""
+    os.remove(path)
+    os.symlink(text, path)
+    os.utime(path, (second, second), follow_symlinks=False)
+
+
 def check_tree_over_itself(program, base, check):
     """A tree is copied, and copied again over itself under each answer for all, and deleted."""
     source, target = os.path.join(base, "whole"), folder_with(base, "onto", {})
@@ -70,14 +77,19 @@ def check_tree_over_itself(program, base, check):
 
     os.chmod(os.path.join(copy, "d0"), 0o711)
     put(os.path.join(copy, "d0", "own"), "own", OLD, 0o600)
+    # For each letter what a link says now, when it was changed, and what the one at its target says afterwards.
+    links = {"a": ("f01", OLD, "f01"), "u": ("f02", NEW + 100, "f02"), "o": ("in/f04", NEW + 100, "f02"), "s": ("in/f04", OLD, "in/f04")}
     for letter in "auos":
         before = texts_in(copy)
         grown, newer, older = change(top, letter * 3)
+        says, second, says_then = links[letter]
+        point(os.path.join(top, "d0", "way"), says, second)
         taken = {"a": grown + newer + older, "u": grown + newer, "o": [], "s": [path for path in files_in(top) if len(before[path]) != len(texts_in(top)[path])]}[letter]
-        status, told, same = run(program, [source, target], [DOWN, F5, ENTER, ENTER, letter.encode()] + FOLDERS * [b"s"] + [F10], patience=180)
+        status, told, same = run(program, [source, target], [DOWN, F5, ENTER, ENTER, letter.encode(), F10], patience=180)
         now, given = texts_in(copy), texts_in(top)
-        check(f"a tree is merged with itself, and {letter} asks no more", status == 0 and same and b"Target exists" in told and b"target is of another kind" in told)
+        check(f"a tree is merged with itself, and {letter} asks no more", status == 0 and same and b"Target exists" in told and b"target is of another kind" not in told)
         check(f"{letter} replaces just what it is to", all(now[path] == (given if path in taken else before)[path] for path in given))
+        check(f"{letter} replaces a link as it does a file", os.readlink(os.path.join(copy, "d0", "way")) == says_then)
         check(f"nothing else is changed by {letter}", now["d0/own"] == "own" and os.lstat(os.path.join(copy, "d0")).st_mode & 0o7777 == 0o711)
         check(f"no part is left by {letter}", sorted(now) == sorted([*given, "d0/own"]))
     status, _, same = run(program, [target, source], [DOWN, F8, b"y", F10])

@@ -32,8 +32,12 @@ def check_several_copies(program, base, check):
     status, _, same = run(program, [source, target], tag + [F5, ENTER, ENTER, F10])
     check("all that is tagged is copied", status == 0 and same and things_at(target)[1] == before)
     check("and stays as it was", things_at(source)[1] == before)
-    status, told, _ = run(program, [source, target], tag + [F5, ENTER, ENTER, ENTER, F10, F10])
-    check("nothing that is there is replaced where several are copied", status == 0 and b"target is of another kind" in told and things_at(target)[1] == before)
+    make_file(os.path.join(target, "a.c"), 9, 0o600)
+    there = things_at(target)[1]
+    status, told, same = run(program, [source, target], tag + [F5, ENTER, ENTER, b"o", F10])
+    check("what is there is asked about where several are copied, and one answer keeps it all", status == 0 and same and b"Target exists" in told and things_at(target)[1] == there)
+    status, told, _ = run(program, [source, target], tag + [F5, ENTER, ENTER, b"n", b"n", b"y", b"b", F10])
+    check("each is asked about in turn, the link in the folder first", status == 0 and b"target is of another kind" not in told and things_at(target)[1] == before)
 
     target = folder_with(base, "some of several", {})
     status, _, _ = run(program, [source, target], tag + [F5, EMPTY + b"*.c", ENTER, EMPTY + b"../some of several/\\1.old", ENTER, F10])
@@ -64,10 +68,20 @@ def check_skips_of_several(program, base, check):
             os.rmdir(folder)
 
 
+def check_skips_past_a_question(program, base, check):
+    """What is skipped once and for all is skipped, too, behind a file that is asked about."""
+    source = folder_with(base, "between pipes", {"e": None, "f": 3, "g": None, "h": "f", "i": None})
+    target = folder_with(base, "a question between", {"f": 5, "h": "e"})
+    status, told, same = run(program, [source, target], [DOWN] + 5 * [INSERT] + [F5, ENTER, ENTER, b"a", b"y", b"n", F10])
+    check("after `a` no pipe is asked about, before and behind a question", status == 0 and same and sorted(os.listdir(target)) == ["f", "h"])
+    check("the file was replaced, and the link kept", os.lstat(os.path.join(target, "f")).st_size == 3 and os.readlink(os.path.join(target, "h")) == "e")
+
+
 def check_several_things(program, base, check):
     """F5, F8 and C-x c on all that is tagged."""
     check_several_copies(program, base, check)
     check_skips_of_several(program, base, check)
+    check_skips_past_a_question(program, base, check)
 
     folder = folder_with(base, "gone", {"d": {"x": 3, "y": {"z": 0}}, "a": 3, "b": 5, "l": "a"})
     tag = [DOWN, INSERT, INSERT, DOWN, INSERT]  # the folder, the first file and the link
