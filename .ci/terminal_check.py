@@ -20,7 +20,7 @@ from start_checks import check_failed_build, check_signals, check_stty, check_wo
 from terminal_run import DOWN, ENTER, F10, F8, USAGE, run
 from trouble_checks import (
     check_barred_mode, check_closed_folder, check_dirty_folder, check_list_of_jobs, check_long_path,
-    check_part_left, check_unread_folder,
+    check_part_left, check_path_too_long, check_unread_folder,
 )
 
 
@@ -69,6 +69,7 @@ def main():
         check_barred_mode(program, base, check)
         check_closed_folder(program, base, check)
         check_long_path(program, base, check)
+        check_path_too_long(program, base, check)
         check_dirty_folder(program, base, check)
         check_unread_folder(program, base, check)
         check_part_left(program, base, check)

@@ -3,7 +3,7 @@ import os
 import stat
 
 from frames import with_box
-from terminal_run import COPY, DOWN, END, ENTER, ESCAPE, F10, F5, F7, F8, MODE, facts, for_somebody, make_file, run, things_at
+from terminal_run import COPY, DOWN, END, ENTER, ESCAPE, F10, F5, F7, F8, INSERT, MODE, facts, for_somebody, make_file, run, things_at
 
 
 def check_barred_mode(program, base, check):
@@ -48,6 +48,24 @@ def check_long_path(program, base, check):
     rows = [row for screen in told.screens for row in screen.rows()]
     cut = os.path.join(folder, "x")[:59] + "~"
     check("a long path is cut in its box", any(f"| {cut} |" in row for row in rows))
+
+
+def check_path_too_long(program, base, check):
+    """A thing whose path would be too long can't be chosen, nor others with it: a message says so."""
+    folder = os.path.join(base, "deep")
+    os.mkdir(folder)
+    while len(folder) < 3900:
+        folder = os.path.join(folder, "d" * min(255, 3900 - len(folder)))
+        os.mkdir(folder)
+    held = os.open(folder, os.O_RDONLY | os.O_DIRECTORY)
+    for name in ["a", "x" * 250]:
+        os.close(os.open(name, os.O_WRONLY | os.O_CREAT, 0o644, dir_fd=held))
+    for what, chosen in [("alone", [END]), ("with another thing", [DOWN, INSERT, INSERT])]:
+        for keys in [[F8], [F5], MODE]:
+            status, told, same = run(program, [folder, base], chosen + keys + [ENTER, F10])
+            said = b"path too long" in told and status == 0 and same
+            check(f"{what} a thing whose path is too long can't be chosen by {keys[-1]!r}", said and len(os.listdir(held)) == 2)
+    os.close(held)
 
 
 def check_dirty_folder(program, base, check):

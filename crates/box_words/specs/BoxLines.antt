@@ -10,7 +10,7 @@ use Rattle.job_reports.specs.declared.waits.Waits.TheVariants as waits
 use Rattle.resolving.specs.declared.error.ResolveError.{ResolveError}
 use Rattle.resolving.specs.declared.error.ResolveError.TheVariants as resolve
 use Rattle.session_history.specs.declared.refusal.PlanError.{PlanError}
-use Rattle.session_history.specs.declared.refusal.PlanError.TheVariants.{NoSelection, Nested, Source, BadMask, Target, TargetThere, SameFile, IntoItself, TwoToOne, BadLinkText}
+use Rattle.session_history.specs.declared.refusal.PlanError.TheVariants.{NoSelection, TooLong, Nested, Source, BadMask, Target, TargetThere, SameFile, IntoItself, TwoToOne, BadLinkText}
 use Rattle.session_history.specs.declared.refusal.Refusal.{Refusal}
 use Rattle.session_history.specs.declared.refusal.Refusal.TheVariants.{Tree, Read, Resolve, Plan, Begin, Typed}
 use Rattle.mc_dialogs.specs.InputKeys.{InputState}
@@ -31,6 +31,7 @@ resolve_path resolve.Memory = None
 -- the path that a plan was refused for, if it was for one: the first, where it was for two
 abbrev pub plan_path : PlanError → Option Route
 plan_path NoSelection = None
+plan_path TooLong = None
 plan_path (Nested first second) = Some first
 plan_path (Source path e) = Some path
 plan_path BadMask = None

@@ -44,6 +44,7 @@ resolve_words resolve.Memory = codes "out of memory"
 -- what is said of a plan that can't be made
 abbrev pub plan_words : PlanError → List ℕ
 plan_words plan.NoSelection = codes "nothing selected"
+plan_words plan.TooLong = codes "path too long"
 plan_words (plan.Nested first second) = codes "one lies in the other"
 plan_words (plan.Source path e) = cause_words e
 plan_words plan.BadMask = codes "bad mask"

@@ -131,6 +131,7 @@ fn plan_lines(alloc: Global, words: Text, error: &PlanError) -> Result<Rows, NoM
 {
     match error {
         PlanError::NoSelection => words_alone(alloc, words),
+        PlanError::TooLong => words_alone(alloc, words),
         PlanError::Nested(first, _) => words_and_path(alloc, words, first),
         PlanError::Source(path, _) => words_and_path(alloc, words, path),
         PlanError::BadMask => words_alone(alloc, words),

@@ -50,6 +50,7 @@ fn plan_text(error: &PlanError) -> &'static str
 {
     match error {
         PlanError::NoSelection => "nothing selected",
+        PlanError::TooLong => "path too long",
         PlanError::Nested(_, _) => "one lies in the other",
         PlanError::Source(_, error) => cause_text(*error),
         PlanError::BadMask => "bad mask",

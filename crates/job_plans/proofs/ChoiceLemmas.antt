@@ -8,7 +8,7 @@ use Rattle.tree_trait.specs.Calls.{Stat}
 use Rattle.tree_trait.specs.Change.{CallLog, current}
 use Rattle.tree_trait.specs.Answers.{IsMeta, IfKnown, Reads}
 use Rattle.job_plans.specs.declared.choosing.Choice.{Choice}
-use Rattle.job_plans.specs.declared.choosing.Choice.TheVariants.{NoSelection, Nothing, Things, Refused}
+use Rattle.job_plans.specs.declared.choosing.Choice.TheVariants.{NoSelection, TooLong, Things, Refused}
 use Rattle.job_plans.specs.declared.choosing.Opens.{Opens}
 use Rattle.job_plans.specs.Choices.{IsChoiceOf, IsThing, paths_in}
 use Rattle.job_plans.specs.Copies.{HasMode, MayAsk}
@@ -22,7 +22,7 @@ module _ (box : Opens) (contents : Option CallLog) (folder : Route) where
   is_thing name path meta (Things chosen mode) is seen h =
       ((seen.0, subst (HasMode (sight contents) (name ∷ folder)) (sym h.1) seen.1), h.0 ∙ ap (λ (p : Route). p ∷ []) is)
   is_thing name path meta NoSelection is seen h = absurd h
-  is_thing name path meta Nothing is seen h = absurd h
+  is_thing name path meta TooLong is seen h = absurd h
   is_thing name path meta (Refused refused e) is seen h = absurd h
 
   pub one_chosen : (name : List ℕ) (path : Route) (meta : Meta) (result : Result Choice NoMemory) → path ≡ name ∷ folder → length (spelled (name ∷ folder)) ≤ 4096

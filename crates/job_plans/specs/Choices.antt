@@ -12,7 +12,7 @@ use Rattle.mc_panels.specs.Selections.{selection}
 use Rattle.job_plans.specs.declared.choosing.Opens.{Opens}
 use Rattle.job_plans.specs.declared.choosing.Opens.TheVariants as opens
 use Rattle.job_plans.specs.declared.choosing.Choice.{Choice}
-use Rattle.job_plans.specs.declared.choosing.Choice.TheVariants.{NoSelection, Nothing, Things, Refused}
+use Rattle.job_plans.specs.declared.choosing.Choice.TheVariants.{NoSelection, TooLong, Things, Refused}
 use Rattle.job_plans.specs.declared.copying.JobPlan.{JobPlan}
 use Rattle.job_plans.specs.declared.copying.JobPlan.TheVariants.{Begins, Refuses}
 use Rattle.job_plans.specs.Copies.{HasMode, MayAsk}
@@ -49,16 +49,10 @@ MayAskOf box tree [] mode = ⊥
 MayAskOf box tree (path ∷ []) mode = MayAsk tree path true × HasMode tree path mode
 MayAskOf box tree (path ∷ other ∷ more) mode = (list_any is_too_long (path ∷ other ∷ more) ≡ false) × HasSeenMode tree (looked_at box (path ∷ other ∷ more)) mode
 
--- or none may: of one, where nothing stands there or its path is too long; of several, where some path is too long
-abbrev pub MayNotAskOf : Option View → List Route → Type 0
-MayNotAskOf tree [] = ⊥
-MayNotAskOf tree (path ∷ []) = MayAsk tree path false
-MayNotAskOf tree (path ∷ other ∷ more) = list_any is_too_long (path ∷ other ∷ more) ≡ true
-
--- of these things: there are none; the box may ask of them, or may not; or the look at one was refused
+-- of these things: there are none; the path of one is too long; the box may ask of them; or the look at one was refused
 abbrev pub IsChoiceOf : Opens → Option View → List Route → Choice → Type 0
 IsChoiceOf box tree paths NoSelection = paths ≡ []
-IsChoiceOf box tree paths Nothing = MayNotAskOf tree paths
+IsChoiceOf box tree paths TooLong = list_any is_too_long paths ≡ true
 IsChoiceOf box tree paths (Things chosen mode) = MayAskOf box tree paths mode × (chosen.paths ≡ paths)
 IsChoiceOf box tree paths (Refused refused e) = looked_at box paths ≡ Some refused
 
@@ -66,10 +60,10 @@ IsChoiceOf box tree paths (Refused refused e) = looked_at box paths ≡ Some ref
 abbrev pub IsChoice : Opens → Option View → PanelState → Choice → Type 0
 IsChoice box tree p choice = IsChoiceOf box tree (paths_in p.folder (selection p)) choice
 
--- what was refused: nothing was selected, or the look at a thing
+-- what was refused: nothing was selected, a path is too long, or the look at a thing
 abbrev pub choice_refusals : Choice → List Refusal
 choice_refusals NoSelection = Plan plan.NoSelection ∷ []
-choice_refusals Nothing = []
+choice_refusals TooLong = Plan plan.TooLong ∷ []
 choice_refusals (Things chosen mode) = []
 choice_refusals (Refused path e) = Tree path e ∷ []
 
@@ -77,7 +71,7 @@ choice_refusals (Refused path e) = Tree path e ∷ []
 abbrev pub IsThing : Route → Meta → Choice → Type 0
 IsThing path meta (Things chosen mode) = (chosen.paths ≡ path ∷ []) × (mode ≡ meta.mode)
 IsThing path meta NoSelection = ⊥
-IsThing path meta Nothing = ⊥
+IsThing path meta TooLong = ⊥
 IsThing path meta (Refused refused e) = ⊥
 
 -- the first of some things was looked at
@@ -89,7 +83,7 @@ abbrev pub IsLookAtFirst : Option View → List Route → Choice → Type 0
 IsLookAtFirst tree paths (Things chosen mode) = HasSeenMode tree (first_of paths) mode × (chosen.paths ≡ paths)
 IsLookAtFirst tree paths (Refused refused e) = first_of paths ≡ Some refused
 IsLookAtFirst tree paths NoSelection = ⊥
-IsLookAtFirst tree paths Nothing = ⊥
+IsLookAtFirst tree paths TooLong = ⊥
 
 -- the paths of things in a folder, where none is too long
 abbrev pub ArePathsIn : Route → List (List ℕ) → Option (List Route) → Type 0

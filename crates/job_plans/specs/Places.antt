@@ -10,7 +10,7 @@ use Rattle.op_plan.specs.declared.error.PlanError.TheVariants as place
 use Rattle.op_plan.specs.Answering.{Plans}
 use Rattle.op_plan.specs.Destinations.{last_part}
 use Rattle.op_plan.specs.Planning.{place_of}
-use Rattle.session_history.specs.declared.refusal.PlanError.TheVariants.{NoSelection, Nested, Source, BadMask, Target, TargetThere, SameFile, IntoItself, TwoToOne, BadLinkText}
+use Rattle.session_history.specs.declared.refusal.PlanError.TheVariants.{NoSelection, TooLong, Nested, Source, BadMask, Target, TargetThere, SameFile, IntoItself, TwoToOne, BadLinkText}
 use Rattle.session_history.specs.declared.refusal.TypedError.TheVariants.{BadPattern, BadFormat, BadName}
 use Rattle.session_history.specs.declared.refusal.Refusal.{Refusal}
 use Rattle.session_history.specs.declared.refusal.Refusal.TheVariants.{Tree, Read, Resolve, Plan, Begin, Typed}
@@ -45,6 +45,7 @@ PlaceRefused contents from typed (Typed BadPattern) = ⊥
 PlaceRefused contents from typed (Typed (BadFormat at)) = ⊥
 PlaceRefused contents from typed (Plan BadMask) = ⊥
 PlaceRefused contents from typed (Plan NoSelection) = ⊥
+PlaceRefused contents from typed (Plan TooLong) = ⊥
 PlaceRefused contents from typed (Plan (Nested first second)) = ⊥
 PlaceRefused contents from typed (Plan (Source path e)) = ⊥
 PlaceRefused contents from typed (Plan (SameFile path)) = ⊥

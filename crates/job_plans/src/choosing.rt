@@ -24,8 +24,8 @@ pub enum Opens {
 pub enum Choice {
     /// There is nothing: no name is tagged, and the cursor stands on `..`, or on no row.
     NoSelection,
-    /// A path is too long.
-    Nothing,
+    /// The path of one of them would be too long.
+    TooLong,
     /// Things, and the mode that the first has, where it was looked at.
     Things(Chosen, u16),
     /// The look at this one was refused.
@@ -67,7 +67,7 @@ fn choose_one<T: ReadTree>(
 {
     let path = match panel.folder().join(alloc, name) {
         Ok(path) => path,
-        Err(PathError::TooLong(_)) => return Ok(Choice::Nothing),
+        Err(PathError::TooLong(_)) => return Ok(Choice::TooLong),
         Err(_) => return Err(NoMemory),
     };
     match tree.stat(alloc, &path) {
@@ -102,7 +102,7 @@ fn choose_several<T: ReadTree>(
         (T.fault_count tree.old) (T.fault_count tree.new) }
 {
     let Some(paths) = paths_in(alloc, panel.folder(), names)? else {
-        return Ok(Choice::Nothing);
+        return Ok(Choice::TooLong);
     };
     match opens {
         Opens::Delete | Opens::SourceMask => Ok(Choice::Things(Chosen { paths }, 0)),

@@ -14,7 +14,7 @@ use Rattle.job_reports.specs.declared.job.Job.{Job}
 use Rattle.job_reports.specs.declared.row.JobRow.{JobRow}
 use Rattle.job_reports.specs.declared.waits.Waits.{Waits}
 use Rattle.session_history.specs.Sources.{are_workable}
-use Rattle.session_history.specs.declared.refusal.PlanError.TheVariants.{NoSelection}
+use Rattle.session_history.specs.declared.refusal.PlanError.TheVariants.{NoSelection, TooLong}
 use Rattle.session_history.specs.declared.refusal.Refusal.{Refusal}
 use Rattle.session_history.specs.declared.refusal.Refusal.TheVariants.{Tree, Read, Resolve, Plan, Typed}
 use Rattle.mc_ui.specs.declared.asks.Ask.{Ask}
@@ -140,11 +140,11 @@ abbrev pub Works : PanelCommand → Option CallLog → List Refusal → Screen �
 Works command contents [] before after = IsDone command contents before after
 Works command contents (refusal ∷ more) before after = IsRefused command contents (refusal ∷ more) before after
 
--- What a choice makes of the screen: the box is opened on the things, with the mode of the first; or it may not ask
--- of them, and nothing happens; or a message says that nothing is selected, or why one of them can't be looked at.
+-- What a choice makes of the screen: the box is opened on the things, with the mode of the first; or a message
+-- says that nothing is selected, that a path is too long, or why one of them can't be looked at.
 abbrev pub after_choice : Opens → Choice → Screen → Screen
 after_choice box choice.NoSelection before = told_refusal (Plan NoSelection) before
-after_choice box choice.Nothing before = before
+after_choice box choice.TooLong before = told_refusal (Plan TooLong) before
 after_choice box (choice.Things chosen mode) before = record before { over = OneJobBox (box_of box chosen.paths mode) }
 after_choice box (choice.Refused path e) before = told_refusal (Tree path e) before
 

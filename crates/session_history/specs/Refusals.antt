@@ -13,7 +13,7 @@ use Rattle.resolving.specs.Errors.{Answers}
 use Rattle.resolving.specs.Resolution.{resolved}
 use Rattle.job_reports.specs.Reading.{IsRefusedWith}
 use Rattle.session_history.specs.declared.refusal.PlanError.{PlanError}
-use Rattle.session_history.specs.declared.refusal.PlanError.TheVariants.{NoSelection, Nested, Source, BadMask, Target, TargetThere, SameFile, IntoItself, TwoToOne, BadLinkText}
+use Rattle.session_history.specs.declared.refusal.PlanError.TheVariants.{NoSelection, TooLong, Nested, Source, BadMask, Target, TargetThere, SameFile, IntoItself, TwoToOne, BadLinkText}
 use Rattle.session_history.specs.declared.refusal.Refusal.{Refusal}
 use Rattle.session_history.specs.declared.refusal.Refusal.TheVariants as refusal
 
@@ -35,11 +35,12 @@ IsSourceRefused log path tree.Fault = ⊤
 IsSourceRefused log path tree.Memory = ⊥
 IsSourceRefused log path e = refusal_of (current log) (Stat path) ≡ Some e
 
--- A plan is refused: nothing is selected, or the mask leaves it out; a source lies in another; one isn't there; a mask can't be read or makes
+-- A plan is refused: nothing is selected, or the mask leaves it out; the path of what is selected is too long; a source lies in another; one isn't there; a mask can't be read or makes
 -- no name; no way leads to a target; something stands there; it is a source that is there, lies in it or holds it; two sources that are there
 -- have one target; or a link can't say what was typed.
 abbrev pub IsPlanRefused : CallLog → PlanError → Type 0
 IsPlanRefused log NoSelection = ⊤
+IsPlanRefused log TooLong = ⊤
 IsPlanRefused log (Nested first second) = (is_prefix first second || is_prefix second first) ≡ true
 IsPlanRefused log (Source path e) = IsSourceRefused log path e
 IsPlanRefused log BadMask = ⊤

@@ -12,6 +12,8 @@ use tree_trait::TreeError;
 pub enum PlanError {
     /// Nothing is selected: the cursor stands on `..`, or on no row; or the source mask leaves out what is.
     NoSelection,
+    /// The path of one of the selected things would have more than 4,096 bytes.
+    TooLong,
     /// The second source is the first one, lies in it, or holds it.
     Nested(Path, Path),
     /// The look at this source is refused.
@@ -39,6 +41,7 @@ impl PlanError {
     {
         match self {
             PlanError::NoSelection => Ok(PlanError::NoSelection),
+            PlanError::TooLong => Ok(PlanError::TooLong),
             PlanError::Nested(first, second) => {
                 Ok(PlanError::Nested(first.copy(alloc)?, second.copy(alloc)?))
             }

@@ -118,7 +118,7 @@ impl Ui {
         let _lines = &self.lines;
         match choose(alloc, tree, self.panels().current(), opens)? {
             Choice::NoSelection => self.refuse(alloc, Refusal::Plan(PlanError::NoSelection)),
-            Choice::Nothing => Ok(asking_nothing(alloc)),
+            Choice::TooLong => self.refuse(alloc, Refusal::Plan(PlanError::TooLong)),
             Choice::Things(chosen, mode) => {
                 self.show_box(Dialog::Job(JobBox::open(alloc, opens, chosen, mode)?));
                 Ok(asking_nothing(alloc))

@@ -2,7 +2,7 @@
 use Rattle.std.proofs.Common.{◌≡◌, [], refl, rules, ap, IfOk}
 use Rattle.job_plans.specs.declared.choosing.Choice.TheVariants as choice
 use Rattle.job_plans.specs.Reading.{sight}
-use Rattle.session_history.specs.declared.refusal.PlanError.TheVariants.{NoSelection}
+use Rattle.session_history.specs.declared.refusal.PlanError.TheVariants.{NoSelection, TooLong}
 use Rattle.session_history.specs.declared.refusal.Refusal.TheVariants.{Plan, Tree}
 use Rattle.mc_ui.specs.declared.asks.KeyAct.{KeyAct}
 use Rattle.mc_ui.specs.Screens.{after_choice, told_refusal}
@@ -17,12 +17,13 @@ returns-in-NoSelection-clause-leads g c =
     refused_on c.args.opens (sight (g.T.ReadTree.contents c.args.tree.now)) c.current.result.now before c.in_ok-choose.field-0 choice.NoSelection same
     c.in_ok-choose.ensures.chosen c.in-NoSelection.is (Plan NoSelection) c.refuse.new.self c.refuse.result refl refl told c.refuse.ensures.act
 
-pub returns-in-Nothing-clause-leads : goal.returns-in-Nothing-clause-leads
-returns-in-Nothing-clause-leads g c =
+pub returns-in-TooLong-clause-leads : goal.returns-in-TooLong-clause-leads
+returns-in-TooLong-clause-leads g c =
     let before = c.args.self.now in
     let same : c.current.result.now ≡ before.panels.current = search rules in
-    opened_on c.args.opens (sight (g.T.ReadTree.contents c.args.tree.now)) c.current.result.now before c.in_ok-choose.field-0 choice.Nothing same
-    c.in_ok-choose.ensures.chosen c.in-Nothing.is c.asking_nothing.result.refusals before (ap (λ (act : KeyAct). act.refusals) c.asking_nothing.ensures) refl
+    let told : IfOk c.refuse-in-TooLong.result (λ _act. c.refuse-in-TooLong.new.self ≡ told_refusal (Plan TooLong) before) = search rules in
+    refused_on c.args.opens (sight (g.T.ReadTree.contents c.args.tree.now)) c.current.result.now before c.in_ok-choose.field-0 choice.TooLong same
+    c.in_ok-choose.ensures.chosen c.in-TooLong.is (Plan TooLong) c.refuse-in-TooLong.new.self c.refuse-in-TooLong.result refl refl told c.refuse-in-TooLong.ensures.act
 
 pub returns-in_ok-open-in-Things-clause-leads : goal.returns-in_ok-open-in-Things-clause-leads
 returns-in_ok-open-in-Things-clause-leads g c =
@@ -30,8 +31,8 @@ returns-in_ok-open-in-Things-clause-leads g c =
     let same : c.current.result.now ≡ before.panels.current = search rules in
     let after : c.show_box.new.self ≡ after_choice c.args.opens (choice.Things c.in-Things.chosen c.in-Things.mode) before = search rules in
     opened_on c.args.opens (sight (g.T.ReadTree.contents c.args.tree.now)) c.current.result.now before c.in_ok-choose.field-0
-    (choice.Things c.in-Things.chosen c.in-Things.mode) same c.in_ok-choose.ensures.chosen c.in-Things.is c.asking_nothing-in-Things.result.refusals
-    c.show_box.new.self (ap (λ (act : KeyAct). act.refusals) c.asking_nothing-in-Things.ensures) after
+    (choice.Things c.in-Things.chosen c.in-Things.mode) same c.in_ok-choose.ensures.chosen c.in-Things.is c.asking_nothing.result.refusals
+    c.show_box.new.self (ap (λ (act : KeyAct). act.refusals) c.asking_nothing.ensures) after
 
 pub returns-in-Refused-clause-leads : goal.returns-in-Refused-clause-leads
 returns-in-Refused-clause-leads g c =
