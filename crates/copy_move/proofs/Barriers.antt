@@ -1,8 +1,6 @@
 -- A trouble is at a barrier exactly where the work is then.
-use Rattle.std.proofs.Common.{◌≡◌, List, [], ◌∷◌, refl, sym, ◌∙◌, ap}
+use Rattle.std.proofs.Common.{◌≡◌, [], ◌∷◌, refl, sym, ◌∙◌, ap}
 use Rattle.mc_text.specs.Routes.{Route}
-use Rattle.file_copy.specs.Copying.{Copying}
-use Rattle.file_copy.specs.Copying as copying
 use Rattle.job_reports.specs.declared.report.Did.TheVariants.{Troubled}
 use Rattle.job_reports.specs.declared.report.Trouble.{Trouble}
 use Rattle.mode_setting.specs.Settings.{Setting}
@@ -11,7 +9,7 @@ use Rattle.tree_deletion.specs.Standing as standing
 use Rattle.thing_making.specs.declared.making.MakingStage.{MakingStage}
 use Rattle.thing_making.specs.declared.making.MakingStage.TheVariants as making
 use Rattle.copy_move.specs.declared.work.Work.{Work}
-use Rattle.copy_move.specs.declared.work.Work.TheVariants.{Copy, CopyTree, Delete, Make, SetMode}
+use Rattle.copy_move.specs.declared.work.Work.TheVariants.{Copy, Delete, Make, SetMode}
 use Rattle.copy_move.specs.Jobs.{WorkTells, at_barrier}
 use Rattle.thing_making.specs.Makings.{Making}
 use Rattle.thing_making.specs.Makings as makings
@@ -25,28 +23,19 @@ making_barrier making.Finish path trouble h = absurd h
 making_barrier making.PassedOver path trouble h = absurd h
 
 pub work_barrier : (old new : Work) (trouble : Trouble) → WorkTells old (Troubled trouble) new → trouble.barrier ≡ at_barrier new
-work_barrier (Copy c) (Copy new) trouble t = t.0 ∙ sym (ap (λ (x : Copying). copying.at_barrier x.stage) t.1)
-work_barrier (CopyTree c) (CopyTree new) trouble t = t.barred trouble refl
+work_barrier (Copy c) (Copy new) trouble t = t.barred trouble refl
 work_barrier (Delete d) (Delete new) trouble t = t.0 ∙ sym (ap standing.at_barrier t.1.stage_is)
 work_barrier (Make m) (Make new) trouble t = making_barrier m.stage m.path trouble t.0 ∙ sym (ap (λ (x : Making). makings.at_barrier x.stage) t.1)
 work_barrier (SetMode s) (SetMode new) trouble t = t.0 ∙ sym (ap (λ (x : Setting). settings.at_barrier x.stage) t.1)
-work_barrier (Copy c) (CopyTree new) trouble t = absurd t
 work_barrier (Copy c) (Delete new) trouble t = absurd t
 work_barrier (Copy c) (Make new) trouble t = absurd t
 work_barrier (Copy c) (SetMode new) trouble t = absurd t
-work_barrier (CopyTree c) (Copy new) trouble t = absurd t
-work_barrier (CopyTree c) (Delete new) trouble t = absurd t
-work_barrier (CopyTree c) (Make new) trouble t = absurd t
-work_barrier (CopyTree c) (SetMode new) trouble t = absurd t
 work_barrier (Delete d) (Copy new) trouble t = absurd t
-work_barrier (Delete d) (CopyTree new) trouble t = absurd t
 work_barrier (Delete d) (Make new) trouble t = absurd t
 work_barrier (Delete d) (SetMode new) trouble t = absurd t
 work_barrier (Make m) (Copy new) trouble t = absurd t
-work_barrier (Make m) (CopyTree new) trouble t = absurd t
 work_barrier (Make m) (Delete new) trouble t = absurd t
 work_barrier (Make m) (SetMode new) trouble t = absurd t
 work_barrier (SetMode s) (Copy new) trouble t = absurd t
-work_barrier (SetMode s) (CopyTree new) trouble t = absurd t
 work_barrier (SetMode s) (Delete new) trouble t = absurd t
 work_barrier (SetMode s) (Make new) trouble t = absurd t

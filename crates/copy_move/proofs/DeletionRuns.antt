@@ -17,7 +17,7 @@ use Rattle.job_reports.specs.declared.report.Did.{Did}
 use Rattle.job_reports.specs.declared.report.Did.TheVariants.{Began, Chunk, Placed, Removed, Made, Set, Kept, Skipped, Cleaned, Barrier, Asked, Merges, Troubled, Ended}
 use Rattle.job_reports.specs.Paths.{folder_of, without}
 use Rattle.job_reports.specs.Reports.{IsFault}
-use Rattle.job_reports.specs.Stops.{cause_of, out_of_memory_at, sync_answer, trouble_at}
+use Rattle.job_reports.specs.Stops.{cause_of, out_of_memory_at, sync_answer}
 use Rattle.job_reports.specs.declared.report.StepResult.{StepResult}
 use Rattle.job_answers.specs.Skipping.{holds, kind_in}
 use Rattle.job_answers.specs.declared.skips.Skips.{Skips as Kinds}
@@ -25,12 +25,12 @@ use Rattle.tree_deletion.specs.declared.deletion.Stage.{Stage}
 use Rattle.tree_deletion.specs.declared.deletion.Stage.TheVariants.{Begin, Going, Sync}
 use Rattle.tree_deletion.specs.declared.deletion.Deletion.{Deletion}
 use Rattle.tree_deletion.specs.Descending.{Descends, Enters}
-use Rattle.tree_deletion.specs.Folders.{IsOwn, IsOwnAt, is_of, joined}
+use Rattle.tree_deletion.specs.Folders.{IsOwn, is_of, joined}
 use Rattle.tree_deletion.specs.Inside.{IsInside}
 use Rattle.tree_deletion.specs.Standing.{End, Item, Thing, after_item, at_barrier, item}
 use Rattle.tree_deletion.specs.Steps.{IsProgress, KeepsRest, LastSteps, RemovalLeaves, Skips, SyncSteps, Syncs, TakesOff, Tries, WorkCalls, WorkLeaves, WorkSteps, Works, after_try as machine_try, next_try, path_of, removal_of}
 use Rattle.tree_deletion.proofs.Staying.{descends_inside, item_inside, skip_falls, skip_inside, skip_less, work_inside}
-use Rattle.copy_move.specs.Deletions.{Deleting, DeletionCalls, DeletionLeaves, IsAtStage, IsRefused, LastCalls, Tells, TellsTried, Winds, is_passed_over, left_in, machine_of, passed_cause}
+use Rattle.copy_move.specs.Deletions.{Deleting, DeletionCalls, DeletionLeaves, IsAtStage, IsRefused, Tells, is_passed_over, left_in, machine_of, passed_cause}
 use Rattle.copy_move.specs.Deletions as deletions
 use Rattle.copy_move.specs.declared.run.Course.{Course}
 use Rattle.copy_move.specs.declared.run.Course.TheVariants.{GoesOn}

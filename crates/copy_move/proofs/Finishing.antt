@@ -7,13 +7,10 @@ use Rattle.tree_trait.specs.Answers.{IfKnown}
 use Rattle.job_answers.specs.declared.replies.Replies.{Replies}
 use Rattle.job_answers.specs.declared.skips.Skips.{Skips as SkippedKinds}
 use Rattle.job_reports.specs.declared.job.Job.{Job}
-use Rattle.job_reports.specs.declared.report.Cause.{Cause}
-use Rattle.job_reports.specs.declared.report.Did.{Did}
 use Rattle.job_reports.specs.declared.report.Did.TheVariants.{Barrier, Ended, Skipped, Troubled}
 use Rattle.job_reports.specs.declared.report.Ending.{Ending}
 use Rattle.job_reports.specs.declared.report.Ending.TheVariants.{Finished}
 use Rattle.job_reports.specs.Paths.{folder_of}
-use Rattle.file_copy.specs.Copying as copying
 use Rattle.mode_setting.specs.Settings as settings
 use Rattle.subtree_copy.proofs.Finishes.{finish_is_still}
 use Rattle.tree_deletion.specs.Folders as folders
@@ -21,7 +18,7 @@ use Rattle.thing_making.specs.Makings as makings
 use Rattle.copy_move.specs.declared.run.Course.{Course}
 use Rattle.copy_move.specs.declared.run.Course.TheVariants.{GoesOn, Asking, InTrouble, OwedSyncFailed, Skips, Ends}
 use Rattle.copy_move.specs.declared.work.Work.{Work}
-use Rattle.copy_move.specs.declared.work.Work.TheVariants.{Copy, CopyTree, Delete, Make, SetMode}
+use Rattle.copy_move.specs.declared.work.Work.TheVariants.{Copy, Delete, Make, SetMode}
 use Rattle.copy_move.specs.Jobs.{CallsOn, Running, TellsOn, WorkCalls, WorkTells, WorkWinds, first_work, part_of, passing_over, skips_of}
 use Rattle.copy_move.specs.Ranks.{work_rank}
 use Rattle.copy_move.specs.Settling.{WorkLeaves}
@@ -42,48 +39,33 @@ pub record Finishes (job new : Running) (part : Option Route) (dirty dirty_after
 
 -- the work tells no part, and keeps the one that it has, and what it passes over
 work_stays : (old new : Work) (part : Option Route) → WorkTells old (Ended Finished part) new → (part ≡ None) × (part_of new ≡ part_of old) × (skips_of new ≡ skips_of old)
-work_stays (Copy c) (Copy new) part (stage, folder, none, is) = (none, ap (λ (k : copying.Copying). copying.part_at k.stage) is, refl)
-work_stays (CopyTree c) (CopyTree new) part t = (let a = t.after in (t.may, a.part, a.skips))
+work_stays (Copy c) (Copy new) part t = (let a = t.after in (t.may, a.part, a.skips))
 work_stays (Delete d) (Delete new) part (stage, none, at) = (none, refl, at.skips_is)
 work_stays (Make m) (Make new) part (done, none, is) = (none, refl, refl)
 work_stays (SetMode s) (SetMode new) part (stage, none, is) = (none, refl, refl)
-work_stays (Copy c) (CopyTree new) part h = absurd h
 work_stays (Copy c) (Delete new) part h = absurd h
 work_stays (Copy c) (Make new) part h = absurd h
 work_stays (Copy c) (SetMode new) part h = absurd h
-work_stays (CopyTree c) (Copy new) part h = absurd h
-work_stays (CopyTree c) (Delete new) part h = absurd h
-work_stays (CopyTree c) (Make new) part h = absurd h
-work_stays (CopyTree c) (SetMode new) part h = absurd h
 work_stays (Delete d) (Copy new) part h = absurd h
-work_stays (Delete d) (CopyTree new) part h = absurd h
 work_stays (Delete d) (Make new) part h = absurd h
 work_stays (Delete d) (SetMode new) part h = absurd h
 work_stays (Make m) (Copy new) part h = absurd h
-work_stays (Make m) (CopyTree new) part h = absurd h
 work_stays (Make m) (Delete new) part h = absurd h
 work_stays (Make m) (SetMode new) part h = absurd h
 work_stays (SetMode s) (Copy new) part h = absurd h
-work_stays (SetMode s) (CopyTree new) part h = absurd h
 work_stays (SetMode s) (Delete new) part h = absurd h
 work_stays (SetMode s) (Make new) part h = absurd h
 
 -- it makes no call
 work_calls : (unclaimed : Route → Type 0) (replies : Replies) (old new : Work) (part : Option Route) (log : CallLog) (after : Option CallLog) → WorkCalls unclaimed replies old (Ended Finished part) new log after → after ≡ Some log
-work_calls unclaimed replies (Copy c) (Copy new) part log after h = h
-work_calls unclaimed replies (CopyTree c) (CopyTree new) part log after h =
+work_calls unclaimed replies (Copy c) (Copy new) part log after h =
     (let g = h.goes in (finish_is_still g.free replies c new part h.calls h.dirty h.dirty_after (Some log) after g.since h.faults_after g.steps).1 log refl)
 work_calls unclaimed replies (Delete d) new part log after h = h
 work_calls unclaimed replies (Make m) new part log after h = h
 work_calls unclaimed replies (SetMode s) new part log after h = h
-work_calls unclaimed replies (Copy c) (CopyTree new) part log after h = absurd h
 work_calls unclaimed replies (Copy c) (Delete new) part log after h = absurd h
 work_calls unclaimed replies (Copy c) (Make new) part log after h = absurd h
 work_calls unclaimed replies (Copy c) (SetMode new) part log after h = absurd h
-work_calls unclaimed replies (CopyTree c) (Copy new) part log after h = absurd h
-work_calls unclaimed replies (CopyTree c) (Delete new) part log after h = absurd h
-work_calls unclaimed replies (CopyTree c) (Make new) part log after h = absurd h
-work_calls unclaimed replies (CopyTree c) (SetMode new) part log after h = absurd h
 
 no_change : (b : Bool) (folder : Route) (dirty : List Route) → folders.with_change b b folder dirty ≡ dirty
 no_change true folder dirty = refl
@@ -93,62 +75,42 @@ no_change false folder dirty = refl
 module _ (unclaimed : Route → Type 0) (part : Option Route) (calls : ℕ) (dirty dirty_after : List Route) (before after : Option CallLog) (f0 f1 : ℕ) where
   work_list : (replies : Replies) (old new : Work) → WorkTells old (Ended Finished part) new → WorkLeaves old (Ended Finished part) new dirty dirty_after before after
       → Walks unclaimed replies old new (Ended Finished part) calls dirty dirty_after before after f0 f1 → dirty_after ≡ dirty
-  work_list replies (Copy c) (Copy new) (stage, folder, none, is) leaves walks =
-      leaves ∙ (ap (λ (k : copying.Copying). folders.with_change (copying.is_dirty c.folder) (copying.is_dirty k.folder) (folder_of c.target) dirty) is
-      ∙ no_change (copying.is_dirty c.folder) (folder_of c.target) dirty)
-  work_list replies (CopyTree c) (CopyTree new) tells leaves walks = (finish_is_still walks.free replies c new part calls dirty dirty_after before after walks.since f1 walks.steps).0
+  work_list replies (Copy c) (Copy new) tells leaves walks = (finish_is_still walks.free replies c new part calls dirty dirty_after before after walks.since f1 walks.steps).0
   work_list replies (Delete d) (Delete new) tells leaves walks = leaves.1
   work_list replies (Make m) (Make new) (done, none, is) leaves walks =
       leaves ∙ (ap (λ (k : makings.Making). folders.with_change (makings.is_dirty m.stage) (makings.is_dirty k.stage) (folder_of m.path) dirty) is
       ∙ no_change (makings.is_dirty m.stage) (folder_of m.path) dirty)
   work_list replies (SetMode s) (SetMode new) (stage, none, is) leaves walks =
       leaves ∙ (ap (λ (k : settings.Setting). folders.with_change (settings.is_dirty s.stage) (settings.is_dirty k.stage) s.path dirty) is ∙ no_change (settings.is_dirty s.stage) s.path dirty)
-  work_list replies (Copy c) (CopyTree new) tells leaves walks = absurd tells
   work_list replies (Copy c) (Delete new) tells leaves walks = absurd tells
   work_list replies (Copy c) (Make new) tells leaves walks = absurd tells
   work_list replies (Copy c) (SetMode new) tells leaves walks = absurd tells
-  work_list replies (CopyTree c) (Copy new) tells leaves walks = absurd tells
-  work_list replies (CopyTree c) (Delete new) tells leaves walks = absurd tells
-  work_list replies (CopyTree c) (Make new) tells leaves walks = absurd tells
-  work_list replies (CopyTree c) (SetMode new) tells leaves walks = absurd tells
   work_list replies (Delete d) (Copy new) tells leaves walks = absurd tells
-  work_list replies (Delete d) (CopyTree new) tells leaves walks = absurd tells
   work_list replies (Delete d) (Make new) tells leaves walks = absurd tells
   work_list replies (Delete d) (SetMode new) tells leaves walks = absurd tells
   work_list replies (Make m) (Copy new) tells leaves walks = absurd tells
-  work_list replies (Make m) (CopyTree new) tells leaves walks = absurd tells
   work_list replies (Make m) (Delete new) tells leaves walks = absurd tells
   work_list replies (Make m) (SetMode new) tells leaves walks = absurd tells
   work_list replies (SetMode s) (Copy new) tells leaves walks = absurd tells
-  work_list replies (SetMode s) (CopyTree new) tells leaves walks = absurd tells
   work_list replies (SetMode s) (Delete new) tells leaves walks = absurd tells
   work_list replies (SetMode s) (Make new) tells leaves walks = absurd tells
 
 -- last steps end as was ordered
 wound_as : (ending how : Ending) (old new : Work) (part : Option Route) → WorkWinds ending old (Ended how part) new → how ≡ ending
-wound_as ending how (Copy c) (Copy new) part (kept, folder, is, left, stands) = is
-wound_as ending how (CopyTree c) (CopyTree new) part w = (let may = w.may in may.0)
+wound_as ending how (Copy c) (Copy new) part w = (let may = w.may in may.0)
 wound_as ending how (Delete d) (Delete new) part w = w.0
 wound_as ending how (Make m) (Make new) part (apart, is, none, stands) = is
 wound_as ending how (SetMode s) (SetMode new) part (clean, is, none, stands) = is
-wound_as ending how (Copy c) (CopyTree new) part h = absurd h
 wound_as ending how (Copy c) (Delete new) part h = absurd h
 wound_as ending how (Copy c) (Make new) part h = absurd h
 wound_as ending how (Copy c) (SetMode new) part h = absurd h
-wound_as ending how (CopyTree c) (Copy new) part h = absurd h
-wound_as ending how (CopyTree c) (Delete new) part h = absurd h
-wound_as ending how (CopyTree c) (Make new) part h = absurd h
-wound_as ending how (CopyTree c) (SetMode new) part h = absurd h
 wound_as ending how (Delete d) (Copy new) part h = absurd h
-wound_as ending how (Delete d) (CopyTree new) part h = absurd h
 wound_as ending how (Delete d) (Make new) part h = absurd h
 wound_as ending how (Delete d) (SetMode new) part h = absurd h
 wound_as ending how (Make m) (Copy new) part h = absurd h
-wound_as ending how (Make m) (CopyTree new) part h = absurd h
 wound_as ending how (Make m) (Delete new) part h = absurd h
 wound_as ending how (Make m) (SetMode new) part h = absurd h
 wound_as ending how (SetMode s) (Copy new) part h = absurd h
-wound_as ending how (SetMode s) (CopyTree new) part h = absurd h
 wound_as ending how (SetMode s) (Delete new) part h = absurd h
 wound_as ending how (SetMode s) (Make new) part h = absurd h
 
@@ -189,7 +151,6 @@ module _ (unclaimed : Route → Type 0) (job new : Running) (part : Option Route
 -- The next source's work, whatever is passed over, has as many steps as one that is just begun.
 pub passing_rank : (skips : SkippedKinds) (work : Work) → work_rank (passing_over skips work) ≡ work_rank work
 passing_rank skips (Copy c) = refl
-passing_rank skips (CopyTree c) = refl
 passing_rank skips (Delete d) = refl
 passing_rank skips (Make m) = refl
 passing_rank skips (SetMode s) = refl
@@ -197,14 +158,12 @@ passing_rank skips (SetMode s) = refl
 -- What a history tells of a job that goes on with its next source.
 skips_kept : (id : ℕ) (work : Work) → skips_of (work_told id work) ≡ skips_of work
 skips_kept id (Copy c) = refl
-skips_kept id (CopyTree c) = refl
 skips_kept id (Delete d) = refl
 skips_kept id (Make m) = refl
 skips_kept id (SetMode s) = refl
 
 passing_told : (id : ℕ) (skips : SkippedKinds) (work : Work) → work_told id (passing_over skips work) ≡ passing_over skips (work_told id work)
 passing_told id skips (Copy c) = refl
-passing_told id skips (CopyTree c) = refl
 passing_told id skips (Delete d) = refl
 passing_told id skips (Make m) = refl
 passing_told id skips (SetMode s) = refl

@@ -1,116 +1,39 @@
 -- What the steps of a job make of the dirty folders.
-use Rattle.std.proofs.Common.{◌≡◌, ◌⊎◌, ℕ, ◌+◌, ◌-◌, ◌*◌, ◌<◌, ◌≤◌, not, Bool, true, false, List, [], ◌∷◌, ◌++◌, length, refl, sym, ◌∙◌, ap, subst, inl, inr, Option, Some, None, arith}
-use Rattle.std.proofs.lemmas.Bool.{true≢false, false≢true}
+use Rattle.std.proofs.Common.{◌≡◌, ◌⊎◌, ℕ, ◌+◌, ◌-◌, ◌*◌, ◌<◌, ◌≤◌, Bool, true, false, List, [], ◌∷◌, ◌++◌, length, refl, sym, ◌∙◌, ap, subst, inl, inr, Option, Some, None, arith}
+use Rattle.std.proofs.lemmas.Bool.{true≢false}
 use Rattle.std.proofs.lemmas.List.{length-append}
 use Rattle.std.specs.Prelude.{if◌then◌else◌}
 use Rattle.mc_text.specs.Routes.{Route}
 use Rattle.tree_trait.specs.declared.calls.TreeError.{TreeError}
 use Rattle.tree_trait.specs.Change.{CallLog, current}
 use Rattle.tree_trait.specs.Answers.{IfKnown}
-use Rattle.tree_trait.proofs.Visible.{same_path-self}
 use Rattle.job_reports.specs.declared.report.Cause.{Cause}
 use Rattle.job_reports.specs.declared.report.Ending.{Ending}
-use Rattle.job_reports.specs.declared.report.Ending.TheVariants.{Finished, Aborted, Killed, NoMemory}
 use Rattle.job_reports.specs.declared.report.Did.{Did}
 use Rattle.job_reports.specs.declared.report.Did.TheVariants.{Began, Chunk, Placed, Removed, Made, Set, Kept, Skipped, Cleaned, Barrier, Asked, Merges, Troubled, Ended}
 use Rattle.job_answers.specs.declared.replies.Replies.{Replies}
-use Rattle.file_copy.specs.declared.stage.Stage.{Stage}
-use Rattle.file_copy.specs.declared.stage.Stage.TheVariants as at
-use Rattle.file_copy.specs.declared.stage.FolderState.{FolderState}
-use Rattle.file_copy.specs.declared.stage.FolderState.TheVariants.{Synced, Dirty}
 use Rattle.job_reports.specs.CallRuns.{HasMore}
-use Rattle.file_copy.specs.AskedCopies.{AskedCalls, AskedSteps, AskedTells}
 use Rattle.job_reports.specs.Reports.{ends}
-use Rattle.file_copy.specs.Copying.{Copying, IsSound}
 use Rattle.job_reports.specs.Paths.{folder_of, without}
-use Rattle.file_copy.specs.Copying as copying
-use Rattle.file_copy.specs.LastSteps.{Winds, WindsOn}
-use Rattle.file_copy.specs.LastSteps as last
 use Rattle.job_reports.specs.Stops.{out_of_memory_at}
 use Rattle.tree_deletion.specs.Folders.{is_one_of, joined}
 use Rattle.tree_deletion.specs.Standing.{at_barrier as deletion_barrier}
 use Rattle.copy_move.specs.declared.work.Work.{Work}
-use Rattle.copy_move.specs.declared.work.Work.TheVariants.{Copy, CopyTree, Delete, Make, SetMode}
+use Rattle.copy_move.specs.declared.work.Work.TheVariants.{Copy, Delete, Make, SetMode}
 use Rattle.copy_move.specs.declared.run.Course.{Course}
-use Rattle.copy_move.specs.declared.run.Course.TheVariants.{GoesOn, InTrouble, Skips, Ends}
+use Rattle.copy_move.specs.declared.run.Course.TheVariants.{GoesOn, Skips, Ends}
 use Rattle.copy_move.specs.Deletions.{Deleting, left_in}
 use Rattle.copy_move.specs.Deletions as deletions
 use Rattle.copy_move.specs.DeletionSteps.{DeletionSkips, DeletionStep, LastDeletionStep, after_try, is_decided}
-use Rattle.copy_move.specs.Jobs.{Running, CallsOn, PassesOver, TellsOn, course_after, is_fresh, unreported_skip}
-use Rattle.copy_move.specs.Ranks.{copy_rank, rank_at, rank_on, tries_left}
+use Rattle.copy_move.specs.Jobs.{Running, CallsOn, PassesOver, TellsOn, course_after, is_fresh}
+use Rattle.copy_move.specs.Ranks.{rank_at, rank_on, tries_left}
 use Rattle.copy_move.specs.Settling.{NoneOwed, with_change}
 use Rattle.copy_move.specs.Steps.{LeavesDirty, OwnStep, OwedSyncStep, SkipSteps, SkipWalks, Walks, WalksOn, WindingStep, WorkSkips, WorkSteps, WorkWindsUp, step_made}
 use Rattle.job_reports.proofs.Runs.{risen_before}
 use Rattle.copy_move.specs.Faults.{MeetsFault}
-use Rattle.copy_move.proofs.DeletionRuns.{fewer, met_by, one_fewer}
-use Rattle.copy_move.proofs.Falling.{copy_falls, last_copy_falls, passing_falls, trouble_falls, waiting_falls}
+use Rattle.copy_move.proofs.DeletionRuns.{fewer, one_fewer}
 use Rattle.copy_move.proofs.RunSteps.{run_ends, run_goes}
 use Rattle.thing_making.proofs.MakingRuns.{same_log}
-
--- a copy stays at its target
-pub copy_stays : (c new : Copying) (did : Did) → AskedTells c did new → new.target ≡ c.target
-copy_stays c new (Began part) t = ap (λ (n : Copying). n.target) t.1.1
-copy_stays c new (Chunk count) (part, facts, done, at, some, few, within, is) = ap (λ (n : Copying). n.target) is
-copy_stays c new (Asked question) (at, is) = ap (λ (n : Copying). n.target) is
-copy_stays c new (Merges pair names) t = absurd t
-copy_stays c new (Set path) t = absurd t
-copy_stays c new (Placed path) (part, facts, at, target, is) = ap (λ (n : Copying). n.target) is
-copy_stays c new (Cleaned part) (follows, at, is) = ap (λ (n : Copying). n.target) is
-copy_stays c new Barrier (at, dirty, is) = ap (λ (n : Copying). n.target) is
-copy_stays c new (Troubled trouble) t = ap (λ (n : Copying). n.target) t.1
-copy_stays c new (Ended Finished part) (at, synced, none, is) = ap (λ (n : Copying). n.target) is
-copy_stays c new (Ended Aborted part) t = absurd t
-copy_stays c new (Ended Killed part) t = absurd t
-copy_stays c new (Ended NoMemory part) t = absurd t
-copy_stays c new (Removed path) t = absurd t
-copy_stays c new (Made made) t = absurd t
-copy_stays c new (Kept path) (at, target, is) = ap (λ (n : Copying). n.target) is
-copy_stays c new (Skipped path cause) t = absurd t
-
-pub copy_winds_there : (ending : Ending) (c new : Copying) (did : Did) → Winds ending c did new → new.target ≡ c.target
-copy_winds_there ending c new (Cleaned part) w = ap (λ (n : Copying). n.target) w.1
-copy_winds_there ending c new Barrier w = ap (λ (n : Copying). n.target) w.1
-copy_winds_there ending c new (Ended how part) w = ap (λ (n : Copying). n.target) w.4
-copy_winds_there ending c new (Began part) w = absurd w
-copy_winds_there ending c new (Chunk count) w = absurd w
-copy_winds_there ending c new (Asked question) w = absurd w
-copy_winds_there ending c new (Merges pair names) w = absurd w
-copy_winds_there ending c new (Set path) w = absurd w
-copy_winds_there ending c new (Placed path) w = absurd w
-copy_winds_there ending c new (Removed path) w = absurd w
-copy_winds_there ending c new (Made made) w = absurd w
-copy_winds_there ending c new (Kept kept) w = absurd w
-copy_winds_there ending c new (Skipped path cause) w = absurd w
-copy_winds_there ending c new (Troubled trouble) w = absurd w
-
--- a folder that a job changed before, and that is synced, isn't changed again
-pub clean_copy : (c new : Copying) (did : Did) → AskedTells c did new → copying.is_fresh c.stage c.folder ≡ false → copying.is_dirty c.folder ≡ false → copying.is_dirty new.folder ≡ false
-clean_copy c new (Began part) t changed clean = absurd (true≢false (sym (ap not clean) ∙ (sym (ap (λ s. copying.is_fresh s c.folder) t.0) ∙ changed)))
-clean_copy c new (Chunk count) (part, facts, done, at, some, few, within, is) changed clean = ap (λ (n : Copying). copying.is_dirty n.folder) is ∙ clean
-clean_copy c new (Asked question) (at, is) changed clean = ap (λ (n : Copying). copying.is_dirty n.folder) is ∙ clean
-clean_copy c new (Merges pair names) t changed clean = absurd t
-clean_copy c new (Set path) t changed clean = absurd t
-clean_copy c new (Placed path) (part, facts, at, target, is) changed clean = ap (λ (n : Copying). copying.is_dirty n.folder) is ∙ clean
-clean_copy c new (Cleaned part) (follows, at, is) changed clean = ap (λ (n : Copying). copying.is_dirty n.folder) is ∙ clean
-clean_copy c new Barrier (at, dirty, is) changed clean = ap (λ (n : Copying). copying.is_dirty n.folder) is
-clean_copy c new (Troubled trouble) t changed clean = ap (λ (n : Copying). copying.is_dirty n.folder) t.1 ∙ clean
-clean_copy c new (Ended Finished part) (at, synced, none, is) changed clean = ap (λ (n : Copying). copying.is_dirty n.folder) is ∙ clean
-clean_copy c new (Ended Aborted part) t changed clean = absurd t
-clean_copy c new (Ended Killed part) t changed clean = absurd t
-clean_copy c new (Ended NoMemory part) t changed clean = absurd t
-clean_copy c new (Removed path) t changed clean = absurd t
-clean_copy c new (Made made) t changed clean = absurd t
-clean_copy c new (Kept path) (at, target, is) changed clean = ap (λ (n : Copying). copying.is_dirty n.folder) is ∙ clean
-clean_copy c new (Skipped path cause) t changed clean = absurd t
-
--- a copy that has changed nothing has no dirty folder
-pub fresh_copy : (stage : Stage) (folder : FolderState) → copying.is_fresh stage folder ≡ true → copying.is_dirty folder ≡ false
-fresh_copy at.Begin Dirty h = absurd (false≢true h)
-fresh_copy at.Begin Synced h = refl
-fresh_copy (at.Fill part facts done) folder h = absurd (false≢true h)
-fresh_copy (at.Clean part follows) folder h = absurd (false≢true h)
-fresh_copy (at.Left part) folder h = absurd (false≢true h)
-fresh_copy at.Decided folder h = absurd (false≢true h)
 
 -- a change adds a folder at most
 pub joined_more : (folder : Route) (dirty : List Route) → length (joined folder dirty) ≤ length dirty + 1
@@ -145,64 +68,7 @@ tries_after (Ended ending part) work dirty = refl
 pub weighs_less : (low high few many tries : ℕ) → low < high → few ≤ many + 1 → tries ≡ few → 3 * low + (few + tries) < 3 * high + (many + many)
 weighs_less low high few many tries less more is = omega (arith, less, more, is)
 
--- the step of a copy
-module _ (unclaimed : Route → Type 0) (replies : Replies) (c new : Copying) (did : Did) (calls : ℕ) (dirty dirty_after : List Route) (before after : Option CallLog) (f0 f1 : ℕ) where
-  pub copy_steps : AskedSteps unclaimed replies c new did calls before after f0 f1 → IsSound new.stage new.folder
-      → dirty_after ≡ with_change (copying.is_dirty c.folder) (copying.is_dirty new.folder) (folder_of c.target) dirty
-      → WorkSteps unclaimed replies (Copy c) (Copy new) did calls dirty dirty_after before after f0 f1
-  copy_steps s sound leaves = record {
-    tells = s.tells;
-    walks = tt;
-    called = s.called;
-    leaves = leaves;
-    counted = s.counted;
-    few = s.few;
-    unknown = s.unknown;
-    later = s.later;
-    fault = λ h. s.fault (met_by GoesOn (λ d. AskedTells c d new) did (λ path cause x. x) s.tells h);
-    falls = λ going.
-        let low = copy_falls c new did s.tells sound going in
-        let more = subst (λ xs. length xs ≤ length dirty + 1) (sym leaves) (one_more (copying.is_dirty c.folder) (copying.is_dirty new.folder) (folder_of c.target) dirty) in
-        weighs_less (rank_on (course_after did) (Copy new)) (copy_rank c.stage c.folder) (length dirty_after) (length dirty) (tries_left (course_after did) (Copy new) dirty_after) low more (tries_after did (Copy new) dirty_after);
-  }
-
--- there was no memory for the first change of a copy: no call was made
-pub no_first : (unclaimed : Route → Type 0) (replies : Replies) (c : Copying) (did : Did) (calls : ℕ) (dirty dirty_after : List Route) (contents : Option CallLog) (f : ℕ) → last.left_at c.stage ≡ None → copying.is_fresh c.stage c.folder ≡ true → did ≡ Troubled (out_of_memory_at false) → calls ≡ 0
-    → dirty_after ≡ dirty → WorkSteps unclaimed replies (Copy c) (Copy c) did calls dirty dirty_after contents contents f f
-no_first unclaimed replies c did calls dirty dirty_after contents f left fresh is count same =
-    subst (λ d. WorkSteps unclaimed replies (Copy c) (Copy c) d calls dirty dirty_after contents contents f f) (sym is)
-    (subst (λ n. WorkSteps unclaimed replies (Copy c) (Copy c) (Troubled (out_of_memory_at false)) n dirty dirty_after contents contents f f) (sym count) (record {
-      tells = tells c.stage c.folder refl fresh;
-      walks = tt;
-      called = λ log known. subst (AskedCalls unclaimed replies c (Troubled (out_of_memory_at false)) c log) (sym known) (none_called log c.stage c.folder refl fresh);
-      leaves = same ∙ unchanged (copying.is_dirty c.folder);
-      counted = λ log known now has. same_log log now contents known has;
-      few = omega arith;
-      unknown = λ h. h;
-      later = omega arith;
-      fault = λ h. absurd cc;
-      falls = λ going. let low = trouble_falls (Copy c) left in let count = ap length same in omega (arith, low, count);
-    }))
-  where
-    unchanged : (b : Bool) → dirty ≡ with_change b b (folder_of c.target) dirty
-    unchanged true = refl
-    unchanged false = refl
-
-    tells : (stage : Stage) (folder : FolderState) → c.stage ≡ stage → copying.is_fresh stage folder ≡ true → AskedTells c (Troubled (out_of_memory_at false)) c
-    tells at.Begin folder is h = rw is (refl, refl)
-    tells (at.Fill part facts done) folder is h = absurd (false≢true h)
-    tells (at.Clean part follows) folder is h = absurd (false≢true h)
-    tells (at.Left part) folder is h = absurd (false≢true h)
-    tells at.Decided folder is h = absurd (false≢true h)
-
-    none_called : (log : CallLog) (stage : Stage) (folder : FolderState) → c.stage ≡ stage → copying.is_fresh stage folder ≡ true → AskedCalls unclaimed replies c (Troubled (out_of_memory_at false)) c log (Some log)
-    none_called log at.Begin folder is h = rw is (inl (refl, refl))
-    none_called log (at.Fill part facts done) folder is h = absurd (false≢true h)
-    none_called log (at.Clean part follows) folder is h = absurd (false≢true h)
-    none_called log (at.Left part) folder is h = absurd (false≢true h)
-    none_called log at.Decided folder is h = absurd (false≢true h)
-
--- the last steps of a copy
+-- a last step adds a folder at most
 pub tried_more : (did : Did) (left : Option TreeError) (folder : Route) (dirty : List Route) → length (after_try did left folder dirty) ≤ length dirty + 1
 tried_more Barrier None folder dirty = let less = fewer folder dirty in omega (arith, less)
 tried_more Barrier (Some e) folder dirty = omega arith
@@ -219,27 +85,6 @@ tried_more (Skipped path cause) left folder dirty = omega arith
 tried_more (Cleaned part) left folder dirty = omega arith
 tried_more (Troubled trouble) left folder dirty = omega arith
 tried_more (Ended ending part) left folder dirty = omega arith
-
-pub copy_winds_up : (ending : Ending) (c new : Copying) (did : Did) (calls : ℕ) (left : Option TreeError) (folder : Route) (dirty dirty_after : List Route) (before after : Option CallLog) (f0 f1 : ℕ) → WindsOn ending c new did calls left before after f0 f1
-    → folder ≡ folder_of new.target → dirty_after ≡ after_try did left folder dirty → WorkWindsUp ending (Copy c) (Copy new) did calls left dirty dirty_after before after f0 f1
-copy_winds_up ending c new did calls left folder dirty dirty_after before after f0 f1 w folder_is leaves = record {
-  tells = w.tells;
-  walks = tt;
-  called = w.called;
-  folder = folder;
-  own = subst (λ f. Rattle.mc_text.specs.Routes.same_path f (folder_of c.target) ≡ true) (sym (folder_is ∙ ap folder_of (copy_winds_there ending c new did w.tells))) (same_path-self (folder_of c.target));
-  dirty_is = leaves;
-  synced = w.synced;
-  counted = w.counted;
-  few = w.few;
-  unknown = w.unknown;
-  later = w.later;
-  fault = w.fault;
-  falls = λ going.
-      let low = last_copy_falls ending c new did w.tells w.falls going in
-      let more = subst (λ xs. length xs ≤ length dirty + 1) (sym leaves) (tried_more did left folder dirty) in
-      omega (arith, low, more);
-}
 
 -- the step of a deletion
 module _ (unclaimed : Route → Type 0) (replies : Replies) (d new : Deleting) (did : Did) (calls : ℕ) (dirty dirty_after : List Route) (before after : Option CallLog) (f0 f1 : ℕ) where
@@ -301,18 +146,6 @@ deletion_winds_up ending d new did calls left dirty dirty_after before after f0 
 }
 
 -- a skip
-pub copy_skips : (cause : Cause) (c new : Copying) (did : Did) → Rattle.file_copy.specs.CopySteps.Skips cause c did new → last.left_at c.stage ≡ None → copying.at_barrier c.stage ≡ false → WorkSkips cause (Copy c) did (Copy new)
-copy_skips cause c new did (inl (did_is, new_is)) left apart = record {
-  walks = tt;
-  skips = inl (c.source, did_is, (refl, new_is));
-  falls = subst (λ d. rank_on (course_after d) (Copy new) < 10) (sym did_is) (subst (λ (n : Copying). copy_rank n.stage n.folder < 10) (sym new_is) (passing_falls c.stage c.folder));
-}
-copy_skips cause c new did (inr (did_is, new_is)) left apart = record {
-  walks = tt;
-  skips = inr (did_is ∙ ap (λ b. Troubled (out_of_memory_at b)) apart, ap Copy new_is);
-  falls = subst (λ d. rank_on (course_after d) (Copy new) < 10) (sym did_is) (subst (λ (n : Copying). rank_on (InTrouble unreported_skip) (Copy n) < 10) (sym new_is) (waiting_falls (Copy c) left));
-}
-
 pub deletion_skips : (cause : Cause) (d new : Deleting) (did : Did) → DeletionSkips cause d did new → deletion_barrier d.stage ≡ false → WorkSkips cause (Delete d) did (Delete new)
 deletion_skips cause d new did s apart = by s.skips
   where
@@ -424,19 +257,16 @@ winding_step ending id old work course replies job did calls left dirty dirty_af
 
 -- a step after looks at the tree, which may have met faults
 walks_later : (unclaimed : Route → Type 0) (replies : Replies) (old new : Work) (did : Did) (calls : ℕ) (dirty dirty_after : List Route) (before after : Option CallLog) (f0 f1 f2 : ℕ) → f0 ≤ f1 → Walks unclaimed replies old new did calls dirty dirty_after before after f1 f2 → Walks unclaimed replies old new did calls dirty dirty_after before after f0 f2
-walks_later unclaimed replies (Copy c) new did calls dirty dirty_after before after f0 f1 f2 later w = tt
 walks_later unclaimed replies (Make m) new did calls dirty dirty_after before after f0 f1 f2 later w = tt
 walks_later unclaimed replies (SetMode s) new did calls dirty dirty_after before after f0 f1 f2 later w = tt
-walks_later unclaimed replies (Delete d) (Copy new) did calls dirty dirty_after before after f0 f1 f2 later w = absurd w
 walks_later unclaimed replies (Delete d) (Make new) did calls dirty dirty_after before after f0 f1 f2 later w = absurd w
 walks_later unclaimed replies (Delete d) (SetMode new) did calls dirty dirty_after before after f0 f1 f2 later w = absurd w
-walks_later unclaimed replies (CopyTree c) (Copy new) did calls dirty dirty_after before after f0 f1 f2 later w = absurd w
-walks_later unclaimed replies (CopyTree c) (Delete new) did calls dirty dirty_after before after f0 f1 f2 later w = absurd w
-walks_later unclaimed replies (CopyTree c) (Make new) did calls dirty dirty_after before after f0 f1 f2 later w = absurd w
-walks_later unclaimed replies (CopyTree c) (SetMode new) did calls dirty dirty_after before after f0 f1 f2 later w = absurd w
-walks_later unclaimed replies (CopyTree c) (CopyTree new) did calls dirty dirty_after before after f0 f1 f2 later w =
+walks_later unclaimed replies (Copy c) (Delete new) did calls dirty dirty_after before after f0 f1 f2 later w = absurd w
+walks_later unclaimed replies (Copy c) (Make new) did calls dirty dirty_after before after f0 f1 f2 later w = absurd w
+walks_later unclaimed replies (Copy c) (SetMode new) did calls dirty dirty_after before after f0 f1 f2 later w = absurd w
+walks_later unclaimed replies (Copy c) (Copy new) did calls dirty dirty_after before after f0 f1 f2 later w =
     record { free = w.free; allows = w.allows; since = w.since; later = let more = w.later in omega (arith, later, more); steps = w.steps }
-walks_later unclaimed replies (Delete d) (CopyTree new) did calls dirty dirty_after before after f0 f1 f2 later w = absurd w
+walks_later unclaimed replies (Delete d) (Copy new) did calls dirty dirty_after before after f0 f1 f2 later w = absurd w
 walks_later unclaimed replies (Delete d) (Delete new) did calls dirty dirty_after before after f0 f1 f2 later (inl (worked, mid, spare, spare_after, s, passed)) = inl (
   worked,
   mid,

@@ -1,17 +1,16 @@
 -- What the step that merges leaves: it makes no call, no folder gets dirty or clean by it, and the job's number, its part, what it passes over and what was answered stay.
-use Rattle.std.proofs.Common.{◌≡◌, ℕ, refl, sym, ◌∙◌, ap, subst, inl, inr, List, Option, Some, None}
+use Rattle.std.proofs.Common.{◌≡◌, ℕ, refl, sym, ap, subst, inl, inr, List, Option, Some, None}
 use Rattle.mc_text.specs.Routes.{Route}
 use Rattle.tree_trait.specs.Change.{CallLog}
 use Rattle.job_answers.specs.declared.replies.Replies.{Replies}
 use Rattle.job_reports.specs.declared.job.Pair.{Pair}
-use Rattle.job_reports.specs.declared.report.Did.{Did}
 use Rattle.job_reports.specs.declared.report.Did.TheVariants.{Barrier, Merges, Skipped, Troubled}
 use Rattle.job_reports.specs.declared.report.Ending.{Ending}
 use Rattle.subtree_copy.proofs.MergeStill.{merge_is_still}
 use Rattle.copy_move.specs.declared.run.Course.{Course}
 use Rattle.copy_move.specs.declared.run.Course.TheVariants.{GoesOn, Asking, InTrouble, OwedSyncFailed, Skips, Ends}
 use Rattle.copy_move.specs.declared.work.Work.{Work}
-use Rattle.copy_move.specs.declared.work.Work.TheVariants.{Copy, CopyTree, Delete, Make, SetMode}
+use Rattle.copy_move.specs.declared.work.Work.TheVariants.{Copy, Delete, Make, SetMode}
 use Rattle.copy_move.specs.Jobs.{Running, TellsOn, WorkTells, WorkWinds, part_of, skips_of}
 use Rattle.copy_move.specs.Steps.{RunStep, SyncsOwed, Walks, WalksOn, step_made}
 use Rattle.copy_move.proofs.Finishing.{Finishes}
@@ -25,60 +24,42 @@ record Keeps (old new : Work) (dirty dirty_after : List Route) (before after : O
 
 -- no last step merges
 pub none_wound : (pair : Pair) (names : List (List ℕ)) (ending : Ending) (old new : Work) → WorkWinds ending old (Merges pair names) new → ⊥
-none_wound pair names ending (Copy c) (Copy new) w = w
-none_wound pair names ending (Copy c) (CopyTree new) w = w
+none_wound pair names ending (Copy c) (Copy new) w = w.may
 none_wound pair names ending (Copy c) (Delete new) w = w
 none_wound pair names ending (Copy c) (Make new) w = w
 none_wound pair names ending (Copy c) (SetMode new) w = w
-none_wound pair names ending (CopyTree c) (Copy new) w = w
-none_wound pair names ending (CopyTree c) (CopyTree new) w = w.may
-none_wound pair names ending (CopyTree c) (Delete new) w = w
-none_wound pair names ending (CopyTree c) (Make new) w = w
-none_wound pair names ending (CopyTree c) (SetMode new) w = w
 none_wound pair names ending (Delete d) (Copy new) w = w
-none_wound pair names ending (Delete d) (CopyTree new) w = w
 none_wound pair names ending (Delete d) (Delete new) w = w
 none_wound pair names ending (Delete d) (Make new) w = w
 none_wound pair names ending (Delete d) (SetMode new) w = w
 none_wound pair names ending (Make m) (Copy new) w = w
-none_wound pair names ending (Make m) (CopyTree new) w = w
 none_wound pair names ending (Make m) (Delete new) w = w
 none_wound pair names ending (Make m) (Make new) w = w
 none_wound pair names ending (Make m) (SetMode new) w = w
 none_wound pair names ending (SetMode s) (Copy new) w = w
-none_wound pair names ending (SetMode s) (CopyTree new) w = w
 none_wound pair names ending (SetMode s) (Delete new) w = w
 none_wound pair names ending (SetMode s) (Make new) w = w
 none_wound pair names ending (SetMode s) (SetMode new) w = w
 
 module _ (unclaimed : Route → Type 0) (pair : Pair) (names : List (List ℕ)) (calls : ℕ) (dirty dirty_after : List Route) (before after : Option CallLog) (f0 f1 : ℕ) where
-  -- only what copies something whole merges
+  -- only a copy merges
   work_keeps : (replies : Replies) (old new : Work) → WorkTells old (Merges pair names) new → Walks unclaimed replies old new (Merges pair names) calls dirty dirty_after before after f0 f1 → Keeps old new dirty dirty_after before after
-  work_keeps replies (CopyTree c) (CopyTree new) t walks =
+  work_keeps replies (Copy c) (Copy new) t walks =
       let still = merge_is_still walks.free replies c new pair names calls dirty dirty_after before after walks.since f1 walks.steps in
       let a = t.after in
       record { stays = a.part; skips = a.skips; list = still.0; log = still.1 }
-  work_keeps replies (Copy c) (Copy new) t walks = absurd t
-  work_keeps replies (Copy c) (CopyTree new) t walks = absurd t
   work_keeps replies (Copy c) (Delete new) t walks = absurd t
   work_keeps replies (Copy c) (Make new) t walks = absurd t
   work_keeps replies (Copy c) (SetMode new) t walks = absurd t
-  work_keeps replies (CopyTree c) (Copy new) t walks = absurd t
-  work_keeps replies (CopyTree c) (Delete new) t walks = absurd t
-  work_keeps replies (CopyTree c) (Make new) t walks = absurd t
-  work_keeps replies (CopyTree c) (SetMode new) t walks = absurd t
   work_keeps replies (Delete d) (Copy new) t walks = absurd t
-  work_keeps replies (Delete d) (CopyTree new) t walks = absurd t
   work_keeps replies (Delete d) (Delete new) t walks = absurd t
   work_keeps replies (Delete d) (Make new) t walks = absurd t
   work_keeps replies (Delete d) (SetMode new) t walks = absurd t
   work_keeps replies (Make m) (Copy new) t walks = absurd t
-  work_keeps replies (Make m) (CopyTree new) t walks = absurd t
   work_keeps replies (Make m) (Delete new) t walks = absurd t
   work_keeps replies (Make m) (Make new) t walks = absurd t
   work_keeps replies (Make m) (SetMode new) t walks = absurd t
   work_keeps replies (SetMode s) (Copy new) t walks = absurd t
-  work_keeps replies (SetMode s) (CopyTree new) t walks = absurd t
   work_keeps replies (SetMode s) (Delete new) t walks = absurd t
   work_keeps replies (SetMode s) (Make new) t walks = absurd t
   work_keeps replies (SetMode s) (SetMode new) t walks = absurd t

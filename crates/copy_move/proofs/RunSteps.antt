@@ -8,7 +8,7 @@ use Rattle.job_reports.specs.declared.report.Did.{Did}
 use Rattle.job_reports.specs.declared.report.Did.TheVariants.{Began, Chunk, Placed, Removed, Made, Set, Kept, Skipped, Cleaned, Barrier, Asked, Merges, Troubled, Ended}
 use Rattle.job_reports.specs.Reports.{IsFault}
 use Rattle.copy_move.specs.declared.work.Work.{Work}
-use Rattle.copy_move.specs.declared.work.Work.TheVariants.{Copy, CopyTree, Delete, Make, SetMode}
+use Rattle.copy_move.specs.declared.work.Work.TheVariants.{Copy, Delete, Make, SetMode}
 use Rattle.copy_move.specs.declared.run.Course.TheVariants.{GoesOn, Ends}
 use Rattle.copy_move.specs.Jobs.{Running, TellsOn, CallsOn, WorkWinds, course_after}
 use Rattle.copy_move.specs.Faults.{MeetsFault}
@@ -17,31 +17,22 @@ use Rattle.copy_move.proofs.DeletionRuns.{met_by}
 
 -- no last step reports a fault
 quiet_end : (ending : Ending) (old new : Work) (did : Did) → WorkWinds ending old did new → IsFault did → ⊥
-quiet_end ending (Copy c) (Copy new) (Troubled trouble) w h = w
-quiet_end ending (Copy c) (Delete new) (Troubled trouble) w h = w
-quiet_end ending (Copy c) (Make new) (Troubled trouble) w h = w
-quiet_end ending (Delete d) (Copy new) (Troubled trouble) w h = w
 quiet_end ending (Delete d) (Make new) (Troubled trouble) w h = w
-quiet_end ending (Make m) (Copy new) (Troubled trouble) w h = w
 quiet_end ending (Make m) (Delete new) (Troubled trouble) w h = w
 quiet_end ending (Delete d) (Delete new) (Troubled trouble) w h = w
 quiet_end ending (Make m) (Make new) (Troubled trouble) w h = w
-quiet_end ending (Copy c) (SetMode new) (Troubled trouble) w h = w
 quiet_end ending (Delete d) (SetMode new) (Troubled trouble) w h = w
 quiet_end ending (Make m) (SetMode new) (Troubled trouble) w h = w
-quiet_end ending (SetMode s) (Copy new) (Troubled trouble) w h = w
 quiet_end ending (SetMode s) (Delete new) (Troubled trouble) w h = w
 quiet_end ending (SetMode s) (Make new) (Troubled trouble) w h = w
 quiet_end ending (SetMode s) (SetMode new) (Troubled trouble) w h = w
-quiet_end ending (Copy c) (CopyTree new) (Troubled trouble) w h = w
-quiet_end ending (Delete d) (CopyTree new) (Troubled trouble) w h = w
-quiet_end ending (Make m) (CopyTree new) (Troubled trouble) w h = w
-quiet_end ending (SetMode s) (CopyTree new) (Troubled trouble) w h = w
-quiet_end ending (CopyTree c) (Copy new) (Troubled trouble) w h = w
-quiet_end ending (CopyTree c) (Delete new) (Troubled trouble) w h = w
-quiet_end ending (CopyTree c) (Make new) (Troubled trouble) w h = w
-quiet_end ending (CopyTree c) (SetMode new) (Troubled trouble) w h = w
-quiet_end ending (CopyTree c) (CopyTree new) (Troubled trouble) w h = w.may
+quiet_end ending (Delete d) (Copy new) (Troubled trouble) w h = w
+quiet_end ending (Make m) (Copy new) (Troubled trouble) w h = w
+quiet_end ending (SetMode s) (Copy new) (Troubled trouble) w h = w
+quiet_end ending (Copy c) (Delete new) (Troubled trouble) w h = w
+quiet_end ending (Copy c) (Make new) (Troubled trouble) w h = w
+quiet_end ending (Copy c) (SetMode new) (Troubled trouble) w h = w
+quiet_end ending (Copy c) (Copy new) (Troubled trouble) w h = w.may
 quiet_end ending old new (Began part) w h = h
 quiet_end ending old new (Chunk count) w h = h
 quiet_end ending old new (Asked question) w h = h

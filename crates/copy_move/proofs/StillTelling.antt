@@ -9,22 +9,14 @@ use Rattle.job_reports.specs.declared.report.Cause.{Cause}
 use Rattle.job_reports.specs.declared.report.Did.{Did}
 use Rattle.job_reports.specs.declared.report.Did.TheVariants.{Began, Chunk, Placed, Removed, Made, Set, Kept, Skipped, Cleaned, Barrier, Asked, Merges, Troubled, Ended}
 use Rattle.job_answers.specs.declared.replies.Replies.{Replies}
-use Rattle.file_copy.specs.declared.stage.Stage.{Stage}
-use Rattle.file_copy.specs.declared.stage.Stage.TheVariants as at
-use Rattle.file_copy.specs.AskedCopies.{AskedCalls, AskedStops}
-use Rattle.file_copy.specs.CopyCalls.{making}
-use Rattle.job_reports.specs.declared.report.Trouble.{Trouble}
-use Rattle.file_copy.specs.Copying.{Copying, places_of}
-use Rattle.job_reports.specs.Paths.{folder_of}
-use Rattle.file_copy.specs.LastSteps.{SyncTried, WindCalls, removable}
 use Rattle.job_reports.proofs.Runs.{all_some}
 use Rattle.subtree_copy.specs.Known as known
 use Rattle.subtree_copy.specs.LastCalls.{LastCalls as LastTreeCalls}
 use Rattle.subtree_copy.specs.Standing.{part_of}
-use Rattle.subtree_copy.proofs.StillTelling.{copy_tells, known_law, performs_tells, run_tells}
+use Rattle.subtree_copy.proofs.StillTelling.{known_law, performs_tells, run_tells}
 use Rattle.job_reports.specs.Stops.{sync_answer}
 use Rattle.copy_move.specs.declared.work.Work.{Work}
-use Rattle.copy_move.specs.declared.work.Work.TheVariants.{Copy, CopyTree, Delete, Make, SetMode}
+use Rattle.copy_move.specs.declared.work.Work.TheVariants.{Copy, Delete, Make, SetMode}
 use Rattle.copy_move.specs.declared.run.Course.{Course}
 use Rattle.copy_move.specs.declared.run.Course.TheVariants.{GoesOn, Asking, InTrouble, OwedSyncFailed, Skips, Ends}
 use Rattle.copy_move.specs.Deletions.{DeletionCalls, IsRefused, LastCalls}
@@ -167,54 +159,7 @@ last_setting_tells s (Skipped path cause) log after h = absurd h
 last_setting_tells s (Cleaned part) log after h = absurd h
 last_setting_tells s (Troubled trouble) log after h = absurd h
 
--- a copy, which may ask before it makes its part
-asked_stop_tells : (unclaimed : Route → Type 0) (replies : Replies) (c : Copying) (stage : Stage) (trouble : Trouble) (log : CallLog) (after : Option CallLog)
-    → AskedStops unclaimed (places_of c) replies stage trouble.cause trouble.path log after → StillTells after
-asked_stop_tells unclaimed replies c at.Begin trouble log after (inl looks) = (log, looks.1)
-asked_stop_tells unclaimed replies c at.Begin trouble log after (inr (inl names)) = (log, names.2)
-asked_stop_tells unclaimed replies c at.Begin trouble log after (inr (inr made)) = run_tells (making (current log) (places_of c) made.0 ∷ []) trouble.cause trouble.path log after made.3
-asked_stop_tells unclaimed replies c (at.Fill part facts done) trouble log after h = copy_tells unclaimed (record c { stage = at.Fill part facts done }) (Troubled trouble) c log after h
-asked_stop_tells unclaimed replies c (at.Clean part follows) trouble log after h = copy_tells unclaimed (record c { stage = at.Clean part follows }) (Troubled trouble) c log after h
-asked_stop_tells unclaimed replies c (at.Left part) trouble log after h = absurd h
-asked_stop_tells unclaimed replies c at.Decided trouble log after h = copy_tells unclaimed (record c { stage = at.Decided }) (Troubled trouble) c log after h
-
-asked_tells : (unclaimed : Route → Type 0) (replies : Replies) (c : Copying) (did : Did) (new : Copying) (log : CallLog) (after : Option CallLog) → AskedCalls unclaimed replies c did new log after → StillTells after
-asked_tells unclaimed replies c (Asked question) new log after h = (log, h.1)
-asked_tells unclaimed replies c (Merges pair names) new log after h = absurd h
-asked_tells unclaimed replies c (Kept path) new log after h = (log, h.1)
-asked_tells unclaimed replies c (Began part) new log after h = all_some (making (current log) (places_of c) h.2.0 ∷ []) log after h.2.3
-asked_tells unclaimed replies c (Chunk count) new log after h = copy_tells unclaimed c (Chunk count) new log after h
-asked_tells unclaimed replies c (Placed path) new log after h = copy_tells unclaimed c (Placed path) new log after h
-asked_tells unclaimed replies c (Cleaned part) new log after h = copy_tells unclaimed c (Cleaned part) new log after h
-asked_tells unclaimed replies c Barrier new log after h = copy_tells unclaimed c Barrier new log after h
-asked_tells unclaimed replies c (Troubled trouble) new log after h = asked_stop_tells unclaimed replies c c.stage trouble log after h
-asked_tells unclaimed replies c (Skipped path cause) new log after h = (log, h)
-asked_tells unclaimed replies c (Ended ending part) new log after h = (log, h)
-asked_tells unclaimed replies c (Removed path) new log after h = absurd h
-asked_tells unclaimed replies c (Made path) new log after h = absurd h
-asked_tells unclaimed replies c (Set path) new log after h = absurd h
-
-sync_tells : (c : Copying) (part : Option Route) (log : CallLog) (after : Option CallLog) → SyncTried c part log after → StillTells after
-sync_tells c None log after h = performs_tells log (SyncFolder (folder_of c.target)) h.0 after h.1
-sync_tells c (Some part) log after h = performs_tells h.1 (SyncFolder (folder_of c.target)) h.3.0 after h.3.1
-
-wind_tells : (c : Copying) (did : Did) (log : CallLog) (after : Option CallLog) → WindCalls c did log after → StillTells after
-wind_tells c (Cleaned path) log after h = all_some (RemoveFile path ∷ []) log after h
-wind_tells c Barrier log after h = sync_tells c (removable c.stage) log after h
-wind_tells c (Ended how part) log after h = (log, h)
-wind_tells c (Began part) log after h = absurd h
-wind_tells c (Chunk count) log after h = absurd h
-wind_tells c (Asked question) log after h = absurd h
-wind_tells c (Merges pair names) log after h = absurd h
-wind_tells c (Set path) log after h = absurd h
-wind_tells c (Placed path) log after h = absurd h
-wind_tells c (Removed path) log after h = absurd h
-wind_tells c (Made made) log after h = absurd h
-wind_tells c (Kept kept) log after h = absurd h
-wind_tells c (Skipped path cause) log after h = absurd h
-wind_tells c (Troubled trouble) log after h = absurd h
-
--- the copy of a thing with all that lies in it
+-- a copy
 last_tree_tells : (part : Option Route) (did : Did) (log : CallLog) (after : Option CallLog) → LastTreeCalls part did log after → StillTells after
 last_tree_tells part (Cleaned path) log after h = all_some (RemoveFile path ∷ []) log after h
 last_tree_tells part Barrier log after (folder, left, (mid, leaves, h)) = performs_tells mid (SyncFolder folder) (sync_answer left) after h
@@ -233,23 +178,16 @@ last_tree_tells part (Troubled trouble) log after h = absurd h
 
 -- any job
 work_tells : (unclaimed : Route → Type 0) (replies : Replies) (work : Work) (did : Did) (new : Work) (log : CallLog) (after : Option CallLog) → WorkCalls unclaimed replies work did new log after → StillTells after
-work_tells unclaimed replies (Copy c) did (Copy new) log after h = asked_tells unclaimed replies c did new log after h
 work_tells unclaimed replies (Copy c) did (Delete new) log after h = absurd h
 work_tells unclaimed replies (Copy c) did (Make new) log after h = absurd h
 work_tells unclaimed replies (Copy c) did (SetMode new) log after h = absurd h
-work_tells unclaimed replies (Copy c) did (CopyTree new) log after h = absurd h
-work_tells unclaimed replies (CopyTree c) did (Copy new) log after h = absurd h
-work_tells unclaimed replies (CopyTree c) did (Delete new) log after h = absurd h
-work_tells unclaimed replies (CopyTree c) did (Make new) log after h = absurd h
-work_tells unclaimed replies (CopyTree c) did (SetMode new) log after h = absurd h
-work_tells unclaimed replies (CopyTree c) did (CopyTree new) log after h = (let g = h.goes in known_law g.free replies c new did h.calls h.dirty h.dirty_after log after g.since h.faults_after g.steps)
+work_tells unclaimed replies (Copy c) did (Copy new) log after h = (let g = h.goes in known_law g.free replies c new did h.calls h.dirty h.dirty_after log after g.since h.faults_after g.steps)
 work_tells unclaimed replies (Delete d) did new log after h = deletion_tells did log after h
 work_tells unclaimed replies (Make m) did new log after h = making_tells m did log after h
 work_tells unclaimed replies (SetMode s) did new log after h = setting_tells s did log after h
 
 last_work_tells : (work : Work) (did : Did) (log : CallLog) (after : Option CallLog) → WorkLastCalls work did log after → StillTells after
-last_work_tells (Copy c) did log after h = wind_tells c did log after h
-last_work_tells (CopyTree c) did log after h = last_tree_tells (part_of c.at.item) did log after h
+last_work_tells (Copy c) did log after h = last_tree_tells (part_of c.at.item) did log after h
 last_work_tells (Delete d) did log after h = last_tells did log after h
 last_work_tells (Make m) did log after h = last_making_tells m did log after h
 last_work_tells (SetMode s) did log after h = last_setting_tells s did log after h

@@ -10,23 +10,13 @@ use Rattle.job_reports.specs.declared.report.Ending.{Ending}
 use Rattle.job_reports.specs.declared.report.Ending.TheVariants.{Finished, Aborted, Killed, NoMemory}
 use Rattle.job_reports.specs.declared.report.Did.{Did}
 use Rattle.job_reports.specs.declared.report.Did.TheVariants.{Began, Chunk, Placed, Removed, Made, Set, Kept, Skipped, Cleaned, Barrier, Asked, Merges, Troubled, Ended}
-use Rattle.file_copy.specs.declared.stage.Next.{Next}
-use Rattle.file_copy.specs.declared.stage.Next.TheVariants as next
-use Rattle.file_copy.specs.declared.stage.Stage.{Stage}
-use Rattle.file_copy.specs.declared.stage.Stage.TheVariants as at
-use Rattle.file_copy.specs.declared.stage.FolderState.{FolderState}
-use Rattle.file_copy.specs.declared.stage.FolderState.TheVariants.{Synced, Dirty}
-use Rattle.file_copy.specs.AskedCopies.{AskedTells}
-use Rattle.file_copy.specs.Copying.{Copying, after_clean}
-use Rattle.file_copy.specs.Copying as copying
-use Rattle.file_copy.specs.LastSteps.{Winds, given_up}
 use Rattle.job_reports.specs.Stops.{out_of_memory_at}
 use Rattle.job_reports.specs.declared.job.Job.{Job}
 use Rattle.job_reports.specs.declared.job.Job.TheVariants as plan
 use Rattle.job_reports.specs.declared.answer.Answer.{Answer}
 use Rattle.job_reports.specs.declared.answer.Answer.TheVariants.{Yes, No, All, Update, Nothing, SizeDiffers, Retry, Skip, SkipAll, Abort}
 use Rattle.copy_move.specs.declared.work.Work.{Work}
-use Rattle.copy_move.specs.declared.work.Work.TheVariants.{Copy, CopyTree, Delete, Make, SetMode}
+use Rattle.copy_move.specs.declared.work.Work.TheVariants.{Copy, Delete, Make, SetMode}
 use Rattle.copy_move.specs.declared.run.Course.{Course}
 use Rattle.copy_move.specs.declared.run.Course.TheVariants.{GoesOn, Asking, InTrouble, OwedSyncFailed, Skips, Ends}
 use Rattle.subtree_walk.specs.Places.{unopened}
@@ -48,7 +38,7 @@ use Rattle.mode_setting.specs.declared.setting.Stage.{Stage as SettingStage}
 use Rattle.mode_setting.specs.declared.setting.Stage.TheVariants as setting
 use Rattle.mode_setting.specs.Settings.{Setting}
 use Rattle.mode_setting.specs.Settings as settings
-use Rattle.copy_move.specs.Jobs.{Running, JobTells, TellsOn, WorkTells, WorkWinds, answered, answered_on, copies, copies_tree, course_after, deletes, first_work, halt_of, is_fresh, makes, sets, PassesOver, taken_anew, unreported_skip, with_skips}
+use Rattle.copy_move.specs.Jobs.{Running, JobTells, TellsOn, WorkTells, WorkWinds, answered, answered_on, copies, course_after, deletes, first_work, halt_of, is_fresh, makes, sets, PassesOver, taken_anew, unreported_skip, with_skips}
 use Rattle.job_reports.specs.Reports.{ends}
 use Rattle.job_answers.specs.declared.replies.Replies.{Replies}
 use Rattle.job_answers.specs.declared.skips.Skips.{Skips as Kinds}
@@ -62,25 +52,11 @@ use Rattle.subtree_copy.specs.Standing.{SubtreeCopying}
 use Rattle.subtree_copy.specs.Told.{IsAfter, part_after}
 use Rattle.subtree_copy.proofs.Tellings.{told_law}
 use Rattle.copy_move.specs.TreeCopies as trees
-use Rattle.copy_move.specs.Told.{after_step, course_told, if_closed, running, skipped, stage_told, synced, told, work_told}
+use Rattle.copy_move.specs.Told.{after_step, course_told, if_closed, running, skipped, synced, told, work_told}
 
 -- a job, by its parts
 abbrev job_of : ℕ → Replies → Work → Course → Running
 job_of id replies work course = record { id = id; work = work; course = course; replies = replies }
-
-given_up_told : (stage : Stage) → given_up (stage_told stage) ≡ stage_told (given_up stage)
-given_up_told (at.Fill part facts done) = refl
-given_up_told at.Begin = refl
-given_up_told (at.Clean part follows) = refl
-given_up_told (at.Left part) = refl
-given_up_told at.Decided = refl
-
-skipped_stage_told : (stage : Stage) → copying.skipped (stage_told stage) ≡ stage_told (copying.skipped stage)
-skipped_stage_told (at.Fill part facts done) = refl
-skipped_stage_told at.Begin = refl
-skipped_stage_told (at.Clean part follows) = refl
-skipped_stage_told (at.Left part) = refl
-skipped_stage_told at.Decided = refl
 
 -- a deletion at this stage is told so, wherever its walk stands
 abbrev told_at : Deleting → DeletionStage → Work
@@ -95,76 +71,51 @@ stage_is_told : (id : ℕ) (d new : Deleting) (stage : DeletionStage) → IsAtSt
 stage_is_told id d new stage at =
     ap (told_at d) (sym at.stage_is) ∙ told_same id d new at.path_is at.skips_is
 
--- the copy of a thing with all that lies in it is told by its parts
+-- a copy is told by its parts
 told_is : (id : ℕ) (c new : SubtreeCopying) (stage : TreeStage) (part : Option Route) → new.top ≡ c.top → new.at.stage ≡ stage → tree.part_of new.at.item ≡ part → new.skips ≡ c.skips
-    → CopyTree (trees.told_at id c.top stage part c.skips) ≡ work_told id (CopyTree new)
+    → Copy (trees.told_at id c.top stage part c.skips) ≡ work_told id (Copy new)
 told_is id c new stage part top_is stage_is part_is skips_is =
-    ap (λ t. CopyTree (trees.told_at id t stage part c.skips)) (sym top_is)
-    ∙ (ap (λ s. CopyTree (trees.told_at id new.top s part c.skips)) (sym stage_is)
-    ∙ (ap (λ p. CopyTree (trees.told_at id new.top new.at.stage p c.skips)) (sym part_is)
-    ∙ ap (λ k. CopyTree (trees.told_at id new.top new.at.stage (tree.part_of new.at.item) k)) (sym skips_is)))
+    ap (λ t. Copy (trees.told_at id t stage part c.skips)) (sym top_is)
+    ∙ (ap (λ s. Copy (trees.told_at id new.top s part c.skips)) (sym stage_is)
+    ∙ (ap (λ p. Copy (trees.told_at id new.top new.at.stage p c.skips)) (sym part_is)
+    ∙ ap (λ k. Copy (trees.told_at id new.top new.at.stage (tree.part_of new.at.item) k)) (sym skips_is)))
 
 -- where a report changes nothing of that
-told_so : (id : ℕ) (c new : SubtreeCopying) (did : Did) → IsAfter did c new → part_after did (tree.part_of c.at.item) ≡ tree.part_of c.at.item → after_report did c.at.stage ≡ c.at.stage → work_told id (CopyTree c) ≡ work_told id (CopyTree new)
+told_so : (id : ℕ) (c new : SubtreeCopying) (did : Did) → IsAfter did c new → part_after did (tree.part_of c.at.item) ≡ tree.part_of c.at.item → after_report did c.at.stage ≡ c.at.stage → work_told id (Copy c) ≡ work_told id (Copy new)
 told_so id c new did a part stage = told_is id c new c.at.stage (tree.part_of c.at.item) a.top (a.stage ∙ stage) (a.part ∙ part) a.skips
 
 skipped_told : (id : ℕ) (work new : Work) (path : Route) → PassesOver work path new → skipped path (work_told id work) ≡ work_told id new
-skipped_told id (CopyTree c) (CopyTree new) path (cause, a) = told_so id c new (Skipped path cause) a refl refl
-skipped_told id (CopyTree c) (Copy new) path h = absurd h
-skipped_told id (CopyTree c) (Delete new) path h = absurd h
-skipped_told id (CopyTree c) (Make new) path h = absurd h
-skipped_told id (CopyTree c) (SetMode new) path h = absurd h
-skipped_told id (Copy c) (CopyTree new) path h = absurd h
-skipped_told id (Delete d) (CopyTree new) path h = absurd h
-skipped_told id (Make m) (CopyTree new) path h = absurd h
-skipped_told id (SetMode s) (CopyTree new) path h = absurd h
-skipped_told id (Copy c) (Copy new) path (path_is, new_is) = ap (λ stage. Copy (record c { stage = stage })) (skipped_stage_told c.stage) ∙ ap (λ n. work_told id (Copy n)) (sym new_is)
+skipped_told id (Copy c) (Copy new) path (cause, a) = told_so id c new (Skipped path cause) a refl refl
 skipped_told id (Copy c) (Delete new) path h = absurd h
 skipped_told id (Copy c) (Make new) path h = absurd h
+skipped_told id (Copy c) (SetMode new) path h = absurd h
 skipped_told id (Delete d) (Copy new) path h = absurd h
+skipped_told id (Make m) (Copy new) path h = absurd h
+skipped_told id (SetMode s) (Copy new) path h = absurd h
 skipped_told id (Delete d) (Delete new) path at = stage_is_told id d new (after_item d.path path d.stage) at
 skipped_told id (Delete d) (Make new) path h = absurd h
-skipped_told id (Make m) (Copy new) path h = absurd h
 skipped_told id (Make m) (Delete new) path h = absurd h
 skipped_told id (Make m) (Make new) path (path_is, new_is) = ap Make (sym new_is)
-skipped_told id (Copy c) (SetMode new) path h = absurd h
 skipped_told id (Delete d) (SetMode new) path h = absurd h
 skipped_told id (Make m) (SetMode new) path h = absurd h
-skipped_told id (SetMode s) (Copy new) path h = absurd h
 skipped_told id (SetMode s) (Delete new) path h = absurd h
 skipped_told id (SetMode s) (Make new) path h = absurd h
 skipped_told id (SetMode s) (SetMode new) path (path_is, new_is) = ap SetMode (sym new_is)
-
-anew_stage_told : (stage : Stage) → copying.taken_anew (stage_told stage) ≡ stage_told (copying.taken_anew stage)
-anew_stage_told (at.Fill part facts done) = refl
-anew_stage_told at.Begin = refl
-anew_stage_told (at.Clean part follows) = refl
-anew_stage_told (at.Left part) = refl
-anew_stage_told at.Decided = refl
 
 retries_told : (id : ℕ) (top : Pair) (stage : TreeStage) (part : Option Route) (skips : Kinds) → tree.retries (trees.told_at id top stage part skips) ≡ trees.told_at id top stage part skips
 retries_told id top stage None skips = refl
 retries_told id top stage (Some part) skips = refl
 
 anew_told : (id : ℕ) (work : Work) → taken_anew (work_told id work) ≡ work_told id (taken_anew work)
-anew_told id (CopyTree c) =
+anew_told id (Copy c) =
     let law = told_law in
     let k = law.retry c in
-    ap CopyTree (retries_told id c.top c.at.stage (tree.part_of c.at.item) c.skips) ∙ told_is id c (tree.retries c) c.at.stage (tree.part_of c.at.item) refl k.stage k.part refl
-anew_told id (Copy c) = ap (λ stage. Copy (record c { stage = stage })) (anew_stage_told c.stage)
+    ap Copy (retries_told id c.top c.at.stage (tree.part_of c.at.item) c.skips) ∙ told_is id c (tree.retries c) c.at.stage (tree.part_of c.at.item) refl k.stage k.part refl
 anew_told id (Delete d) = refl
 anew_told id (Make m) = refl
 anew_told id (SetMode s) = refl
 
 -- before the first change no trouble of the work is at a barrier
-copy_bars : (stage : Stage) (folder : FolderState) (barrier : Bool) → barrier ≡ copying.at_barrier stage → (copying.is_fresh stage folder && barrier) ≡ false
-copy_bars at.Begin Dirty barrier h = refl
-copy_bars at.Begin Synced barrier h = h
-copy_bars (at.Fill part facts done) folder barrier h = refl
-copy_bars (at.Clean part follows) folder barrier h = refl
-copy_bars (at.Left part) folder barrier h = refl
-copy_bars at.Decided folder barrier h = refl
-
 deletion_bars : (stage : DeletionStage) (barrier : Bool) → barrier ≡ standing.at_barrier stage → (standing.is_fresh stage && barrier) ≡ false
 deletion_bars deletion.Begin barrier h = h
 deletion_bars deletion.Going barrier h = refl
@@ -189,16 +140,8 @@ making_trouble_bars making.Sync (name ∷ folder) trouble (e, is) = ap (λ (t : 
 making_trouble_bars making.Finish path trouble h = absurd h
 making_trouble_bars making.PassedOver path trouble h = absurd h
 
-fresh_stage_told : (stage : Stage) (folder : FolderState) → copying.is_fresh (stage_told stage) folder ≡ copying.is_fresh stage folder
-fresh_stage_told (at.Fill part facts done) folder = refl
-fresh_stage_told at.Begin folder = refl
-fresh_stage_told (at.Clean part follows) folder = refl
-fresh_stage_told (at.Left part) folder = refl
-fresh_stage_told at.Decided folder = refl
-
 pub fresh_told : (id : ℕ) (work : Work) → is_fresh (work_told id work) ≡ is_fresh work
-fresh_told id (CopyTree c) = refl
-fresh_told id (Copy c) = fresh_stage_told c.stage c.folder
+fresh_told id (Copy c) = refl
 fresh_told id (Delete d) = refl
 fresh_told id (Make m) = refl
 fresh_told id (SetMode s) = refl
@@ -217,33 +160,6 @@ and_none false = refl
 
 pub skip_in_trouble : (id : ℕ) (work : Work) → course_told (work_told id work) (out_of_memory_at false) ≡ InTrouble unreported_skip
 skip_in_trouble id work = in_trouble id work (out_of_memory_at false) (and_none (is_fresh work))
-
-cleaned_told : (id : ℕ) (replies : Replies) (c : Copying) (part : Route) (follows : Next) → after_step (Cleaned part) (told (job_of id replies (Copy (record c { stage = at.Clean part follows })) GoesOn))
-    ≡ Some (told (job_of id replies (Copy (record c { stage = after_clean follows })) GoesOn))
-cleaned_told id replies c part next.Begin = refl
-cleaned_told id replies c part next.Decided = refl
-
--- a copy that goes on, step by step
-copy_told : (id : ℕ) (replies : Replies) (old new : Copying) (did : Did) → AskedTells old did new → ends did ≡ false
-    → after_step did (told (job_of id replies (Copy old) GoesOn)) ≡ Some (told (job_of id replies (Copy new) (course_after did)))
-copy_told id replies old new (Began part) (from, (facts, is)) h = rw is refl
-copy_told id replies old new (Chunk count) (part, facts, done, from, some, few, within, is) h = rw is (rw from refl)
-copy_told id replies old new (Asked question) (from, is) h = rw is refl
-copy_told id replies old new (Merges pair names) t h = absurd t
-copy_told id replies old new (Set path) t h = absurd t
-copy_told id replies old new (Placed path) (part, facts, from, target, is) h = rw is refl
-copy_told id replies old new (Cleaned part) (follows, from, is) h = rw is (rw from (cleaned_told id replies old part follows))
-copy_told id replies old new Barrier (from, dirty, is) h = rw is (rw from refl)
-copy_told id replies old new (Troubled trouble) (barrier, is) h =
-    rw is (ap (λ course. Some (job_of id replies (work_told id (Copy old)) course)) (in_trouble id (Copy old) trouble (copy_bars old.stage old.folder trouble.barrier barrier)))
-copy_told id replies old new (Ended Finished part) t h = absurd cc
-copy_told id replies old new (Ended Aborted part) t h = absurd t
-copy_told id replies old new (Ended Killed part) t h = absurd t
-copy_told id replies old new (Ended NoMemory part) t h = absurd t
-copy_told id replies old new (Removed path) t h = absurd t
-copy_told id replies old new (Made made) t h = absurd t
-copy_told id replies old new (Kept path) (from, target, is) h = rw is refl
-copy_told id replies old new (Skipped path cause) t h = absurd t
 
 -- a deletion that goes on
 deletion_told : (id : ℕ) (replies : Replies) (old new : Deleting) (did : Did) → deletions.Tells old did new → ends did ≡ false
@@ -308,7 +224,7 @@ setting_told id replies old new (Kept path) t h = absurd t
 setting_told id replies old new (Skipped path cause) t h = absurd t
 setting_told id replies old new (Cleaned part) t h = absurd t
 
--- the copy of a thing with all that lies in it, step by step
+-- a copy that goes on
 bars_apart : (fresh barrier : Bool) → (fresh ≡ true → barrier ≡ false) → (fresh && barrier) ≡ false
 bars_apart true barrier h = h refl
 bars_apart false barrier h = refl
@@ -318,7 +234,7 @@ begun_before tree_stage.Begin h = absurd (h refl)
 begun_before tree_stage.Going h = refl
 
 tree_told : (id : ℕ) (replies : Replies) (old new : SubtreeCopying) (did : Did) → trees.Tells old did new → ends did ≡ false
-    → after_step did (told (job_of id replies (CopyTree old) GoesOn)) ≡ Some (told (job_of id replies (CopyTree new) (course_after did)))
+    → after_step did (told (job_of id replies (Copy old) GoesOn)) ≡ Some (told (job_of id replies (Copy new) (course_after did)))
 tree_told id replies old new (Began part) t h = (let a = t.after in ap (λ w. Some (job_of id replies w GoesOn)) (told_is id old new tree_stage.Going (Some part) a.top a.stage a.part a.skips))
 tree_told id replies old new (Placed path) t h = (let a = t.after in ap (λ w. Some (job_of id replies w GoesOn)) (told_is id old new tree_stage.Going None a.top a.stage a.part a.skips))
 tree_told id replies old new (Cleaned part) t h = (let a = t.after in ap (λ w. Some (job_of id replies w GoesOn)) (told_is id old new tree_stage.Going None a.top a.stage a.part a.skips))
@@ -328,7 +244,7 @@ tree_told id replies old new (Chunk count) t h = ap (λ w. Some (job_of id repli
 tree_told id replies old new Barrier t h = ap (λ w. Some (job_of id replies w GoesOn)) (told_so id old new Barrier t.after refl (sym (begun_before old.at.stage t.first)))
 tree_told id replies old new (Skipped path cause) t h = ap (λ w. Some (job_of id replies w GoesOn)) (told_so id old new (Skipped path cause) t.after refl refl)
 tree_told id replies old new (Troubled trouble) t h =
-    ap (λ course. Some (job_of id replies (work_told id (CopyTree old)) course)) (in_trouble id (CopyTree old) trouble (bars_apart (is_tree_fresh old.at.stage) trouble.barrier (t.apart trouble refl)))
+    ap (λ course. Some (job_of id replies (work_told id (Copy old)) course)) (in_trouble id (Copy old) trouble (bars_apart (is_tree_fresh old.at.stage) trouble.barrier (t.apart trouble refl)))
     ∙ ap (λ w. Some (job_of id replies w (InTrouble (halt_of trouble)))) (told_so id old new (Troubled trouble) t.after refl refl)
 tree_told id replies old new (Asked question) t h = ap (λ w. Some (job_of id replies w Asking)) (told_so id old new (Asked question) t.after refl refl)
 tree_told id replies old new (Merges pair names) t h = ap (λ w. Some (job_of id replies w GoesOn)) (told_so id old new (Merges pair names) t.after refl refl)
@@ -337,7 +253,7 @@ tree_told id replies old new (Kept path) t h = ap (λ w. Some (job_of id replies
 tree_told id replies old new (Ended ending part) t h = absurd cc
 
 tree_winds : (id : ℕ) (replies : Replies) (ending : Ending) (old new : SubtreeCopying) (did : Did) → IsWound ending old did new → ends did ≡ false
-    → after_step did (told (job_of id replies (CopyTree old) (Ends ending))) ≡ Some (told (job_of id replies (CopyTree new) (Ends ending)))
+    → after_step did (told (job_of id replies (Copy old) (Ends ending))) ≡ Some (told (job_of id replies (Copy new) (Ends ending)))
 tree_winds id replies ending old new (Cleaned part) w h = ap (λ x. Some (job_of id replies x (Ends ending))) (told_is id old new old.at.stage None w.top w.stage w.part w.skips)
 tree_winds id replies ending old new Barrier w h = ap (λ x. Some (job_of id replies x (Ends ending))) (told_is id old new old.at.stage (tree.part_of old.at.item) w.top w.stage w.part w.skips)
 tree_winds id replies ending old new (Ended how part) w h = absurd cc
@@ -354,23 +270,6 @@ tree_winds id replies ending old new (Skipped path cause) w h = absurd w.may
 tree_winds id replies ending old new (Troubled trouble) w h = absurd w.may
 
 -- the last steps
-copy_winds : (id : ℕ) (replies : Replies) (ending : Ending) (old new : Copying) (did : Did) → Winds ending old did new → ends did ≡ false
-    → after_step did (told (job_of id replies (Copy old) (Ends ending))) ≡ Some (told (job_of id replies (Copy new) (Ends ending)))
-copy_winds id replies ending old new (Cleaned part) (stood, is) h = rw is refl
-copy_winds id replies ending old new Barrier (dirty, is) h = rw is (ap (λ stage. Some (job_of id replies (Copy (record old { stage = stage; folder = Synced })) (Ends ending))) (given_up_told old.stage))
-copy_winds id replies ending old new (Ended how part) t h = absurd cc
-copy_winds id replies ending old new (Began part) t h = absurd t
-copy_winds id replies ending old new (Chunk count) t h = absurd t
-copy_winds id replies ending old new (Asked question) t h = absurd t
-copy_winds id replies ending old new (Merges pair names) t h = absurd t
-copy_winds id replies ending old new (Set path) t h = absurd t
-copy_winds id replies ending old new (Placed path) t h = absurd t
-copy_winds id replies ending old new (Removed path) t h = absurd t
-copy_winds id replies ending old new (Made made) t h = absurd t
-copy_winds id replies ending old new (Kept kept) t h = absurd t
-copy_winds id replies ending old new (Skipped path cause) t h = absurd t
-copy_winds id replies ending old new (Troubled trouble) t h = absurd t
-
 deletion_winds : (id : ℕ) (replies : Replies) (ending : Ending) (old new : Deleting) (did : Did) → deletions.Winds ending old did new → ends did ≡ false
     → after_step did (told (job_of id replies (Delete old) (Ends ending))) ≡ Some (told (job_of id replies (Delete new) (Ends ending)))
 deletion_winds id replies ending old new Barrier (path_is, stage_is, skips_is) h = ap (λ w. Some (job_of id replies w (Ends ending))) (ap (told_at old) (sym stage_is) ∙ told_same id old new path_is skips_is)
@@ -424,56 +323,38 @@ setting_winds id replies ending old new (Troubled trouble) t h = absurd t
 
 goes_told : (id : ℕ) (replies : Replies) (old new : Work) (did : Did) → WorkTells old did new → ends did ≡ false
     → after_step did (told (job_of id replies old GoesOn)) ≡ Some (told (job_of id replies new (course_after did)))
-goes_told id replies (CopyTree c) (CopyTree new) did t h = tree_told id replies c new did t h
-goes_told id replies (CopyTree c) (Copy new) did t h = absurd t
-goes_told id replies (CopyTree c) (Delete new) did t h = absurd t
-goes_told id replies (CopyTree c) (Make new) did t h = absurd t
-goes_told id replies (CopyTree c) (SetMode new) did t h = absurd t
-goes_told id replies (Copy c) (CopyTree new) did t h = absurd t
-goes_told id replies (Delete d) (CopyTree new) did t h = absurd t
-goes_told id replies (Make m) (CopyTree new) did t h = absurd t
-goes_told id replies (SetMode s) (CopyTree new) did t h = absurd t
-goes_told id replies (Copy c) (Copy new) did t h = copy_told id replies c new did t h
+goes_told id replies (Copy c) (Copy new) did t h = tree_told id replies c new did t h
 goes_told id replies (Copy c) (Delete new) did t h = absurd t
 goes_told id replies (Copy c) (Make new) did t h = absurd t
+goes_told id replies (Copy c) (SetMode new) did t h = absurd t
 goes_told id replies (Delete d) (Copy new) did t h = absurd t
-goes_told id replies (Delete d) (Make new) did t h = absurd t
 goes_told id replies (Make m) (Copy new) did t h = absurd t
+goes_told id replies (SetMode s) (Copy new) did t h = absurd t
+goes_told id replies (Delete d) (Make new) did t h = absurd t
 goes_told id replies (Make m) (Delete new) did t h = absurd t
 goes_told id replies (Delete d) (Delete new) did t h = deletion_told id replies d new did t h
 goes_told id replies (Make m) (Make new) did t h = making_told id replies m new did t h
-goes_told id replies (Copy c) (SetMode new) did t h = absurd t
 goes_told id replies (Delete d) (SetMode new) did t h = absurd t
 goes_told id replies (Make m) (SetMode new) did t h = absurd t
-goes_told id replies (SetMode s) (Copy new) did t h = absurd t
 goes_told id replies (SetMode s) (Delete new) did t h = absurd t
 goes_told id replies (SetMode s) (Make new) did t h = absurd t
 goes_told id replies (SetMode s) (SetMode new) did t h = setting_told id replies s new did t h
 
 winds_told : (id : ℕ) (replies : Replies) (ending : Ending) (old new : Work) (did : Did) → WorkWinds ending old did new → ends did ≡ false
     → after_step did (told (job_of id replies old (Ends ending))) ≡ Some (told (job_of id replies new (Ends ending)))
-winds_told id replies ending (CopyTree c) (CopyTree new) did t h = tree_winds id replies ending c new did t h
-winds_told id replies ending (CopyTree c) (Copy new) did t h = absurd t
-winds_told id replies ending (CopyTree c) (Delete new) did t h = absurd t
-winds_told id replies ending (CopyTree c) (Make new) did t h = absurd t
-winds_told id replies ending (CopyTree c) (SetMode new) did t h = absurd t
-winds_told id replies ending (Copy c) (CopyTree new) did t h = absurd t
-winds_told id replies ending (Delete d) (CopyTree new) did t h = absurd t
-winds_told id replies ending (Make m) (CopyTree new) did t h = absurd t
-winds_told id replies ending (SetMode s) (CopyTree new) did t h = absurd t
-winds_told id replies ending (Copy c) (Copy new) did t h = copy_winds id replies ending c new did t h
+winds_told id replies ending (Copy c) (Copy new) did t h = tree_winds id replies ending c new did t h
 winds_told id replies ending (Copy c) (Delete new) did t h = absurd t
 winds_told id replies ending (Copy c) (Make new) did t h = absurd t
+winds_told id replies ending (Copy c) (SetMode new) did t h = absurd t
 winds_told id replies ending (Delete d) (Copy new) did t h = absurd t
-winds_told id replies ending (Delete d) (Make new) did t h = absurd t
 winds_told id replies ending (Make m) (Copy new) did t h = absurd t
+winds_told id replies ending (SetMode s) (Copy new) did t h = absurd t
+winds_told id replies ending (Delete d) (Make new) did t h = absurd t
 winds_told id replies ending (Make m) (Delete new) did t h = absurd t
 winds_told id replies ending (Delete d) (Delete new) did t h = deletion_winds id replies ending d new did t h
 winds_told id replies ending (Make m) (Make new) did t h = making_winds id replies ending m new did t h
-winds_told id replies ending (Copy c) (SetMode new) did t h = absurd t
 winds_told id replies ending (Delete d) (SetMode new) did t h = absurd t
 winds_told id replies ending (Make m) (SetMode new) did t h = absurd t
-winds_told id replies ending (SetMode s) (Copy new) did t h = absurd t
 winds_told id replies ending (SetMode s) (Delete new) did t h = absurd t
 winds_told id replies ending (SetMode s) (Make new) did t h = absurd t
 winds_told id replies ending (SetMode s) (SetMode new) did t h = setting_winds id replies ending s new did t h
@@ -510,7 +391,6 @@ step_told job new (Troubled trouble) t = sym (told_follows job new (Troubled tro
 step_told job new (Ended ending part) t = refl
 
 skips_told : (id : ℕ) (cause : Cause) (work : Work) → work_told id (with_skips cause work) ≡ with_skips cause (work_told id work)
-skips_told id cause (CopyTree c) = refl
 skips_told id cause (Copy c) = refl
 skips_told id cause (Delete d) = refl
 skips_told id cause (Make m) = refl
@@ -564,11 +444,8 @@ began_told id (plan.Delete []) = refl
 began_told id (plan.Delete (path ∷ [])) = began_if id (is_some (parent_of path)) (deletes path) refl
 began_told id (plan.Delete (path ∷ more ∷ paths)) = refl
 began_told id (plan.Copy []) = refl
-began_told id (plan.Copy (pair ∷ [])) = began_if id (is_some (parent_of pair.source) && is_some (parent_of pair.target)) (copies id pair.source pair.target) refl
+began_told id (plan.Copy (pair ∷ [])) = began_if id (is_some (parent_of pair.source) && is_some (parent_of pair.target)) (copies id pair) refl
 began_told id (plan.Copy (pair ∷ more ∷ pairs)) = refl
-began_told id (plan.CopyTree []) = refl
-began_told id (plan.CopyTree (pair ∷ [])) = began_if id (is_some (parent_of pair.source) && is_some (parent_of pair.target)) (copies_tree id pair) refl
-began_told id (plan.CopyTree (pair ∷ more ∷ pairs)) = refl
 began_told id (plan.MakeFolder path) = began_if id (is_some (parent_of path)) (makes thing.Folder path) refl
 began_told id (plan.MakeLink path text) = began_if id (is_some (parent_of path) && is_link_text text) (makes (thing.Link text) path) refl
 began_told id (plan.SetMode [] mode) = refl
@@ -576,14 +453,6 @@ began_told id (plan.SetMode (path ∷ []) mode) = began_if id (is_some (parent_o
 began_told id (plan.SetMode (path ∷ more ∷ paths) mode) = refl
 
 -- the sync of what an ended job left dirty comes before the first change, and leaves the work as it is
-synced_copy : (id : ℕ) (c : Copying) (stage : Stage) (folder : FolderState) → copying.is_fresh stage folder ≡ true → synced (work_told id (Copy (record c { stage = stage; folder = folder }))) ≡ work_told id (Copy (record c { stage = stage; folder = folder }))
-synced_copy id c at.Begin Synced h = refl
-synced_copy id c at.Begin Dirty h = absurd (false≢true h)
-synced_copy id c (at.Fill part facts done) folder h = absurd (false≢true h)
-synced_copy id c (at.Clean part follows) folder h = absurd (false≢true h)
-synced_copy id c (at.Left part) folder h = absurd (false≢true h)
-synced_copy id c at.Decided folder h = absurd (false≢true h)
-
 synced_making : (m : Making) (stage : MakingStage) → makings.is_fresh stage ≡ true → synced (Make (record m { stage = stage })) ≡ Make (record m { stage = stage })
 synced_making m making.Make h = refl
 synced_making m making.Sync h = absurd (false≢true h)
@@ -596,8 +465,7 @@ synced_setting s setting.Sync h = absurd (false≢true h)
 synced_setting s setting.Done h = absurd (false≢true h)
 
 fresh_synced : (id : ℕ) (work : Work) → is_fresh work ≡ true → synced (work_told id work) ≡ work_told id work
-fresh_synced id (CopyTree c) h = refl
-fresh_synced id (Copy c) h = synced_copy id c c.stage c.folder h
+fresh_synced id (Copy c) h = refl
 fresh_synced id (Delete d) h = refl
 fresh_synced id (Make m) h = synced_making m m.stage h
 fresh_synced id (SetMode s) h = synced_setting s s.stage h

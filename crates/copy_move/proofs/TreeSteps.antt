@@ -1,4 +1,4 @@
--- The steps of the copy of a thing with all that lies in it, as those of a job.
+-- The steps of a copy as those of a job.
 use Rattle.std.proofs.Common.{◌≡◌, ◌⊎◌, ℕ, ◌+◌, ◌*◌, ◌<◌, ◌≤◌, Bool, true, false, List, length, refl, sym, ◌∙◌, ap, subst, inl, inr, Option, Some, arith}
 use Rattle.std.proofs.lemmas.Bool.{true≢false}
 use Rattle.mc_text.specs.Routes.{Route}
@@ -35,7 +35,7 @@ use Rattle.subtree_copy.proofs.Reportings.{reporting_law}
 use Rattle.subtree_copy.proofs.Tellings.{told_law}
 use Rattle.subtree_copy.proofs.Unbegun.{unbegun_law}
 use Rattle.subtree_copy.proofs.Waits.{trouble_law}
-use Rattle.copy_move.specs.declared.work.Work.TheVariants.{CopyTree}
+use Rattle.copy_move.specs.declared.work.Work.TheVariants.{Copy}
 use Rattle.copy_move.specs.declared.run.Course.TheVariants.{GoesOn}
 use Rattle.copy_move.specs.Faults.{MeetsFault}
 use Rattle.copy_move.specs.Jobs.{course_after}
@@ -119,7 +119,7 @@ module _ (free : Route → Bool) (replies : Replies) (c new : SubtreeCopying) (d
     over = λ is. (let law = merged_law in law.step free replies c new did calls dirty dirty_after before after f0 f1 s is);
   }
 
-  falls_on : (d : Did) → Makes d → ends d ≡ false → rank_on (course_after d) (CopyTree new) < work_rank (CopyTree c)
+  falls_on : (d : Did) → Makes d → ends d ≡ false → rank_on (course_after d) (Copy new) < work_rank (Copy c)
   falls_on (Troubled trouble) m h = at_most (last_rank new.at) (rank c.at) (let law = trouble_law in law.step free replies c new trouble calls dirty dirty_after before after f0 f1 m g.steady g.can)
   falls_on (Ended ending part) m h = absurd (true≢false h)
   falls_on (Began part) m h = above (rank new.at) (rank c.at) (rank_law free replies c new (Began part) calls dirty dirty_after before after f0 f1 m g.steady g.can refl)
@@ -139,7 +139,7 @@ module _ (free : Route → Bool) (replies : Replies) (c new : SubtreeCopying) (d
     goes_from : (b : Option CallLog) → before ≡ b → Goes unclaimed replies c new did calls dirty dirty_after b after f0 f1
     goes_from b is = record { free = free; allows = allows; since = f0; later = omega arith; steps = subst (λ x. SubtreeSteps free replies c new did calls dirty dirty_after x after f0 f1) is s }
 
-    pub tree_steps : IsInPlace c.top c.at → ChangesOwn c did dirty dirty_after → WorkSteps unclaimed replies (CopyTree c) (CopyTree new) did calls dirty dirty_after before after f0 f1
+    pub tree_steps : IsInPlace c.top c.at → ChangesOwn c did dirty dirty_after → WorkSteps unclaimed replies (Copy c) (Copy new) did calls dirty dirty_after before after f0 f1
     tree_steps place own =
         let k = count_law free replies c new did calls dirty dirty_after before after f0 f1 s in record {
           tells = tells place;
@@ -153,15 +153,15 @@ module _ (free : Route → Bool) (replies : Replies) (c new : SubtreeCopying) (d
           fault = λ h. k.fault (met_so did h);
           falls = λ going.
               let more = subst (λ xs. length xs ≤ length dirty + 1) (sym own.list) (one_more own.was own.now own.folder dirty) in
-              weighs_less (rank_on (course_after did) (CopyTree new)) (work_rank (CopyTree c)) (length dirty_after) (length dirty) (tries_left (course_after did) (CopyTree new) dirty_after) (falls_on did s going) more
-              (tries_after did (CopyTree new) dirty_after);
+              weighs_less (rank_on (course_after did) (Copy new)) (work_rank (Copy c)) (length dirty_after) (length dirty) (tries_left (course_after did) (Copy new) dirty_after) (falls_on did s going) more
+              (tries_after did (Copy new) dirty_after);
         }
 
 -- a last step
 pub tree_winds_up : (ending : Ending) (c new : SubtreeCopying) (last : LastStepResult) (dirty dirty_after : List Route) (before after : Option CallLog) (f0 f1 : ℕ) → LastSubtreeStep ending c new last dirty dirty_after before after f0 f1
     → IsWound ending c last.did new → is_own c new.at.levels.inner.copy.target ≡ true → IfKnown before (λ log. LastCalls (part_of c.at.item) last.did log after)
     → IfKnown before (λ log. TellsTried (part_of c.at.item) last.did last.left new.at.levels.inner.copy.target log after)
-    → WorkWindsUp ending (CopyTree c) (CopyTree new) last.did last.calls last.left dirty dirty_after before after f0 f1
+    → WorkWindsUp ending (Copy c) (Copy new) last.did last.calls last.left dirty dirty_after before after f0 f1
 tree_winds_up ending c new last dirty dirty_after before after f0 f1 w wound own called told =
     let k = last_count_law ending c new last dirty dirty_after before after f0 f1 w in record {
       tells = wound;
@@ -190,18 +190,18 @@ module _ (cause : Cause) (c new : SubtreeCopying) (did : Did) (s : SubtreeSkips 
     unbegun = (let law = unbegun_law in law.skip cause c new did s g.can g.unbegun);
   }
 
-  pub tree_skips : at_barrier c.at ≡ false → WorkSkips cause (CopyTree c) did (CopyTree new)
+  pub tree_skips : at_barrier c.at ≡ false → WorkSkips cause (Copy c) did (Copy new)
   tree_skips apart = by (let law = trouble_law in law.skip cause c new did s g.can apart)
     where
-      by : ((path : Route) × (did ≡ Skipped path cause)) ⊎ ((did ≡ Troubled (out_of_memory_at false)) × (new ≡ c)) → WorkSkips cause (CopyTree c) did (CopyTree new)
+      by : ((path : Route) × (did ≡ Skipped path cause)) ⊎ ((did ≡ Troubled (out_of_memory_at false)) × (new ≡ c)) → WorkSkips cause (Copy c) did (Copy new)
       by (inl (path, is)) = record {
         walks = s;
         skips = inl (path, is, (cause, subst (λ d. IsAfter d c new) is (let law = told_law in law.skip cause c new did s g.can)));
-        falls = subst (λ d. rank_on (course_after d) (CopyTree new) < rank c.at + 1) (sym is)
+        falls = subst (λ d. rank_on (course_after d) (Copy new) < rank c.at + 1) (sym is)
             (two_below (rank new.at) (rank c.at) (let law = answered_law in law.skip cause c new (Skipped path cause) (subst (λ d. SubtreeSkips cause c d new) is s) g.steady apart refl));
       }
       by (inr (is, same)) = record {
         walks = s;
-        skips = inr (is, ap CopyTree same);
-        falls = subst (λ d. rank_on (course_after d) (CopyTree new) < rank c.at + 1) (sym is) (subst (λ (n : SubtreeCopying). last_rank n.at + 1 < rank c.at + 1) (sym same) (one_above (last_rank c.at) (rank c.at) (waiting_law c g.can)));
+        skips = inr (is, ap Copy same);
+        falls = subst (λ d. rank_on (course_after d) (Copy new) < rank c.at + 1) (sym is) (subst (λ (n : SubtreeCopying). last_rank n.at + 1 < rank c.at + 1) (sym same) (one_above (last_rank c.at) (rank c.at) (waiting_law c g.can)));
       }

@@ -17,10 +17,6 @@ use Rattle.job_reports.specs.declared.report.Ending.TheVariants.{Aborted}
 use Rattle.job_reports.specs.declared.report.Did.{Did}
 use Rattle.job_reports.specs.declared.report.Did.TheVariants.{Began, Chunk, Placed, Removed, Made, Set, Kept, Skipped, Cleaned, Barrier, Asked, Merges, Troubled, Ended}
 use Rattle.job_reports.specs.Jobs.{is_link_text}
-use Rattle.file_copy.specs.Copying.{begun}
-use Rattle.file_copy.specs.Copying as copying
-use Rattle.file_copy.specs.AskedCopies.{AskedCalls, AskedTells}
-use Rattle.file_copy.specs.LastSteps as last
 use Rattle.job_reports.specs.Stops.{out_of_memory_at}
 use Rattle.job_reports.specs.declared.job.Job.{Job}
 use Rattle.job_reports.specs.declared.job.Job.TheVariants as plan
@@ -32,7 +28,7 @@ use Rattle.thing_making.specs.declared.making.MakingStage.TheVariants as making
 use Rattle.thing_making.specs.declared.new_thing.NewThing.{NewThing}
 use Rattle.thing_making.specs.declared.new_thing.NewThing.TheVariants as thing
 use Rattle.copy_move.specs.declared.work.Work.{Work}
-use Rattle.copy_move.specs.declared.work.Work.TheVariants.{Copy, CopyTree, Delete, Make, SetMode}
+use Rattle.copy_move.specs.declared.work.Work.TheVariants.{Copy, Delete, Make, SetMode}
 use Rattle.copy_move.specs.declared.run.Halt.{Halt}
 use Rattle.copy_move.specs.declared.run.Course.{Course}
 use Rattle.copy_move.specs.declared.run.Course.TheVariants.{GoesOn, Asking, InTrouble, OwedSyncFailed, Skips, Ends}
@@ -64,13 +60,9 @@ pub record Running : Type 0 where
   pub course : Course
   pub replies : Replies
 
--- the copy of a file, just begun
-abbrev pub copies : ℕ → Route → Route → Work
-copies id source target = Copy (begun id source target)
-
--- the copy of a thing with all that lies in it, just begun
-abbrev pub copies_tree : ℕ → Pair → Work
-copies_tree id pair = CopyTree (tree_started id pair)
+-- a copy, just begun
+abbrev pub copies : ℕ → Pair → Work
+copies id pair = Copy (tree_started id pair)
 
 -- the deletion of a thing with all that lies in it, just begun
 abbrev pub deletes : Route → Work
@@ -91,12 +83,8 @@ first_work id (plan.Delete []) = None
 first_work id (plan.Delete (path ∷ [])) = if is_some (parent_of path) then Some (deletes path) else None
 first_work id (plan.Delete (path ∷ more ∷ paths)) = None
 first_work id (plan.Copy []) = None
-first_work id (plan.Copy (pair ∷ [])) =
-    if is_some (parent_of pair.source) && is_some (parent_of pair.target) then Some (copies id pair.source pair.target) else None
+first_work id (plan.Copy (pair ∷ [])) = if is_some (parent_of pair.source) && is_some (parent_of pair.target) then Some (copies id pair) else None
 first_work id (plan.Copy (pair ∷ more ∷ pairs)) = None
-first_work id (plan.CopyTree []) = None
-first_work id (plan.CopyTree (pair ∷ [])) = if is_some (parent_of pair.source) && is_some (parent_of pair.target) then Some (copies_tree id pair) else None
-first_work id (plan.CopyTree (pair ∷ more ∷ pairs)) = None
 first_work id (plan.MakeFolder path) = if is_some (parent_of path) then Some (makes thing.Folder path) else None
 first_work id (plan.MakeLink path text) = if is_some (parent_of path) && is_link_text text then Some (makes (thing.Link text) path) else None
 first_work id (plan.SetMode [] mode) = None
@@ -111,39 +99,34 @@ begun_work id (source ∷ more) = first_work id source
 -- what the work does, and to what
 abbrev pub kind_of : Work → JobKind
 kind_of (Copy c) = kind.Copy
-kind_of (CopyTree c) = kind.Copy
 kind_of (Delete d) = kind.Delete
 kind_of (Make m) = making_kind m.thing
 kind_of (SetMode s) = kind.SetMode
 
 abbrev pub path_of : Work → Route
-path_of (Copy c) = c.source
-path_of (CopyTree c) = c.top.source
+path_of (Copy c) = c.top.source
 path_of (Delete d) = d.path
 path_of (Make m) = m.path
 path_of (SetMode s) = s.path
 
 -- the next call is at a barrier, where nothing can be skipped
 abbrev pub at_barrier : Work → Bool
-at_barrier (Copy c) = copying.at_barrier c.stage
-at_barrier (CopyTree c) = tree.at_barrier c.at
+at_barrier (Copy c) = tree.at_barrier c.at
 at_barrier (Delete d) = standing.at_barrier d.stage
 at_barrier (Make m) = makings.at_barrier m.stage
 at_barrier (SetMode s) = settings.at_barrier s.stage
 
 -- the work of a job that has changed nothing yet
 abbrev pub is_fresh : Work → Bool
-is_fresh (Copy c) = copying.is_fresh c.stage c.folder
-is_fresh (CopyTree c) = tree_copy.is_fresh c.at.stage
+is_fresh (Copy c) = tree_copy.is_fresh c.at.stage
 is_fresh (Delete d) = standing.is_fresh d.stage
 is_fresh (Make m) = makings.is_fresh m.stage
 is_fresh (SetMode s) = settings.is_fresh s.stage
 
--- the work once what stands at this path was left as it is: the file that is copied, something of what is copied whole, or that is deleted, the thing that
--- is not made, or the one that keeps its mode
+-- the work once what stands at this path was left as it is: something of what is copied or deleted, the thing that is not made, or the one that keeps
+-- its mode
 abbrev pub PassesOver : Work → Route → Work → Type 0
-PassesOver (Copy c) path (Copy new) = (path ≡ c.source) × (new ≡ record c { stage = copying.skipped c.stage })
-PassesOver (CopyTree c) path (CopyTree new) = trees.Passes c path new
+PassesOver (Copy c) path (Copy new) = trees.Passes c path new
 PassesOver (Delete d) path (Delete new) = IsAtStage d (after_item d.path path d.stage) new
 PassesOver (Make m) path (Make new) = (path ≡ m.path) × (new ≡ record m { stage = makings.skipped m.stage })
 PassesOver (SetMode s) path (SetMode new) = (path ≡ s.path) × (new ≡ record s { stage = settings.skipped s.stage })
@@ -151,17 +134,14 @@ PassesOver old path new = ⊥
 
 -- the work taken up once more after a trouble; a deletion, a making and the setting of a mode try their call again
 abbrev pub taken_anew : Work → Work
-taken_anew (Copy c) = Copy (record c { stage = copying.taken_anew c.stage })
-taken_anew (CopyTree c) = CopyTree (retries c)
+taken_anew (Copy c) = Copy (retries c)
 taken_anew (Delete d) = Delete d
 taken_anew (Make m) = Make m
 taken_anew (SetMode s) = SetMode s
 
--- The work once troubles of this kind are passed over without a question. One that copies one file, or makes one thing, or sets its mode, comes to
--- no later one.
+-- The work once troubles of this kind are passed over without a question. One that makes one thing, or sets its mode, comes to no later one.
 abbrev pub with_skips : Cause → Work → Work
-with_skips cause (Copy c) = Copy c
-with_skips cause (CopyTree c) = CopyTree (record c { skips = with_kind (kind_in cause) c.skips })
+with_skips cause (Copy c) = Copy (record c { skips = with_kind (kind_in cause) c.skips })
 with_skips cause (Delete d) = Delete (record d { skips = with_kind (kind_in cause) d.skips })
 with_skips cause (Make m) = Make m
 with_skips cause (SetMode s) = SetMode s
@@ -181,32 +161,28 @@ skipping_by Abort cause work = work
 
 -- the kinds of troubles that the work passes over without a question
 abbrev pub skips_of : Work → SkippedKinds
-skips_of (Copy c) = no_skips
-skips_of (CopyTree c) = c.skips
+skips_of (Copy c) = c.skips
 skips_of (Delete d) = d.skips
 skips_of (Make m) = no_skips
 skips_of (SetMode s) = no_skips
 
 -- the work where these kinds are passed over
 abbrev pub passing_over : SkippedKinds → Work → Work
-passing_over skips (Copy c) = Copy c
-passing_over skips (CopyTree c) = CopyTree (record c { skips = skips })
+passing_over skips (Copy c) = Copy (record c { skips = skips })
 passing_over skips (Delete d) = Delete (record d { skips = skips })
 passing_over skips (Make m) = Make m
 passing_over skips (SetMode s) = SetMode s
 
 -- the part that stands
 abbrev pub part_of : Work → Option Route
-part_of (Copy c) = copying.part_at c.stage
-part_of (CopyTree c) = tree.part_of c.at.item
+part_of (Copy c) = tree.part_of c.at.item
 part_of (Delete d) = None
 part_of (Make m) = None
 part_of (SetMode s) = None
 
 -- work that goes on: no part of it was left in last steps
 abbrev pub IsGoing : Work → Type 0
-IsGoing (Copy c) = last.left_at c.stage ≡ None
-IsGoing (CopyTree c) = trees.IsGoing c
+IsGoing (Copy c) = trees.IsGoing c
 IsGoing (Delete d) = ⊤
 IsGoing (Make m) = ⊤
 IsGoing (SetMode s) = ⊤
@@ -222,8 +198,7 @@ IsSound (Ends ending) work = ⊤
 
 -- what a step of the work may report that goes on, and where the work stands then
 abbrev pub WorkTells : Work → Did → Work → Type 0
-WorkTells (Copy c) did (Copy new) = AskedTells c did new
-WorkTells (CopyTree c) did (CopyTree new) = trees.Tells c did new
+WorkTells (Copy c) did (Copy new) = trees.Tells c did new
 WorkTells (Delete d) did (Delete new) = deletions.Tells d did new
 WorkTells (Make m) did (Make new) = makings.Tells m did new
 WorkTells (SetMode s) did (SetMode new) = settings.Tells s did new
@@ -231,8 +206,7 @@ WorkTells old did new = ⊥
 
 -- the same of a last step
 abbrev pub WorkWinds : Ending → Work → Did → Work → Type 0
-WorkWinds ending (Copy c) did (Copy new) = last.Winds ending c did new
-WorkWinds ending (CopyTree c) did (CopyTree new) = IsWound ending c did new
+WorkWinds ending (Copy c) did (Copy new) = IsWound ending c did new
 WorkWinds ending (Delete d) did (Delete new) = deletions.Winds ending d did new
 WorkWinds ending (Make m) did (Make new) = makings.Winds ending m did new
 WorkWinds ending (SetMode s) did (SetMode new) = modes.Winds ending s did new
@@ -280,24 +254,17 @@ JobTells job did new = TellsOn job.course job did new
 
 -- what a step of the work says of the tree's calls, where this was answered; a part may have the paths that no other job claims
 abbrev pub WorkCalls : (Route → Type 0) → Replies → Work → Did → Work → CallLog → Option CallLog → Type 0
-WorkCalls unclaimed replies (Copy c) did (Copy new) log after = AskedCalls unclaimed replies c did new log after
+WorkCalls unclaimed replies (Copy c) did (Copy new) log after = trees.Calls unclaimed replies c did new log after
 WorkCalls unclaimed replies (Copy c) did (Delete new) log after = ⊥
 WorkCalls unclaimed replies (Copy c) did (Make new) log after = ⊥
 WorkCalls unclaimed replies (Copy c) did (SetMode new) log after = ⊥
-WorkCalls unclaimed replies (Copy c) did (CopyTree new) log after = ⊥
-WorkCalls unclaimed replies (CopyTree c) did (CopyTree new) log after = trees.Calls unclaimed replies c did new log after
-WorkCalls unclaimed replies (CopyTree c) did (Copy new) log after = ⊥
-WorkCalls unclaimed replies (CopyTree c) did (Delete new) log after = ⊥
-WorkCalls unclaimed replies (CopyTree c) did (Make new) log after = ⊥
-WorkCalls unclaimed replies (CopyTree c) did (SetMode new) log after = ⊥
 WorkCalls unclaimed replies (Delete d) did new log after = DeletionCalls did log after
 WorkCalls unclaimed replies (Make m) did new log after = MakingCalls m did log after
 WorkCalls unclaimed replies (SetMode s) did new log after = SettingCalls s did log after
 
 -- the same of a last step
 abbrev pub WorkLastCalls : Work → Did → CallLog → Option CallLog → Type 0
-WorkLastCalls (Copy c) did log after = last.WindCalls c did log after
-WorkLastCalls (CopyTree c) did log after = LastTreeCalls (tree.part_of c.at.item) did log after
+WorkLastCalls (Copy c) did log after = LastTreeCalls (tree.part_of c.at.item) did log after
 WorkLastCalls (Delete d) did log after = LastCalls did log after
 WorkLastCalls (Make m) did log after = LastMakingCalls m did log after
 WorkLastCalls (SetMode s) did log after = LastSettingCalls s did log after

@@ -1,34 +1,17 @@
 -- How many steps a job makes at most before its end or its next trouble. Each step leaves fewer.
-use Rattle.std.specs.Prelude.{ℕ, ◌+◌, ◌-◌, ◌*◌, ◌^◌, List, length, Option, Some, None}
+use Rattle.std.specs.Prelude.{ℕ, ◌+◌, ◌-◌, ◌*◌, List, length, Option, Some, None}
 use Rattle.mc_text.specs.Routes.{Route}
-use Rattle.file_copy.specs.declared.stage.Stage.{Stage}
-use Rattle.file_copy.specs.declared.stage.Stage.TheVariants.{Begin, Fill, Clean, Left, Decided}
-use Rattle.file_copy.specs.declared.stage.Next.TheVariants as next
-use Rattle.file_copy.specs.declared.stage.FolderState.{FolderState}
-use Rattle.file_copy.specs.declared.stage.FolderState.TheVariants.{Synced, Dirty}
-use Rattle.file_copy.specs.LastSteps.{last_steps}
 use Rattle.thing_making.specs.declared.making.MakingStage.{MakingStage}
 use Rattle.thing_making.specs.declared.making.MakingStage.TheVariants as making
 use Rattle.copy_move.specs.Deletions.{Deleting, left_in}
 use Rattle.copy_move.specs.declared.work.Work.{Work}
-use Rattle.copy_move.specs.declared.work.Work.TheVariants.{Copy, CopyTree, Delete, Make, SetMode}
+use Rattle.copy_move.specs.declared.work.Work.TheVariants.{Copy, Delete, Make, SetMode}
 use Rattle.copy_move.specs.declared.run.Course.{Course}
 use Rattle.copy_move.specs.declared.run.Course.TheVariants.{GoesOn, Asking, InTrouble, OwedSyncFailed, Skips, Ends}
 use Rattle.copy_move.specs.Jobs.{Running}
 use Rattle.subtree_copy.specs.Ranks as tree
 use Rattle.mode_setting.specs.declared.setting.Stage.{Stage as SettingStage}
 use Rattle.mode_setting.specs.declared.setting.Stage.TheVariants as setting
-
--- of a copy that goes on: a file has at most 2^63 bytes, and each chunk at least one; at last three steps more, if it is
--- aborted
-abbrev pub copy_rank : Stage → FolderState → ℕ
-copy_rank Begin folder = 2 ^ 63 + 8
-copy_rank (Fill part facts done) folder = (facts.size - done) + 7
-copy_rank (Clean part next.Begin) folder = 2 ^ 63 + 9
-copy_rank (Clean part next.Decided) folder = 6
-copy_rank (Left part) folder = 4
-copy_rank Decided Dirty = 5
-copy_rank Decided Synced = 4
 
 -- of a deletion that goes on: the things that are left, and its end; the folders that are to be synced are counted apart
 abbrev pub deletion_rank : Deleting → ℕ
@@ -60,25 +43,22 @@ last_setting_steps setting.Give = 1
 last_setting_steps setting.Sync = 2
 last_setting_steps setting.Done = 1
 
--- of a job that copies something whole those of its copy, and the end; a trouble may leave it as many last steps as it had steps, so there is one more
+-- of a job that copies those of its copy, and the end; a trouble may leave it as many last steps as it had steps, so there is one more
 abbrev pub work_rank : Work → ℕ
-work_rank (Copy c) = copy_rank c.stage c.folder
-work_rank (CopyTree c) = tree.rank c.at + 2
+work_rank (Copy c) = tree.rank c.at + 2
 work_rank (Delete d) = deletion_rank d
 work_rank (Make m) = making_rank m.stage
 work_rank (SetMode s) = setting_rank s.stage
 
 abbrev pub last_rank : Work → ℕ
-last_rank (Copy c) = last_steps c.stage c.folder
-last_rank (CopyTree c) = tree.last_rank c.at + 1
+last_rank (Copy c) = tree.last_rank c.at + 1
 last_rank (Delete d) = 1
 last_rank (Make m) = last_making_steps m.stage
 last_rank (SetMode s) = last_setting_steps s.stage
 
 -- where something is to be skipped
 abbrev pub skip_rank : Work → ℕ
-skip_rank (Copy c) = 10
-skip_rank (CopyTree c) = tree.rank c.at + 1
+skip_rank (Copy c) = tree.rank c.at + 1
 skip_rank (Delete d) = deletion_rank d + 1
 skip_rank (Make m) = 10
 skip_rank (SetMode s) = 10
@@ -96,7 +76,6 @@ rank_on (Ends ending) work = last_rank work
 abbrev pub tries_left : Course → Work → List Route → ℕ
 tries_left (Ends ending) (Delete d) dirty = length dirty - d.tried
 tries_left (Ends ending) (Copy c) dirty = length dirty
-tries_left (Ends ending) (CopyTree c) dirty = length dirty
 tries_left (Ends ending) (Make m) dirty = length dirty
 tries_left (Ends ending) (SetMode s) dirty = length dirty
 tries_left GoesOn work dirty = length dirty

@@ -12,10 +12,8 @@ use Rattle.tree_trait.specs.Refusals.{refusal_of, mount_of}
 use Rattle.tree_trait.specs.CrashImages.{Among}
 use Rattle.job_reports.specs.declared.report.Did.{Did}
 use Rattle.job_reports.specs.Paths.{folder_of}
-use Rattle.file_copy.specs.Copying as copying
-use Rattle.file_copy.specs.LastSteps as last
 use Rattle.copy_move.specs.declared.work.Work.{Work}
-use Rattle.copy_move.specs.declared.work.Work.TheVariants.{Copy, CopyTree, Delete, Make, SetMode}
+use Rattle.copy_move.specs.declared.work.Work.TheVariants.{Copy, Delete, Make, SetMode}
 use Rattle.subtree_copy.specs.LastCalls.{TellsTried as TellsTreeTried}
 use Rattle.subtree_copy.specs.Reporting.{ChangesOwn}
 use Rattle.subtree_copy.specs.Standing as tree
@@ -29,17 +27,15 @@ use Rattle.mode_setting.specs.Settings as settings
 
 -- the folder that holds what a job places, removes, or gives a mode
 abbrev pub changed_folder : Work → Route
-changed_folder (Copy c) = folder_of c.target
-changed_folder (CopyTree c) = folder_of c.top.target
+changed_folder (Copy c) = folder_of c.top.target
 changed_folder (Delete d) = folder_of d.path
 changed_folder (Make m) = folder_of m.path
 changed_folder (SetMode s) = folder_of s.path
 
--- a folder in which a job may change names: of a deletion also the thing itself, and what lies in it, and so of the target of what is copied whole; or the thing to
+-- a folder in which a job may change names: of a deletion also the thing itself, and what lies in it, and so of the target of a copy; or the thing to
 -- which a job gives a mode
 abbrev pub is_own : Work → Route → Bool
-is_own (Copy c) kept = same_path kept (folder_of c.target)
-is_own (CopyTree c) kept = tree.is_own c kept
+is_own (Copy c) kept = tree.is_own c kept
 is_own (Delete d) kept = is_of (folder_of d.path) d.path kept
 is_own (Make m) kept = same_path kept (folder_of m.path)
 is_own (SetMode s) kept = same_path kept s.path
@@ -48,21 +44,17 @@ is_own (SetMode s) kept = same_path kept s.path
 -- mode of a folder may bar the way to what lies in it. Where something is copied to nothing stands yet.
 abbrev pub is_owed_anywhere : Work → Route → Bool
 is_owed_anywhere (Copy c) kept = false
-is_owed_anywhere (CopyTree c) kept = false
 is_owed_anywhere (Delete d) kept = is_prefix d.path kept
 is_owed_anywhere (Make m) kept = false
 is_owed_anywhere (SetMode s) kept = true
 
--- the folder of a copy, or of a new thing, or a thing that is given a mode, joins the dirty ones with its first change, and leaves them
--- with its sync
+-- the folder of a new thing, or a thing that is given a mode, joins the dirty ones with its first change, and leaves them with its sync
 abbrev pub with_change : Bool → Bool → Route → List Route → List Route
 with_change was now folder dirty = folders.with_change was now folder dirty
 
 -- what a step of a job's own work makes of the dirty folders
 abbrev pub WorkLeaves : Work → Did → Work → List Route → List Route → Option CallLog → Option CallLog → Type 0
-WorkLeaves (Copy c) did (Copy new) dirty dirty_after before after =
-    dirty_after ≡ with_change (copying.is_dirty c.folder) (copying.is_dirty new.folder) (folder_of c.target) dirty
-WorkLeaves (CopyTree c) did (CopyTree new) dirty dirty_after before after = ChangesOwn c did dirty dirty_after
+WorkLeaves (Copy c) did (Copy new) dirty dirty_after before after = ChangesOwn c did dirty dirty_after
 WorkLeaves (Delete d) did (Delete new) dirty dirty_after before after = DeletionLeaves d did dirty dirty_after before after
 WorkLeaves (Make m) did (Make new) dirty dirty_after before after =
     dirty_after ≡ with_change (makings.is_dirty m.stage) (makings.is_dirty new.stage) (folder_of m.path) dirty
@@ -72,8 +64,7 @@ WorkLeaves old did new dirty dirty_after before after = ⊥
 
 -- what a last step tells of the folder, or the thing, that it tried: the refusal of its sync, if that was in vain
 abbrev pub TellsFolder : Work → Did → Option TreeError → Route → CallLog → Option CallLog → Type 0
-TellsFolder (Copy c) did left folder log after = last.TellsFolder c did left log after
-TellsFolder (CopyTree c) did left folder log after = TellsTreeTried (tree.part_of c.at.item) did left folder log after
+TellsFolder (Copy c) did left folder log after = TellsTreeTried (tree.part_of c.at.item) did left folder log after
 TellsFolder (Delete d) did left folder log after = TellsTried did left folder log after
 TellsFolder (Make m) did left folder log after = MakingLeaves m did left log after
 TellsFolder (SetMode s) did left folder log after = SettingLeaves s did left log after

@@ -17,7 +17,7 @@ use Rattle.job_reports.specs.Stops.{out_of_memory_at}
 use Rattle.job_answers.specs.declared.replies.Replies.{Replies}
 use Rattle.copy_move.specs.declared.work.Work.{Work}
 use Rattle.copy_move.specs.declared.run.Course.{Course}
-use Rattle.copy_move.specs.declared.work.Work.TheVariants.{Copy, CopyTree, Delete, Make, SetMode}
+use Rattle.copy_move.specs.declared.work.Work.TheVariants.{Copy, Delete, Make, SetMode}
 use Rattle.copy_move.specs.declared.run.Course.TheVariants.{GoesOn, Asking, InTrouble, OwedSyncFailed, Skips, Ends}
 use Rattle.copy_move.specs.Faults.{MeetsFault}
 use Rattle.copy_move.specs.DeletionSteps.{Goes, Passes, TriesNext, after_try}
@@ -77,33 +77,30 @@ abbrev pub step_made : Running → Running → Did → ℕ → List Route → Li
 step_made old new did calls dirty dirty_after before after faults faults_after =
     record { old = old; new = new; did = did; calls = calls; dirty = dirty; dirty_after = dirty_after; before = before; after = after; faults = faults; faults_after = faults_after }
 
--- what the machine of a deletion, or of the copy of what lies in something, does in a step of the work
+-- what the machine of a deletion or of a copy does in a step of the work
 abbrev pub Walks : (Route → Type 0) → Replies → Work → Work → Did → ℕ → List Route → List Route → Option CallLog → Option CallLog → ℕ → ℕ → Type 0
-Walks unclaimed replies (Copy c) new did calls dirty dirty_after before after faults faults_after = ⊤
 Walks unclaimed replies (Make m) new did calls dirty dirty_after before after faults faults_after = ⊤
 Walks unclaimed replies (SetMode s) new did calls dirty dirty_after before after faults faults_after = ⊤
-Walks unclaimed replies (CopyTree c) (CopyTree new) did calls dirty dirty_after before after faults faults_after =
+Walks unclaimed replies (Copy c) (Copy new) did calls dirty dirty_after before after faults faults_after =
     trees.Goes unclaimed replies c new did calls dirty dirty_after before after faults faults_after
-Walks unclaimed replies (CopyTree c) new did calls dirty dirty_after before after faults faults_after = ⊥
+Walks unclaimed replies (Copy c) new did calls dirty dirty_after before after faults faults_after = ⊥
 Walks unclaimed replies (Delete d) (Delete new) did calls dirty dirty_after before after faults faults_after = Goes d new did calls dirty dirty_after before after faults faults_after
 Walks unclaimed replies (Delete d) new did calls dirty dirty_after before after faults faults_after = ⊥
 
 -- what it does where something is passed over
 abbrev pub SkipWalks : Cause → Work → Did → Work → Type 0
-SkipWalks cause (Copy c) did new = ⊤
 SkipWalks cause (Make m) did new = ⊤
 SkipWalks cause (SetMode s) did new = ⊤
-SkipWalks cause (CopyTree c) did (CopyTree new) = SubtreeSkips cause c did new
-SkipWalks cause (CopyTree c) did new = ⊥
+SkipWalks cause (Copy c) did (Copy new) = SubtreeSkips cause c did new
+SkipWalks cause (Copy c) did new = ⊥
 SkipWalks cause (Delete d) did (Delete new) = Passes cause d did new
 SkipWalks cause (Delete d) did new = ⊥
 
 -- what it does in a last step
 abbrev pub LastWalks : Ending → Work → Work → Did → ℕ → Option TreeError → List Route → List Route → Option CallLog → Option CallLog → ℕ → ℕ → Type 0
-LastWalks ending (Copy c) new did calls left dirty dirty_after before after faults faults_after = ⊤
-LastWalks ending (CopyTree c) (CopyTree new) did calls left dirty dirty_after before after faults faults_after =
+LastWalks ending (Copy c) (Copy new) did calls left dirty dirty_after before after faults faults_after =
     LastSubtreeStep ending c new (record { did = did; calls = calls; left = left }) dirty dirty_after before after faults faults_after
-LastWalks ending (CopyTree c) new did calls left dirty dirty_after before after faults faults_after = ⊥
+LastWalks ending (Copy c) new did calls left dirty dirty_after before after faults faults_after = ⊥
 LastWalks ending (Delete d) (Delete new) did calls left dirty dirty_after before after faults faults_after =
     TriesNext ending d new did calls left dirty dirty_after before after faults faults_after
 LastWalks ending (Delete d) new did calls left dirty dirty_after before after faults faults_after = ⊥
@@ -170,8 +167,8 @@ pub record WindingStep (ending : Ending) (step : StepMade) : Type 0 where
   pub winds : WorkWindsUp ending step.old.work step.new.work step.did step.calls left step.dirty step.dirty_after step.before step.after step.faults step.faults_after
   pub new_is : step.new ≡ record step.old { work = step.new.work }
 
--- A step of the job's own: one that may make its first change is made only where nothing dirty is owed, a deletion, or the copy of what lies in
--- something, does what its machine does, and a job that is to end makes one of its last steps. But for an end fewer steps are left.
+-- A step of the job's own: one that may make its first change is made only where nothing dirty is owed, a deletion or a copy does
+-- what its machine does, and a job that is to end makes one of its last steps. But for an end fewer steps are left.
 pub record OwnStep (unclaimed : Route → Type 0) (step : StepMade) : Type 0 where
   pub own : StepsOn unclaimed step.old step.new step.did step.calls step.before step.after step.faults step.faults_after
   pub settled : step.old.course ≡ GoesOn → is_fresh step.old.work ≡ true → IfKnown step.before (λ log. NoneOwed (current log) step.old.work step.dirty)

@@ -1,5 +1,5 @@
--- What a history tells of its jobs: the live one, but for the size and the mode that a copy's source was said to have and
--- how many of its bytes were copied, and for where the walk of a deletion, or of the copy of what lies in something, stands. Histories stand newest first here.
+-- What a history tells of its jobs: the live one, but for where the walk of a deletion or of a copy stands, with the size and the mode that a file was
+-- said to have and how many of its bytes were copied. Histories stand newest first here.
 use Rattle.std.specs.Prelude.{◌≡◌, ◌⊎◌, ℕ, Bool, true, false, ◌&&◌, Option, Some, None, if◌then◌else◌}
 use Rattle.std.specs.Option.{option_map}
 use Rattle.mc_text.specs.Routes.{Route}
@@ -9,13 +9,6 @@ use Rattle.job_reports.specs.Jobs.{is_workable}
 use Rattle.job_reports.specs.declared.report.Ending.TheVariants.{Finished, NoMemory}
 use Rattle.job_reports.specs.declared.report.Did.{Did}
 use Rattle.job_reports.specs.declared.report.Did.TheVariants.{Began, Chunk, Placed, Removed, Made, Set, Kept, Skipped, Cleaned, Barrier, Asked, Merges, Troubled, Ended}
-use Rattle.file_copy.specs.declared.stage.SourceFacts.{SourceFacts}
-use Rattle.file_copy.specs.declared.stage.Stage.{Stage}
-use Rattle.file_copy.specs.declared.stage.Stage.TheVariants as at
-use Rattle.file_copy.specs.declared.stage.FolderState.TheVariants.{Synced, Dirty}
-use Rattle.file_copy.specs.Copying.{after_clean}
-use Rattle.file_copy.specs.Copying as copying
-use Rattle.file_copy.specs.LastSteps.{given_up}
 use Rattle.job_answers.specs.Decisions.{no_replies}
 use Rattle.subtree_walk.specs.Places.{unopened}
 use Rattle.tree_deletion.specs.declared.deletion.Depth.TheVariants.{Top}
@@ -23,7 +16,7 @@ use Rattle.tree_deletion.specs.declared.deletion.Stage.TheVariants.{Going}
 use Rattle.tree_deletion.specs.Standing.{after_item}
 use Rattle.thing_making.specs.declared.making.MakingStage.TheVariants as making
 use Rattle.copy_move.specs.declared.work.Work.{Work}
-use Rattle.copy_move.specs.declared.work.Work.TheVariants.{Copy, CopyTree, Delete, Make, SetMode}
+use Rattle.copy_move.specs.declared.work.Work.TheVariants.{Copy, Delete, Make, SetMode}
 use Rattle.copy_move.specs.declared.run.Course.{Course}
 use Rattle.copy_move.specs.declared.run.Course.TheVariants.{GoesOn, Asking, InTrouble, OwedSyncFailed}
 use Rattle.thing_making.specs.Makings as makings
@@ -34,22 +27,9 @@ use Rattle.copy_move.specs.TreeCopies as trees
 use Rattle.subtree_copy.specs.Standing.{SubtreeCopying}
 use Rattle.copy_move.specs.Jobs.{Running, JobTells, closed_job, first_work, halt_of, is_fresh, part_of, passing_over, skips_of, waits_on}
 
--- what no history tells
-abbrev pub untold_facts : SourceFacts
-untold_facts = record { size = 0; mode = 0 }
-
--- a copy's place in its work, as its history tells it
-abbrev pub stage_told : Stage → Stage
-stage_told (at.Fill part facts done) = at.Fill part untold_facts 0
-stage_told at.Begin = at.Begin
-stage_told (at.Clean part follows) = at.Clean part follows
-stage_told (at.Left part) = at.Left part
-stage_told at.Decided = at.Decided
-
 -- the work of the job with this number
 abbrev pub work_told : ℕ → Work → Work
-work_told id (Copy c) = Copy (record c { stage = stage_told c.stage })
-work_told id (CopyTree c) = CopyTree (trees.as_told id c)
+work_told id (Copy c) = Copy (trees.as_told id c)
 work_told id (Delete d) = Delete (record d { depth = Top; place = unopened; tried = 0 })
 work_told id (Make m) = Make m
 work_told id (SetMode s) = SetMode s
@@ -60,16 +40,14 @@ told job = record job { work = work_told job.id job.work }
 
 -- the work once a part stands
 abbrev pub with_part : Route → Work → Work
-with_part part (Copy c) = Copy (record c { stage = at.Fill part untold_facts 0; folder = Dirty })
-with_part part (CopyTree c) = CopyTree (trees.with_part (Some part) c)
+with_part part (Copy c) = Copy (trees.with_part (Some part) c)
 with_part part (Delete d) = Delete d
 with_part part (Make m) = Make m
 with_part part (SetMode s) = SetMode s
 
--- the work once its file, or something of what is copied whole, was placed
+-- the work once something of what it copies was placed
 abbrev pub placed : Work → Work
-placed (Copy c) = Copy (record c { stage = at.Decided })
-placed (CopyTree c) = CopyTree (trees.with_part None c)
+placed (Copy c) = Copy (trees.with_part None c)
 placed (Delete d) = Delete d
 placed (Make m) = Make m
 placed (SetMode s) = SetMode s
@@ -77,66 +55,53 @@ placed (SetMode s) = SetMode s
 -- the work once this was removed
 abbrev pub removed : Route → Work → Work
 removed path (Copy c) = Copy c
-removed path (CopyTree c) = CopyTree c
 removed path (Delete d) = Delete (record d { stage = after_item d.path path Going })
 removed path (Make m) = Make m
 removed path (SetMode s) = SetMode s
 
--- the work once its thing, or a folder of what is copied whole, was made
+-- the work once its thing, or a folder of what it copies, was made
 abbrev pub made : Work → Work
-made (Copy c) = Copy c
-made (CopyTree c) = CopyTree (trees.changed c)
+made (Copy c) = Copy (trees.changed c)
 made (Delete d) = Delete d
 made (Make m) = Make (record m { stage = making.Sync })
 made (SetMode s) = SetMode s
 
--- the work once its thing, or a folder of what is copied whole, was given the mode
+-- the work once its thing, or a folder of what it copies, was given the mode
 abbrev pub mode_given : Work → Work
-mode_given (Copy c) = Copy c
-mode_given (CopyTree c) = CopyTree (trees.changed c)
+mode_given (Copy c) = Copy (trees.changed c)
 mode_given (Delete d) = Delete d
 mode_given (Make m) = Make m
 mode_given (SetMode s) = SetMode (record s { stage = setting.Sync })
 
--- the work once this folder was kept, or what stands at the target of a file's copy
+-- the work once this folder was kept, or what stands at the target of a copy
 abbrev pub spared : Route → Work → Work
-spared path (Copy c) = Copy (record c { stage = at.Decided })
-spared path (CopyTree c) = CopyTree c
+spared path (Copy c) = Copy c
 spared path (Delete d) = Delete (record d { stage = after_item d.path path d.stage })
 spared path (Make m) = Make m
 spared path (SetMode s) = SetMode s
 
 -- the work once this was left as it is
 abbrev pub skipped : Route → Work → Work
-skipped path (Copy c) = Copy (record c { stage = copying.skipped c.stage })
-skipped path (CopyTree c) = CopyTree c
+skipped path (Copy c) = Copy c
 skipped path (Delete d) = Delete (record d { stage = after_item d.path path d.stage })
 skipped path (Make m) = Make (record m { stage = makings.skipped m.stage })
 skipped path (SetMode s) = SetMode (record s { stage = settings.skipped s.stage })
 
--- where a copy stands once its part was removed; in its last steps it is done then
-abbrev pub cleaned_stage : Course → Stage → Stage
-cleaned_stage GoesOn (at.Clean part follows) = after_clean follows
-cleaned_stage course stage = at.Decided
-
--- so it is of what is copied whole; in its last steps its part is gone
+-- a copy once its part was removed; in its last steps only the part is gone
 abbrev pub cleaned_tree : Course → SubtreeCopying → SubtreeCopying
 cleaned_tree GoesOn c = trees.with_part None c
 cleaned_tree course c = trees.without_part c
 
 abbrev pub cleaned : Course → Work → Work
-cleaned course (Copy c) = Copy (record c { stage = cleaned_stage course c.stage })
-cleaned course (CopyTree c) = CopyTree (cleaned_tree course c)
+cleaned course (Copy c) = Copy (cleaned_tree course c)
 cleaned course (Delete d) = Delete d
 cleaned course (Make m) = Make m
 cleaned course (SetMode s) = SetMode s
 
--- The work once a folder, or the thing itself, was synced, or that was tried; a part that stands then has had its try. A deletion, and the copy of what lies in something,
--- stand where they stood.
+-- The work once a folder, or the thing itself, was synced, or that was tried. A deletion and a copy stand where they stood.
 -- The sync of what an ended job left dirty comes before the first change, and leaves the work as it is.
 abbrev pub synced : Work → Work
-synced (Copy c) = Copy (record c { stage = given_up c.stage; folder = Synced })
-synced (CopyTree c) = CopyTree c
+synced (Copy c) = Copy c
 synced (Delete d) = Delete d
 synced (Make m) = Make (record m { stage = makings.after_sync m.stage })
 synced (SetMode s) = SetMode (record s { stage = modes.after_sync s.stage })

@@ -1,4 +1,4 @@
--- The copy of a thing with all that lies in it, as the work of a job: what a step may report, and where the copy stands then; what that says of
+-- The copy of a thing, with all that lies in it, as the work of a job: what a step may report, and where the copy stands then; what that says of
 -- the tree's calls; and what a history tells of it. What it does next is said in subtree_copy.
 use Rattle.std.specs.Prelude.{◌≡◌, ◌≤◌, ℕ, Bool, true, false, List, Option, Some}
 use Rattle.mc_text.specs.Routes.{Route}

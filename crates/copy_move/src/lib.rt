@@ -1,7 +1,6 @@
 //! Jobs that change the tree, step by step.
 #![tactic(auto)]
 
-mod copying;
 mod deletion;
 mod dirty_setting;
 mod owed;

@@ -6,7 +6,6 @@ ghost use Rattle.copy_move.specs.Jobs.{IsGoing, first_work};
 
 use crate::deletion::TreeDeletion;
 use crate::work::Work;
-use file_copy::FileCopy;
 use job_reports::{Job, Pair, Pairs};
 use mc_text::{NoMemory, Path, Paths, Text};
 use mode_setting::ModeSetting;
@@ -21,7 +20,6 @@ pub(crate) fn begun_work(alloc: Global, source: &Job, id: u32) -> Result<Work, N
 {
     match source {
         Job::Copy(pairs) => copy_of(alloc, pairs, id),
-        Job::CopyTree(pairs) => tree_copy_of(alloc, pairs, id),
         Job::Delete(paths) => deletion_of(alloc, paths),
         Job::MakeFolder(path) => folder_of(alloc, path),
         Job::MakeLink(path, text) => link_of(alloc, path, text),
@@ -29,29 +27,10 @@ pub(crate) fn begun_work(alloc: Global, source: &Job, id: u32) -> Result<Work, N
     }
 }
 
-/// The copy of one file.
+/// The copy of one thing.
 fn copy_of(alloc: Global, pairs: &Pairs, id: u32) -> Result<Work, NoMemory>
     requires { is_workable (plan.Copy pairs.now) ≡ true }
     ensures { IfOk result (λ work. (first_work id (plan.Copy pairs.now) ≡ Some work) × IsGoing work) }
-{
-    let [pair] = pairs.0.as_slice() else {
-        unreachable!()
-    };
-    let Some(source_folder) = pair.source.parent(alloc)? else {
-        unreachable!()
-    };
-    let Some(folder) = pair.target.parent(alloc)? else {
-        unreachable!()
-    };
-    let source = pair.source.copy(alloc)?;
-    let target = pair.target.copy(alloc)?;
-    Ok(Work::Copy(FileCopy::new(id, source, source_folder, target, folder)))
-}
-
-/// The copy of one thing with all that lies in it.
-fn tree_copy_of(alloc: Global, pairs: &Pairs, id: u32) -> Result<Work, NoMemory>
-    requires { is_workable (plan.CopyTree pairs.now) ≡ true }
-    ensures { IfOk result (λ work. (first_work id (plan.CopyTree pairs.now) ≡ Some work) × IsGoing work) }
 {
     let [pair] = pairs.0.as_slice() else {
         unreachable!()
@@ -60,7 +39,7 @@ fn tree_copy_of(alloc: Global, pairs: &Pairs, id: u32) -> Result<Work, NoMemory>
         source: pair.source.copy(alloc)?,
         target: pair.target.copy(alloc)?,
     };
-    Ok(Work::CopyTree(SubtreeCopy::begin(alloc, id, top)?))
+    Ok(Work::Copy(SubtreeCopy::begin(alloc, id, top)?))
 }
 
 /// The deletion of one thing.

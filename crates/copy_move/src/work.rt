@@ -1,14 +1,13 @@
-//! What a job does: it copies a file, or a thing with all that lies in it, deletes a thing with all that lies in it, makes a folder or a
-//! link, or sets a thing's mode. One machine for each.
+//! What a job does: it copies or deletes a thing with all that lies in it, makes a folder or a link, or sets a thing's mode. One machine
+//! for each.
 ghost use Rattle.std.specs.Prelude.{◌≡◌, false, option_map, true};
 ghost use Rattle.copy_move.specs.Jobs.{IsGoing, at_barrier, is_fresh, kind_of, part_of, passing_over, path_of, skipping_by, skips_of, taken_anew as anew, with_skips};
 ghost use Rattle.copy_move.specs.Settling.{changed_folder, is_owed_anywhere};
 ghost use Rattle.copy_move.specs.Steps.{WorkSkips, WorkSteps, WorkWindsUp};
 
-use crate::copying::{step_copy, wind_up_copy};
 use crate::deletion::TreeDeletion;
 use crate::dirty_setting::{step_setting, wind_up_setting};
-use file_copy::{FileCopy, PartTest};
+use file_copy::PartTest;
 use job_answers::{Replies, Skips};
 use job_reports::{Answer, Cause, Did, Ending, JobKind, LastStepResult, StepResult};
 use mc_text::Path;
@@ -22,8 +21,7 @@ use tree_trait::Tree;
 /// The work of a job.
 #[derive(Debug, Drop)]
 pub enum Work {
-    Copy(FileCopy),
-    CopyTree(SubtreeCopy),
+    Copy(SubtreeCopy),
     Delete(TreeDeletion),
     Make(ThingMaking),
     SetMode(ModeSetting),
@@ -45,8 +43,7 @@ impl Work {
         ensures going { IsGoing self.new }
     {
         match self {
-            Work::Copy(copy) => step_copy(copy, alloc, tree, parts, dirty, replies),
-            Work::CopyTree(copy) => copy.step(alloc, tree, parts, dirty, replies),
+            Work::Copy(copy) => copy.step(alloc, tree, parts, dirty, replies),
             Work::Delete(deletion) => deletion.step(alloc, tree, dirty),
             Work::Make(making) => step_making(making, alloc, tree, dirty),
             Work::SetMode(setting) => step_setting(setting, alloc, tree, dirty),
@@ -62,7 +59,6 @@ impl Work {
     {
         match self {
             Work::Copy(copy) => copy.skip(alloc, cause),
-            Work::CopyTree(copy) => copy.skip(alloc, cause),
             Work::Delete(deletion) => deletion.skip(alloc, cause),
             Work::Make(making) => making.skip(alloc, cause),
             Work::SetMode(setting) => setting.skip(alloc, cause),
@@ -77,8 +73,7 @@ impl Work {
         ensures barrier { at_barrier self.new ≡ at_barrier self.old }
     {
         match self {
-            Work::Copy(_) => {}
-            Work::CopyTree(copy) => copy.skip_all(cause),
+            Work::Copy(copy) => copy.skip_all(cause),
             Work::Delete(deletion) => deletion.skip_all(cause),
             Work::Make(_) => {}
             Work::SetMode(_) => {}
@@ -105,8 +100,7 @@ impl Work {
         ensures { result ≡ skips_of self.now }
     {
         match self {
-            Work::Copy(_) => Skips::new(),
-            Work::CopyTree(copy) => copy.skips(),
+            Work::Copy(copy) => copy.skips(),
             Work::Delete(deletion) => deletion.skips(),
             Work::Make(_) => Skips::new(),
             Work::SetMode(_) => Skips::new(),
@@ -120,8 +114,7 @@ impl Work {
         ensures going { IsGoing self.new }
     {
         match self {
-            Work::Copy(_) => {}
-            Work::CopyTree(copy) => copy.pass_over(skips),
+            Work::Copy(copy) => copy.pass_over(skips),
             Work::Delete(deletion) => deletion.pass_over(skips),
             Work::Make(_) => {}
             Work::SetMode(_) => {}
@@ -136,7 +129,6 @@ impl Work {
     {
         match self {
             Work::Copy(copy) => copy.retry(),
-            Work::CopyTree(copy) => copy.retry(),
             Work::Delete(_) => {}
             Work::Make(_) => {}
             Work::SetMode(_) => {}
@@ -155,8 +147,7 @@ impl Work {
             (T.contents tree.old) (T.contents tree.new) (T.fault_count tree.old) (T.fault_count tree.new) }
     {
         match self {
-            Work::Copy(copy) => wind_up_copy(copy, alloc, tree, ending, dirty),
-            Work::CopyTree(copy) => copy.wind_up(alloc, tree, ending, dirty),
+            Work::Copy(copy) => copy.wind_up(alloc, tree, ending, dirty),
             Work::Delete(deletion) => deletion.wind_up(alloc, tree, ending, dirty),
             Work::Make(making) => wind_up_making(making, alloc, tree, ending, dirty),
             Work::SetMode(setting) => wind_up_setting(setting, alloc, tree, ending, dirty),
@@ -169,7 +160,6 @@ impl Work {
     {
         match self {
             Work::Copy(_) => JobKind::Copy,
-            Work::CopyTree(_) => JobKind::Copy,
             Work::Delete(_) => JobKind::Delete,
             Work::Make(making) => making.thing().kind(),
             Work::SetMode(_) => JobKind::SetMode,
@@ -182,7 +172,6 @@ impl Work {
     {
         match self {
             Work::Copy(copy) => copy.source(),
-            Work::CopyTree(copy) => copy.source(),
             Work::Delete(deletion) => deletion.path(),
             Work::Make(making) => making.path(),
             Work::SetMode(setting) => setting.path(),
@@ -195,7 +184,6 @@ impl Work {
     {
         match self {
             Work::Copy(copy) => copy.part(),
-            Work::CopyTree(copy) => copy.part(),
             Work::Delete(_) => None,
             Work::Make(_) => None,
             Work::SetMode(_) => None,
@@ -208,7 +196,6 @@ impl Work {
     {
         match self {
             Work::Copy(copy) => copy.into_part(),
-            Work::CopyTree(copy) => copy.into_part(),
             Work::Delete(_) => None,
             Work::Make(_) => None,
             Work::SetMode(_) => None,
@@ -221,7 +208,6 @@ impl Work {
     {
         match self {
             Work::Copy(copy) => copy.is_at_barrier(),
-            Work::CopyTree(copy) => copy.is_at_barrier(),
             Work::Delete(deletion) => deletion.is_at_barrier(),
             Work::Make(making) => making.is_at_barrier(),
             Work::SetMode(setting) => setting.is_at_barrier(),
@@ -234,7 +220,6 @@ impl Work {
     {
         match self {
             Work::Copy(copy) => copy.folder(),
-            Work::CopyTree(copy) => copy.folder(),
             Work::Delete(deletion) => deletion.folder(),
             Work::Make(making) => making.folder(),
             Work::SetMode(setting) => setting.folder(),
@@ -248,7 +233,6 @@ impl Work {
     {
         match self {
             Work::Copy(_) => false,
-            Work::CopyTree(_) => false,
             Work::Delete(deletion) => deletion.path().is_prefix_of(dirty),
             Work::Make(_) => false,
             Work::SetMode(_) => true,
@@ -261,7 +245,6 @@ impl Work {
     {
         match self {
             Work::Copy(copy) => copy.is_fresh(),
-            Work::CopyTree(copy) => copy.is_fresh(),
             Work::Delete(deletion) => deletion.is_fresh(),
             Work::Make(making) => making.is_fresh(),
             Work::SetMode(setting) => setting.is_fresh(),

@@ -1,7 +1,6 @@
 //! Copies of one file over the tree in memory: what each step reports, and whether each crash image is safe.
 #![tactic(auto)]
 
-mod asked;
 mod images;
 mod judging;
 mod rows;
@@ -19,5 +18,4 @@ pub fn tell_copies(page: &mut Page) {
     rows::tell_taken(page);
     rows::tell_shrunk(page);
     wrong::tell_wrong(page);
-    asked::tell_asked(page);
 }

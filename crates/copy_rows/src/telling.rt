@@ -55,7 +55,7 @@ pub fn tell_steps<T: Tree>(page: &mut Page, tree: &mut T, answer: Answer) {
 }
 
 /// The copy by job 1, just begun.
-pub fn begin(alloc: Global) -> Option<FileCopy>
+fn begin(alloc: Global) -> Option<FileCopy>
     ensures ready { IfSome result (λ copy. left_at copy.stage ≡ None) }
 {
     let source = Path::parse(alloc, SOURCE).ok()?;

@@ -99,7 +99,7 @@ fn tree_copy(alloc: Global, pair: Pair) -> Result<Option<Run>, NoMemory> {
         return Ok(None);
     };
     let pairs = one_pair(alloc, pair)?;
-    Ok(Some(Run::start(alloc, &Job::CopyTree(pairs), 1)?))
+    Ok(Some(Run::start(alloc, &Job::Copy(pairs), 1)?))
 }
 
 fn one_pair(alloc: Global, pair: Pair) -> Result<Pairs, NoMemory>

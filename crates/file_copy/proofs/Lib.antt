@@ -1,4 +1,3 @@
-pub mod AskedMoves
 pub mod FilledParts
 pub mod JudgedLooks
 pub mod LooksInOrder

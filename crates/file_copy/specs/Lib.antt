@@ -1,4 +1,3 @@
-pub mod AskedCopies
 pub mod Chunks
 pub mod Copied
 pub mod CopyCalls
@@ -8,4 +7,3 @@ pub mod LastSteps
 pub mod Looking
 pub mod PartNames
 pub mod PartSteps
-pub mod Takings

@@ -3,19 +3,16 @@ ghost use Rattle.std.specs.Prelude.{◌≡◌, None, Some, length, true, option_
 ghost use Rattle.mc_text.specs.Routes.{parent_of};
 ghost use Rattle.file_copy.specs.Copying.{IsSound, at_barrier, begun, is_dirty, is_fresh, part_at, skipped as skipped_to, taken_anew as stage_anew};
 ghost use Rattle.job_reports.specs.Paths.{folder_of};
-ghost use Rattle.file_copy.specs.AskedCopies.{AskedSteps};
 ghost use Rattle.file_copy.specs.CopySteps.{Skips, StepsOn};
 ghost use Rattle.file_copy.specs.LastSteps.{WindsOn, left_at};
 ghost use Rattle.file_copy.specs.Looking.{HasRange};
 ghost use Rattle.file_copy.specs.PartSteps.{IsNext, MakesPart, WritesNext};
 
-use crate::asking::work_asking;
 use crate::item::Item;
 use crate::part_name::PartTest;
 use crate::stage::{FolderState, Next, SourceFacts, Stage};
 use crate::winding::wind;
 use crate::work::{AfterStep, begin_known, work, write_next};
-use job_answers::Replies;
 use job_reports::{Cause, Did, Ending, LastStepResult, StepResult, out_of_memory};
 use mc_text::Path;
 use std::alloc::Global;
@@ -150,31 +147,6 @@ impl FileCopy {
     {
         let stage = mem::replace(&mut self.stage, Stage::Decided);
         let moved = work(alloc, tree, parts, &self.item, stage, self.folder);
-        self.stage = moved.stage;
-        self.folder = moved.folder;
-        StepResult {
-            did: moved.did,
-            calls: moved.calls,
-        }
-    }
-
-    /// Does the next piece of work. Before the part is made it asks whether what stands at the target is replaced, where these
-    /// answers don't decide that.
-    pub fn step_asking<T: Tree, P: PartTest>(
-        &mut self,
-        alloc: Global,
-        tree: &mut T,
-        parts: &P,
-        replies: Replies,
-    ) -> StepResult
-        requires { left_at self.old.stage ≡ None }
-        ensures steps { AskedSteps (λ path. P.is_free parts.now path ≡ true) replies self.old self.new result.did result.calls
-            (T.contents tree.old) (T.contents tree.new) (T.fault_count tree.old) (T.fault_count tree.new) }
-        ensures ready { left_at self.new.stage ≡ None }
-        ensures sound { IsSound self.new.stage self.new.folder }
-    {
-        let stage = mem::replace(&mut self.stage, Stage::Decided);
-        let moved = work_asking(alloc, tree, parts, &self.item, stage, self.folder, replies);
         self.stage = moved.stage;
         self.folder = moved.folder;
         StepResult {

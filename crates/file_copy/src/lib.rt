@@ -3,7 +3,6 @@
 //! under an answer.
 #![tactic(auto)]
 
-mod asking;
 mod chunk;
 mod copy;
 mod item;

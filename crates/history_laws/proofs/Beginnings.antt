@@ -13,7 +13,7 @@ use Rattle.job_answers.specs.declared.replies.Replies.{Replies}
 use Rattle.copy_move.specs.declared.run.Course.{Course}
 use Rattle.copy_move.specs.declared.run.Course.TheVariants.{GoesOn, Asking, InTrouble, OwedSyncFailed, Skips, Ends}
 use Rattle.copy_move.specs.declared.work.Work.{Work}
-use Rattle.copy_move.specs.declared.work.Work.TheVariants.{Copy, CopyTree, Delete, Make, SetMode}
+use Rattle.copy_move.specs.declared.work.Work.TheVariants.{Copy, Delete, Make, SetMode}
 use Rattle.copy_move.specs.Jobs.{CallsOn, Running, TellsOn, WorkCalls, WorkTells, WorkWinds}
 use Rattle.copy_move.specs.Settling.{changed_folder}
 use Rattle.history_laws.specs.Staying.{may_change}
@@ -26,38 +26,26 @@ use Rattle.history_laws.proofs.Unchanged.{is_tree}
 
 -- a change begins only in work that goes on
 winds_none : (ending : Ending) (old new : Work) (did : Did) → WorkWinds ending old did new → begins_change did ≡ true → ⊥
-winds_none ending (Copy c) (Copy new) (Began part) t h = t
-winds_none ending (Copy c) (Copy new) (Removed path) t h = t
-winds_none ending (Copy c) (Copy new) (Made path) t h = t
-winds_none ending (Copy c) (Copy new) (Set path) t h = t
-winds_none ending (Copy c) (Delete new) did t h = t
-winds_none ending (Copy c) (Make new) did t h = t
-winds_none ending (Delete d) (Copy new) did t h = t
 winds_none ending (Delete d) (Delete new) (Began part) t h = t
 winds_none ending (Delete d) (Delete new) (Removed path) t h = t
 winds_none ending (Delete d) (Delete new) (Made path) t h = t
 winds_none ending (Delete d) (Delete new) (Set path) t h = t
 winds_none ending (Delete d) (Make new) did t h = t
-winds_none ending (Make m) (Copy new) did t h = t
 winds_none ending (SetMode s) (Copy new) did t h = t
-winds_none ending (CopyTree s) (Copy new) did t h = t
-winds_none ending (SetMode s) (CopyTree new) did t h = t
 winds_none ending (SetMode s) (Delete new) did t h = t
-winds_none ending (CopyTree s) (Delete new) did t h = t
+winds_none ending (Copy s) (Delete new) did t h = t
 winds_none ending (SetMode s) (Make new) did t h = t
-winds_none ending (CopyTree s) (Make new) did t h = t
+winds_none ending (Copy s) (Make new) did t h = t
 winds_none ending (Copy c) (SetMode new) did t h = t
-winds_none ending (Copy c) (CopyTree new) did t h = t
-winds_none ending (CopyTree c) (SetMode new) did t h = t
 winds_none ending (Delete d) (SetMode new) did t h = t
-winds_none ending (Delete d) (CopyTree new) did t h = t
+winds_none ending (Delete d) (Copy new) did t h = t
 winds_none ending (Make m) (SetMode new) did t h = t
-winds_none ending (Make m) (CopyTree new) did t h = t
+winds_none ending (Make m) (Copy new) did t h = t
 winds_none ending (Make m) (Delete new) did t h = t
-winds_none ending (CopyTree c) (CopyTree new) (Began part) t h = t.may
-winds_none ending (CopyTree c) (CopyTree new) (Removed path) t h = t.may
-winds_none ending (CopyTree c) (CopyTree new) (Made path) t h = t.may
-winds_none ending (CopyTree c) (CopyTree new) (Set path) t h = t.may
+winds_none ending (Copy c) (Copy new) (Began part) t h = t.may
+winds_none ending (Copy c) (Copy new) (Removed path) t h = t.may
+winds_none ending (Copy c) (Copy new) (Made path) t h = t.may
+winds_none ending (Copy c) (Copy new) (Set path) t h = t.may
 winds_none ending (SetMode s) (SetMode new) (Began part) t h = t
 winds_none ending (SetMode s) (SetMode new) (Removed path) t h = t
 winds_none ending (SetMode s) (SetMode new) (Made path) t h = t
@@ -90,30 +78,21 @@ goes_then job new did (Ends ending) is (work, winds, new_is) h = absurd (winds_n
 stays_by : (replies : Replies) (log now : CallLog) → IsTree (current log) → (old work new : Work) (path : Route) → WorkTells old (Removed path) work → WorkCalls IsUnclaimed replies old (Removed path) new log (Some now) → same_path (changed_folder old) path ≡ false
 stays_by replies log now tree (Delete d) (Delete work) new path (going, within, at) (inl done) = folder_apart log now d.path path within (removal_done log now path tree done)
 stays_by replies log now tree (Delete d) (Delete work) new path (going, within, at) (inr done) = folder_apart log now d.path path within (folder_removed log now path tree done)
-stays_by replies log now tree (Delete d) (Copy work) new path t calls = absurd t
 stays_by replies log now tree (Delete d) (Make work) new path t calls = absurd t
-stays_by replies log now tree (Copy c) (Copy work) new path t calls = absurd t
-stays_by replies log now tree (Copy c) (Delete work) new path t calls = absurd t
-stays_by replies log now tree (Copy c) (Make work) new path t calls = absurd t
-stays_by replies log now tree (Make m) (Copy work) new path t calls = absurd t
 stays_by replies log now tree (SetMode s) (Copy work) new path t calls = absurd t
-stays_by replies log now tree (CopyTree s) (Copy work) new path t calls = absurd t
-stays_by replies log now tree (SetMode s) (CopyTree work) new path t calls = absurd t
 stays_by replies log now tree (SetMode s) (Delete work) new path t calls = absurd t
-stays_by replies log now tree (CopyTree s) (Delete work) new path t calls = absurd t
+stays_by replies log now tree (Copy s) (Delete work) new path t calls = absurd t
 stays_by replies log now tree (SetMode s) (Make work) new path t calls = absurd t
-stays_by replies log now tree (CopyTree s) (Make work) new path t calls = absurd t
+stays_by replies log now tree (Copy s) (Make work) new path t calls = absurd t
 stays_by replies log now tree (Copy c) (SetMode work) new path t calls = absurd t
-stays_by replies log now tree (Copy c) (CopyTree work) new path t calls = absurd t
-stays_by replies log now tree (CopyTree c) (SetMode work) new path t calls = absurd t
 stays_by replies log now tree (Delete d) (SetMode work) new path t calls = absurd t
-stays_by replies log now tree (Delete d) (CopyTree work) new path t calls = absurd t
+stays_by replies log now tree (Delete d) (Copy work) new path t calls = absurd t
 stays_by replies log now tree (Make m) (SetMode work) new path t calls = absurd t
-stays_by replies log now tree (Make m) (CopyTree work) new path t calls = absurd t
+stays_by replies log now tree (Make m) (Copy work) new path t calls = absurd t
 stays_by replies log now tree (Make m) (Delete work) new path t calls = absurd t
 stays_by replies log now tree (Make m) (Make work) new path t calls = absurd t
 stays_by replies log now tree (SetMode s) (SetMode work) new path t calls = absurd t
-stays_by replies log now tree (CopyTree c) (CopyTree work) new path t calls = absurd t.may
+stays_by replies log now tree (Copy c) (Copy work) new path t calls = absurd t.may
 
 -- so that is known to be on the disk from its first change on
 pub folder_stays : (job new : Running) (did : Did) (dirty dirty_after : List Route) (log now : CallLog) (folders : Route → Bool) → IsTree (current log) → WorkLeads job did new dirty dirty_after log now
@@ -136,31 +115,23 @@ folder_stays job new Barrier dirty dirty_after log now folders tree works known 
 folder_stays job new (Troubled trouble) dirty dirty_after log now folders tree works known = elim known [ inl stands ↦ stands | inr begins ↦ absurd (false≢true begins) ]
 folder_stays job new (Ended ending part) dirty dirty_after log now folders tree works known = elim known [ inl stands ↦ stands | inr begins ↦ absurd (false≢true begins) ]
 
--- a job that sets a mode changes no names, but for one that copies whole
+-- a job that sets a mode changes no names, but for a copy
 sets_none : (old new : Work) (path q : Route) → is_tree old ≡ false → WorkTells old (Set path) new → may_change (item_in old) q ≡ true → ⊥
-sets_none (Copy c) (Copy new) path q other t own = t
-sets_none (Copy c) (Delete new) path q other t own = t
-sets_none (Copy c) (Make new) path q other t own = t
-sets_none (Delete d) (Copy new) path q other t own = t
 sets_none (Delete d) (Delete new) path q other t own = t
 sets_none (Delete d) (Make new) path q other t own = t
-sets_none (Make m) (Copy new) path q other t own = t
 sets_none (SetMode s) (Copy new) path q other t own = t
-sets_none (SetMode s) (CopyTree new) path q other t own = t
 sets_none (SetMode s) (Delete new) path q other t own = t
 sets_none (SetMode s) (Make new) path q other t own = t
-sets_none (Copy c) (SetMode new) path q other t own = t
-sets_none (Copy c) (CopyTree new) path q other t own = t
 sets_none (Delete d) (SetMode new) path q other t own = t
-sets_none (Delete d) (CopyTree new) path q other t own = t
+sets_none (Delete d) (Copy new) path q other t own = t
 sets_none (Make m) (SetMode new) path q other t own = t
-sets_none (Make m) (CopyTree new) path q other t own = t
+sets_none (Make m) (Copy new) path q other t own = t
 sets_none (Make m) (Delete new) path q other t own = t
 sets_none (Make m) (Make new) path q other t own = t
 sets_none (SetMode s) (SetMode new) path q other t own = false≢true own
-sets_none (CopyTree c) new path q other t own = true≢false other
+sets_none (Copy c) new path q other t own = true≢false other
 
--- and in its folders no mode waits from then on, but where it copies whole
+-- and in its folders no mode waits from then on, but for a copy
 pub calm_stays : (job new : Running) (did : Did) (dirty dirty_after : List Route) (log now : CallLog) (calm : Route → Bool) (q : Route) → is_tree job.work ≡ false → WorkLeads job did new dirty dirty_after log now
     → may_change (item_in job.work) q ≡ true → (calm q ≡ true) ⊎ (begins_change did ≡ true) → calm_by did (item_in job.work) calm q ≡ true
 calm_stays job new (Removed path) dirty dirty_after log now calm q other works own known = or_left _ _ own

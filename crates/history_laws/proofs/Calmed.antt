@@ -9,7 +9,6 @@ use Rattle.crash_law.specs.Guarded.{Marks}
 use Rattle.job_reports.specs.declared.report.Did.{Did}
 use Rattle.job_reports.specs.declared.report.Did.TheVariants.{Began, Chunk, Placed, Removed, Made, Set, Kept, Skipped, Cleaned, Barrier, Asked, Merges, Troubled, Ended}
 use Rattle.job_reports.specs.Paths.{folder_of}
-use Rattle.file_copy.specs.Copying as copying
 use Rattle.session_history.specs.declared.history.Event.TheVariants.{Step}
 use Rattle.session_history.specs.declared.history.Entry.{Entry}
 use Rattle.copy_move.specs.declared.run.Course.{Course}
@@ -17,7 +16,7 @@ use Rattle.copy_move.specs.declared.run.Course.TheVariants.{GoesOn}
 use Rattle.tree_copy.specs.Standing.{is_fresh as is_fresh_tree}
 use Rattle.subtree_copy.specs.Standing.{SubtreeCopying}
 use Rattle.copy_move.specs.declared.work.Work.{Work}
-use Rattle.copy_move.specs.declared.work.Work.TheVariants.{Copy, CopyTree, Delete, Make, SetMode}
+use Rattle.copy_move.specs.declared.work.Work.TheVariants.{Copy, Delete, Make, SetMode}
 use Rattle.tree_deletion.specs.declared.deletion.Stage.{Stage}
 use Rattle.tree_deletion.specs.declared.deletion.Stage.TheVariants.{Begin, Going, Sync}
 use Rattle.tree_deletion.specs.Standing.{at_barrier, is_fresh as is_fresh_stage}
@@ -42,7 +41,7 @@ use Rattle.history_laws.proofs.Finished.{AreTidy, IsTidyJob, traced_tidy}
 use Rattle.history_laws.proofs.Prefixes.{told_of}
 use Rattle.history_laws.proofs.Going.{only_job}
 use Rattle.history_laws.proofs.Histories.{traced_reached}
-use Rattle.history_laws.proofs.JobKnows.{StageKnows, WorkKnows}
+use Rattle.history_laws.proofs.JobKnows.{WorkKnows}
 use Rattle.history_laws.proofs.Knowing.{Said}
 use Rattle.history_laws.proofs.Moments.{prefix_is, log_of, traced_count}
 use Rattle.history_laws.proofs.ModesStay.{event_still as mode_still}
@@ -63,7 +62,7 @@ module _ (told : Said) (dirty : List Route) (marks : Marks) (log : CallLog) (cou
   IsStart work = (is_fresh work ≡ true) × (told.part ≡ None)
 
   -- nothing is at work in a copy of folders that has changed nothing
-  fresh_copy : (c : SubtreeCopying) → not (is_fresh_tree c.at.stage) ≡ false → TreeKnown told dirty marks log course c → IsStart (CopyTree c)
+  fresh_copy : (c : SubtreeCopying) → not (is_fresh_tree c.at.stage) ≡ false → TreeKnown told dirty marks log course c → IsStart (Copy c)
   fresh_copy c clean k =
       let fresh = still_fresh (is_fresh_tree c.at.stage) clean in
       let g = k.goes going in
@@ -76,24 +75,6 @@ module _ (told : Said) (dirty : List Route) (marks : Marks) (log : CallLog) (cou
       still_fresh false h = absurd (true≢false h)
 
   fresh_then : (old new : Work) (did : Did) → WorkTells old did new → begins_change did ≡ true → has_begun old ≡ false → WorkKnows told dirty marks log course old → IsStart old
-  fresh_then (Copy c) (Copy new) (Began part) t h clean (name, listed, stage) =
-      (ap (λ x. copying.is_fresh x c.folder) t.0 ∙ ap not clean, let k = subst (λ x. StageKnows told marks (current log) course c x) t.0 stage in k.0)
-  fresh_then (Copy c) (Copy new) (Removed path) t h clean k = absurd t
-  fresh_then (Copy c) (Copy new) (Chunk count) t h clean k = absurd (false≢true h)
-  fresh_then (Copy c) (Copy new) (Set path) t h clean k = absurd t
-  fresh_then (Copy c) (Copy new) (Placed path) t h clean k = absurd (false≢true h)
-  fresh_then (Copy c) (Copy new) (Made made) t h clean k = absurd t
-  fresh_then (Copy c) (Copy new) (Kept kept) t h clean k = absurd (false≢true h)
-  fresh_then (Copy c) (Copy new) (Asked question) t h clean k = absurd (false≢true h)
-  fresh_then (Copy c) (Copy new) (Merges pair names) t h clean k = absurd (false≢true h)
-  fresh_then (Copy c) (Copy new) (Skipped path why) t h clean k = absurd (false≢true h)
-  fresh_then (Copy c) (Copy new) (Cleaned part) t h clean k = absurd (false≢true h)
-  fresh_then (Copy c) (Copy new) Barrier t h clean k = absurd (false≢true h)
-  fresh_then (Copy c) (Copy new) (Troubled trouble) t h clean k = absurd (false≢true h)
-  fresh_then (Copy c) (Copy new) (Ended ending part) t h clean k = absurd (false≢true h)
-  fresh_then (Copy c) (Delete new) did t h clean k = absurd t
-  fresh_then (Copy c) (Make new) did t h clean k = absurd t
-  fresh_then (Delete d) (Copy new) did t h clean k = absurd t
   fresh_then (Delete d) (Make new) did t h clean k = absurd t
   fresh_then (Delete d) (Delete new) (Removed path) t h clean (name, none, intact) = (fresh_stage d.stage t.0 clean, none)
   fresh_then (Delete d) (Delete new) (Began part) t h clean k = absurd t
@@ -109,23 +90,18 @@ module _ (told : Said) (dirty : List Route) (marks : Marks) (log : CallLog) (cou
   fresh_then (Delete d) (Delete new) Barrier t h clean k = absurd (false≢true h)
   fresh_then (Delete d) (Delete new) (Troubled trouble) t h clean k = absurd (false≢true h)
   fresh_then (Delete d) (Delete new) (Ended ending part) t h clean k = absurd (false≢true h)
-  fresh_then (Make m) (Copy new) did t h clean k = absurd t
   fresh_then (SetMode s) (Copy new) did t h clean k = absurd t
-  fresh_then (CopyTree s) (Copy new) did t h clean k = absurd t
-  fresh_then (SetMode s) (CopyTree new) did t h clean k = absurd t
   fresh_then (SetMode s) (Delete new) did t h clean k = absurd t
-  fresh_then (CopyTree s) (Delete new) did t h clean k = absurd t
+  fresh_then (Copy s) (Delete new) did t h clean k = absurd t
   fresh_then (SetMode s) (Make new) did t h clean k = absurd t
-  fresh_then (CopyTree s) (Make new) did t h clean k = absurd t
+  fresh_then (Copy s) (Make new) did t h clean k = absurd t
   fresh_then (Copy c) (SetMode new) did t h clean k = absurd t
-  fresh_then (Copy c) (CopyTree new) did t h clean k = absurd t
-  fresh_then (CopyTree c) (SetMode new) did t h clean k = absurd t
   fresh_then (Delete d) (SetMode new) did t h clean k = absurd t
-  fresh_then (Delete d) (CopyTree new) did t h clean k = absurd t
+  fresh_then (Delete d) (Copy new) did t h clean k = absurd t
   fresh_then (Make m) (SetMode new) did t h clean k = absurd t
-  fresh_then (Make m) (CopyTree new) did t h clean k = absurd t
+  fresh_then (Make m) (Copy new) did t h clean k = absurd t
   fresh_then (Make m) (Delete new) did t h clean k = absurd t
-  fresh_then (CopyTree c) (CopyTree new) did t h clean k = fresh_copy c clean k
+  fresh_then (Copy c) (Copy new) did t h clean k = fresh_copy c clean k
   fresh_then (Make m) (Make new) (Made path) t h clean (name, none) = (ap makings.is_fresh t.0, none)
   fresh_then (Make m) (Make new) (Began part) t h clean k = absurd t
   fresh_then (Make m) (Make new) (Chunk count) t h clean k = absurd (false≢true h)
@@ -181,8 +157,8 @@ module _ (opening : CallLog) (tree : IsTree (current opening)) (settled : all_se
         h.within ∙ (ap folder_changed (sym same) ∙ item_folder job.work);
   }
     where
-      tidy : IsTidyJob opening older f.before f.was.dirty job
-      tidy = subst (λ js. AreTidy opening older f.before f.was.dirty js) jobs_is (traced_tidy opening tree settled older f.was f.before f.traced)
+      tidy : IsTidyJob opening older f.was.dirty job
+      tidy = subst (λ js. AreTidy opening older f.was.dirty js) jobs_is (traced_tidy opening tree settled older f.was f.before f.traced)
 
       goes : (job.course ≡ GoesOn) × ((work : Work) × WorkTells job.work h.did work)
       goes = goes_then job new h.did job.course refl works.tells h.begins

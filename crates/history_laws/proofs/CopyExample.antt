@@ -24,7 +24,7 @@ use Rattle.history_laws.proofs.CopyExampleSteps.{begins, brings_in, brought_in, 
 
 -- The history.
 abbrev begun_entries : List Entry
-begun_entries = entry 0 (Began 1 (plan.CopyTree (pair ∷ [])) false) ∷ []
+begun_entries = entry 0 (Began 1 (plan.Copy (pair ∷ [])) false) ∷ []
 
 abbrev made_entries : List Entry
 made_entries = entry 1 (Step 1 (Made target)) ∷ begun_entries

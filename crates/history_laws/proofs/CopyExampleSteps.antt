@@ -45,7 +45,7 @@ use Rattle.job_answers.specs.Decisions.{no_replies}
 use Rattle.copy_move.specs.Jobs.{Running, course_after}
 use Rattle.copy_move.specs.TreeCopies.{Goes}
 use Rattle.copy_move.specs.declared.run.Course.TheVariants.{GoesOn}
-use Rattle.copy_move.specs.declared.work.Work.TheVariants.{CopyTree}
+use Rattle.copy_move.specs.declared.work.Work.TheVariants.{Copy}
 use Rattle.history_laws.specs.Traces.{IsUnclaimed, WorkLeads}
 use Rattle.history_laws.proofs.ExampleParts.{known_is, more_known, no_step}
 
@@ -123,7 +123,7 @@ abbrev pub decided : SubtreeCopying
 decided = record around { at = at_end around.at }
 
 abbrev pub job : SubtreeCopying → Running
-job c = record { id = 1; work = CopyTree c; course = GoesOn; replies = no_replies }
+job c = record { id = 1; work = Copy c; course = GoesOn; replies = no_replies }
 
 -- the folder lists nothing
 abbrev pub children : Children
@@ -345,7 +345,7 @@ pub works : (old new : SubtreeCopying) (did : Did) (calls : ℕ) (dirty dirty_af
     → (is_fresh old.at.stage ≡ true → dirty ≡ []) → ChangesOwn old did dirty dirty_after → WorkLeads (job old) did (job new) dirty dirty_after before now
 works old new did calls dirty dirty_after before now done step clean leaves = record {
   tells = (
-    CopyTree new,
+    Copy new,
     record {
       may = done.may;
       after = done.after;
@@ -358,7 +358,7 @@ works old new did calls dirty dirty_after before now done step clean leaves = re
       asked = λ question is. absurd (done.asked question is);
       over = done.over;
     },
-    ap (λ course. (let r : Running = record { id = 1; work = CopyTree new; course = course; replies = no_replies } in r)) (sym done.on),
+    ap (λ course. (let r : Running = record { id = 1; work = Copy new; course = course; replies = no_replies } in r)) (sym done.on),
   );
   called = record { calls = calls; dirty = dirty; dirty_after = dirty_after; faults = 0; faults_after = 0; goes = goes old new did calls dirty dirty_after before now step };
   settled = λ on fresh kept among. absurd (subst (λ xs. Among xs kept) (clean fresh) among);

@@ -17,7 +17,7 @@ use Rattle.session_history.specs.declared.history.Event.TheVariants.{Next, Step}
 use Rattle.session_history.specs.declared.history.Entry.{Entry}
 use Rattle.copy_move.specs.Jobs.{Running}
 use Rattle.copy_move.specs.declared.work.Work.{Work}
-use Rattle.copy_move.specs.declared.work.Work.TheVariants.{Copy, CopyTree, Delete, Make, SetMode}
+use Rattle.copy_move.specs.declared.work.Work.TheVariants.{Copy, Delete, Make, SetMode}
 use Rattle.copy_move.specs.Steps.{SyncsOwed}
 use Rattle.history_laws.specs.Doubt.{is_unsettled}
 use Rattle.history_laws.specs.Owed.{IsNoMatter, is_own_path}
@@ -132,7 +132,6 @@ module _ (opening : CallLog) (tree : IsTree (current opening)) (settled : all_se
   -- and so are the paths of its own
   own_changed : (work : Work) (path : Route) → may_change_path (item_in work) path ≡ true → is_own_path work path ≡ true
   own_changed (Copy c) path h = h
-  own_changed (CopyTree c) path h = h
   own_changed (Delete d) path h = h
   own_changed (Make m) path h = by m.thing h
     where
@@ -144,7 +143,6 @@ module _ (opening : CallLog) (tree : IsTree (current opening)) (settled : all_se
   -- and what is no matter of it
   no_matter : (work : Work) (log : CallLog) (path : Route) → IsNoMatter work log path → IsNoMatterOf (item_in work) log path
   no_matter (Copy c) log path h = h
-  no_matter (CopyTree c) log path h = h
   no_matter (Delete d) log path h = h
   no_matter (Make m) log path h = by m.thing
     where

@@ -16,8 +16,6 @@ use Rattle.tree_trait.proofs.Visible.{same_path-self, same_path-true}
 use Rattle.job_reports.specs.declared.report.Ending.{Ending}
 use Rattle.job_reports.specs.declared.report.Ending.TheVariants.{Finished, Aborted}
 use Rattle.job_reports.specs.declared.report.Did.TheVariants.{Ended}
-use Rattle.file_copy.specs.Copying.{Copying}
-use Rattle.file_copy.specs.Copying as copying
 use Rattle.session_history.specs.declared.history.Entry.{Entry}
 use Rattle.copy_move.specs.declared.run.Course.{Course}
 use Rattle.copy_move.specs.declared.run.Course.TheVariants.{GoesOn, Asking, InTrouble, OwedSyncFailed, Skips, Ends}
@@ -25,7 +23,7 @@ use Rattle.copy_move.specs.Deletions.{started}
 use Rattle.copy_move.specs.declared.work.Work.{Work}
 use Rattle.thing_making.specs.declared.making.MakingStage.{MakingStage}
 use Rattle.thing_making.specs.declared.making.MakingStage.TheVariants as making
-use Rattle.copy_move.specs.declared.work.Work.TheVariants.{Copy, CopyTree, Delete, Make, SetMode}
+use Rattle.copy_move.specs.declared.work.Work.TheVariants.{Copy, Delete, Make, SetMode}
 use Rattle.thing_making.specs.Makings.{Making}
 use Rattle.thing_making.specs.Makings as makings
 use Rattle.mode_setting.specs.Settings.{Setting}
@@ -40,7 +38,6 @@ use Rattle.history_laws.specs.Staying.{may_change}
 use Rattle.session_history.specs.Named.{has_changed, named_parts}
 use Rattle.history_laws.specs.Traces.{IsTraced, IsUnclaimed, Stand, WorkLeads}
 use Rattle.tree_trait.specs.Refusals.{is_folder}
-use Rattle.history_laws.proofs.Below.{lies_below}
 use Rattle.history_laws.proofs.Histories.{IsReached, traced_reached}
 use Rattle.history_laws.proofs.Owing.{calm_at, calm_there, owed_modes, owed_names}
 use Rattle.history_laws.proofs.Intact.{own_folder, prefix_way}
@@ -65,80 +62,61 @@ done_making making.PassedOver h = refl
 
 done_work : (old new next : Work) (part : Option Route) (dirty dirty_after : List Route) (before after : Option CallLog) → WorkTells old (Ended Finished part) new → WorkLeaves old (Ended Finished part) next dirty dirty_after before after
     → is_tree old ≡ false → TidyFolder old dirty → (q : Route) → is_own old q ≡ true → Among dirty q → ⊥
-done_work (Copy c) (Copy new) next part dirty dirty_after before after (stage, synced, part_is, new_is) leaves other tidy q own among =
-    tidy (ap copying.is_dirty synced) (subst (λ x. Among dirty x) (same_path-true q (folder_of c.target) own) among)
-done_work (Copy c) (Delete new) next part dirty dirty_after before after t leaves other tidy q own among = t
-done_work (Delete d) (Copy new) next part dirty dirty_after before after t leaves other tidy q own among = t
-done_work (Copy c) (Make new) next part dirty dirty_after before after t leaves other tidy q own among = t
 done_work (Delete d) (Make new) next part dirty dirty_after before after t leaves other tidy q own among = t
-done_work (Make m) (Copy new) next part dirty dirty_after before after t leaves other tidy q own among = t
 done_work (SetMode s) (Copy new) next part dirty dirty_after before after t leaves other tidy q own among = t
-done_work (SetMode s) (CopyTree new) next part dirty dirty_after before after t leaves other tidy q own among = t
 done_work (SetMode s) (Delete new) next part dirty dirty_after before after t leaves other tidy q own among = t
 done_work (SetMode s) (Make new) next part dirty dirty_after before after t leaves other tidy q own among = t
-done_work (Copy c) (SetMode new) next part dirty dirty_after before after t leaves other tidy q own among = t
-done_work (Copy c) (CopyTree new) next part dirty dirty_after before after t leaves other tidy q own among = t
-done_work (CopyTree c) new next part dirty dirty_after before after t leaves other tidy q own among = true≢false other
+done_work (Copy c) new next part dirty dirty_after before after t leaves other tidy q own among = true≢false other
 done_work (Delete d) (SetMode new) next part dirty dirty_after before after t leaves other tidy q own among = t
-done_work (Delete d) (CopyTree new) next part dirty dirty_after before after t leaves other tidy q own among = t
+done_work (Delete d) (Copy new) next part dirty dirty_after before after t leaves other tidy q own among = t
 done_work (Make m) (SetMode new) next part dirty dirty_after before after t leaves other tidy q own among = t
-done_work (Make m) (CopyTree new) next part dirty dirty_after before after t leaves other tidy q own among = t
+done_work (Make m) (Copy new) next part dirty dirty_after before after t leaves other tidy q own among = t
 done_work (Make m) (Delete new) next part dirty dirty_after before after t leaves other tidy q own among = t
 done_work (Make m) (Make new) next part dirty dirty_after before after (is_done, part_is, new_is) leaves other tidy q own among =
     tidy (done_making m.stage is_done) (subst (λ x. Among dirty x) (same_path-true q (folder_of m.path) own) among)
-done_work (Delete d) (Delete new) (Copy next) part dirty dirty_after before after t leaves other tidy q own among = leaves
 done_work (SetMode s) (SetMode new) next part dirty dirty_after before after (stage, part_is, new_is) leaves other tidy q own among =
     tidy.0 (ap settings.is_dirty stage) (subst (λ x. Among dirty x) (same_path-true q s.path own) among)
 done_work (Delete d) (Delete new) (SetMode next) part dirty dirty_after before after t leaves other tidy q own among = leaves
-done_work (Delete d) (Delete new) (CopyTree next) part dirty dirty_after before after t leaves other tidy q own among = leaves
+done_work (Delete d) (Delete new) (Copy next) part dirty dirty_after before after t leaves other tidy q own among = leaves
 done_work (Delete d) (Delete new) (Make next) part dirty dirty_after before after t leaves other tidy q own among = leaves
 done_work (Delete d) (Delete new) (Delete next) part dirty dirty_after before after t leaves other tidy q own among = both_ways _ (leaves.0 q among) own
 
 pub wound_up : (ending : Ending) (old new : Work) (part : Option Route) → Rattle.copy_move.specs.Jobs.WorkWinds ending old (Ended Finished part) new → Finished ≡ ending
-wound_up ending (Copy c) (Copy new) part (none, synced, how_is, part_is, new_is) = how_is
 wound_up ending (Delete d) (Delete new) part (how_is, part_is, path_is, stage_is, skips_is) = how_is
 wound_up ending (Make m) (Make new) part (off, how_is, part_is, new_is) = how_is
 wound_up ending (SetMode s) (SetMode new) part (clean, how_is, part_is, new_is) = how_is
-wound_up ending (CopyTree c) (CopyTree new) part t = let m = t.may in m.0
-wound_up ending (Copy c) (Delete new) part t = absurd t
-wound_up ending (Copy c) (Make new) part t = absurd t
-wound_up ending (Delete d) (Copy new) part t = absurd t
+wound_up ending (Copy c) (Copy new) part t = let m = t.may in m.0
 wound_up ending (Delete d) (Make new) part t = absurd t
-wound_up ending (Make m) (Copy new) part t = absurd t
 wound_up ending (SetMode s) (Copy new) part t = absurd t
-wound_up ending (CopyTree s) (Copy new) part t = absurd t
-wound_up ending (SetMode s) (CopyTree new) part t = absurd t
 wound_up ending (SetMode s) (Delete new) part t = absurd t
-wound_up ending (CopyTree s) (Delete new) part t = absurd t
+wound_up ending (Copy s) (Delete new) part t = absurd t
 wound_up ending (SetMode s) (Make new) part t = absurd t
-wound_up ending (CopyTree s) (Make new) part t = absurd t
+wound_up ending (Copy s) (Make new) part t = absurd t
 wound_up ending (Copy c) (SetMode new) part t = absurd t
-wound_up ending (Copy c) (CopyTree new) part t = absurd t
-wound_up ending (CopyTree c) (SetMode new) part t = absurd t
 wound_up ending (Delete d) (SetMode new) part t = absurd t
-wound_up ending (Delete d) (CopyTree new) part t = absurd t
+wound_up ending (Delete d) (Copy new) part t = absurd t
 wound_up ending (Make m) (SetMode new) part t = absurd t
-wound_up ending (Make m) (CopyTree new) part t = absurd t
+wound_up ending (Make m) (Copy new) part t = absurd t
 wound_up ending (Make m) (Delete new) part t = absurd t
 
-finished_tidy : (opening : CallLog) (g : List Entry) (log : CallLog) (dirty dirty_after : List Route) (job new : Running) (part : Option Route) (before after : Option CallLog) (course : Course) → job.course ≡ course → TellsOn course job (Ended Finished part) new
-    → LeavesDirty course job.work (Ended Finished part) new.work dirty dirty_after before after → IsTidyJob opening g log dirty job → has_changed job.id g ≡ true
+finished_tidy : (opening : CallLog) (g : List Entry) (dirty dirty_after : List Route) (job new : Running) (part : Option Route) (before after : Option CallLog) (course : Course) → job.course ≡ course → TellsOn course job (Ended Finished part) new
+    → LeavesDirty course job.work (Ended Finished part) new.work dirty dirty_after before after → IsTidyJob opening g dirty job → has_changed job.id g ≡ true
     → (job.course ≡ GoesOn) × TidyFolder job.work dirty × (is_tree job.work ≡ false → (q : Route) → is_own job.work q ≡ true → Among dirty q → ⊥)
-finished_tidy opening g log dirty dirty_after job new part before after GoesOn is (work, tells, new_is) leaves t changed =
+finished_tidy opening g dirty dirty_after job new part before after GoesOn is (work, tells, new_is) leaves t changed =
     let tidy = t.tidy changed (subst IsGoing (sym is) tt) in (is, tidy, λ other q own among. done_work job.work work new.work part dirty dirty_after before after tells leaves other tidy q own among)
-finished_tidy opening g log dirty dirty_after job new part before after (InTrouble halt) is tells leaves t changed = absurd tells
-finished_tidy opening g log dirty dirty_after job new part before after (OwedSyncFailed why) is tells leaves t changed = absurd tells
-finished_tidy opening g log dirty dirty_after job new part before after Asking is tells leaves t changed = absurd tells
-finished_tidy opening g log dirty dirty_after job new part before after (Skips why) is (inl (path, work, did_is, passes, new_is)) leaves t changed = absurd (let f : ⊥ = cc in f)
-finished_tidy opening g log dirty dirty_after job new part before after (Skips why) is (inr (apart, did_is, new_is)) leaves t changed = absurd (let f : ⊥ = cc in f)
-finished_tidy opening g log dirty dirty_after job new part before after (Ends ending) is (work, winds, new_is) leaves t changed =
+finished_tidy opening g dirty dirty_after job new part before after (InTrouble halt) is tells leaves t changed = absurd tells
+finished_tidy opening g dirty dirty_after job new part before after (OwedSyncFailed why) is tells leaves t changed = absurd tells
+finished_tidy opening g dirty dirty_after job new part before after Asking is tells leaves t changed = absurd tells
+finished_tidy opening g dirty dirty_after job new part before after (Skips why) is (inl (path, work, did_is, passes, new_is)) leaves t changed = absurd (let f : ⊥ = cc in f)
+finished_tidy opening g dirty dirty_after job new part before after (Skips why) is (inr (apart, did_is, new_is)) leaves t changed = absurd (let f : ⊥ = cc in f)
+finished_tidy opening g dirty dirty_after job new part before after (Ends ending) is (work, winds, new_is) leaves t changed =
     let e : Finished ≡ Aborted = wound_up ending job.work work part winds ∙ t.aborted ending is in absurd (let f : ⊥ = cc in f)
 
 -- so its folder is known to be on the disk
 pub finished_folder : (opening : CallLog) → IsTree (current opening) → all_settled opening.changes ≡ true → (newest : List Entry) (stand : Stand) (now : CallLog) (job : Running) → IsTraced opening newest stand now
     → stand.jobs ≡ job ∷ [] → has_changed job.id newest ≡ true → folders_told opening newest (changed_folder job.work) ≡ true
 finished_folder opening tree settled newest stand now job traced jobs_is changed =
-    let tidy : IsTidyJob opening newest now stand.dirty job = subst (λ js. AreTidy opening newest now stand.dirty js) jobs_is (traced_tidy opening tree settled newest stand now traced) in
+    let tidy : IsTidyJob opening newest stand.dirty job = subst (λ js. AreTidy opening newest stand.dirty js) jobs_is (traced_tidy opening tree settled newest stand now traced) in
     tidy.stands changed
 
 -- work that changes names
@@ -150,11 +128,7 @@ IsOfNames work = Unit {0}
 may_above : (work : Work) (up : Route) → IsOfNames work → may_change (item_in work) up ≡ true → (up ≡ changed_folder work) ⊎ (may_change (item_in work) (folder_of up) ≡ true)
 may_above (SetMode s) up names own = absurd names
 may_above (Make m) up names own = inl (same_path-true up (folder_of m.path) (making_changed m.thing m.path up own))
-may_above (Copy c) up names own = elim (or_cases (same_path up (folder_of c.target)) (is_prefix c.target up) own) [
-  | inl here ↦ inl (same_path-true up (folder_of c.target) here)
-  | inr within ↦ inr (own_folder (started c.target) up (folder_of up) within refl)
-]
-may_above (CopyTree c) up names own = elim (or_cases (same_path up (folder_of c.top.target)) (is_prefix c.top.target up) own) [
+may_above (Copy c) up names own = elim (or_cases (same_path up (folder_of c.top.target)) (is_prefix c.top.target up) own) [
   | inl here ↦ inl (same_path-true up (folder_of c.top.target) here)
   | inr within ↦ inr (own_folder (started c.top.target) up (folder_of up) within refl)
 ]
@@ -166,7 +140,6 @@ may_above (Delete d) up names own = elim (or_cases (same_path up (folder_of d.pa
 -- its own paths lie in these
 own_may : (work : Work) (path : Route) → IsOfNames work → is_own_path work path ≡ true → may_change (item_in work) (folder_of path) ≡ true
 own_may (Copy c) path names own = own
-own_may (CopyTree c) path names own = own
 own_may (Delete d) path names own = own
 own_may (Make m) path names own = making_changes m.thing m.path (folder_of path) own
 own_may (SetMode s) path names own = absurd names
@@ -203,15 +176,6 @@ module _ (opening now : CallLog) (newest : List Entry) (stand : Stand) (path : R
   unlisted : (own : Route → Bool) → ((q : Route) → own q ≡ true → Among stand.dirty q → ⊥) → (p : Route) → own (folder_of p) ≡ true → name_waits now p ≡ false
   unlisted own off p within = false_from_ne_true (name_waits now p) (λ waits. off (folder_of p) within (owed_names opening now newest stand p tree settled traced waits))
 
-  -- of a file's copy it lies nowhere below the target
-  file_none : (c : Copying) → ((q : Route) → is_own (Copy c) q ≡ true → Among stand.dirty q → ⊥) → ((name : List ℕ) (up : Route) → is_prefix c.target up ≡ true → name_waits now (name ∷ up) ≡ false)
-      → (p : Route) → may_change (item_in (Copy c)) (folder_of p) ≡ true → name_waits now p ≡ false
-  file_none c off below [] own = refl
-  file_none c off below (name ∷ up) own = elim (or_cases (same_path up (folder_of c.target)) (is_prefix c.target up) own) [
-    | inl here ↦ unlisted (is_own (Copy c)) off (name ∷ up) here
-    | inr within ↦ below name up within
-  ]
-
   making_none : (m : Making) → ((q : Route) → is_own (Make m) q ≡ true → Among stand.dirty q → ⊥) → (p : Route) → may_change (item_in (Make m)) (folder_of p) ≡ true → name_waits now p ≡ false
   making_none m off p may = unlisted (is_own (Make m)) off p (making_changed m.thing m.path (folder_of p) may)
 
@@ -228,7 +192,7 @@ module _ (opening now : CallLog) (newest : List Entry) (stand : Stand) (path : R
           let e : up ≡ name ∷ up = sym (ap folder_of (sym same ∙ is)) ∙ (apart among ∙ (sym same ∙ is)) in
           not_longer [] name up e
 
-  -- and of what was copied whole
+  -- and of a copy
   abbrev seen : IsReached opening newest stand now
   seen = traced_reached opening tree settled newest stand now traced
 
@@ -252,7 +216,7 @@ module _ (opening now : CallLog) (newest : List Entry) (stand : Stand) (path : R
           | inr b ↦ inr (b.0, λ j also. subst (λ k. is_folder (node (current now) k) ≡ false) (let e : Some i ≡ Some j = sym at ∙ also in cc) b.1)
         ]
 
-    none_waits : (Among (named_parts newest) path → ⊥) → (IsMountInDoubt now path → ⊥) → (p : Route) → path ≡ p → may_change (item_in (CopyTree c)) (folder_of p) ≡ true → node_waits now path ≡ false
+    none_waits : (Among (named_parts newest) path → ⊥) → (IsMountInDoubt now path → ⊥) → (p : Route) → path ≡ p → may_change (item_in (Copy c)) (folder_of p) ≡ true → node_waits now path ≡ false
     none_waits unnamed no_mount [] is own = false_from_ne_true (node_waits now path) (λ waits. no_mount (record {
       begins = ap (λ q. (visible_tree (current now) q).is_mount) is ∙ seen.kept.known.guarded.tree.mounted;
       waits = waits;
@@ -273,27 +237,25 @@ module _ (opening now : CallLog) (newest : List Entry) (stand : Stand) (path : R
             let there : name ∷ up ≡ name ∷ folder_of c.top.target = ap (λ q. (let r : Route = name ∷ q in r)) here in
             beside_calm name (is ∙ there) (λ i at same. absurd (both_ways _ off (subst (λ q. same_path q c.top.target ≡ true) (sym (there ∙ same)) (same_path-self c.top.target)))) unnamed no_mount
 
-    names_none : (p : Route) → may_change (item_in (CopyTree c)) (folder_of p) ≡ true → name_waits now p ≡ false
+    names_none : (p : Route) → may_change (item_in (Copy c)) (folder_of p) ≡ true → name_waits now p ≡ false
     names_none [] within = refl
     names_none (name ∷ up) within = left.names name up within
 
-    tree_left : way_waits now (folder_of c.top.target) ≡ false → is_own_path (CopyTree c) path ≡ true → IsLeft (CopyTree c)
+    tree_left : way_waits now (folder_of c.top.target) ≡ false → is_own_path (Copy c) path ≡ true → IsLeft (Copy c)
     tree_left firm own =
-        let sure = may_settled now (CopyTree c) tt firm names_none path own in
+        let sure = may_settled now (Copy c) tt firm names_none path own in
         (sure, λ unnamed no_mount. ap (λ b. b || node_waits now path) sure ∙ none_waits unnamed no_mount path refl own)
 
   left_by : (work : Work) → way_waits now (changed_folder work) ≡ false → (is_tree work ≡ false → (q : Route) → is_own work q ≡ true → Among stand.dirty q → ⊥) → TidyFolder work stand.dirty
       → (is_tree work ≡ false → (q : Route) → may_change (item_in work) q ≡ true → calm_told newest q ≡ true)
-      → (is_tree work ≡ false → (name : List ℕ) (up : Route) → lies_below (item_in work) up ≡ true → name_waits now (name ∷ up) ≡ false)
-      → ((c : SubtreeCopying) → work ≡ CopyTree c → TreeLeft (told_of opening now newest seen.part) seen.marks now c) → is_own_path work path ≡ true → IsLeft work
-  left_by (Copy c) firm off tidy calm below whole own = names_left (Copy c) tt firm (file_none c (off refl) (below refl)) (calm refl) own
-  left_by (CopyTree c) firm off tidy calm below whole own = tree_left c (whole c refl) firm own
-  left_by (Delete d) firm off tidy calm below whole own = names_left (Delete d) tt firm (unlisted (is_own (Delete d)) (off refl)) (calm refl) own
-  left_by (Make m) firm off tidy calm below whole own = names_left (Make m) tt firm (making_none m (off refl)) (calm refl) own
-  left_by (SetMode s) firm off tidy calm below whole own = mode_left s firm (off refl s.path (same_path-self s.path)) tidy.1 (same_path-true path s.path own)
+      → ((c : SubtreeCopying) → work ≡ Copy c → TreeLeft (told_of opening now newest seen.part) seen.marks now c) → is_own_path work path ≡ true → IsLeft work
+  left_by (Copy c) firm off tidy calm whole own = tree_left c (whole c refl) firm own
+  left_by (Delete d) firm off tidy calm whole own = names_left (Delete d) tt firm (unlisted (is_own (Delete d)) (off refl)) (calm refl) own
+  left_by (Make m) firm off tidy calm whole own = names_left (Make m) tt firm (making_none m (off refl)) (calm refl) own
+  left_by (SetMode s) firm off tidy calm whole own = mode_left s firm (off refl s.path (same_path-self s.path)) tidy.1 (same_path-true path s.path own)
 
--- what was copied whole, where it tells its end
-whole_left : (told : Said) (dirty dirty_after : List Route) (marks : Marks) (log now : CallLog) (job new : Running) (part : Option Route) (c : SubtreeCopying) → job.work ≡ CopyTree c → job.course ≡ GoesOn → WorkKnows told dirty marks log job.course job.work
+-- of a copy, where it tells its end
+whole_left : (told : Said) (dirty dirty_after : List Route) (marks : Marks) (log now : CallLog) (job new : Running) (part : Option Route) (c : SubtreeCopying) → job.work ≡ Copy c → job.course ≡ GoesOn → WorkKnows told dirty marks log job.course job.work
     → TidyFolder job.work dirty → WorkLeads job (Ended Finished part) new dirty dirty_after log now → TreeLeft told marks log c
 whole_left told dirty dirty_after marks log now job new part c is on knows tidy works =
     let w = works.walks in
@@ -302,9 +264,8 @@ whole_left told dirty dirty_after marks log now job new part c is on knows tidy 
     (subst (λ x. WalksOn IsUnclaimed job.replies GoesOn x new.work (Ended Finished part) w.0 dirty dirty_after (Some log) (Some now) w.1 w.2) is
     (subst (λ x. WalksOn IsUnclaimed job.replies x job.work new.work (Ended Finished part) w.0 dirty dirty_after (Some log) (Some now) w.1 w.2) on w.3))
   where
-    by : (calls f0 f1 : ℕ) → TreeKnown told dirty marks log GoesOn c → is_fresh_tree c.at.stage ≡ false → (work : Work) → Walks IsUnclaimed job.replies (CopyTree c) work (Ended Finished part) calls dirty dirty_after (Some log) (Some now) f0 f1 → TreeLeft told marks log c
-    by calls f0 f1 known begun (CopyTree x) goes = tree_done told dirty dirty_after marks log now c x part known begun goes.free job.replies calls goes.since f1 goes.steps
-    by calls f0 f1 known begun (Copy x) goes = absurd goes
+    by : (calls f0 f1 : ℕ) → TreeKnown told dirty marks log GoesOn c → is_fresh_tree c.at.stage ≡ false → (work : Work) → Walks IsUnclaimed job.replies (Copy c) work (Ended Finished part) calls dirty dirty_after (Some log) (Some now) f0 f1 → TreeLeft told marks log c
+    by calls f0 f1 known begun (Copy x) goes = tree_done told dirty dirty_after marks log now c x part known begun goes.free job.replies calls goes.since f1 goes.steps
     by calls f0 f1 known begun (Delete x) goes = absurd goes
     by calls f0 f1 known begun (Make x) goes = absurd goes
     by calls f0 f1 known begun (SetMode x) goes = absurd goes
@@ -313,7 +274,7 @@ pub finished_law : FinishedLaw
 finished_law opening now after newest stand dirty job new part path tree settled traced jobs_is works changed own =
     let r = traced_reached opening tree settled newest stand now traced in
     let firm = r.kept.known.stand (changed_folder job.work) (finished_folder opening tree settled newest stand now job traced jobs_is changed) in
-    let tidy : IsTidyJob opening newest now stand.dirty job = subst (λ js. AreTidy opening newest now stand.dirty js) jobs_is (traced_tidy opening tree settled newest stand now traced) in
-    let left = finished_tidy opening newest now stand.dirty dirty job new part (Some now) (Some after) job.course refl works.tells works.leaves tidy changed in
-    left_by opening now newest stand path tree settled traced job.work firm.sure left.2 left.1 (tidy.calm changed) (tidy.below changed)
+    let tidy : IsTidyJob opening newest stand.dirty job = subst (λ js. AreTidy opening newest stand.dirty js) jobs_is (traced_tidy opening tree settled newest stand now traced) in
+    let left = finished_tidy opening newest stand.dirty dirty job new part (Some now) (Some after) job.course refl works.tells works.leaves tidy changed in
+    left_by opening now newest stand path tree settled traced job.work firm.sure left.2 left.1 (tidy.calm changed)
     (λ c is. whole_left (told_of opening now newest r.part) stand.dirty dirty r.marks now after job new part c is left.0 (subst (λ js. JobsKnow (told_of opening now newest r.part) stand.dirty r.marks now js) jobs_is r.knows) left.1 works) own

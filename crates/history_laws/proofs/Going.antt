@@ -5,7 +5,7 @@ use Rattle.std.specs.Prelude.{map, ◌==◌, if◌then◌else◌}
 use Rattle.std.specs.Option.{option_map_or, option_map}
 use Rattle.std.proofs.lemmas.Bool.{eq-eqb}
 use Rattle.mc_text.specs.Routes.{Route}
-use Rattle.tree_trait.specs.Change.{Change, CallLog, current}
+use Rattle.tree_trait.specs.Change.{Change, CallLog}
 use Rattle.crash_law.specs.Guarded.{Marks}
 use Rattle.job_reports.specs.declared.report.Cause.{Cause}
 use Rattle.job_reports.specs.declared.report.Did.{Did}
@@ -21,14 +21,13 @@ use Rattle.session_history.specs.declared.history.JobOrder.TheVariants.{Answered
 use Rattle.copy_move.specs.declared.run.Course.{Course}
 use Rattle.copy_move.specs.declared.run.Course.TheVariants.{GoesOn, Asking, InTrouble, OwedSyncFailed, Skips, Ends}
 use Rattle.copy_move.specs.declared.work.Work.{Work}
-use Rattle.copy_move.specs.declared.work.Work.TheVariants.{Copy, CopyTree, Delete, Make, SetMode}
+use Rattle.copy_move.specs.declared.work.Work.TheVariants.{Copy, Delete, Make, SetMode}
 use Rattle.copy_move.specs.Jobs.{Running, answered, answered_on, begun_work, closed_course, closed_job, taken_anew, with_skips}
 use Rattle.copy_move.specs.Told.{running}
 use Rattle.session_history.specs.LiveJobs.{LiveJob, after_event, after_report, live, turned}
 use Rattle.session_history.specs.Sources.{sources_of}
 use Rattle.history_laws.specs.Traces.{EventLeads, IsJob, Stand, StepLeads, WorkLeads, begun, ordered, unless_ended, with_job}
 use Rattle.history_laws.proofs.JobKnows.{KnowsAfter, WorkKnows, may_fill, work_course}
-use Rattle.history_laws.proofs.KnownParts.{stage_anew}
 use Rattle.job_answers.specs.Skipping.{kind_in, with_kind}
 use Rattle.history_laws.proofs.TreeKnown.{is_over, skips_kind}
 use Rattle.history_laws.proofs.TreeSkipped.{retries_tree}
@@ -44,15 +43,13 @@ no_more : (log : CallLog) → log ≡ more log []
 no_more log = ap (λ xs. (let l : CallLog = record log { changes = xs } in l)) (sym (append-nil log.changes))
 
 anew_knows : (told : Said) (dirty : List Route) (m : Marks) (log : CallLog) (course : Course) (work : Work) → is_over course ≡ false → WorkKnows told dirty m log course work → WorkKnows told dirty m log GoesOn (taken_anew work)
-anew_knows told dirty m log course (Copy c) going (name, listed, stage) = (name, listed, stage_anew told m (current log) course GoesOn c c.stage stage)
-anew_knows told dirty m log course (CopyTree c) going k = retries_tree told dirty m log c course GoesOn going k
+anew_knows told dirty m log course (Copy c) going k = retries_tree told dirty m log c course GoesOn going k
 anew_knows told dirty m log course (Delete d) going k = k
 anew_knows told dirty m log course (Make w) going k = k
 anew_knows told dirty m log course (SetMode s) going k = k
 
 skips_knows : (told : Said) (dirty : List Route) (m : Marks) (log : CallLog) (course : Course) (why : Cause) (work : Work) → WorkKnows told dirty m log course work → WorkKnows told dirty m log course (with_skips why work)
-skips_knows told dirty m log course why (Copy c) k = k
-skips_knows told dirty m log course why (CopyTree c) k = skips_kind told dirty m log course c (with_kind (kind_in why) c.skips) k
+skips_knows told dirty m log course why (Copy c) k = skips_kind told dirty m log course c (with_kind (kind_in why) c.skips) k
 skips_knows told dirty m log course why (Delete d) k = k
 skips_knows told dirty m log course why (Make w) k = k
 skips_knows told dirty m log course why (SetMode s) k = k

@@ -16,7 +16,7 @@ use Rattle.job_reports.specs.declared.report.Did.TheVariants.{Ended}
 use Rattle.job_reports.proofs.PermittedCalls.{stat_missing}
 use Rattle.copy_move.specs.declared.run.Course.{Course}
 use Rattle.copy_move.specs.declared.work.Work.{Work}
-use Rattle.copy_move.specs.declared.work.Work.TheVariants.{Copy, CopyTree, Delete, Make, SetMode}
+use Rattle.copy_move.specs.declared.work.Work.TheVariants.{Copy, Delete, Make, SetMode}
 use Rattle.tree_deletion.specs.declared.deletion.Stage.TheVariants.{Going}
 use Rattle.tree_deletion.specs.Folders.{is_of}
 use Rattle.crash_law.proofs.Unworked.{unworked_law}
@@ -26,7 +26,6 @@ use Rattle.job_reports.specs.Paths.{folder_of}
 use Rattle.tree_trait.specs.Shape.{IsTree}
 use Rattle.tree_trait.specs.Change.{Change, Nothing, Syncs, with_change}
 use Rattle.crash_law.proofs.Leading.{current_more}
-use Rattle.history_laws.proofs.KnownParts.{file_said}
 use Rattle.history_laws.proofs.TreeKnown.{IsStill, TreeKnown, is_over, tree_course, tree_said, tree_settled, tree_still}
 pub use Rattle.history_laws.proofs.KnownParts.{may_fill, found_settled, FileKnows, HasLink, HasName, HasPart, IsFilled, IsLeftPart, LinkKnows, StageKnows, file_course, file_settled, part_settled, stage_course, stage_settled, untouched_settled}
 pub use Rattle.history_laws.proofs.Untouched.{IsAsFound, IsBare, IsUntouched, as_found, bare_free, found_bare, NoneOn, none_on, none_waits, untouched_free, way_sure}
@@ -40,8 +39,7 @@ abbrev pub KnowsWithin : Said → Marks → FileSystem → Route → Type 0
 KnowsWithin told marks s top = IsIntact marks s top × (told.folders (folder_of top) ≡ true) × ((q : Route) → is_of (folder_of top) top q ≡ true → told.calm q ≡ true)
 
 abbrev pub WorkKnows : Said → List Route → Marks → CallLog → Course → Work → Type 0
-WorkKnows told dirty marks log course (Copy c) = FileKnows told dirty marks (current log) course c
-WorkKnows told dirty marks log course (CopyTree c) = TreeKnown told dirty marks log course c
+WorkKnows told dirty marks log course (Copy c) = TreeKnown told dirty marks log course c
 WorkKnows told dirty marks log course (Delete d) =
     HasName d.path × (told.part ≡ None) × (d.stage ≡ Going → KnowsWithin told marks (current log) d.path)
 WorkKnows told dirty marks log course (Make m) = HasName m.path × (told.part ≡ None)
@@ -105,8 +103,7 @@ module _ (log : CallLog) (marks : Marks) where
   intact_settled top known = unworked_law.remarked marks (settled_marks log marks) log top (λ p out. remarked p out (way_waits log p) refl) known
 
   pub work_settled : (told : Said) (dirty : List Route) (course : Course) (work : Work) → WorkKnows told dirty marks log course work → WorkKnows told dirty (settled_marks log marks) log course work
-  work_settled told dirty course (Copy c) k = file_settled log marks told dirty course c k
-  work_settled told dirty course (CopyTree c) k = tree_settled log marks told dirty course c k
+  work_settled told dirty course (Copy c) k = tree_settled log marks told dirty course c k
   work_settled told dirty course (Delete d) (name, none, intact) = (name, none, λ is. let k = intact is in (intact_settled d.path k.0, k.1, k.2))
   work_settled told dirty course (Make w) k = k
   work_settled told dirty course (SetMode s) k = k
@@ -114,8 +111,7 @@ module _ (log : CallLog) (marks : Marks) where
 -- A job that goes on only where it went on, and isn't in its last steps where it wasn't, knows what it knew.
 pub work_course : (told : Said) (dirty : List Route) (marks : Marks) (log : CallLog) (course other : Course) (work : Work) → (may_fill other ≡ true → may_fill course ≡ true) → (is_over other ≡ false → is_over course ≡ false)
     → WorkKnows told dirty marks log course work → WorkKnows told dirty marks log other work
-work_course told dirty marks log course other (Copy c) on over k = file_course told dirty marks (current log) course other c on k
-work_course told dirty marks log course other (CopyTree c) on over k = tree_course told dirty marks log course other c on over k
+work_course told dirty marks log course other (Copy c) on over k = tree_course told dirty marks log course other c on over k
 work_course told dirty marks log course other (Delete d) on over k = k
 work_course told dirty marks log course other (Make w) on over k = k
 work_course told dirty marks log course other (SetMode s) on over k = k
@@ -131,8 +127,7 @@ still_same log now (c, is, how) = ap current is ∙ by c how
 -- so what is known holds on
 pub work_still : (told : Said) (dirty : List Route) (marks : Marks) (log now : CallLog) (course : Course) (work : Work) → IsTree (current log) → IsStill log now → WorkKnows told dirty marks log course work
     → WorkKnows told dirty marks now course work
-work_still told dirty marks log now course (Copy c) tree still k = subst (λ (s : FileSystem). FileKnows told dirty marks s course c) (sym (still_same log now still)) k
-work_still told dirty marks log now course (CopyTree c) tree still k = tree_still told dirty marks log now course c tree still k
+work_still told dirty marks log now course (Copy c) tree still k = tree_still told dirty marks log now course c tree still k
 work_still told dirty marks log now course (Delete d) tree still (name, none, known) =
     (name, none, λ is. let k = known is in (subst (λ (s : FileSystem). IsIntact marks s d.path) (sym (still_same log now still)) k.0, k.1, k.2))
 work_still told dirty marks log now course (Make m) tree still k = k
@@ -141,8 +136,7 @@ work_still told dirty marks log now course (SetMode s) tree still k = k
 -- What is known of a job hangs on the tree, the part, the folders on the disk and the calm folders of what a history says.
 pub work_said : (told other : Said) → other.tree ≡ told.tree → other.part ≡ told.part → other.folders ≡ told.folders → other.calm ≡ told.calm → (dirty : List Route) (marks : Marks) (log : CallLog) (course : Course) (work : Work)
     → WorkKnows told dirty marks log course work → WorkKnows other dirty marks log course work
-work_said told other tree part folders calm dirty marks log course (Copy c) k = file_said told other part folders calm marks (current log) dirty course c k
-work_said told other tree part folders calm dirty marks log course (CopyTree c) k = tree_said told other tree part folders calm dirty marks log course c k
+work_said told other tree part folders calm dirty marks log course (Copy c) k = tree_said told other tree part folders calm dirty marks log course c k
 work_said told other tree part folders calm dirty marks log course (Delete d) (name, none, known) = (
   name,
   part ∙ none,

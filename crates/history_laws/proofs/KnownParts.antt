@@ -236,7 +236,7 @@ module _ (told other : Said) (part_same : other.part ≡ told.part) (marks : Mar
     found = h.found;
   }
 
-  pub stage_said : (course : Course) (c : Copying) (stage : Stage) → StageKnows told marks s course c stage → StageKnows other marks s course c stage
+  stage_said : (course : Course) (c : Copying) (stage : Stage) → StageKnows told marks s course c stage → StageKnows other marks s course c stage
   stage_said course c Begin (none, found) = (part_same ∙ none, found)
   stage_said course c (Fill part said done) (dirty, (i, has, filled)) = (dirty, (i, part_said c.target part i has, filled))
   stage_said course c (Clean part follows) (dirty, (i, has)) = (dirty, (i, part_said c.target part i has))

@@ -4,7 +4,6 @@ pub mod BareItems
 pub mod BareSteps
 pub mod BareTargets
 pub mod Beginnings
-pub mod Below
 pub mod Calm
 pub mod CalmChanges
 pub mod CalmFiles

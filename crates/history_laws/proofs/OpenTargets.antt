@@ -14,11 +14,11 @@ use Rattle.tree_trait.specs.Refusals.{folder_kind, is_folder, refusal_of}
 use Rattle.job_reports.proofs.PermittedCalls.{stat_missing}
 use Rattle.job_reports.specs.declared.job.Pair.{Pair}
 use Rattle.job_answers.specs.declared.replies.Replies.{Replies}
-use Rattle.file_copy.specs.AskedCopies.{IsReadyOver, IsReplaceable}
 use Rattle.file_copy.specs.Copying.{Places}
 use Rattle.file_copy.specs.Looking.{IsReady, file_at}
 use Rattle.subtree_walk.specs.Places.{is_empty}
 use Rattle.tree_copy.specs.Asking as asking
+use Rattle.tree_copy.specs.Asking.{IsReplaceable}
 use Rattle.history_laws.proofs.Untouched.{IsBare, bare_free}
 
 -- a file stands at the source, and at the target nothing, or no folder
@@ -40,17 +40,6 @@ no_folder kind.Other h = absurd h
 -- what may be replaced is no folder
 bare_single : (s : FileSystem) (path : Route) (meta : Meta) → IsMeta s path meta → IsReplaceable meta.kind → IsBare s path
 bare_single s path meta is replaceable i at = ap (λ j. is_folder (node s j)) (sym (ap (λ o. unwrap_or o 0) at)) ∙ (ap folder_kind (sym is.kind) ∙ no_folder meta.kind replaceable)
-
--- and where something stands there that may be replaced
-pub open_over : (s : FileSystem) (p : Places) (replies : Replies) → IsReadyOver s p replies → IsOpen s p
-open_over s p replies ready = record {
-  source = ready.source;
-  file = ready.file;
-  bare = elim ready.target [
-    | inl missing ↦ bare_free s p.target (stat_missing s p.target missing)
-    | inr d ↦ let decided = d.1 in bare_single s p.target decided.target decided.of_target decided.replaceable
-  ];
-}
 
 -- So it is of what is taken up by the copy of a tree: something stands at its target only where that is what is copied itself.
 pub taken_bare : (s : FileSystem) (top : Bool) (replies : Replies) (pair : Pair) → asking.IsOpen s top replies pair → IsBare s pair.target

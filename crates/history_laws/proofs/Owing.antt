@@ -14,13 +14,12 @@ use Rattle.job_reports.specs.Paths.{folder_of}
 use Rattle.copy_move.specs.declared.run.Course.{Course}
 use Rattle.copy_move.specs.declared.run.Course.TheVariants.{GoesOn}
 use Rattle.copy_move.specs.declared.work.Work.{Work}
-use Rattle.copy_move.specs.declared.work.Work.TheVariants.{Copy, CopyTree, Delete, Make, SetMode}
+use Rattle.copy_move.specs.declared.work.Work.TheVariants.{Copy, Delete, Make, SetMode}
 use Rattle.copy_move.specs.Deletions.{DeletionLeaves, Tells}
 use Rattle.thing_making.specs.Makings as makings
 use Rattle.mode_setting.specs.Settings as settings
 use Rattle.copy_move.specs.Jobs.{Running, TellsOn, WorkTells, is_fresh}
 use Rattle.copy_move.specs.Settling.{LiesApart, NoneOwed, WorkLeaves, changed_folder, is_own, with_change}
-use Rattle.file_copy.specs.Copying as copying
 use Rattle.job_reports.specs.declared.report.Did.{Did}
 use Rattle.job_reports.specs.declared.report.Did.TheVariants.{Began, Chunk, Placed, Removed, Made, Set, Kept, Skipped, Cleaned, Barrier, Asked, Merges, Troubled, Ended}
 use Rattle.tree_deletion.specs.Folders.{is_one_of, joined}
@@ -129,16 +128,11 @@ changed_or_before true true up q dirty among = inr among
 -- what is dirty after a step was dirty, or it is the job's own folder
 own_or_before : (old next new : Work) (did : Did) (q : Route) (dirty dirty_after : List Route) (before after : Option CallLog) → WorkTells old did next → WorkLeaves old did new dirty dirty_after before after → Among dirty_after q
     → (is_own old q ≡ true) ⊎ Among dirty q
-own_or_before (Copy c) next (Delete new) did q dirty dirty_after before after t leaves among = absurd leaves
-own_or_before (Copy c) next (Make new) did q dirty dirty_after before after t leaves among = absurd leaves
-own_or_before (Make m) next (Copy new) did q dirty dirty_after before after t leaves among = absurd leaves
 own_or_before (Make m) next (SetMode new) did q dirty dirty_after before after t leaves among = absurd leaves
-own_or_before (Copy c) next (SetMode new) did q dirty dirty_after before after t leaves among = absurd leaves
 own_or_before (Delete d) (SetMode next) new did q dirty dirty_after before after t leaves among = absurd t
-own_or_before (Delete d) (CopyTree next) new did q dirty dirty_after before after t leaves among = absurd t
+own_or_before (Delete d) (Copy next) new did q dirty dirty_after before after t leaves among = absurd t
 own_or_before (Delete d) (Delete next) (SetMode new) did q dirty dirty_after before after t leaves among = absurd leaves
-own_or_before (Delete d) (Delete next) (CopyTree new) did q dirty dirty_after before after t leaves among = absurd leaves
-own_or_before (SetMode s) next (Copy new) did q dirty dirty_after before after t leaves among = absurd leaves
+own_or_before (Delete d) (Delete next) (Copy new) did q dirty dirty_after before after t leaves among = absurd leaves
 own_or_before (SetMode s) next (Delete new) did q dirty dirty_after before after t leaves among = absurd leaves
 own_or_before (SetMode s) next (Make new) did q dirty dirty_after before after t leaves among = absurd leaves
 own_or_before (SetMode s) next (SetMode new) did q dirty dirty_after before after t leaves among =
@@ -146,16 +140,14 @@ own_or_before (SetMode s) next (SetMode new) did q dirty dirty_after before afte
       | inl same ↦ inl (subst (λ p. same_path p s.path ≡ true) (sym same) (same_path-self s.path))
       | inr old ↦ inr old
     ]
-own_or_before (Copy c) next (CopyTree new) did q dirty dirty_after before after t leaves among = absurd leaves
-own_or_before (Make m) next (CopyTree new) did q dirty dirty_after before after t leaves among = absurd leaves
-own_or_before (SetMode s) next (CopyTree new) did q dirty dirty_after before after t leaves among = absurd leaves
-own_or_before (CopyTree c) next (Copy new) did q dirty dirty_after before after t leaves among = absurd leaves
-own_or_before (CopyTree c) next (Delete new) did q dirty dirty_after before after t leaves among = absurd leaves
-own_or_before (CopyTree c) next (Make new) did q dirty dirty_after before after t leaves among = absurd leaves
-own_or_before (CopyTree c) next (SetMode new) did q dirty dirty_after before after t leaves among = absurd leaves
-own_or_before (CopyTree c) next (CopyTree new) did q dirty dirty_after before after t leaves among =
+own_or_before (Make m) next (Copy new) did q dirty dirty_after before after t leaves among = absurd leaves
+own_or_before (SetMode s) next (Copy new) did q dirty dirty_after before after t leaves among = absurd leaves
+own_or_before (Copy c) next (Delete new) did q dirty dirty_after before after t leaves among = absurd leaves
+own_or_before (Copy c) next (Make new) did q dirty dirty_after before after t leaves among = absurd leaves
+own_or_before (Copy c) next (SetMode new) did q dirty dirty_after before after t leaves among = absurd leaves
+own_or_before (Copy c) next (Copy new) did q dirty dirty_after before after t leaves among =
     elim (changed_or_before leaves.was leaves.now leaves.folder q dirty (subst (λ xs. Among xs q) leaves.list among)) [
-      | inl same ↦ inl (subst (λ p. is_own (CopyTree c) p ≡ true) (sym same) leaves.own)
+      | inl same ↦ inl (subst (λ p. is_own (Copy c) p ≡ true) (sym same) leaves.own)
       | inr old ↦ inr old
     ]
 own_or_before (Make m) next (Delete new) did q dirty dirty_after before after t leaves among = absurd leaves
@@ -166,13 +158,6 @@ own_or_before (Make m) next (Make new) did q dirty dirty_after before after t le
     ]
 own_or_before (Delete d) (Make next) new did q dirty dirty_after before after t leaves among = absurd t
 own_or_before (Delete d) (Delete next) (Make new) did q dirty dirty_after before after t leaves among = absurd leaves
-own_or_before (Copy c) next (Copy new) did q dirty dirty_after before after t leaves among =
-    elim (changed_or_before (copying.is_dirty c.folder) (copying.is_dirty new.folder) (folder_of c.target) q dirty (subst (λ xs. Among xs q) leaves among)) [
-      | inl same ↦ inl (subst (λ p. same_path p (folder_of c.target) ≡ true) (sym same) (same_path-self (folder_of c.target)))
-      | inr old ↦ inr old
-    ]
-own_or_before (Delete d) (Copy next) new did q dirty dirty_after before after t leaves among = absurd t
-own_or_before (Delete d) (Delete next) (Copy new) did q dirty dirty_after before after t leaves among = absurd leaves
 own_or_before (Delete d) (Delete next) (Delete new) did q dirty dirty_after before after t leaves among = by did t leaves
   where
     by : (did : Did) → Tells d did next → DeletionLeaves d did dirty dirty_after before after → (is_own (Delete d) q ≡ true) ⊎ Among dirty q

@@ -32,17 +32,15 @@ use Rattle.job_reports.specs.Jobs.{Copies}
 use Rattle.job_reports.specs.Paths.{without, folder_of}
 use Rattle.job_reports.proofs.CallAnswers.{IsDoneCall, done_call, some_log}
 use Rattle.file_copy.proofs.FilledParts.{Holds, holds_copy}
-use Rattle.copy_move.specs.declared.work.Work.TheVariants.{Copy}
 use Rattle.session_history.specs.Named.{changed_by, named_by}
 use Rattle.history_laws.specs.Replayed.{keeping, mode_placed, moved_from, placed_by, placed_copy}
-use Rattle.history_laws.proofs.Moved.{moved_here}
 use Rattle.history_laws.proofs.Calming.{moded_known, nothing_known, synced_known, refused_is}
 use Rattle.history_laws.proofs.Deleted.{file_no_mount, put_at, put_off}
 use Rattle.history_laws.proofs.Knowing.{Said, IsKnown, IsKept, held, settled_marks}
 use Rattle.history_laws.proofs.JobKnows.{HasPart, IsAsFound, IsBare, IsFilled, none_of_part, part_settled}
 use Rattle.history_laws.proofs.PartNodes.{moded_node, part_on, part_there}
 use Rattle.history_laws.proofs.PlacingParts.{PlacesPart, firm_known, marks_firm, placed_known}
-use Rattle.history_laws.proofs.Stepped.{Comes, comes_none, comes_one, comes_then, doubt_by, said_after}
+use Rattle.history_laws.proofs.Stepped.{Comes, comes_none, comes_one, comes_then, doubt_by}
 
 -- the part that stands, in any tree: what its node holds, once it held these bytes with any mode
 abbrev Kept : Said → Route → Route → ℕ → FileSystem → FileSystem → ℕ → Marks → Type 0
@@ -341,25 +339,26 @@ module _ (told : Said) (dirty : List Route) (source to target : Route) (tname : 
       (placed_known told after dirty dirty (marks_firm marks i) mid (firm_known told dirty marks mid i whole.clean (kept.modes i whole.clean) kept.known) whole.name tname up f i r places listed (λ q among. among)))
       refl
 
-module _ (told : Said) (dirty : List Route) (c : Copying) (tname : List ℕ) (target_is : c.target ≡ tname ∷ folder_of c.target) (part : Route) (i : ℕ) (listed : Among dirty (folder_of c.target)) (calm : told.calm (folder_of c.target) ≡ true) where
-  abbrev said_then : CallLog → Said
-  said_then now = said_after now (Placed c.target) (Copy c) told
+-- A file's part is placed by the copy of a source to a target, in which the file's target comes from the file's source.
+module _ (told : Said) (dirty : List Route) (source to : Route) (c : Copying) (source_is : moved_from source to c.target ≡ c.source) (tname : List ℕ) (target_is : c.target ≡ tname ∷ folder_of c.target) (part : Route) (i : ℕ) (listed : Among dirty (folder_of c.target)) (calm : told.calm (folder_of c.target) ≡ true) where
+  abbrev said_then : Said
+  said_then = said_placed told source to c.target
 
   abbrev Placing : CallLog → CallLog → Type 0
-  Placing log now = Comes told (said_then now) dirty log now (λ m. (said_then now).part ≡ None)
+  Placing log now = Comes told said_then dirty log now (λ m. said_then.part ≡ None)
 
   -- the part is renamed
   renamed : (marks : Marks) (mid now : CallLog) → IsKept told dirty marks mid → HasPart told marks (current mid) c.target part i → IsFirm told dirty c.target part i marks mid
       → option_map placed_copy (told.tree c.source).value ≡ Some (value (node (current mid) i)) → Performs {A = Unit {0}} mid (Rename part c.target) (Ok tt) (Some now) → Placing mid now
   renamed marks mid now kept has clean copy done =
-      whole_placed told dirty c.source c.target c.target tname target_is part i listed calm marks mid now kept (whole_part told marks mid c.target part i has clean)
-      (ap (λ q. option_map placed_copy (told.tree q).value) (moved_here c.source c.target) ∙ copy) done
+      whole_placed told dirty source to c.target tname target_is part i listed calm marks mid now kept (whole_part told marks mid c.target part i has clean)
+      (ap (λ q. option_map placed_copy (told.tree q).value) source_is ∙ copy) done
 
   -- the sync and the renaming were done
   tail_done : (marks : Marks) (log now : CallLog) → IsKept told dirty marks log → HasPart told marks (current log) c.target part i
       → option_map placed_copy (told.tree c.source).value ≡ Some (value (node (current log) i)) → AllDone log (SyncFile part ∷ Rename part c.target ∷ []) (Some now) → Placing log now
   tail_done marks log now kept has copy (mid, synced, (last, moved, end)) =
-      comes_then told (said_then now) dirty dirty log mid now _ _ (part_synced told dirty c.target part i marks log mid kept has synced)
+      comes_then told said_then dirty dirty log mid now _ _ (part_synced told dirty c.target part i marks log mid kept has synced)
       (λ m k knows. renamed m mid now k knows.0 knows.1 (copy ∙ ap (λ n. Some (value n)) (sym knows.2))
       (subst (λ (l : CallLog). Performs {A = Unit {0}} mid (Rename part c.target) (Ok tt) (Some l)) (sym (some_log now last end)) moved))
 
@@ -388,7 +387,7 @@ module _ (told : Said) (dirty : List Route) (c : Copying) (tname : List ℕ) (ta
     by : (b : Bool) → (part_mode said.mode == said.mode) ≡ b → AllDone log (if◌then◌else◌ b [] (SetMode part said.mode ∷ []) ++ SyncFile part ∷ Rename part c.target ∷ []) (Some now) → Placing log now
     by true same rows = tail_done marks log now kept has (copy_of (current log) (subst (λ mode. Holds (node (current log) i) from.bytes mode) (eqb-true (part_mode said.mode) said.mode same) full)) rows
     by false other (mid, set, rows) =
-        comes_then told (said_then now) dirty dirty log mid now _ _ (mode_set told dirty c.target part i marks log mid said.mode kept has set)
+        comes_then told said_then dirty dirty log mid now _ _ (mode_set told dirty c.target part i marks log mid said.mode kept has set)
         (λ m k knows. tail_done m mid now k knows.0 (copy_of (current mid) (knows.1 from.bytes (part_mode said.mode) full)) rows)
 
     pub part_placed : Placing log now

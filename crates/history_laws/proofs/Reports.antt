@@ -107,31 +107,21 @@ module _ (told : Said) (dirty : List Route) (marks : Marks) (log : CallLog) (non
   sets path mode w true has is = subst (λ x. WorkKnows told dirty marks log GoesOn x) (let e : Rattle.copy_move.specs.Jobs.sets path mode ≡ w = cc in e) (has_name path (has refl), none)
   sets path mode w false has is = absurd (let f : ⊥ = cc in f)
 
-  copies : (id : ℕ) (source target : Route) (w : Work) (b : Bool) → (is_some (parent_of source) && is_some (parent_of target)) ≡ b
-      → (let o : Option Work = if◌then◌else◌ b (Some (Rattle.copy_move.specs.Jobs.copies id source target)) None in o) ≡ Some w → WorkKnows told dirty marks log GoesOn w
-  copies id source target w true has is =
-      subst (λ x. WorkKnows told dirty marks log GoesOn x) (let e : Rattle.copy_move.specs.Jobs.copies id source target ≡ w = cc in e)
-      (has_name target (and_parts _ _ has).1, (λ e. absurd (let f : ⊥ = cc in f)), (none, λ e. absurd (let f : ⊥ = cc in f)))
-  copies id source target w false has is = absurd (let f : ⊥ = cc in f)
-
-  copies_tree : (id : ℕ) (pair : Pair) (w : Work) (b : Bool) → (is_some (parent_of pair.source) && is_some (parent_of pair.target)) ≡ b
-      → (let o : Option Work = if◌then◌else◌ b (Some (Rattle.copy_move.specs.Jobs.copies_tree id pair)) None in o) ≡ Some w → WorkKnows told dirty marks log GoesOn w
-  copies_tree id pair w true has is =
+  copies : (id : ℕ) (pair : Pair) (w : Work) (b : Bool) → (is_some (parent_of pair.source) && is_some (parent_of pair.target)) ≡ b
+      → (let o : Option Work = if◌then◌else◌ b (Some (Rattle.copy_move.specs.Jobs.copies id pair)) None in o) ≡ Some w → WorkKnows told dirty marks log GoesOn w
+  copies id pair w true has is =
       let both = and_parts (is_some (parent_of pair.source)) (is_some (parent_of pair.target)) has in
-      subst (λ x. WorkKnows told dirty marks log GoesOn x) (let e : Rattle.copy_move.specs.Jobs.copies_tree id pair ≡ w = cc in e)
+      subst (λ x. WorkKnows told dirty marks log GoesOn x) (let e : Rattle.copy_move.specs.Jobs.copies id pair ≡ w = cc in e)
       (begins_tree told dirty marks log id pair none both.0 both.1 (has_name pair.target both.1))
-  copies_tree id pair w false has is = absurd (let f : ⊥ = cc in f)
+  copies id pair w false has is = absurd (let f : ⊥ = cc in f)
 
   pub first_knows : (id : ℕ) (job : Job) (w : Work) → first_work id job ≡ Some w → WorkKnows told dirty marks log GoesOn w
   first_knows id (plan.Delete []) w is = absurd (let f : ⊥ = cc in f)
   first_knows id (plan.Delete (path ∷ [])) w is = deletes path w (is_some (parent_of path)) refl is
   first_knows id (plan.Delete (path ∷ more ∷ paths)) w is = absurd (let f : ⊥ = cc in f)
   first_knows id (plan.Copy []) w is = absurd (let f : ⊥ = cc in f)
-  first_knows id (plan.Copy (pair ∷ [])) w is = copies id pair.source pair.target w (is_some (parent_of pair.source) && is_some (parent_of pair.target)) refl is
+  first_knows id (plan.Copy (pair ∷ [])) w is = copies id pair w (is_some (parent_of pair.source) && is_some (parent_of pair.target)) refl is
   first_knows id (plan.Copy (pair ∷ more ∷ pairs)) w is = absurd (let f : ⊥ = cc in f)
-  first_knows id (plan.CopyTree []) w is = absurd (let f : ⊥ = cc in f)
-  first_knows id (plan.CopyTree (pair ∷ [])) w is = copies_tree id pair w (is_some (parent_of pair.source) && is_some (parent_of pair.target)) refl is
-  first_knows id (plan.CopyTree (pair ∷ more ∷ pairs)) w is = absurd (let f : ⊥ = cc in f)
   first_knows id (plan.MakeFolder path) w is = makes thing.Folder path w (is_some (parent_of path)) (λ has. has) is
   first_knows id (plan.MakeLink path text) w is = makes (thing.Link text) path w (is_some (parent_of path) && is_link_text text) (λ has. (and_parts _ _ has).0) is
   first_knows id (plan.SetMode [] mode) w is = absurd (let f : ⊥ = cc in f)

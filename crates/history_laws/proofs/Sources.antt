@@ -13,15 +13,12 @@ use Rattle.job_reports.specs.declared.report.Cause.{Cause}
 use Rattle.job_reports.specs.declared.report.Did.{Did}
 use Rattle.job_reports.specs.declared.report.Did.TheVariants.{Began, Chunk, Placed, Removed, Made, Set, Kept, Skipped, Cleaned, Barrier, Asked, Merges, Troubled, Ended}
 use Rattle.job_reports.specs.Paths.{folder_of}
-use Rattle.file_copy.specs.AskedCopies.{AskedTells}
-use Rattle.file_copy.specs.Copying.{Copying}
-use Rattle.file_copy.specs.LastSteps.{Winds}
 use Rattle.job_reports.specs.declared.answer.Answer.{Answer}
 use Rattle.job_reports.specs.declared.answer.Answer.TheVariants.{Yes, No, All, Update, Nothing, SizeDiffers, Retry, Skip, SkipAll, Abort}
 use Rattle.thing_making.specs.declared.new_thing.NewThing.{NewThing}
 use Rattle.thing_making.specs.declared.new_thing.NewThing.TheVariants as thing
 use Rattle.copy_move.specs.declared.work.Work.{Work}
-use Rattle.copy_move.specs.declared.work.Work.TheVariants.{Copy, CopyTree, Delete, Make, SetMode}
+use Rattle.copy_move.specs.declared.work.Work.TheVariants.{Copy, Delete, Make, SetMode}
 use Rattle.copy_move.specs.declared.run.Course.{Course}
 use Rattle.copy_move.specs.declared.run.Course.TheVariants.{GoesOn, Asking, InTrouble, OwedSyncFailed, Skips, Ends}
 use Rattle.copy_move.specs.Deletions.{Deleting}
@@ -31,7 +28,7 @@ use Rattle.thing_making.specs.Makings as makings
 use Rattle.copy_move.specs.ModeSettings as modes
 use Rattle.mode_setting.specs.Settings.{Setting}
 use Rattle.mode_setting.specs.Settings as settings
-use Rattle.copy_move.specs.Jobs.{PassesOver, Running, JobTells, TellsOn, WorkTells, WorkWinds, answered, answered_on, copies, copies_tree, deletes, first_work, makes, sets, taken_anew, with_skips}
+use Rattle.copy_move.specs.Jobs.{PassesOver, Running, JobTells, TellsOn, WorkTells, WorkWinds, answered, answered_on, copies, deletes, first_work, makes, sets, taken_anew, with_skips}
 use Rattle.copy_move.specs.Settling.{changed_folder}
 use Rattle.history_laws.specs.Staying.{may_change}
 
@@ -42,13 +39,12 @@ making_item (thing.Link text) path = MakesLink path text
 
 -- what a work is at, whatever its stage
 abbrev pub item_in : Work → Item
-item_in (Copy c) = Copies c.source c.target
-item_in (CopyTree c) = Copies c.top.source c.top.target
+item_in (Copy c) = Copies c.top.source c.top.target
 item_in (Delete d) = Removes d.path
 item_in (Make m) = making_item m.thing m.path
 item_in (SetMode s) = Sets s.path s.mode
 
--- what is copied whole
+-- of a copy
 abbrev tree_item : Pair → Item
 tree_item top = Copies top.source top.target
 
@@ -59,7 +55,6 @@ making_folder (thing.Link text) path = refl
 -- the folder in which it changes names is that of its item
 pub folder_is : (work : Work) → folder_changed (item_in work) ≡ changed_folder work
 folder_is (Copy c) = refl
-folder_is (CopyTree c) = refl
 folder_is (Delete d) = refl
 folder_is (Make m) = making_folder m.thing m.path
 folder_is (SetMode s) = refl
@@ -89,35 +84,13 @@ first_item id (plan.Delete []) = refl
 first_item id (plan.Delete (path ∷ [])) = first_if (is_some (parent_of path)) (deletes path)
 first_item id (plan.Delete (path ∷ more ∷ paths)) = refl
 first_item id (plan.Copy []) = refl
-first_item id (plan.Copy (pair ∷ [])) = first_if (is_some (parent_of pair.source) && is_some (parent_of pair.target)) (copies id pair.source pair.target)
+first_item id (plan.Copy (pair ∷ [])) = first_if (is_some (parent_of pair.source) && is_some (parent_of pair.target)) (copies id pair)
 first_item id (plan.Copy (pair ∷ more ∷ pairs)) = refl
-first_item id (plan.CopyTree []) = refl
-first_item id (plan.CopyTree (pair ∷ [])) = first_if (is_some (parent_of pair.source) && is_some (parent_of pair.target)) (copies_tree id pair)
-first_item id (plan.CopyTree (pair ∷ more ∷ pairs)) = refl
 first_item id (plan.MakeFolder path) = first_if (is_some (parent_of path)) (makes thing.Folder path)
 first_item id (plan.MakeLink path text) = first_if (is_some (parent_of path) && is_link_text text) (makes (thing.Link text) path)
 first_item id (plan.SetMode [] mode) = refl
 first_item id (plan.SetMode (path ∷ []) mode) = first_if (is_some (parent_of path) && nat_le mode 0o7777) (sets path mode)
 first_item id (plan.SetMode (path ∷ more ∷ paths) mode) = refl
-
-copy_paths : (c new : Copying) (did : Did) → AskedTells c did new → item_in (Copy new) ≡ item_in (Copy c)
-copy_paths c new (Began part) t = ap (λ (x : Copying). item_in (Copy x)) t.1.1
-copy_paths c new (Chunk count) (part, said, done, stage, least, most, fits, new_is) = ap (λ (x : Copying). item_in (Copy x)) new_is
-copy_paths c new (Set path) t = absurd t
-copy_paths c new (Placed path) (part, said, stage, path_is, new_is) = ap (λ (x : Copying). item_in (Copy x)) new_is
-copy_paths c new (Cleaned part) (follows, stage, new_is) = ap (λ (x : Copying). item_in (Copy x)) new_is
-copy_paths c new Barrier (stage, dirty, new_is) = ap (λ (x : Copying). item_in (Copy x)) new_is
-copy_paths c new (Troubled trouble) (barrier, new_is) = ap (λ (x : Copying). item_in (Copy x)) new_is
-copy_paths c new (Ended Finished part) (stage, synced, part_is, new_is) = ap (λ (x : Copying). item_in (Copy x)) new_is
-copy_paths c new (Ended Aborted part) t = absurd t
-copy_paths c new (Ended Killed part) t = absurd t
-copy_paths c new (Ended NoMemory part) t = absurd t
-copy_paths c new (Removed path) t = absurd t
-copy_paths c new (Made made) t = absurd t
-copy_paths c new (Kept path) (stage, path_is, new_is) = ap (λ (x : Copying). item_in (Copy x)) new_is
-copy_paths c new (Asked question) (stage, new_is) = ap (λ (x : Copying). item_in (Copy x)) new_is
-copy_paths c new (Merges pair names) t = absurd t
-copy_paths c new (Skipped path why) t = absurd t
 
 deletion_paths : (d new : Deleting) (did : Did) → deletions.Tells d did new → item_in (Delete new) ≡ item_in (Delete d)
 deletion_paths d new (Removed path) (going, within, at) = ap Removes at.path_is
@@ -156,22 +129,6 @@ making_paths m new (Asked question) t = absurd t
 making_paths m new (Merges pair names) t = absurd t
 making_paths m new (Skipped path why) t = absurd t
 making_paths m new (Cleaned part) t = absurd t
-
-copy_winds : (ending : Ending) (c new : Copying) (did : Did) → Winds ending c did new → item_in (Copy new) ≡ item_in (Copy c)
-copy_winds ending c new (Cleaned part) (removable, new_is) = ap (λ (x : Copying). item_in (Copy x)) new_is
-copy_winds ending c new Barrier (dirty, new_is) = ap (λ (x : Copying). item_in (Copy x)) new_is
-copy_winds ending c new (Ended how part) (none, synced, how_is, part_is, new_is) = ap (λ (x : Copying). item_in (Copy x)) new_is
-copy_winds ending c new (Began part) t = absurd t
-copy_winds ending c new (Chunk count) t = absurd t
-copy_winds ending c new (Set path) t = absurd t
-copy_winds ending c new (Placed path) t = absurd t
-copy_winds ending c new (Removed path) t = absurd t
-copy_winds ending c new (Made made) t = absurd t
-copy_winds ending c new (Kept kept) t = absurd t
-copy_winds ending c new (Asked question) t = absurd t
-copy_winds ending c new (Merges pair names) t = absurd t
-copy_winds ending c new (Skipped path why) t = absurd t
-copy_winds ending c new (Troubled trouble) t = absurd t
 
 deletion_winds : (ending : Ending) (d new : Deleting) (did : Did) → deletions.Winds ending d did new → item_in (Delete new) ≡ item_in (Delete d)
 deletion_winds ending d new Barrier (path_is, stage_is, skips_is) = ap Removes path_is
@@ -241,89 +198,61 @@ setting_winds ending s new (Cleaned part) t = absurd t
 setting_winds ending s new (Troubled trouble) t = absurd t
 
 pub work_paths : (old new : Work) (did : Did) → WorkTells old did new → item_in new ≡ item_in old
-work_paths (Copy c) (Copy new) did t = copy_paths c new did t
-work_paths (Copy c) (Delete new) did t = absurd t
-work_paths (Copy c) (Make new) did t = absurd t
-work_paths (Delete d) (Copy new) did t = absurd t
 work_paths (Delete d) (Make new) did t = absurd t
-work_paths (Make m) (Copy new) did t = absurd t
 work_paths (SetMode s) (Copy new) did t = absurd t
-work_paths (CopyTree s) (Copy new) did t = absurd t
-work_paths (SetMode s) (CopyTree new) did t = absurd t
 work_paths (SetMode s) (Delete new) did t = absurd t
-work_paths (CopyTree s) (Delete new) did t = absurd t
+work_paths (Copy s) (Delete new) did t = absurd t
 work_paths (SetMode s) (Make new) did t = absurd t
-work_paths (CopyTree s) (Make new) did t = absurd t
+work_paths (Copy s) (Make new) did t = absurd t
 work_paths (Copy c) (SetMode new) did t = absurd t
-work_paths (Copy c) (CopyTree new) did t = absurd t
-work_paths (CopyTree c) (SetMode new) did t = absurd t
 work_paths (Delete d) (SetMode new) did t = absurd t
-work_paths (Delete d) (CopyTree new) did t = absurd t
+work_paths (Delete d) (Copy new) did t = absurd t
 work_paths (Make m) (SetMode new) did t = absurd t
-work_paths (Make m) (CopyTree new) did t = absurd t
+work_paths (Make m) (Copy new) did t = absurd t
 work_paths (Make m) (Delete new) did t = absurd t
 work_paths (Delete d) (Delete new) did t = deletion_paths d new did t
 work_paths (Make m) (Make new) did t = making_paths m new did t
 work_paths (SetMode s) (SetMode new) did t = setting_paths s new did t
-work_paths (CopyTree c) (CopyTree new) did t = let after = t.after in ap tree_item after.top
+work_paths (Copy c) (Copy new) did t = let after = t.after in ap tree_item after.top
 
 wind_paths : (ending : Ending) (old new : Work) (did : Did) → WorkWinds ending old did new → item_in new ≡ item_in old
-wind_paths ending (Copy c) (Copy new) did t = copy_winds ending c new did t
-wind_paths ending (Copy c) (Delete new) did t = absurd t
-wind_paths ending (Copy c) (Make new) did t = absurd t
-wind_paths ending (Delete d) (Copy new) did t = absurd t
 wind_paths ending (Delete d) (Make new) did t = absurd t
-wind_paths ending (Make m) (Copy new) did t = absurd t
 wind_paths ending (SetMode s) (Copy new) did t = absurd t
-wind_paths ending (CopyTree s) (Copy new) did t = absurd t
-wind_paths ending (SetMode s) (CopyTree new) did t = absurd t
 wind_paths ending (SetMode s) (Delete new) did t = absurd t
-wind_paths ending (CopyTree s) (Delete new) did t = absurd t
+wind_paths ending (Copy s) (Delete new) did t = absurd t
 wind_paths ending (SetMode s) (Make new) did t = absurd t
-wind_paths ending (CopyTree s) (Make new) did t = absurd t
+wind_paths ending (Copy s) (Make new) did t = absurd t
 wind_paths ending (Copy c) (SetMode new) did t = absurd t
-wind_paths ending (Copy c) (CopyTree new) did t = absurd t
-wind_paths ending (CopyTree c) (SetMode new) did t = absurd t
 wind_paths ending (Delete d) (SetMode new) did t = absurd t
-wind_paths ending (Delete d) (CopyTree new) did t = absurd t
+wind_paths ending (Delete d) (Copy new) did t = absurd t
 wind_paths ending (Make m) (SetMode new) did t = absurd t
-wind_paths ending (Make m) (CopyTree new) did t = absurd t
+wind_paths ending (Make m) (Copy new) did t = absurd t
 wind_paths ending (Make m) (Delete new) did t = absurd t
 wind_paths ending (Delete d) (Delete new) did t = deletion_winds ending d new did t
 wind_paths ending (Make m) (Make new) did t = making_winds ending m new did t
 wind_paths ending (SetMode s) (SetMode new) did t = setting_winds ending s new did t
-wind_paths ending (CopyTree c) (CopyTree new) did t = ap tree_item t.top
+wind_paths ending (Copy c) (Copy new) did t = ap tree_item t.top
 
 skip_paths : (work new : Work) (path : Route) → PassesOver work path new → item_in new ≡ item_in work
-skip_paths (Copy c) (Copy new) path (path_is, new_is) = ap (λ (x : Copying). item_in (Copy x)) new_is
-skip_paths (Copy c) (Delete new) path h = absurd h
-skip_paths (Copy c) (Make new) path h = absurd h
-skip_paths (Delete d) (Copy new) path h = absurd h
 skip_paths (Delete d) (Delete new) path at = ap Removes at.path_is
 skip_paths (Delete d) (Make new) path h = absurd h
-skip_paths (Make m) (Copy new) path h = absurd h
 skip_paths (SetMode s) (Copy new) path h = absurd h
-skip_paths (CopyTree s) (Copy new) path h = absurd h
-skip_paths (SetMode s) (CopyTree new) path h = absurd h
 skip_paths (SetMode s) (Delete new) path h = absurd h
-skip_paths (CopyTree s) (Delete new) path h = absurd h
+skip_paths (Copy s) (Delete new) path h = absurd h
 skip_paths (SetMode s) (Make new) path h = absurd h
-skip_paths (CopyTree s) (Make new) path h = absurd h
+skip_paths (Copy s) (Make new) path h = absurd h
 skip_paths (Copy c) (SetMode new) path h = absurd h
-skip_paths (Copy c) (CopyTree new) path h = absurd h
-skip_paths (CopyTree c) (SetMode new) path h = absurd h
 skip_paths (Delete d) (SetMode new) path h = absurd h
-skip_paths (Delete d) (CopyTree new) path h = absurd h
+skip_paths (Delete d) (Copy new) path h = absurd h
 skip_paths (Make m) (SetMode new) path h = absurd h
-skip_paths (Make m) (CopyTree new) path h = absurd h
+skip_paths (Make m) (Copy new) path h = absurd h
 skip_paths (Make m) (Delete new) path h = absurd h
 skip_paths (Make m) (Make new) path (path_is, new_is) = ap (λ (x : Making). item_in (Make x)) new_is
-skip_paths (CopyTree c) (CopyTree new) path (cause, after) = ap tree_item after.top
+skip_paths (Copy c) (Copy new) path (cause, after) = ap tree_item after.top
 skip_paths (SetMode s) (SetMode new) path (path_is, new_is) = ap (λ (x : Setting). item_in (SetMode x)) new_is
 
 anew_paths : (work : Work) → item_in (taken_anew work) ≡ item_in work
 anew_paths (Copy c) = refl
-anew_paths (CopyTree c) = refl
 anew_paths (Delete d) = refl
 anew_paths (Make m) = refl
 anew_paths (SetMode s) = refl
@@ -345,7 +274,6 @@ tells_same old new did t = on_same old new did old.course t
 
 skips_paths : (why : Cause) (work : Work) → item_in (with_skips why work) ≡ item_in work
 skips_paths why (Copy c) = refl
-skips_paths why (CopyTree c) = refl
 skips_paths why (Delete d) = refl
 skips_paths why (Make m) = refl
 skips_paths why (SetMode s) = refl

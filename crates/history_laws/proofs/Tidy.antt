@@ -12,16 +12,13 @@ use Rattle.tree_trait.proofs.Visible.{same_path-self}
 use Rattle.job_reports.specs.declared.report.Did.{Did}
 use Rattle.job_reports.specs.declared.report.Did.TheVariants.{Began, Chunk, Placed, Removed, Made, Set, Kept, Skipped, Cleaned, Barrier, Asked, Merges, Troubled, Ended}
 use Rattle.job_reports.proofs.CallAnswers.{IsDoneCall, one_done}
-use Rattle.file_copy.specs.Copying.{Copying}
-use Rattle.file_copy.specs.Copying as copying
-use Rattle.file_copy.specs.AskedCopies.{AskedTells}
 use Rattle.job_answers.specs.declared.replies.Replies.{Replies}
 use Rattle.copy_move.specs.declared.run.Course.{Course}
 use Rattle.copy_move.specs.declared.run.Course.TheVariants.{GoesOn, Asking, InTrouble, OwedSyncFailed, Skips, Ends}
 use Rattle.copy_move.specs.declared.work.Work.{Work}
 use Rattle.thing_making.specs.declared.making.MakingStage.{MakingStage}
 use Rattle.thing_making.specs.declared.making.MakingStage.TheVariants as making
-use Rattle.copy_move.specs.declared.work.Work.TheVariants.{Copy, CopyTree, Delete, Make, SetMode}
+use Rattle.copy_move.specs.declared.work.Work.TheVariants.{Copy, Delete, Make, SetMode}
 use Rattle.thing_making.specs.Makings.{Making}
 use Rattle.thing_making.specs.Makings as makings
 use Rattle.mode_setting.specs.Settings.{Setting}
@@ -33,7 +30,6 @@ use Rattle.tree_copy.specs.declared.copy.Stage.{Stage as TreeStage}
 use Rattle.tree_copy.specs.declared.copy.Stage.TheVariants.{Going as TreeGoing}
 use Rattle.copy_move.specs.Jobs.{CallsOn, PassesOver, Running, TellsOn, WorkCalls, WorkTells, is_fresh}
 use Rattle.copy_move.specs.Settling.{NoneOwed, WorkLeaves, with_change}
-use Rattle.copy_move.proofs.FolderSteps.{copy_stays}
 use Rattle.copy_move.proofs.ModeSteps.{setting_stays}
 use Rattle.thing_making.proofs.MakingFolders.{making_stays}
 use Rattle.job_reports.specs.Paths.{folder_of, without}
@@ -45,24 +41,7 @@ use Rattle.history_laws.proofs.ModeSteps.{none_stands}
 use Rattle.history_laws.proofs.Owing.{changed_or_before}
 use Rattle.history_laws.proofs.Unchanged.{skip_setting}
 
--- a copy that begins a change is dirty then
-dirty_then : (c new : Copying) (did : Did) → AskedTells c did new → begins_change did ≡ true → copying.is_dirty new.folder ≡ true
-dirty_then c new (Began part) t h = ap (λ (x : Copying). copying.is_dirty x.folder) t.1.1
-dirty_then c new (Removed path) t h = absurd t
-dirty_then c new (Chunk count) t h = absurd (false≢true h)
-dirty_then c new (Set path) t h = absurd t
-dirty_then c new (Placed path) t h = absurd (false≢true h)
-dirty_then c new (Made made) t h = absurd t
-dirty_then c new (Kept kept) t h = absurd (false≢true h)
-dirty_then c new (Asked question) t h = absurd (false≢true h)
-dirty_then c new (Merges pair names) t h = absurd (false≢true h)
-dirty_then c new (Skipped path why) t h = absurd (false≢true h)
-dirty_then c new (Cleaned part) t h = absurd (false≢true h)
-dirty_then c new Barrier t h = absurd (false≢true h)
-dirty_then c new (Troubled trouble) t h = absurd (false≢true h)
-dirty_then c new (Ended ending part) t h = absurd (false≢true h)
-
--- so is the making of a folder
+-- the making of a thing that begins a change is dirty then
 making_dirty : (m new : Making) (did : Did) → makings.Tells m did new → begins_change did ≡ true → makings.is_dirty new.stage ≡ true
 making_dirty m new (Made path) (stage, path_is, new_is) h = ap (λ (x : Making). makings.is_dirty x.stage) new_is
 making_dirty m new (Began part) t h = absurd t
@@ -79,7 +58,7 @@ making_dirty m new Barrier t h = absurd (false≢true h)
 making_dirty m new (Troubled trouble) t h = absurd (false≢true h)
 making_dirty m new (Ended ending part) t h = absurd (false≢true h)
 
--- and a mode that is given
+-- so is a mode that is given
 setting_dirty : (s new : Setting) (did : Did) → settings.Tells s did new → begins_change did ≡ true → settings.is_dirty new.stage ≡ true
 setting_dirty s new (Set path) (stage, path_is, new_is) h = ap (λ (x : Setting). settings.is_dirty x.stage) new_is
 setting_dirty s new (Began part) t h = absurd t
@@ -122,11 +101,9 @@ IsGoing (Skips why) = Unit {0}
 abbrev pub IsApartFrom : Route → List Route → Type 0
 IsApartFrom path dirty = Among dirty (folder_of path) → folder_of path ≡ path
 
--- where the folder of a copy, or of a new thing, isn't dirty, it isn't listed; nor a thing that was given a mode, nor ever the folder around; what is
--- copied whole has begun
+-- where the folder of a new thing isn't dirty, it isn't listed; nor a thing that was given a mode, nor ever the folder around; a copy has begun
 abbrev pub TidyFolder : Work → List Route → Type 0
-TidyFolder (Copy c) dirty = copying.is_dirty c.folder ≡ false → Among dirty (folder_of c.target) → ⊥
-TidyFolder (CopyTree c) dirty = is_fresh_tree c.at.stage ≡ false
+TidyFolder (Copy c) dirty = is_fresh_tree c.at.stage ≡ false
 TidyFolder (Delete d) dirty = Unit {0}
 TidyFolder (Make m) dirty = makings.is_dirty m.stage ≡ false → Among dirty (folder_of m.path) → ⊥
 TidyFolder (SetMode s) dirty = (settings.is_dirty s.stage ≡ false → Among dirty s.path → ⊥) × IsApartFrom s.path dirty
@@ -160,7 +137,6 @@ set_apart s dirty log now owed d among = by s.path refl
 begins_set : (s : Setting) (work : Work) (did : Did) (dirty : List Route) (log now : CallLog) → WorkTells (SetMode s) did work → SettingCalls s did log (Some now) → (settings.is_fresh s.stage ≡ true → NoneOwed (current log) (SetMode s) dirty)
     → begins_change did ≡ true → IsApartFrom s.path dirty
 begins_set s (Copy new) did dirty log now t calls owed h = absurd t
-begins_set s (CopyTree new) did dirty log now t calls owed h = absurd t
 begins_set s (Delete new) did dirty log now t calls owed h = absurd t
 begins_set s (Make new) did dirty log now t calls owed h = absurd t
 begins_set s (SetMode new) (Set path) dirty log now t calls owed h = set_apart s dirty log now (owed (ap settings.is_fresh t.0)) (one_done log (Sets_mode s.path s.mode) now calls)
@@ -181,7 +157,6 @@ begins_set s (SetMode new) (Ended ending part) dirty log now t calls owed h = ab
 begins_apart : (replies : Replies) (old work new : Work) (did : Did) (dirty : List Route) (log now : CallLog) → WorkTells old did work → WorkCalls IsUnclaimed replies old did new log (Some now) → (is_fresh old ≡ true → NoneOwed (current log) old dirty)
     → begins_change did ≡ true → BeginsApart old dirty
 begins_apart replies (Copy c) work new did dirty log now t calls owed h = tt
-begins_apart replies (CopyTree c) work new did dirty log now t calls owed h = tt
 begins_apart replies (Delete d) work new did dirty log now t calls owed h = tt
 begins_apart replies (Make m) work new did dirty log now t calls owed h = tt
 begins_apart replies (SetMode s) work new did dirty log now t calls owed h = begins_set s work did dirty log now t calls owed h
@@ -198,7 +173,7 @@ tidy_by true now folder up dirty dirty_after leaves same old clean among =
 tidy_by false now folder up dirty dirty_after leaves same old clean among =
     old refl (subst (λ q. Among dirty q) same (subst (λ xs. Among xs up) (leaves ∙ ap (λ b. with_change false b folder dirty) clean) among))
 
--- of what is copied whole something was changed then
+-- a copy has changed something then
 going_then : (did : Did) (stage : TreeStage) → begins_change did ≡ true → is_fresh_tree (after_report did stage) ≡ false
 going_then (Began part) stage h = refl
 going_then (Removed path) stage h = refl
@@ -231,11 +206,7 @@ tree_begun did stage new is old = ap is_fresh_tree is ∙ by (begins_change did)
 
 tidy_work : (old new : Work) (did : Did) (dirty dirty_after : List Route) (before after : Option CallLog) → WorkTells old did new → WorkLeaves old did new dirty dirty_after before after
     → ((begins_change did ≡ true → ⊥) → TidyFolder old dirty) → (begins_change did ≡ true → BeginsApart old dirty) → TidyFolder new dirty_after
-tidy_work (Copy c) (Copy new) did dirty dirty_after before after tells leaves old begins = λ clean among.
-    tidy_by (copying.is_dirty c.folder) (copying.is_dirty new.folder) (folder_of c.target) (folder_of new.target) dirty dirty_after leaves (ap folder_of (copy_stays c new did tells)) (old (λ h. both_ways _ clean (dirty_then c new did tells h))) clean among
-tidy_work (Copy c) (Delete new) did dirty dirty_after before after tells leaves old begins = absurd tells
-tidy_work (Delete d) (Copy new) did dirty dirty_after before after tells leaves old begins = absurd tells
-tidy_work (CopyTree c) (CopyTree new) did dirty dirty_after before after tells leaves old begins = let a = tells.after in tree_begun did c.at.stage new.at.stage a.stage old
+tidy_work (Copy c) (Copy new) did dirty dirty_after before after tells leaves old begins = let a = tells.after in tree_begun did c.at.stage new.at.stage a.stage old
 tidy_work (Delete d) (Delete new) did dirty dirty_after before after tells leaves old begins = tt
 tidy_work (SetMode s) (SetMode new) did dirty dirty_after before after tells leaves old begins = (
   λ clean among.
@@ -249,23 +220,17 @@ tidy_work (SetMode s) (SetMode new) did dirty dirty_after before after tells lea
     by false h = (old (λ begun. both_ways _ h begun)).1
 tidy_work (Make m) (Make new) did dirty dirty_after before after tells leaves old begins = λ clean among.
     tidy_by (makings.is_dirty m.stage) (makings.is_dirty new.stage) (folder_of m.path) (folder_of new.path) dirty dirty_after leaves (ap folder_of (making_stays m new did tells)) (old (λ h. both_ways _ clean (making_dirty m new did tells h))) clean among
-tidy_work (Copy c) (Make new) did dirty dirty_after before after tells leaves old begins = absurd tells
 tidy_work (Delete d) (Make new) did dirty dirty_after before after tells leaves old begins = absurd tells
-tidy_work (Make m) (Copy new) did dirty dirty_after before after tells leaves old begins = absurd tells
 tidy_work (SetMode s) (Copy new) did dirty dirty_after before after tells leaves old begins = absurd tells
-tidy_work (CopyTree s) (Copy new) did dirty dirty_after before after tells leaves old begins = absurd tells
-tidy_work (SetMode s) (CopyTree new) did dirty dirty_after before after tells leaves old begins = absurd tells
 tidy_work (SetMode s) (Delete new) did dirty dirty_after before after tells leaves old begins = absurd tells
-tidy_work (CopyTree s) (Delete new) did dirty dirty_after before after tells leaves old begins = absurd tells
+tidy_work (Copy s) (Delete new) did dirty dirty_after before after tells leaves old begins = absurd tells
 tidy_work (SetMode s) (Make new) did dirty dirty_after before after tells leaves old begins = absurd tells
-tidy_work (CopyTree s) (Make new) did dirty dirty_after before after tells leaves old begins = absurd tells
+tidy_work (Copy s) (Make new) did dirty dirty_after before after tells leaves old begins = absurd tells
 tidy_work (Copy c) (SetMode new) did dirty dirty_after before after tells leaves old begins = absurd tells
-tidy_work (Copy c) (CopyTree new) did dirty dirty_after before after tells leaves old begins = absurd tells
-tidy_work (CopyTree c) (SetMode new) did dirty dirty_after before after tells leaves old begins = absurd tells
 tidy_work (Delete d) (SetMode new) did dirty dirty_after before after tells leaves old begins = absurd tells
-tidy_work (Delete d) (CopyTree new) did dirty dirty_after before after tells leaves old begins = absurd tells
+tidy_work (Delete d) (Copy new) did dirty dirty_after before after tells leaves old begins = absurd tells
 tidy_work (Make m) (SetMode new) did dirty dirty_after before after tells leaves old begins = absurd tells
-tidy_work (Make m) (CopyTree new) did dirty dirty_after before after tells leaves old begins = absurd tells
+tidy_work (Make m) (Copy new) did dirty dirty_after before after tells leaves old begins = absurd tells
 tidy_work (Make m) (Delete new) did dirty dirty_after before after tells leaves old begins = absurd tells
 
 skipped_clean : (stage : MakingStage) → makings.is_dirty (makings.skipped stage) ≡ makings.is_dirty stage
@@ -275,31 +240,22 @@ skipped_clean making.Finish = refl
 skipped_clean making.PassedOver = refl
 
 tidy_passes : (old new : Work) (path : Route) (dirty : List Route) → PassesOver old path new → TidyFolder old dirty → TidyFolder new dirty
-tidy_passes (Copy c) (Copy new) path dirty (path_is, new_is) old = subst (λ (n : Copying). TidyFolder (Copy n) dirty) (sym new_is) old
-tidy_passes (Copy c) (Delete new) path dirty h old = absurd h
-tidy_passes (Delete d) (Copy new) path dirty h old = absurd h
-tidy_passes (CopyTree c) (CopyTree new) path dirty (cause, after) old = ap is_fresh_tree after.stage ∙ old
+tidy_passes (Copy c) (Copy new) path dirty (cause, after) old = ap is_fresh_tree after.stage ∙ old
 tidy_passes (Delete d) (Delete new) path dirty h old = tt
 tidy_passes (Make m) (Make new) path dirty (path_is, new_is) old = subst (λ (n : Making). TidyFolder (Make n) dirty) (sym new_is) (λ clean among. old (sym (skipped_clean m.stage) ∙ clean) among)
 tidy_passes (SetMode s) (SetMode new) path dirty (path_is, new_is) old =
     subst (λ (n : Setting). TidyFolder (SetMode n) dirty) (sym new_is) (λ clean among. old.0 (sym (skip_setting s.stage) ∙ clean) among, old.1)
-tidy_passes (Copy c) (Make new) path dirty h old = absurd h
 tidy_passes (Delete d) (Make new) path dirty h old = absurd h
-tidy_passes (Make m) (Copy new) path dirty h old = absurd h
 tidy_passes (SetMode s) (Copy new) path dirty h old = absurd h
-tidy_passes (CopyTree s) (Copy new) path dirty h old = absurd h
-tidy_passes (SetMode s) (CopyTree new) path dirty h old = absurd h
 tidy_passes (SetMode s) (Delete new) path dirty h old = absurd h
-tidy_passes (CopyTree s) (Delete new) path dirty h old = absurd h
+tidy_passes (Copy s) (Delete new) path dirty h old = absurd h
 tidy_passes (SetMode s) (Make new) path dirty h old = absurd h
-tidy_passes (CopyTree s) (Make new) path dirty h old = absurd h
+tidy_passes (Copy s) (Make new) path dirty h old = absurd h
 tidy_passes (Copy c) (SetMode new) path dirty h old = absurd h
-tidy_passes (Copy c) (CopyTree new) path dirty h old = absurd h
-tidy_passes (CopyTree c) (SetMode new) path dirty h old = absurd h
 tidy_passes (Delete d) (SetMode new) path dirty h old = absurd h
-tidy_passes (Delete d) (CopyTree new) path dirty h old = absurd h
+tidy_passes (Delete d) (Copy new) path dirty h old = absurd h
 tidy_passes (Make m) (SetMode new) path dirty h old = absurd h
-tidy_passes (Make m) (CopyTree new) path dirty h old = absurd h
+tidy_passes (Make m) (Copy new) path dirty h old = absurd h
 tidy_passes (Make m) (Delete new) path dirty h old = absurd h
 
 module _ (job new : Running) (did : Did) (dirty dirty_after : List Route) (log now : CallLog) (before : Bool) where

@@ -26,7 +26,7 @@ use Rattle.subtree_copy.specs.Standing.{SubtreeCopying}
 use Rattle.subtree_copy.specs.Unbegun.{MayBegin}
 use Rattle.copy_move.specs.Settling.{NoneOwed}
 use Rattle.copy_move.specs.declared.run.Course.TheVariants.{Asking, GoesOn}
-use Rattle.copy_move.specs.declared.work.Work.TheVariants.{CopyTree}
+use Rattle.copy_move.specs.declared.work.Work.TheVariants.{Copy}
 use Rattle.copy_move.specs.Jobs.{course_after}
 use Rattle.history_laws.proofs.Knowing.{IsKept, Said, settled_marks}
 use Rattle.history_laws.proofs.Stepped.{Comes, comes_map, comes_none, said_after}
@@ -44,7 +44,7 @@ pub record Before (told : Said) (dirty : List Route) (marks : Marks) (log : Call
   pub part : ItemHas told dirty marks (current log) GoesOn mid.item
   pub around : is_fresh c.at.stage ≡ false → AroundKnows told marks (current log) (record c { at = mid })
   pub begun : is_fresh c.at.stage ≡ false → TreeHas told marks log c
-  pub owed : is_fresh c.at.stage ≡ true → NoneOwed (current log) (CopyTree c) dirty
+  pub owed : is_fresh c.at.stage ≡ true → NoneOwed (current log) (Copy c) dirty
 
 -- What is known once something was changed: the source doesn't lie below the target, and what the machine knows of the log as the step began.
 abbrev pub Had : CallLog → SubtreeCopying → Type 0
@@ -55,14 +55,14 @@ had_begun told dirty marks log c mid b some = let h = b.begun some in (h.outside
 
 -- What is known after a step, of the part, and of the folder around once something was changed; and the modes that are owed are, as the history tells them then.
 pub record Then (told : Said) (dirty_after : List Route) (log now : CallLog) (c : SubtreeCopying) (did : Did) (new : Seen) (m : Marks) : Type 0 where
-  pub part : ItemHas (said_after now did (CopyTree c) told) dirty_after m (current now) (course_after did) new.item
-  pub around : is_fresh (after_report did c.at.stage) ≡ false → AroundKnows (said_after now did (CopyTree c) told) m (current now) (record c { at = new })
+  pub part : ItemHas (said_after now did (Copy c) told) dirty_after m (current now) (course_after did) new.item
+  pub around : is_fresh (after_report did c.at.stage) ≡ false → AroundKnows (said_after now did (Copy c) told) m (current now) (record c { at = new })
   pub had : is_fresh (after_report did c.at.stage) ≡ false → Had log c
-  pub modes : OwedModes told.tree new → OwedModes (let s : Said = said_after now did (CopyTree c) told in s.tree) new
+  pub modes : OwedModes told.tree new → OwedModes (let s : Said = said_after now did (Copy c) told in s.tree) new
 
 -- what the machine's step comes to
 abbrev pub Result : Said → List Route → List Route → CallLog → CallLog → SubtreeCopying → Did → Seen → Type 0
-Result told dirty dirty_after log now c did new = Comes told (said_after now did (CopyTree c) told) dirty_after log now (Then told dirty_after log now c did new)
+Result told dirty dirty_after log now c did new = Comes told (said_after now did (Copy c) told) dirty_after log now (Then told dirty_after log now c did new)
 
 -- a report that is no first change comes once something was changed
 pub is_begun : (c : SubtreeCopying) (did : Did) → (is_fresh c.at.stage ≡ true → MayBegin did) → (MayBegin did → ⊥) → is_fresh c.at.stage ≡ false
@@ -182,10 +182,10 @@ module _ (told : Said) (dirty dirty_after : List Route) (marks : Marks) (log now
   finishes did new f list same =
       let still : new.item ≡ Next = ap (λ (x : Seen). x.item) f.stands ∙ none in
       subst (λ d. Comes_to d new) (sym f.says)
-      (subst (λ routes. Comes told (said_after now (Ended Finished None) (CopyTree c) told) routes log now (Then told routes log now c (Ended Finished None) new)) (sym list)
+      (subst (λ routes. Comes told (said_after now (Ended Finished None) (Copy c) told) routes log now (Then told routes log now c (Ended Finished None) new)) (sym list)
       (subst (λ o. Comes told (record told { part = o }) dirty log now (Then told dirty log now c (Ended Finished None) new)) no_part
       (comes_none told told dirty log now (Then told dirty log now c (Ended Finished None) new) marks same kept (record {
-        part = subst (λ i. ItemHas (said_after now (Ended Finished None) (CopyTree c) told) dirty marks (current now) (course_after (Ended Finished None)) i) (sym still) refl;
+        part = subst (λ i. ItemHas (said_after now (Ended Finished None) (Copy c) told) dirty marks (current now) (course_after (Ended Finished None)) i) (sym still) refl;
         around = λ some. elim (b.around some) [
           | inl calm ↦ inl calm
           | inr but ↦ inr (still, subst (λ (l : CallLog). IsCalmBut marks (current l) c.top.target) (sym same) but.1)

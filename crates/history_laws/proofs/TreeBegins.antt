@@ -24,7 +24,7 @@ use Rattle.tree_copy.proofs.InPlaces.{leaves_all, pair_moved}
 use Rattle.subtree_copy.specs.Standing.{SubtreeCopying}
 use Rattle.subtree_copy.specs.Unbegun.{IsOutside}
 use Rattle.copy_move.specs.Settling.{NoneOwed}
-use Rattle.copy_move.specs.declared.work.Work.TheVariants.{CopyTree}
+use Rattle.copy_move.specs.declared.work.Work.TheVariants.{Copy}
 use Rattle.history_laws.specs.Staying.{may_change}
 use Rattle.tree_trait.specs.Refusals.{is_folder}
 use Rattle.history_laws.proofs.Changing.{some_is}
@@ -143,7 +143,7 @@ module _ (told : Said) (dirty : List Route) (marks : Marks) (log : CallLog) (kep
     }
 
   -- as the first change is made
-  module _ (fresh : is_fresh c.at.stage ≡ true) (owed : NoneOwed (current log) (CopyTree c) dirty) where
+  module _ (fresh : is_fresh c.at.stage ≡ true) (owed : NoneOwed (current log) (Copy c) dirty) where
     outside : IsOutside c.at
     outside = stands.unbegun fresh
 
@@ -154,7 +154,7 @@ module _ (told : Said) (dirty : List Route) (marks : Marks) (log : CallLog) (kep
     outermost = ap (λ (x : Seen). x.levels.around) same ∙ outside.around
 
     none_there : NoneOn (current log) up dirty
-    none_there = none_on (current log) (CopyTree c) dirty owed
+    none_there = none_on (current log) (Copy c) dirty owed
 
     -- it is what is copied itself
     target_is : pair.target ≡ top.target
@@ -200,7 +200,7 @@ module _ (told : Said) (dirty : List Route) (marks : Marks) (log : CallLog) (kep
           ];
         }
 
-  pub may_change_now : (is_fresh c.at.stage ≡ false → TreeHas told marks log c) → (is_fresh c.at.stage ≡ true → NoneOwed (current log) (CopyTree c) dirty) → MayChange marks log c mid
+  pub may_change_now : (is_fresh c.at.stage ≡ false → TreeHas told marks log c) → (is_fresh c.at.stage ≡ true → NoneOwed (current log) (Copy c) dirty) → MayChange marks log c mid
   may_change_now begun owed = by (is_fresh c.at.stage) refl
     where
       by : (b : Bool) → is_fresh c.at.stage ≡ b → MayChange marks log c mid

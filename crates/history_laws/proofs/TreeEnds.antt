@@ -28,7 +28,7 @@ use Rattle.job_answers.specs.declared.replies.Replies.{Replies}
 use Rattle.history_laws.proofs.BareTargets.{IsCalmFrom}
 use Rattle.history_laws.proofs.AtWork.{ItemKnown}
 use Rattle.history_laws.proofs.Calm.{IsSetIn, filled_part, was_set, MayWait}
-use Rattle.history_laws.proofs.FileLeads.{not_decided}
+use Rattle.history_laws.proofs.CopySteps.{not_decided}
 use Rattle.history_laws.proofs.NameMarks.{not_owing}
 use Rattle.history_laws.proofs.Names.{IsMarkedIn}
 use Rattle.history_laws.proofs.TreeGoing.{LogHas}

@@ -25,7 +25,7 @@ use Rattle.subtree_copy.specs.Told.{IsAfter}
 use Rattle.subtree_copy.proofs.Unbegun.{unbegun_law}
 use Rattle.copy_move.specs.Settling.{NoneOwed}
 use Rattle.copy_move.specs.declared.run.Course.{Course}
-use Rattle.copy_move.specs.declared.work.Work.TheVariants.{CopyTree}
+use Rattle.copy_move.specs.declared.work.Work.TheVariants.{Copy}
 use Rattle.history_laws.specs.Doubt.{is_pending, name_waits}
 use Rattle.history_laws.proofs.BareTargets.{IsApart, IsCalmFrom, StandsBare, none_below_open}
 use Rattle.history_laws.proofs.AtWork.{ItemKnown}
@@ -57,12 +57,12 @@ log_has told dirty marks log c stands h = record {
 
 -- It is known, too, where the first change may be made: nothing is owed, the folder stands, and nothing stands at the target, or a file or a link.
 module _ (told : Said) (dirty : List Route) (marks : Marks) (log : CallLog) (kept : IsKept told dirty marks log) (c : SubtreeCopying) (stands : TreeStands dirty c) (fresh : is_fresh c.at.stage ≡ true)
-    (owed : NoneOwed (current log) (CopyTree c) dirty) (f : ℕ) (at : find (current log) (folder_of c.top.target) ≡ Some f) (folder : is_folder (node (current log) f) ≡ true) (open_to : (find (current log) c.top.target ≡ None) ⊎ StandsBare (current log) c.top.target) where
+    (owed : NoneOwed (current log) (Copy c) dirty) (f : ℕ) (at : find (current log) (folder_of c.top.target) ≡ Some f) (folder : is_folder (node (current log) f) ≡ true) (open_to : (find (current log) c.top.target ≡ None) ⊎ StandsBare (current log) c.top.target) where
   abbrev up : Route
   up = folder_of c.top.target
 
   none : NoneOn (current log) up dirty
-  none = none_on (current log) (CopyTree c) dirty owed
+  none = none_on (current log) (Copy c) dirty owed
 
   -- the folder that holds the target is the one that is worked
   holds : (inner : Level) (around : List Level) → around ≡ [] → AreMoved c.top inner around → inner.copy.target ≡ up

@@ -31,7 +31,7 @@ use Rattle.tree_copy.specs.declared.item.Item.TheVariants.{Next}
 use Rattle.subtree_copy.specs.Marks.{folder_worked, is_dirty_after, is_left_dirty, was_dirty}
 use Rattle.subtree_copy.specs.Standing.{SubtreeCopying}
 use Rattle.copy_move.specs.declared.run.Course.TheVariants.{GoesOn}
-use Rattle.copy_move.specs.declared.work.Work.TheVariants.{CopyTree}
+use Rattle.copy_move.specs.declared.work.Work.TheVariants.{Copy}
 use Rattle.history_laws.specs.Staying.{may_change}
 use Rattle.history_laws.proofs.DeletionSteps.{joined_holds, joined_more}
 use Rattle.history_laws.proofs.FilledFolders.{IsFilling, met_untouched}
@@ -194,7 +194,7 @@ module _ (told : Said) (dirty dirty_after : List Route) (marks : Marks) (log now
           (λ p. ap (λ (s : Spot). s.value) (kept.known.shows p (no_part_at p))) source_at looked.3 made_path met.target_is
 
       abbrev after : Said
-      after = said_after now (Made made_path) (CopyTree c) told
+      after = said_after now (Made made_path) (Copy c) told
 
       inside : IsKept (within told c) dirty marks log
       inside = within_kept told dirty marks log c mid kept may

@@ -34,7 +34,7 @@ use Rattle.tree_copy.specs.declared.item.Item.TheVariants.{Next}
 use Rattle.tree_copy.proofs.InPlaces.{closed_in_place, leaves_all}
 use Rattle.subtree_copy.specs.Standing.{SubtreeCopying}
 use Rattle.copy_move.specs.declared.run.Course.TheVariants.{GoesOn}
-use Rattle.copy_move.specs.declared.work.Work.TheVariants.{CopyTree}
+use Rattle.copy_move.specs.declared.work.Work.TheVariants.{Copy}
 use Rattle.history_laws.specs.Replayed.{moved_from, with_mode_of}
 use Rattle.tree_trait.specs.Refusals.{is_folder}
 use Rattle.history_laws.proofs.Calm.{IsCalm, filled_part, was_set}
@@ -169,7 +169,7 @@ module _ (told : Said) (dirty dirty_after : List Route) (marks : Marks) (log now
         ]
 
     abbrev after : Said
-    after = said_after now (Set up) (CopyTree c) told
+    after = said_after now (Set up) (Copy c) told
 
     abbrev given : Option Value
     given = option_map (with_mode_of (told.tree (moved_from top.source top.target up)).value) (told.tree up).value

@@ -1,7 +1,8 @@
 -- Where a copy of folders begins a file: its part is made, or a trouble comes before.
-use Rattle.std.proofs.Common.{◌≡◌, ◌⊎◌, Bool, true, false, ◌||◌, List, ◌∷◌, refl, sym, ◌∙◌, ap, subst, inl, inr, Some, None}
-use Rattle.std.proofs.lemmas.Bool.{or_cases, or_left, or_right}
-use Rattle.mc_text.specs.Routes.{Route, same_path}
+use Rattle.std.proofs.Common.{◌≡◌, ◌⊎◌, Bool, true, false, List, ◌∷◌, refl, sym, ◌∙◌, ap, subst, inl, inr, Some, None}
+use Rattle.std.proofs.lemmas.Bool.{or_left}
+use Rattle.mc_text.specs.Routes.{Route}
+use Rattle.tree_trait.specs.CrashImages.{Among}
 use Rattle.tree_trait.specs.Change.{Nothing, CallLog, current, found, with_change}
 use Rattle.tree_trait.proofs.Visible.{same_path-self}
 use Rattle.tree_trait.proofs.Walking.{stat-found}
@@ -28,27 +29,26 @@ use Rattle.tree_copy.specs.declared.item.Item.TheVariants.{Next, File}
 use Rattle.subtree_copy.specs.Marks.{folder_worked, is_dirty_after, is_left_dirty, was_dirty}
 use Rattle.subtree_copy.specs.Standing.{SubtreeCopying}
 use Rattle.copy_move.specs.declared.run.Course.TheVariants.{GoesOn}
-use Rattle.copy_move.specs.declared.work.Work.TheVariants.{Copy, CopyTree}
-use Rattle.copy_move.specs.Settling.{with_change as moves_dirty}
+use Rattle.copy_move.specs.declared.work.Work.TheVariants.{Copy}
 use Rattle.history_laws.specs.Staying.{may_change}
 use Rattle.history_laws.proofs.BareTargets.{free_or_bare}
 use Rattle.history_laws.proofs.FileMoves.{MoveCalls, taken_moves}
 use Rattle.history_laws.proofs.Calming.{stopped_is}
 use Rattle.history_laws.proofs.CopySteps.{copy_begins}
-use Rattle.history_laws.proofs.DeletionSteps.{Steps}
-use Rattle.history_laws.proofs.Filling.{MayBegin, begins_filling, making_stands}
-use Rattle.history_laws.proofs.FilledFolders.{IsFilling}
-use Rattle.history_laws.proofs.JobKnows.{KnowsAfter}
+use Rattle.history_laws.proofs.DeletionSteps.{joined_holds, joined_more}
+use Rattle.history_laws.proofs.Filling.{making_stands}
+use Rattle.history_laws.proofs.FilledFolders.{IsFilling, met_found}
 use Rattle.history_laws.proofs.Knowing.{IsKept, Said}
-use Rattle.history_laws.proofs.KnownParts.{FileKnows, HasName, stage_said}
-use Rattle.history_laws.proofs.Restated.{comes_weaker}
-use Rattle.history_laws.proofs.Stepped.{said_after}
+use Rattle.history_laws.proofs.KnownParts.{FileKnows, HasName}
+use Rattle.history_laws.proofs.Resting.{IsSureFolder}
+use Rattle.history_laws.proofs.Stepped.{Comes, comes_map, said_after}
 use Rattle.history_laws.proofs.StepsKnown.{among_next}
 use Rattle.history_laws.proofs.TreeBefore.{Before, Result, Then, idle_quiet}
-use Rattle.history_laws.proofs.TreeBegins.{within, within_kept, MayChange, Meets, may_change_now, worked_filled, worked_own}
+use Rattle.history_laws.proofs.TreeBegins.{MayChange, Meets, may_change_now, worked_filled, worked_own}
 use Rattle.history_laws.proofs.TreeKnown.{ItemHas}
 use Rattle.history_laws.proofs.TreeSkipped.{file_has}
 use Rattle.history_laws.proofs.TreeSteps.{IsNextOf, next_of}
+use Rattle.history_laws.proofs.Untouched.{IsAsFound, IsBare}
 use Rattle.history_laws.proofs.TreeListed.{list_joins, list_stays, no_part, noted_clean, noted_dirty}
 use Rattle.file_copy.specs.declared.stage.Stage.TheVariants.{Fill}
 
@@ -117,9 +117,16 @@ module _ (told : Said) (dirty dirty_after : List Route) (marks : Marks) (log now
       filling : IsFilling log up (ahead mid)
       filling = worked_filled told dirty marks log kept c mid b.n b.leaves b.stands none t.pair t.next meets clean may.here
 
-      begins : MayBegin marks log f.target
-      begins = subst (λ q. MayBegin marks log q) (sym met.target_is)
-          (begins_filling told dirty marks log up (ahead mid) (target_name mid met.name) kept filling (among_next mid met.name met.rest met.names_are) (may.calm up own))
+      firm : IsSureFolder log up
+      firm = filling.firm
+
+      -- its target is as it was found
+      found_so : IsAsFound marks (current log) f.target
+      found_so =
+          let ready = calls.0 in
+          let bare : IsBare (current log) f.target = ready.bare in
+          subst (λ q. IsAsFound marks (current log) q) (sym met.target_is)
+          (met_found told dirty marks log up (ahead mid) (target_name mid met.name) kept filling (among_next mid met.name met.rest met.names_are) (subst (λ q. IsBare (current log) q) met.target_is bare))
 
       name : HasName f.target
       name = record { name = target_name mid met.name; is = met.target_is ∙ ap (λ q. (let r : Route = target_name mid met.name ∷ q in r)) (sym here) }
@@ -130,55 +137,25 @@ module _ (told : Said) (dirty dirty_after : List Route) (marks : Marks) (log now
       changed : file.is_dirty moved.folder ≡ true
       changed = ap (λ (x : Copying). file.is_dirty x.folder) moved_is
 
-      target_same : moved.target ≡ f.target
-      target_same = ap (λ (x : Copying). x.target) moved_is
-
-      leaves : dirty_after ≡ moves_dirty (file.is_dirty f.folder) (file.is_dirty moved.folder) (folder_of f.target) dirty
-      leaves =
-          list_joins told dirty dirty_after marks log now kept c mid b none clean free did new list
+      joins : dirty_after ≡ joined up dirty
+      joins = list_joins told dirty dirty_after marks log now kept c mid b none clean free did new list
           (ap (λ d. is_left_dirty d new) is ∙ noted_dirty (progress moved.stage) (File moved) did (file.is_dirty moved.folder) mid new stands changed)
-          ∙ (ap (λ q. joined q dirty) (sym here) ∙ sym (ap (λ x. moves_dirty false x (folder_of f.target) dirty) changed))
-
-      come : Steps (within told c) dirty dirty_after marks log now (within_kept told dirty marks log c mid kept may) (Began part) GoesOn (Copy f) (Copy moved)
-      come = copy_begins (within told c) dirty dirty_after marks log now (within_kept told dirty marks log c mid kept may) f (IsPartPlace free mid) moved part (name, (λ e. absurd (let x : ⊥ = cc in x)), (part_none, λ e. absurd (let x : ⊥ = cc in x))) tells calls.0 (calls.1, calls.2) (λ fresh. begins) leaves
-
-      abbrev copied_so : Said
-      copied_so = said_after now (Began part) (Copy f) (within told c)
 
       abbrev after : Said
-      after = said_after now (Began part) (CopyTree c) told
+      after = said_after now (Began part) (Copy c) told
 
-      part_in : folder_of part ≡ folder_of moved.target
-      part_in = (let made = calls.2 in ap folder_of made.1) ∙ ap folder_of (sym target_same)
-
-      folders_less : (p : Route) → after.folders p ≡ true → copied_so.folders p ≡ true
-      folders_less p there = elim (or_cases (same_path p (folder_of c.top.target) || same_path p (folder_of part)) (told.folders p) there) [
-        | inl first ↦ elim (or_cases (same_path p (folder_of c.top.target)) (same_path p (folder_of part)) first) [
-          | inl around ↦ or_right _ _ (or_left _ _ around)
-          | inr beside ↦ or_left _ _ (or_right _ _ beside)
-        ]
-        | inr before ↦ or_right _ _ (or_right _ _ before)
-      ]
-
-      known : (m : Marks) → KnowsAfter (Began part) copied_so dirty_after now GoesOn (Copy moved) m → FileKnows after dirty_after m (current now) GoesOn moved
-      known m (has_name, listed, stage) = (
-        has_name,
-        λ e. (
-          (listed e).0,
-          or_left _ _ (or_right _ _ (subst (λ q. same_path q (folder_of part) ≡ true) part_in (same_path-self (folder_of part)))),
-          or_left _ _ (subst (λ q. may_change (Copies c.top.source c.top.target) q ≡ true) (sym (ap folder_of target_same ∙ here)) own),
-        ),
-        stage_said copied_so after refl m (current now) GoesOn moved moved.stage stage,
-      )
+      come : Comes told after dirty_after log now (λ m. FileKnows after dirty_after m (current now) GoesOn moved)
+      come = copy_begins told dirty dirty_after marks log now kept f moved part (IsPartPlace free mid) (folder_of c.top.target) (may_change (Copies c.top.source c.top.target)) name part_none tells calls.0 (calls.1, calls.2) found_so
+          (subst (IsSureFolder log) (sym here) firm) may.firm (subst (λ q. may_change (Copies c.top.source c.top.target) q ≡ true) (sym here) own) may.calm
+          (subst (λ xs. Among xs (folder_of f.target)) (sym joins) (subst (λ q. Among (joined q dirty) (folder_of f.target)) here (joined_holds (folder_of f.target) dirty))) (λ q among. subst (λ xs. Among xs q) (sym joins) (joined_more up q dirty among))
 
       pub file_begins : Comes_to did new
       file_begins =
           subst (λ d. Comes_to d new) (sym is)
-          (comes_weaker (within told c) copied_so told.folders told.calm after.folders after.calm (λ p before. or_right _ _ before) (λ p before. or_right _ _ before) folders_less (λ p there. or_right _ _ there) dirty_after log now
-          (KnowsAfter (Began part) copied_so dirty_after now GoesOn (Copy moved)) (Then told dirty_after log now c (Began part) new)
-          (λ m k. record {
+          (comes_map told after dirty_after log now (λ m. FileKnows after dirty_after m (current now) GoesOn moved) (Then told dirty_after log now c (Began part) new)
+          (λ m kept_then known. record {
             part = subst (λ (x : Seen). ItemHas after dirty_after m (current now) GoesOn x.item) (sym stands)
-                (file_has after dirty_after m (current now) GoesOn moved (noted did (file.is_dirty moved.folder) mid) moved.stage refl (known m k));
+                (file_has after dirty_after m (current now) GoesOn moved (noted did (file.is_dirty moved.folder) mid) moved.stage refl known);
             around = λ some. inl (or_left _ _ (or_left _ _ (same_path-self (folder_of c.top.target))));
             had = λ some. (may.outside, may.has);
             modes = λ h. h;

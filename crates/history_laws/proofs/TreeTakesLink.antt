@@ -36,7 +36,7 @@ use Rattle.tree_copy.specs.declared.item.Item.TheVariants.{Next, Link}
 use Rattle.subtree_copy.specs.Marks.{folder_worked, is_dirty_after, is_left_dirty, was_dirty}
 use Rattle.subtree_copy.specs.Standing.{SubtreeCopying}
 use Rattle.copy_move.specs.declared.run.Course.TheVariants.{GoesOn}
-use Rattle.copy_move.specs.declared.work.Work.TheVariants.{CopyTree}
+use Rattle.copy_move.specs.declared.work.Work.TheVariants.{Copy}
 use Rattle.history_laws.specs.Staying.{may_change}
 use Rattle.history_laws.proofs.OpenTargets.{taken_bare}
 use Rattle.history_laws.proofs.BareTargets.{free_or_bare}
@@ -256,24 +256,24 @@ module _ (told : Said) (dirty dirty_after : List Route) (marks : Marks) (log now
       }
 
       abbrev Knows : Route → Marks → CallLog → Type 0
-      Knows q k l = LinkKnows (said_after l (Began q) (CopyTree c) told) dirty_after k (current l) source target q
+      Knows q k l = LinkKnows (said_after l (Began q) (Copy c) told) dirty_after k (current l) source target q
 
       settled_then : Knows (name ∷ folder_in) (settled_marks (with_change log makes) marks_then) (with_change log makes)
       settled_then = link_knows_settled (with_change log makes) marks_then after dirty_after source target (name ∷ folder_in) knows
 
       -- so it is known of the copy of the link as it stands then
-      of_moved : (q : Route) (k : Marks) → q ≡ t.part → Knows q k now → LinkKnows (said_after now (Began q) (CopyTree c) told) dirty_after k (current now) moved.source moved.target moved.part
+      of_moved : (q : Route) (k : Marks) → q ≡ t.part → Knows q k now → LinkKnows (said_after now (Began q) (Copy c) told) dirty_after k (current now) moved.source moved.target moved.part
       of_moved q k same known =
-          subst (λ (x : LinkCopying). LinkKnows (said_after now (Began q) (CopyTree c) told) dirty_after k (current now) x.source x.target x.part) (sym tells.2)
-          (subst (λ p. LinkKnows (said_after now (Began q) (CopyTree c) told) dirty_after k (current now) source target p) same known)
+          subst (λ (x : LinkCopying). LinkKnows (said_after now (Began q) (Copy c) told) dirty_after k (current now) x.source x.target x.part) (sym tells.2)
+          (subst (λ p. LinkKnows (said_after now (Began q) (Copy c) told) dirty_after k (current now) source target p) same known)
 
       stands_part : link.has_part moved.stage ≡ true
       stands_part = ap (λ (x : LinkCopying). link.has_part x.stage) tells.2
 
       at_part : (q : Route) → q ≡ t.part → (k : Marks) → Knows q k now → Then told dirty_after log now c (Began q) new k
       at_part q same k known = record {
-        part = subst (λ (x : Seen). ItemHas (said_after now (Began q) (CopyTree c) told) dirty_after k (current now) GoesOn x.item) (sym stands)
-            (link_has (said_after now (Began q) (CopyTree c) told) dirty_after k (current now) GoesOn moved (noted did (link.is_dirty moved.folder) mid) moved.stage refl stands_part (of_moved q k same known));
+        part = subst (λ (x : Seen). ItemHas (said_after now (Began q) (Copy c) told) dirty_after k (current now) GoesOn x.item) (sym stands)
+            (link_has (said_after now (Began q) (Copy c) told) dirty_after k (current now) GoesOn moved (noted did (link.is_dirty moved.folder) mid) moved.stage refl stands_part (of_moved q k same known));
         around = λ some. inl (or_left _ _ (or_left _ _ (same_path-self (folder_of c.top.target))));
         had = λ some. (may.outside, may.has);
         modes = λ h. h;

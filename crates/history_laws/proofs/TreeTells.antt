@@ -29,7 +29,7 @@ use Rattle.copy_move.specs.Jobs.{course_after}
 use Rattle.copy_move.specs.Settling.{NoneOwed}
 use Rattle.copy_move.specs.TreeCopies.{Tells}
 use Rattle.copy_move.specs.declared.run.Course.TheVariants.{GoesOn}
-use Rattle.copy_move.specs.declared.work.Work.TheVariants.{CopyTree}
+use Rattle.copy_move.specs.declared.work.Work.TheVariants.{Copy}
 use Rattle.history_laws.proofs.DeletionSteps.{Steps}
 use Rattle.history_laws.proofs.GivenModes.{leaves_owe}
 use Rattle.history_laws.proofs.JobKnows.{KnowsAfter, may_fill}
@@ -47,7 +47,7 @@ use Rattle.history_laws.proofs.TreeSkipped.{skipped_item, skips_none}
 use Rattle.history_laws.proofs.TreeSkips.{LaidIn}
 
 module _ (told : Said) (dirty dirty_after : List Route) (marks : Marks) (log now : CallLog) (kept : IsKept told dirty marks log) (c new : SubtreeCopying) (did : Did) (k : TreeKnown told dirty marks log GoesOn c) (tells : Tells c did new)
-    (settled : is_fresh c.at.stage ≡ true → NoneOwed (current log) (CopyTree c) dirty) (free : Route → Bool) (replies : Replies) (count f0 f1 : ℕ) (s : SubtreeSteps free replies c new did count dirty dirty_after (Some log) (Some now) f0 f1) where
+    (settled : is_fresh c.at.stage ≡ true → NoneOwed (current log) (Copy c) dirty) (free : Route → Bool) (replies : Replies) (count f0 f1 : ℕ) (s : SubtreeSteps free replies c new did count dirty dirty_after (Some log) (Some now) f0 f1) where
   abbrev mid : Seen
   mid = s.mid
 
@@ -167,7 +167,7 @@ module _ (told : Said) (dirty dirty_after : List Route) (marks : Marks) (log now
           )
 
   abbrev after : Said
-  after = said_after now did (CopyTree c) told
+  after = said_after now did (Copy c) told
 
   -- what was begun is known to be in a folder on the disk
   some_before : (d : Did) → did ≡ d → (MayBegin d → ⊥) → told.folders (folder_of c.top.target) ≡ true
@@ -176,7 +176,7 @@ module _ (told : Said) (dirty dirty_after : List Route) (marks : Marks) (log now
   still_so : is_fresh c.at.stage ≡ false → told.folders (folder_of c.top.target) ≡ true
   still_so some = (let h = goes.begun some in h.folder)
 
-  folder_then : (d : Did) → did ≡ d → is_fresh (after_report d c.at.stage) ≡ false → (let x : Said = said_after now d (CopyTree c) told in x.folders (folder_of c.top.target)) ≡ true
+  folder_then : (d : Did) → did ≡ d → is_fresh (after_report d c.at.stage) ≡ false → (let x : Said = said_after now d (Copy c) told in x.folders (folder_of c.top.target)) ≡ true
   folder_then (Began part) is some = or_left _ _ (or_left _ _ (same_path-self (folder_of c.top.target)))
   folder_then (Made path) is some = or_left _ _ (or_left _ _ (same_path-self (folder_of c.top.target)))
   folder_then (Set path) is some = or_left _ _ (or_left _ _ (same_path-self (folder_of c.top.target)))
@@ -206,7 +206,7 @@ module _ (told : Said) (dirty dirty_after : List Route) (marks : Marks) (log now
           tree_then told dirty dirty_after marks log now kept c new did free replies count f0 f1 s goes.stands k.name told_so had.0 had.1 after (course_after did) m (h.modes stepped.1) (folder_then did refl some) h.part
           (subst (λ (x : SubtreeCopying). AroundKnows after m (current now) x) (sym s.stands) (h.around some))
 
-  knows_after : (d : Did) → (m : Marks) → TreeKnown (said_after now d (CopyTree c) told) dirty_after m now (course_after d) new → KnowsAfter d (said_after now d (CopyTree c) told) dirty_after now (course_after d) (CopyTree new) m
+  knows_after : (d : Did) → (m : Marks) → TreeKnown (said_after now d (Copy c) told) dirty_after m now (course_after d) new → KnowsAfter d (said_after now d (Copy c) told) dirty_after now (course_after d) (Copy new) m
   knows_after (Ended ending part) m known = refl
   knows_after (Began part) m known = known
   knows_after (Chunk bytes) m known = known
@@ -222,5 +222,5 @@ module _ (told : Said) (dirty dirty_after : List Route) (marks : Marks) (log now
   knows_after Barrier m known = known
   knows_after (Troubled trouble) m known = known
 
-  pub tree_tells : Steps told dirty dirty_after marks log now kept did (course_after did) (CopyTree c) (CopyTree new)
-  tree_tells = comes_map told after dirty_after log now (Then told dirty_after log now c did new.at) (KnowsAfter did after dirty_after now (course_after did) (CopyTree new)) (λ m kept_then h. knows_after did m (tree_known m h)) stepped.0
+  pub tree_tells : Steps told dirty dirty_after marks log now kept did (course_after did) (Copy c) (Copy new)
+  tree_tells = comes_map told after dirty_after log now (Then told dirty_after log now c did new.at) (KnowsAfter did after dirty_after now (course_after did) (Copy new)) (λ m kept_then h. knows_after did m (tree_known m h)) stepped.0

@@ -34,7 +34,7 @@ use Rattle.subtree_copy.specs.Reporting.{IsWound, part_wound}
 use Rattle.subtree_copy.specs.Standing.{SubtreeCopying, part_of}
 use Rattle.subtree_copy.specs.SubtreeSteps.{LastSubtreeStep}
 use Rattle.copy_move.specs.declared.work.Work.{Work}
-use Rattle.copy_move.specs.declared.work.Work.TheVariants.{CopyTree}
+use Rattle.copy_move.specs.declared.work.Work.TheVariants.{Copy}
 use Rattle.copy_move.specs.declared.run.Course.TheVariants.{Ends}
 use Rattle.copy_move.specs.DeletionSteps.{after_try}
 use Rattle.copy_move.specs.Steps.{LastLeaves}
@@ -152,7 +152,7 @@ module _ (told : Said) (dirty dirty_after : List Route) (marks : Marks) (log now
 
   module _ (ending : Ending) (c new : SubtreeCopying) (k : TreeKnown told dirty marks log (Ends ending) c) where
     abbrev In : Did → Type 0
-    In did = Steps told dirty dirty_after marks log now kept did (Ends ending) (CopyTree c) (CopyTree new)
+    In did = Steps told dirty dirty_after marks log now kept did (Ends ending) (Copy c) (Copy new)
 
     abbrev part : Option Route
     part = part_of c.at.item
@@ -173,34 +173,34 @@ module _ (told : Said) (dirty dirty_after : List Route) (marks : Marks) (log now
 
         by : calls.LeavesPart part log mid → In Barrier
         by (inl same) =
-            tried told dirty dirty_after marks log now kept folder refusal (Ends ending) (CopyTree new) (λ routes. known routes marks log left)
+            tried told dirty dirty_after marks log now kept folder refusal (Ends ending) (Copy new) (λ routes. known routes marks log left)
             (subst (λ (l : CallLog). Performs {A = Unit {0}} l (SyncFolder folder) (sync_answer refusal) (Some now)) same answer) (sym list)
         by (inr (path, e, is, refused)) =
             comes_then told told dirty dirty_after log mid now _ _
-            (comes_refused told dirty marks log mid (Ends ending) (CopyTree new) kept (known dirty marks log left) (refused_is log mid (RemoveFile path) e (λ s bytes. refl) refused))
-            (λ m kept_then still. tried told dirty dirty_after m mid now kept_then folder refusal (Ends ending) (CopyTree new) (again m still) answer (sym list))
+            (comes_refused told dirty marks log mid (Ends ending) (Copy new) kept (known dirty marks log left) (refused_is log mid (RemoveFile path) e (λ s bytes. refl) refused))
+            (λ m kept_then still. tried told dirty dirty_after m mid now kept_then folder refusal (Ends ending) (Copy new) (again m still) answer (sym list))
 
     -- all ends
     ends_all : (how : Ending) (stays : Option Route) → stays ≡ part → dirty_after ≡ dirty → (mid : CallLog) → calls.LeavesPart part log mid → now ≡ mid → In (Ended how stays)
     ends_all how stays is list mid removal now_is = by removal
       where
         by : calls.LeavesPart part log mid → In (Ended how stays)
-        by (inl same) = ends_left told dirty dirty_after marks log now kept how (CopyTree c) stays (subst (LeavesPart told (current log)) (sym is) left) list (now_is ∙ same)
+        by (inl same) = ends_left told dirty dirty_after marks log now kept how (Copy c) stays (subst (LeavesPart told (current log)) (sym is) left) list (now_is ∙ same)
         by (inr (path, e, path_is, refused)) =
-            comes_then told (said_after now (Ended how stays) (CopyTree c) told) dirty dirty_after log mid now _ _
-            (comes_refused told dirty marks log mid (Ends ending) (CopyTree c) kept k (refused_is log mid (RemoveFile path) e (λ s bytes. refl) refused))
-            (λ m kept_then still. ends_left told dirty dirty_after m mid now kept_then how (CopyTree c) stays
+            comes_then told (said_after now (Ended how stays) (Copy c) told) dirty dirty_after log mid now _ _
+            (comes_refused told dirty marks log mid (Ends ending) (Copy c) kept k (refused_is log mid (RemoveFile path) e (λ s bytes. refl) refused))
+            (λ m kept_then still. ends_left told dirty dirty_after m mid now kept_then how (Copy c) stays
             (subst (LeavesPart told (current mid)) (sym is) (leaves_part told dirty m (current mid) (Ends ending) c.at.item still.part)) list now_is)
 
     pub tree_winds : (did : Did) (count : ℕ) (tells : Option TreeError) (f0 f1 : ℕ) → IsWound ending c did new → LastSubtreeStep ending c new (record { did = did; calls = count; left = tells }) dirty dirty_after (Some log) (Some now) f0 f1
-        → LastCalls part did log (Some now) → LastLeaves (CopyTree c) did dirty dirty_after (Some log) (Some now) → In did
+        → LastCalls part did log (Some now) → LastLeaves (Copy c) did dirty dirty_after (Some log) (Some now) → In did
     tree_winds (Cleaned path) count tells f0 f1 wound s rows leaves =
         let item = left_item ending c new (record { did = Cleaned path; calls = count; left = tells }) dirty dirty_after (Some log) (Some now) f0 f1 wound s in
         let stands : IsLeftPart told (current log) path = subst (LeavesPart told (current log)) wound.may left in
         let listed = part_listed c.at.item ending c.at new.at (record { did = Cleaned path; calls = count; left = tells }) (Some log) (Some now) f0 f1 path refl k.part stands s.winds in
-        let after = said_after now (Cleaned path) (CopyTree c) told in
+        let after = said_after now (Cleaned path) (Copy c) told in
         subst (λ routes. Comes told after routes log now (λ m. TreeKnown after routes m now (Ends ending) new)) (sym leaves.dirty_is)
-        (part_gone path (CopyTree c) (λ m. TreeKnown after dirty m now (Ends ending) new) stands listed
+        (part_gone path (Copy c) (λ m. TreeKnown after dirty m now (Ends ending) new) stands listed
         (subst (λ (l : CallLog). Performs {A = Unit {0}} log (RemoveFile path) (Ok tt) (Some l)) (sym (some_log now rows.0 rows.2)) rows.1)
         (λ m. over after dirty m now ending c new None k.name wound.top item refl))
     tree_winds Barrier count tells f0 f1 wound s rows leaves =

@@ -38,7 +38,7 @@ use Rattle.subtree_copy.specs.Standing.{SubtreeCopying}
 use Rattle.subtree_copy.proofs.Listed.{of_inner}
 use Rattle.copy_move.specs.Jobs.{course_after}
 use Rattle.copy_move.specs.declared.run.Course.TheVariants.{GoesOn}
-use Rattle.copy_move.specs.declared.work.Work.TheVariants.{CopyTree}
+use Rattle.copy_move.specs.declared.work.Work.TheVariants.{Copy}
 use Rattle.history_laws.specs.Replayed.{mode_placed, moved_from, placed_by, placed_copy}
 use Rattle.copy_levels.specs.declared.level.Level.{Level}
 use Rattle.tree_copy.specs.declared.item.Item.{Item as CopyItem}
@@ -46,7 +46,8 @@ use Rattle.file_copy.specs.Copying as file
 use Rattle.history_laws.proofs.AtWork.{ItemKnown}
 use Rattle.history_laws.proofs.Calm.{PartCalm}
 use Rattle.history_laws.proofs.Calming.{stopped_is}
-use Rattle.history_laws.proofs.FileLeads.{file_comes, not_decided}
+use Rattle.history_laws.proofs.CopySteps.{not_decided}
+use Rattle.history_laws.proofs.FileLeads.{file_comes}
 use Rattle.history_laws.proofs.Knowing.{IsKept, Said, settled_marks}
 use Rattle.history_laws.proofs.KnownParts.{FileKnows, LinkKnows, StageKnows, link_knows_settled, link_left}
 use Rattle.history_laws.proofs.LinkParts.{whole_link}
@@ -157,7 +158,7 @@ module _ (told : Said) (dirty dirty_after : List Route) (marks : Marks) (log now
           | inr outermost ↦ inr outermost
         ]
 
-    file_modes : (did : Did) (moved : Copying) → Tells f did moved → (new : Seen) → new ≡ settled (progress moved.stage) (File moved) (noted did (file.is_dirty moved.folder) (idle mid)) → OwedModes told.tree new → OwedModes (let s : Said = said_after now did (CopyTree c) told in s.tree) new
+    file_modes : (did : Did) (moved : Copying) → Tells f did moved → (new : Seen) → new ≡ settled (progress moved.stage) (File moved) (noted did (file.is_dirty moved.folder) (idle mid)) → OwedModes told.tree new → OwedModes (let s : Said = said_after now did (Copy c) told in s.tree) new
     file_modes (Placed path) moved (part, said, stage, path_is, new_is) new stands h =
         subst (λ q. OwedModes (placed_by (Some (Copies c.top.source c.top.target)) q told.tree) new) (sym path_is)
         (elim (file_free part said stage) [
@@ -183,7 +184,7 @@ module _ (told : Said) (dirty dirty_after : List Route) (marks : Marks) (log now
 
     pub works_file : (did : Did) (new : Seen) → FileWorks unclaimed f mid new did (Some log) (Some now) → Listed did new → Comes_to did new
     works_file did new w list =
-        comes_map told (said_after now did (CopyTree c) told) dirty_after log now _ (Then told dirty_after log now c did new)
+        comes_map told (said_after now did (Copy c) told) dirty_after log now _ (Then told dirty_after log now c did new)
         (λ m k known. record { part = known.0; around = λ begun. known.1; had = λ begun. had_begun told dirty marks log c mid b some; modes = file_modes did w.moved w.tells new w.stands })
         (file_comes told dirty dirty_after marks log now kept c f mid new did unclaimed item going (subst (λ i. ItemMoved c.top i) item in_place.item) (subst (λ i. WorkedMarked i mid.levels.inner) item has.marked) calm_file
         (subst (λ i. ItemHas told dirty marks (current log) GoesOn i) item b.part) list w)
@@ -258,10 +259,10 @@ module _ (told : Said) (dirty dirty_after : List Route) (marks : Marks) (log now
         let copies = k.copies in
         let h = k.has in
         let item_moved : IsMoved c.top l.source l.target = subst (λ i. ItemMoved c.top i) item in_place.item in
-        subst (λ routes. Comes told (said_after now (Placed l.target) (CopyTree c) told) routes log now (Then told routes log now c (Placed l.target) new)) (sym (list_same (Placed l.target) moved stands list))
-        (comes_map told (said_after now (Placed l.target) (CopyTree c) told) dirty log now (λ m. (let s : Said = said_after now (Placed l.target) (CopyTree c) told in s.part) ≡ None) (Then told dirty log now c (Placed l.target) new)
+        subst (λ routes. Comes told (said_after now (Placed l.target) (Copy c) told) routes log now (Then told routes log now c (Placed l.target) new)) (sym (list_same (Placed l.target) moved stands list))
+        (comes_map told (said_after now (Placed l.target) (Copy c) told) dirty log now (λ m. (let s : Said = said_after now (Placed l.target) (Copy c) told in s.part) ≡ None) (Then told dirty log now c (Placed l.target) new)
         (λ m kept_then gone. record {
-          part = subst (λ i. ItemHas (said_after now (Placed l.target) (CopyTree c) told) dirty m (current now) GoesOn i) (sym (nothing_left (Placed l.target) moved stands link_stage.Decided stage refl)) gone;
+          part = subst (λ i. ItemHas (said_after now (Placed l.target) (Copy c) told) dirty m (current now) GoesOn i) (sym (nothing_left (Placed l.target) moved stands link_stage.Decided stage refl)) gone;
           around = λ begun. inl calm_link;
           had = λ begun. had_begun told dirty marks log c mid b some;
           modes = λ owed. elim link_free [
@@ -302,11 +303,11 @@ module _ (told : Said) (dirty dirty_after : List Route) (marks : Marks) (log now
     link_cleaned : (moved : LinkCopying) (follows : LinkNext) → moved.stage ≡ link.after_clean follows → Works (Cleaned l.part) moved → Listed (Cleaned l.part) new → AllDone log (RemoveFile l.part ∷ []) (Some now) → Comes_to (Cleaned l.part) new
     link_cleaned moved follows stage stands list rows =
         let h = k.has in
-        subst (λ routes. Comes told (said_after now (Cleaned l.part) (CopyTree c) told) routes log now (Then told routes log now c (Cleaned l.part) new)) (sym (list_same (Cleaned l.part) moved stands list))
-        (part_gone told dirty dirty_after marks log now kept l.part (CopyTree c) (Then told dirty log now c (Cleaned l.part) new) (link_left told marks (current log) l.target l.part k.text k.i h)
+        subst (λ routes. Comes told (said_after now (Cleaned l.part) (Copy c) told) routes log now (Then told routes log now c (Cleaned l.part) new)) (sym (list_same (Cleaned l.part) moved stands list))
+        (part_gone told dirty dirty_after marks log now kept l.part (Copy c) (Then told dirty log now c (Cleaned l.part) new) (link_left told marks (current log) l.target l.part k.text k.i h)
         (subst (λ q. Among dirty q) (sym (ap folder_of h.beside)) k.listed) (row_done log now (RemoveFile l.part) rows)
         (λ m. record {
-          part = subst (λ i. ItemHas (said_after now (Cleaned l.part) (CopyTree c) told) dirty m (current now) GoesOn i) (sym (nothing_left (Cleaned l.part) moved stands (link.after_clean follows) stage (anew follows))) refl;
+          part = subst (λ i. ItemHas (said_after now (Cleaned l.part) (Copy c) told) dirty m (current now) GoesOn i) (sym (nothing_left (Cleaned l.part) moved stands (link.after_clean follows) stage (anew follows))) refl;
           around = λ begun. inl calm_link;
           had = λ begun. had_begun told dirty marks log c mid b some;
           modes = λ owed. owed;

@@ -16,7 +16,7 @@ use Rattle.session_history.specs.declared.history.Event.TheVariants as event
 use Rattle.session_history.specs.Sources.{IsDoneWith, item_in as item_first}
 use Rattle.copy_move.specs.declared.run.Course.TheVariants.{GoesOn}
 use Rattle.copy_move.specs.declared.work.Work.{Work}
-use Rattle.copy_move.specs.declared.work.Work.TheVariants.{Copy, CopyTree, Delete, Make, SetMode}
+use Rattle.copy_move.specs.declared.work.Work.TheVariants.{Copy, Delete, Make, SetMode}
 use Rattle.copy_move.specs.Jobs.{Running, begun_work, first_work, passing_over, skips_of}
 use Rattle.copy_move.specs.Told.{turned, with_next}
 use Rattle.history_laws.proofs.JobKnows.{WorkKnows}
@@ -30,14 +30,12 @@ use Rattle.history_laws.proofs.Unchanged.{first_clean, has_begun}
 -- the kinds that are passed over change nothing else
 pub passing_item : (skips : Skips) (work : Work) → item_in (passing_over skips work) ≡ item_in work
 passing_item skips (Copy c) = refl
-passing_item skips (CopyTree c) = refl
 passing_item skips (Delete d) = refl
 passing_item skips (Make m) = refl
 passing_item skips (SetMode s) = refl
 
 passing_begun : (skips : Skips) (work : Work) → has_begun (passing_over skips work) ≡ has_begun work
 passing_begun skips (Copy c) = refl
-passing_begun skips (CopyTree c) = refl
 passing_begun skips (Delete d) = refl
 passing_begun skips (Make m) = refl
 passing_begun skips (SetMode s) = refl
@@ -99,8 +97,7 @@ one_turned id was job next jobs was_is id_is is =
 
 module _ (told : Said) (dirty : List Route) (marks : Marks) (log : CallLog) where
   passing_knows : (skips : Skips) (work : Work) → WorkKnows told dirty marks log GoesOn work → WorkKnows told dirty marks log GoesOn (passing_over skips work)
-  passing_knows skips (Copy c) k = k
-  passing_knows skips (CopyTree c) k = skips_kind told dirty marks log GoesOn c skips k
+  passing_knows skips (Copy c) k = skips_kind told dirty marks log GoesOn c skips k
   passing_knows skips (Delete d) k = k
   passing_knows skips (Make m) k = k
   passing_knows skips (SetMode s) k = k

@@ -12,20 +12,19 @@ use Rattle.job_reports.specs.declared.job.Pair.{Pair}
 use Rattle.job_reports.specs.declared.report.Ending.{Ending}
 use Rattle.job_reports.specs.declared.job.Job.TheVariants as plan
 use Rattle.job_reports.specs.Jobs.{is_link_text}
-use Rattle.file_copy.specs.Copying as copying
 use Rattle.tree_deletion.specs.declared.deletion.Stage.{Stage}
 use Rattle.tree_deletion.specs.declared.deletion.Stage.TheVariants.{Begin, Going, Sync}
 use Rattle.tree_deletion.specs.Standing.{after_item}
 use Rattle.thing_making.specs.declared.new_thing.NewThing.{NewThing}
 use Rattle.thing_making.specs.declared.new_thing.NewThing.TheVariants as thing
 use Rattle.copy_move.specs.declared.work.Work.{Work}
-use Rattle.copy_move.specs.declared.work.Work.TheVariants.{Copy, CopyTree, Delete, Make, SetMode}
+use Rattle.copy_move.specs.declared.work.Work.TheVariants.{Copy, Delete, Make, SetMode}
 use Rattle.thing_making.specs.Makings as makings
 use Rattle.copy_move.specs.ModeSettings as modes
 use Rattle.mode_setting.specs.declared.setting.Stage.{Stage as SettingStage}
 use Rattle.mode_setting.specs.declared.setting.Stage.TheVariants as setting
 use Rattle.mode_setting.specs.Settings as settings
-use Rattle.copy_move.specs.Jobs.{JobTells, PassesOver, Running, TellsOn, WorkTells, WorkWinds, copies, copies_tree, deletes, first_work, makes, sets}
+use Rattle.copy_move.specs.Jobs.{JobTells, PassesOver, Running, TellsOn, WorkTells, WorkWinds, copies, deletes, first_work, makes, sets}
 use Rattle.job_reports.specs.Reports.{ends}
 use Rattle.copy_move.specs.Told.{after_step, cleaned, placed, skipped, spared, synced, told, work_told}
 use Rattle.copy_move.specs.declared.run.Course.{Course}
@@ -43,17 +42,15 @@ is_going Begin = false
 is_going Going = true
 is_going Sync = false
 
--- a change was begun: the folder of a copy or of a new folder is dirty, or a deletion goes on
+-- a change was begun: a copy or a deletion goes on, or what a making or the setting of a mode changed is dirty
 abbrev pub has_begun : Work → Bool
-has_begun (Copy c) = copying.is_dirty c.folder
-has_begun (CopyTree c) = not (is_fresh c.at.stage)
+has_begun (Copy c) = not (is_fresh c.at.stage)
 has_begun (Delete d) = is_going d.stage
 has_begun (Make m) = makings.is_dirty m.stage
 has_begun (SetMode s) = settings.is_dirty s.stage
 
 told_begun : (id : ℕ) (work : Work) → has_begun (work_told id work) ≡ has_begun work
 told_begun id (Copy c) = refl
-told_begun id (CopyTree c) = refl
 told_begun id (Delete d) = refl
 told_begun id (Make m) = refl
 told_begun id (SetMode s) = refl
@@ -89,59 +86,50 @@ synced_setting setting.Done = refl
 
 skipped_begun : (path : Route) (work : Work) → has_begun work ≡ false → has_begun (skipped path work) ≡ false
 skipped_begun path (Copy c) clean = clean
-skipped_begun path (CopyTree c) clean = clean
 skipped_begun path (Delete d) clean = item_begun d.path path d.stage clean
 skipped_begun path (Make m) clean = skip_making m.stage ∙ clean
 skipped_begun path (SetMode s) clean = skip_setting s.stage ∙ clean
 
 spared_begun : (path : Route) (work : Work) → has_begun work ≡ false → has_begun (spared path work) ≡ false
 spared_begun path (Copy c) clean = clean
-spared_begun path (CopyTree c) clean = clean
 spared_begun path (Delete d) clean = item_begun d.path path d.stage clean
 spared_begun path (Make m) clean = clean
 spared_begun path (SetMode s) clean = clean
 
--- it copies one thing with all that lies in it
+-- it is a copy
 abbrev pub is_tree : Work → Bool
-is_tree (CopyTree c) = true
-is_tree (Copy c) = false
+is_tree (Copy c) = true
 is_tree (Delete d) = false
 is_tree (Make m) = false
 is_tree (SetMode s) = false
 
 -- a step leaves it so
 tells_tree : (old new : Work) (did : Did) → WorkTells old did new → is_tree new ≡ false → is_tree old ≡ false
-tells_tree (Copy c) new did t other = refl
 tells_tree (Delete d) new did t other = refl
 tells_tree (Make m) new did t other = refl
 tells_tree (SetMode s) new did t other = refl
-tells_tree (CopyTree c) (CopyTree new) did t other = other
-tells_tree (CopyTree c) (Copy new) did t other = absurd t
-tells_tree (CopyTree c) (Delete new) did t other = absurd t
-tells_tree (CopyTree c) (Make new) did t other = absurd t
-tells_tree (CopyTree c) (SetMode new) did t other = absurd t
+tells_tree (Copy c) (Copy new) did t other = other
+tells_tree (Copy c) (Delete new) did t other = absurd t
+tells_tree (Copy c) (Make new) did t other = absurd t
+tells_tree (Copy c) (SetMode new) did t other = absurd t
 
 winds_tree : (ending : Ending) (old new : Work) (did : Did) → WorkWinds ending old did new → is_tree new ≡ false → is_tree old ≡ false
-winds_tree ending (Copy c) new did t other = refl
 winds_tree ending (Delete d) new did t other = refl
 winds_tree ending (Make m) new did t other = refl
 winds_tree ending (SetMode s) new did t other = refl
-winds_tree ending (CopyTree c) (CopyTree new) did t other = other
-winds_tree ending (CopyTree c) (Copy new) did t other = absurd t
-winds_tree ending (CopyTree c) (Delete new) did t other = absurd t
-winds_tree ending (CopyTree c) (Make new) did t other = absurd t
-winds_tree ending (CopyTree c) (SetMode new) did t other = absurd t
+winds_tree ending (Copy c) (Copy new) did t other = other
+winds_tree ending (Copy c) (Delete new) did t other = absurd t
+winds_tree ending (Copy c) (Make new) did t other = absurd t
+winds_tree ending (Copy c) (SetMode new) did t other = absurd t
 
 passes_tree : (old new : Work) (path : Route) → PassesOver old path new → is_tree new ≡ false → is_tree old ≡ false
-passes_tree (Copy c) new path h other = refl
 passes_tree (Delete d) new path h other = refl
 passes_tree (Make m) new path h other = refl
 passes_tree (SetMode s) new path h other = refl
-passes_tree (CopyTree c) (CopyTree new) path h other = other
-passes_tree (CopyTree c) (Copy new) path h other = absurd h
-passes_tree (CopyTree c) (Delete new) path h other = absurd h
-passes_tree (CopyTree c) (Make new) path h other = absurd h
-passes_tree (CopyTree c) (SetMode new) path h other = absurd h
+passes_tree (Copy c) (Copy new) path h other = other
+passes_tree (Copy c) (Delete new) path h other = absurd h
+passes_tree (Copy c) (Make new) path h other = absurd h
+passes_tree (Copy c) (SetMode new) path h other = absurd h
 
 on_tree : (old new : Running) (did : Did) (course : Course) → TellsOn course old did new → is_tree new.work ≡ false → is_tree old.work ≡ false
 on_tree old new did GoesOn (work, tells, new_is) other = tells_tree old.work work did tells (sym (ap (λ (x : Running). is_tree x.work) new_is) ∙ other)
@@ -157,28 +145,24 @@ step_tree old new did t other = on_tree old new did old.course t other
 
 told_tree : (id : ℕ) (work : Work) → is_tree (work_told id work) ≡ is_tree work
 told_tree id (Copy c) = refl
-told_tree id (CopyTree c) = refl
 told_tree id (Delete d) = refl
 told_tree id (Make m) = refl
 told_tree id (SetMode s) = refl
 
 placed_begun : (work : Work) → is_tree work ≡ false → has_begun (placed work) ≡ has_begun work
-placed_begun (Copy c) other = refl
-placed_begun (CopyTree c) other = absurd (true≢false other)
+placed_begun (Copy c) other = absurd (true≢false other)
 placed_begun (Delete d) other = refl
 placed_begun (Make m) other = refl
 placed_begun (SetMode s) other = refl
 
 cleaned_begun : (course : Course) (work : Work) → is_tree work ≡ false → has_begun (cleaned course work) ≡ has_begun work
-cleaned_begun course (Copy c) other = refl
-cleaned_begun course (CopyTree c) other = absurd (true≢false other)
+cleaned_begun course (Copy c) other = absurd (true≢false other)
 cleaned_begun course (Delete d) other = refl
 cleaned_begun course (Make m) other = refl
 cleaned_begun course (SetMode s) other = refl
 
 synced_begun : (work : Work) → has_begun work ≡ false → has_begun (synced work) ≡ false
-synced_begun (Copy c) clean = refl
-synced_begun (CopyTree c) clean = clean
+synced_begun (Copy c) clean = clean
 synced_begun (Delete d) clean = clean
 synced_begun (Make m) clean = synced_making m.stage
 synced_begun (SetMode s) clean = synced_setting s.stage
@@ -203,7 +187,7 @@ clean_after Barrier job new other none h clean = some_job (record job { work = s
 clean_after (Troubled trouble) job new other none h clean = some_job (record job { course = Rattle.copy_move.specs.Told.course_told job.work trouble }) new h ∙ clean
 clean_after (Ended ending part) job new other none h clean = absurd (let f : ⊥ = cc in f)
 
--- So it is of what is copied whole, whose first change begins a part or makes a folder.
+-- So it is of a copy, whose first change begins a part or makes a folder.
 stage_stays : (did : Did) (stage : TreeStage) → MayBegin did → begins_change did ≡ false → after_report did stage ≡ stage
 stage_stays (Began part) stage may none = absurd (true≢false none)
 stage_stays (Made path) stage may none = absurd (true≢false none)
@@ -227,29 +211,26 @@ not_true false h = absurd (true≢false h)
 as_stage : (old new : TreeStage) → new ≡ old → not (is_fresh old) ≡ false → not (is_fresh new) ≡ false
 as_stage old new is clean = ap (λ s. not (is_fresh s)) is ∙ clean
 
-tree_tells : (c : SubtreeCopying) (work : Work) (did : Did) → WorkTells (CopyTree c) did work → begins_change did ≡ false → has_begun (CopyTree c) ≡ false → has_begun work ≡ false
-tree_tells c (CopyTree new) did t none clean =
+tree_tells : (c : SubtreeCopying) (work : Work) (did : Did) → WorkTells (Copy c) did work → begins_change did ≡ false → has_begun (Copy c) ≡ false → has_begun work ≡ false
+tree_tells c (Copy new) did t none clean =
     let after = t.after in as_stage c.at.stage new.at.stage (after.stage ∙ stage_stays did c.at.stage (t.first (not_true (is_fresh c.at.stage) clean)) none) clean
-tree_tells c (Copy new) did t none clean = absurd t
 tree_tells c (Delete new) did t none clean = absurd t
 tree_tells c (Make new) did t none clean = absurd t
 tree_tells c (SetMode new) did t none clean = absurd t
 
-tree_passes : (c : SubtreeCopying) (work : Work) (path : Route) → PassesOver (CopyTree c) path work → has_begun (CopyTree c) ≡ false → has_begun work ≡ false
-tree_passes c (CopyTree new) path (cause, after) clean = as_stage c.at.stage new.at.stage after.stage clean
-tree_passes c (Copy new) path h clean = absurd h
+tree_passes : (c : SubtreeCopying) (work : Work) (path : Route) → PassesOver (Copy c) path work → has_begun (Copy c) ≡ false → has_begun work ≡ false
+tree_passes c (Copy new) path (cause, after) clean = as_stage c.at.stage new.at.stage after.stage clean
 tree_passes c (Delete new) path h clean = absurd h
 tree_passes c (Make new) path h clean = absurd h
 tree_passes c (SetMode new) path h clean = absurd h
 
-tree_winds : (ending : Ending) (c : SubtreeCopying) (work : Work) (did : Did) → WorkWinds ending (CopyTree c) did work → has_begun (CopyTree c) ≡ false → has_begun work ≡ false
-tree_winds ending c (CopyTree new) did t clean = as_stage c.at.stage new.at.stage t.stage clean
-tree_winds ending c (Copy new) did t clean = absurd t
+tree_winds : (ending : Ending) (c : SubtreeCopying) (work : Work) (did : Did) → WorkWinds ending (Copy c) did work → has_begun (Copy c) ≡ false → has_begun work ≡ false
+tree_winds ending c (Copy new) did t clean = as_stage c.at.stage new.at.stage t.stage clean
 tree_winds ending c (Delete new) did t clean = absurd t
 tree_winds ending c (Make new) did t clean = absurd t
 tree_winds ending c (SetMode new) did t clean = absurd t
 
-tree_clean : (job new : Running) (did : Did) (c : SubtreeCopying) (course : Course) → job.work ≡ CopyTree c → TellsOn course job did new → begins_change did ≡ false → has_begun job.work ≡ false → has_begun new.work ≡ false
+tree_clean : (job new : Running) (did : Did) (c : SubtreeCopying) (course : Course) → job.work ≡ Copy c → TellsOn course job did new → begins_change did ≡ false → has_begun job.work ≡ false → has_begun new.work ≡ false
 tree_clean job new did c GoesOn is (work, tells, new_is) none clean =
     ap (λ (x : Running). has_begun x.work) new_is ∙ tree_tells c work did (subst (λ w. WorkTells w did work) is tells) none (sym (ap has_begun is) ∙ clean)
 tree_clean job new did c (InTrouble halt) is t none clean = absurd t
@@ -268,8 +249,7 @@ step_clean job new did tells on none clean = by job.work refl
     other is = sym (told_begun new.id new.work) ∙ clean_after did (told job) (told new) (told_tree job.id job.work ∙ is) none (told_follows job new did tells on) (told_begun job.id job.work ∙ clean)
 
     by : (work : Work) → job.work ≡ work → has_begun new.work ≡ false
-    by (CopyTree c) is = tree_clean job new did c job.course is tells none clean
-    by (Copy c) is = other (ap is_tree is)
+    by (Copy c) is = tree_clean job new did c job.course is tells none clean
     by (Delete d) is = other (ap is_tree is)
     by (Make m) is = other (ap is_tree is)
     by (SetMode s) is = other (ap is_tree is)
@@ -283,12 +263,8 @@ makes_clean : (new : NewThing) (path : Route) (w : Work) (b : Bool) → (let o :
 makes_clean new path w true is = let e : makes new path ≡ w = cc in ap has_begun (sym e)
 makes_clean new path w false is = absurd (let f : ⊥ = cc in f)
 
-copies_clean : (id : ℕ) (source target : Route) (w : Work) (b : Bool) → (let o : Option Work = if◌then◌else◌ b (Some (copies id source target)) None in o) ≡ Some w → has_begun w ≡ false
-copies_clean id source target w true is = let e : copies id source target ≡ w = cc in ap has_begun (sym e)
-copies_clean id source target w false is = absurd (let f : ⊥ = cc in f)
-
-trees_clean : (id : ℕ) (pair : Pair) (w : Work) (b : Bool) → (let o : Option Work = if◌then◌else◌ b (Some (copies_tree id pair)) None in o) ≡ Some w → has_begun w ≡ false
-trees_clean id pair w true is = let e : copies_tree id pair ≡ w = cc in ap has_begun (sym e)
+trees_clean : (id : ℕ) (pair : Pair) (w : Work) (b : Bool) → (let o : Option Work = if◌then◌else◌ b (Some (copies id pair)) None in o) ≡ Some w → has_begun w ≡ false
+trees_clean id pair w true is = let e : copies id pair ≡ w = cc in ap has_begun (sym e)
 trees_clean id pair w false is = absurd (let f : ⊥ = cc in f)
 
 sets_clean : (path : Route) (mode : ℕ) (w : Work) (b : Bool) → (let o : Option Work = if◌then◌else◌ b (Some (sets path mode)) None in o) ≡ Some w → has_begun w ≡ false
@@ -300,11 +276,8 @@ first_clean id (plan.Delete []) w is = absurd (let f : ⊥ = cc in f)
 first_clean id (plan.Delete (path ∷ [])) w is = deletes_clean path w (is_some (parent_of path)) is
 first_clean id (plan.Delete (path ∷ more ∷ paths)) w is = absurd (let f : ⊥ = cc in f)
 first_clean id (plan.Copy []) w is = absurd (let f : ⊥ = cc in f)
-first_clean id (plan.Copy (pair ∷ [])) w is = copies_clean id pair.source pair.target w (is_some (parent_of pair.source) && is_some (parent_of pair.target)) is
+first_clean id (plan.Copy (pair ∷ [])) w is = trees_clean id pair w (is_some (parent_of pair.source) && is_some (parent_of pair.target)) is
 first_clean id (plan.Copy (pair ∷ more ∷ pairs)) w is = absurd (let f : ⊥ = cc in f)
-first_clean id (plan.CopyTree []) w is = absurd (let f : ⊥ = cc in f)
-first_clean id (plan.CopyTree (pair ∷ [])) w is = trees_clean id pair w (is_some (parent_of pair.source) && is_some (parent_of pair.target)) is
-first_clean id (plan.CopyTree (pair ∷ more ∷ pairs)) w is = absurd (let f : ⊥ = cc in f)
 first_clean id (plan.MakeFolder path) w is = makes_clean thing.Folder path w (is_some (parent_of path)) is
 first_clean id (plan.MakeLink path text) w is = makes_clean (thing.Link text) path w (is_some (parent_of path) && is_link_text text) is
 first_clean id (plan.SetMode [] mode) w is = absurd (let f : ⊥ = cc in f)

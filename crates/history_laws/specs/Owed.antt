@@ -15,11 +15,10 @@ use Rattle.session_history.specs.declared.history.Entry.{Entry}
 use Rattle.session_history.specs.Named.{has_changed, named_parts}
 use Rattle.copy_move.specs.declared.run.Course.TheVariants.{GoesOn}
 use Rattle.copy_move.specs.declared.work.Work.{Work}
-use Rattle.copy_move.specs.declared.work.Work.TheVariants.{Copy, SetMode}
+use Rattle.copy_move.specs.declared.work.Work.TheVariants.{SetMode}
 use Rattle.copy_move.specs.Jobs.{Running, is_fresh}
 use Rattle.copy_move.specs.Settling.{IsMountOf, changed_folder, is_own}
 use Rattle.copy_move.specs.Steps.{RunStep, step_made}
-use Rattle.tree_deletion.specs.Folders.{is_of}
 use Rattle.history_laws.specs.Traces.{IsUnclaimed, IsTraced, Stand, StepLeads, WorkLeads, unless_ended}
 use Rattle.history_laws.specs.Doubt.{IsMountInDoubt, is_unsettled, name_waits, node_waits, way_waits}
 
@@ -50,7 +49,6 @@ pub record FirstChangeLaw : Type 0 where
 -- a path of a job's own: one in a folder of its own, of a copy also one below its target, or the thing to which it gives a mode
 abbrev pub is_own_path : Work → Route → Bool
 is_own_path (SetMode s) path = same_path path s.path
-is_own_path (Copy c) path = is_of (folder_of c.target) c.target (folder_of path)
 is_own_path work path = is_own work (folder_of path)
 
 -- a mount in doubt is no matter of a job that changes names around it

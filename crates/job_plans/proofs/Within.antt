@@ -133,12 +133,12 @@ copied_within paths mask typed pairs within asked sound =
     (targets_within _ _ pairs asked.targets_are))
 
 trees_work : (pairs : List PlannedPair) → Each (λ pair. lie_within pair ≡ true) pairs
-    → list_all is_workable (map (λ (pair : Pair). plan.CopyTree (pair ∷ [])) (reported pairs)) ≡ true
+    → list_all is_workable (map (λ (pair : Pair). plan.Copy (pair ∷ [])) (reported pairs)) ≡ true
 trees_work [] h = refl
 trees_work (pair ∷ pairs) h =
-    both (lie_within pair) (list_all is_workable (map (λ (pair : Pair). plan.CopyTree (pair ∷ [])) (reported pairs))) h.0 (trees_work pairs h.1)
+    both (lie_within pair) (list_all is_workable (map (λ (pair : Pair). plan.Copy (pair ∷ [])) (reported pairs))) h.0 (trees_work pairs h.1)
 
 -- and can be worked
-pub copy_works : (pairs : List PlannedPair) (told : List Pair) → can_be_copied pairs ≡ true → told ≡ reported pairs → are_workable (plan.CopyTree told) ≡ true
+pub copy_works : (pairs : List PlannedPair) (told : List Pair) → can_be_copied pairs ≡ true → told ≡ reported pairs → are_workable (plan.Copy told) ≡ true
 copy_works [] told within is = absurd cc
-copy_works (pair ∷ pairs) told within is = ap (λ (l : List Pair). are_workable (plan.CopyTree l)) is ∙ trees_work (pair ∷ pairs) (all_pass lie_within (pair ∷ pairs) within)
+copy_works (pair ∷ pairs) told within is = ap (λ (l : List Pair). are_workable (plan.Copy l)) is ∙ trees_work (pair ∷ pairs) (all_pass lie_within (pair ∷ pairs) within)

@@ -33,7 +33,7 @@ reported = map (λ (pair : PlannedPair). record { source = pair.source; target =
 
 -- the copy of things, each with all that lies in it
 abbrev pub copy_plan : List PlannedPair → Job
-copy_plan pairs = plan.CopyTree (reported pairs)
+copy_plan pairs = plan.Copy (reported pairs)
 
 -- at least one source with its target, of which each lies in a folder
 abbrev pub lie_within : PlannedPair → Bool

@@ -85,7 +85,7 @@ fn plan_to(alloc: Global, pairs: PlannedPairs) -> Result<JobPlan, NoMemory>
     requires within { can_be_copied pairs ≡ true }
     ensures { IfOk result (BeginsCopy pairs) }
 {
-    Ok(JobPlan::Begins(Job::CopyTree(reported(alloc, pairs)?)))
+    Ok(JobPlan::Begins(Job::Copy(reported(alloc, pairs)?)))
 }
 
 /// The pairs of a plan, as jobs have them.

@@ -3,7 +3,7 @@ use Rattle.std.specs.Prelude.{ℕ, Bool, false, not, ◌&&◌, ◌==◌, nat_le,
 use Rattle.std.specs.List.{list_any}
 use Rattle.mc_text.specs.Routes.{Route, parent_of}
 use Rattle.job_reports.specs.declared.job.Job.{Job}
-use Rattle.job_reports.specs.declared.job.Job.TheVariants.{Copy, CopyTree, Delete, MakeFolder, MakeLink, SetMode}
+use Rattle.job_reports.specs.declared.job.Job.TheVariants.{Copy, Delete, MakeFolder, MakeLink, SetMode}
 use Rattle.job_reports.specs.Paths.{folder_of}
 
 -- a link may say this: 1 to 4,095 bytes and no NUL (`IsLinkText` as a test)
@@ -19,16 +19,13 @@ is_workable (Delete (path ∷ more ∷ paths)) = false
 is_workable (Copy []) = false
 is_workable (Copy (pair ∷ [])) = is_some (parent_of pair.source) && is_some (parent_of pair.target)
 is_workable (Copy (pair ∷ more ∷ pairs)) = false
-is_workable (CopyTree []) = false
-is_workable (CopyTree (pair ∷ [])) = is_some (parent_of pair.source) && is_some (parent_of pair.target)
-is_workable (CopyTree (pair ∷ more ∷ pairs)) = false
 is_workable (MakeFolder path) = is_some (parent_of path)
 is_workable (MakeLink path text) = is_some (parent_of path) && is_link_text text
 is_workable (SetMode [] mode) = false
 is_workable (SetMode (path ∷ []) mode) = is_some (parent_of path) && nat_le mode 0o7777
 is_workable (SetMode (path ∷ more ∷ paths) mode) = false
 
--- what a job works on: a file, or a thing with all that lies in it, that is copied to a target, a thing that is removed, a folder or a link that is made, or a thing that is
+-- what a job works on: a thing with all that lies in it that is copied to a target, a thing that is removed, a folder or a link that is made, or a thing that is
 -- given a mode
 pub data Item : Type 0 where
   Copies : (source : Route) → (target : Route) → Item
@@ -45,9 +42,6 @@ only_item (Delete (path ∷ more ∷ paths)) = None
 only_item (Copy []) = None
 only_item (Copy (pair ∷ [])) = Some (Copies pair.source pair.target)
 only_item (Copy (pair ∷ more ∷ pairs)) = None
-only_item (CopyTree []) = None
-only_item (CopyTree (pair ∷ [])) = Some (Copies pair.source pair.target)
-only_item (CopyTree (pair ∷ more ∷ pairs)) = None
 only_item (MakeFolder path) = Some (Makes path)
 only_item (MakeLink path text) = Some (MakesLink path text)
 only_item (SetMode [] mode) = None

@@ -25,10 +25,8 @@ impl Model for Pairs {
 /// A job, as it was planned.
 #[derive(Debug, Drop)]
 pub enum Job {
-    /// Copies each source, which is a file, to its target.
+    /// Copies each source, with all that lies in it, to its target.
     Copy(Pairs),
-    /// Copies each source, with all that lies in it, to its target, where nothing stands.
-    CopyTree(Pairs),
     /// Deletes these.
     Delete(Paths),
     /// Makes a new, empty folder at this path.

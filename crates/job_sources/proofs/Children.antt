@@ -1,23 +1,22 @@
 -- How many steps a source takes with all that may be copied in its place: those of the children of a folder are counted in the folder's own.
-use Rattle.std.proofs.Common.{◌≡◌, ℕ, zero, suc, ◌+◌, ◌-◌, ◌*◌, ◌^◌, ◌≤◌, Bool, true, false, List, [], ◌∷◌, ◌++◌, length, refl, sym, ◌∙◌, ap, subst, inl, Option, Some, None, arith, mul-le-mul_right}
+use Rattle.std.proofs.Common.{◌≡◌, ℕ, zero, suc, ◌+◌, ◌-◌, ◌*◌, ◌^◌, ◌≤◌, Bool, true, false, List, [], ◌∷◌, ◌++◌, length, refl, sym, ap, subst, inl, Some, None, arith, mul-le-mul_right}
 use Rattle.std.proofs.Math.Nat.{suc-mul}
 use Rattle.std.proofs.lemmas.List.{length-append}
 use Rattle.std.specs.Prelude.{if◌then◌else◌, is_some, ◌&&◌}
 use Rattle.std.specs.Option.{option_map_or}
 use Rattle.mc_text.specs.Routes.{Route, parent_of, spelled}
-use Rattle.tree_trait.specs.CrashImages.{Among}
 use Rattle.job_reports.specs.declared.job.Job.{Job}
-use Rattle.job_reports.specs.declared.job.Job.TheVariants.{Copy, CopyTree, Delete, MakeFolder, MakeLink, SetMode}
+use Rattle.job_reports.specs.declared.job.Job.TheVariants.{Copy, Delete, MakeFolder, MakeLink, SetMode}
 use Rattle.job_reports.specs.declared.job.Pair.{Pair}
 use Rattle.job_reports.specs.Jobs.{is_link_text}
 use Rattle.session_history.specs.Sources.{children_in}
 use Rattle.subtree_copy.specs.Standing.{started}
 use Rattle.tree_copy.specs.Taking.{AreShort}
 use Rattle.copy_move.specs.declared.work.Work.{Work}
-use Rattle.copy_move.specs.Jobs.{copies, copies_tree, deletes, first_work, makes, sets}
+use Rattle.copy_move.specs.Jobs.{copies, deletes, first_work, makes, sets}
 use Rattle.thing_making.specs.declared.new_thing.NewThing.TheVariants as thing
 use Rattle.copy_move.specs.Ranks.{work_rank}
-use Rattle.job_sources.specs.Turning.{below_steps, children_left, is_over, merged_steps, pair_steps, room_below, source_rank, sources_rank, tree_steps}
+use Rattle.job_sources.specs.Turning.{below_steps, children_left, is_over, merged_steps, room_below, source_rank, sources_rank, tree_steps}
 
 -- a thing's own steps, and those of what is copied in its place
 merged_parts : (own room : ℕ) → merged_steps own room ≡ own + below_steps own room
@@ -74,23 +73,17 @@ if_alone false w none = omega arith
 some_steps : (room : ℕ) → 1 ≤ merged_steps tree_steps room
 some_steps room = let parts = merged_parts tree_steps room in omega (arith, parts)
 
-file_cost : (id : ℕ) (pair : Pair) → start_cost (copies id pair.source pair.target) ≤ merged_steps tree_steps (room_below pair.source)
-file_cost id pair = let parts = merged_parts tree_steps (room_below pair.source) in omega (arith, parts)
-
-tree_cost : (id : ℕ) (pair : Pair) → start_cost (copies_tree id pair) ≤ merged_steps tree_steps (room_below pair.source)
+tree_cost : (id : ℕ) (pair : Pair) → start_cost (copies id pair) ≤ merged_steps tree_steps (room_below pair.source)
 tree_cost id pair =
     let parts = merged_parts tree_steps (room_below pair.source) in
-    let none : children_left (copies_tree id pair) ≤ below_steps tree_steps (room_below pair.source) = unless_over (is_over (let c = started id pair in c.at)) (below_steps tree_steps (room_below pair.source)) in
-    let own : 3 * work_rank (copies_tree id pair) + 1 ≡ tree_steps = refl in
+    let none : children_left (copies id pair) ≤ below_steps tree_steps (room_below pair.source) = unless_over (is_over (let c = started id pair in c.at)) (below_steps tree_steps (room_below pair.source)) in
+    let own : 3 * work_rank (copies id pair) + 1 ≡ tree_steps = refl in
     omega (arith, parts, none, own)
 
 pub cost_within : (id : ℕ) (source : Job) → option_map_or start_cost (first_work id source) 1 ≤ source_rank id source
 cost_within id (Copy []) = omega arith
-cost_within id (Copy (pair ∷ [])) = if_workable (is_some (parent_of pair.source) && is_some (parent_of pair.target)) (copies id pair.source pair.target) _ (file_cost id pair) (some_steps (room_below pair.source))
+cost_within id (Copy (pair ∷ [])) = if_workable (is_some (parent_of pair.source) && is_some (parent_of pair.target)) (copies id pair) _ (tree_cost id pair) (some_steps (room_below pair.source))
 cost_within id (Copy (pair ∷ more ∷ pairs)) = some_steps (room_below pair.source)
-cost_within id (CopyTree []) = omega arith
-cost_within id (CopyTree (pair ∷ [])) = if_workable (is_some (parent_of pair.source) && is_some (parent_of pair.target)) (copies_tree id pair) _ (tree_cost id pair) (some_steps (room_below pair.source))
-cost_within id (CopyTree (pair ∷ more ∷ pairs)) = some_steps (room_below pair.source)
 cost_within id (Delete []) = omega arith
 cost_within id (Delete (path ∷ [])) = if_alone (is_some (parent_of path)) (deletes path) refl
 cost_within id (Delete (path ∷ more ∷ paths)) = omega arith

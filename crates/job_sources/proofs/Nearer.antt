@@ -15,16 +15,16 @@ use Rattle.session_history.specs.Sources.{children_in, left_by}
 use Rattle.copy_move.specs.declared.run.Course.{Course}
 use Rattle.copy_move.specs.declared.run.Course.TheVariants.{GoesOn, Asking, InTrouble, OwedSyncFailed, Skips, Ends}
 use Rattle.copy_move.specs.declared.work.Work.{Work}
-use Rattle.copy_move.specs.Jobs.{Running, TellsOn, closed_job, first_work, passing_over, skips_of}
+use Rattle.copy_move.specs.Jobs.{Running, TellsOn, first_work, passing_over, skips_of}
 use Rattle.copy_move.specs.Ranks.{rank_at, rank_with, work_rank}
 use Rattle.copy_move.specs.Steps.{RunStep, SyncsOwed, step_made}
-use Rattle.copy_move.specs.Told.{if_closed, turned, with_next}
+use Rattle.copy_move.specs.Told.{if_closed, with_next}
 use Rattle.job_answers.specs.declared.skips.Skips.{Skips as SkippedKinds}
-use Rattle.copy_move.specs.declared.work.Work.TheVariants.{Copy, CopyTree, Delete, Make, SetMode}
+use Rattle.copy_move.specs.declared.work.Work.TheVariants.{Copy, Delete, Make, SetMode}
 use Rattle.copy_move.proofs.Finishing.{Finishes, finish_stays, passing_rank}
 use Rattle.copy_move.proofs.Merging.{merge_stays}
 use Rattle.job_sources.specs.declared.turning.Stepped.{Stepped}
-use Rattle.job_sources.specs.Turning.{GoesOn as GoesWith, Reports, Turns, children_left, children_on, finishes, merges, rank_left, source_rank, sources_rank}
+use Rattle.job_sources.specs.Turning.{GoesOn as GoesWith, Turns, children_left, children_on, finishes, merges, rank_left, source_rank, sources_rank}
 use Rattle.job_sources.proofs.Children.{cost_within, sources_apart, start_cost}
 use Rattle.job_sources.proofs.Over.{closed_within, step_less, step_merges}
 use Rattle.job_sources.proofs.Ranking.{closed_rank, run_falls, some_left}
@@ -125,7 +125,6 @@ merge_falls closed job new dirty dirty_after children left number low less =
 
 passing_children : (skips : SkippedKinds) (work : Work) → children_left (passing_over skips work) ≡ children_left work
 passing_children skips (Copy c) = refl
-passing_children skips (CopyTree c) = refl
 passing_children skips (Delete d) = refl
 passing_children skips (Make m) = refl
 passing_children skips (SetMode s) = refl

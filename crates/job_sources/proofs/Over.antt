@@ -1,7 +1,7 @@
 -- A copy that is over merges nothing any more: what may be left as sources yet falls to nothing with a merge, and rises with no step.
-use Rattle.std.proofs.Common.{◌≡◌, ℕ, ◌+◌, ◌≤◌, Bool, true, false, not, List, [], ◌∷◌, refl, sym, ◌∙◌, ap, subst, inl, inr, Option, Some, None, arith}
+use Rattle.std.proofs.Common.{◌≡◌, ℕ, ◌+◌, ◌≤◌, Bool, true, false, not, List, [], ◌∷◌, refl, sym, ◌∙◌, ap, subst, inl, inr, Option, arith}
 use Rattle.std.specs.Prelude.{if◌then◌else◌, ◌&&◌}
-use Rattle.std.proofs.lemmas.Bool.{false≢true, true≢false}
+use Rattle.std.proofs.lemmas.Bool.{false≢true}
 use Rattle.mc_text.specs.Routes.{Route}
 use Rattle.tree_trait.specs.Change.{CallLog}
 use Rattle.folder_copy.specs.FolderCopying.{is_dirty}
@@ -21,10 +21,9 @@ use Rattle.tree_copy.specs.Standing.{Seen}
 use Rattle.copy_move.specs.declared.run.Course.{Course}
 use Rattle.copy_move.specs.declared.run.Course.TheVariants.{GoesOn, Asking, InTrouble, OwedSyncFailed, Skips, Ends}
 use Rattle.copy_move.specs.declared.work.Work.{Work}
-use Rattle.copy_move.specs.declared.work.Work.TheVariants.{Copy, CopyTree, Delete, Make, SetMode}
-use Rattle.copy_move.specs.Jobs.{PassesOver, Running, TellsOn, WorkTells, WorkWinds, closed_course, course_after}
-use Rattle.copy_move.specs.Steps.{OwnStep, RunStep, SkipWalks, SyncsOwed, WalksOn, step_made}
-use Rattle.copy_move.specs.TreeCopies as trees
+use Rattle.copy_move.specs.declared.work.Work.TheVariants.{Copy, Delete, Make, SetMode}
+use Rattle.copy_move.specs.Jobs.{PassesOver, Running, TellsOn, WorkTells, closed_course}
+use Rattle.copy_move.specs.Steps.{RunStep, SkipWalks, SyncsOwed, WalksOn, step_made}
 use Rattle.copy_move.proofs.Merging.{none_wound}
 use Rattle.job_sources.specs.Turning.{below_steps, children_left, children_on, is_next, is_over, merges, room_below, sources_rank, tree_steps}
 use Rattle.job_sources.proofs.Children.{children_within}
@@ -96,63 +95,45 @@ over_less true b m n h same = let e : (if b then 0 else n) ≡ 0 = ap (λ x. if 
 over_less false true m n h same = omega arith
 over_less false false m n h same = omega (arith, same)
 
-tree_less : (c new : SubtreeCopying) → new.top ≡ c.top → (IsOver c.at → IsOver new.at) → children_left (CopyTree new) ≤ children_left (CopyTree c)
+tree_less : (c new : SubtreeCopying) → new.top ≡ c.top → (IsOver c.at → IsOver new.at) → children_left (Copy new) ≤ children_left (Copy c)
 tree_less c new top over =
     over_less (is_over c.at) (is_over new.at) (below_steps tree_steps (room_below c.top.source)) (below_steps tree_steps (room_below new.top.source))
     (λ was. over_so new.at (over (so_over c.at was))) (ap (λ (p : Pair). below_steps tree_steps (room_below p.source)) top)
 
 -- a step of the work
 tells_less : (old new : Work) (did : Did) → WorkTells old did new → children_left new ≤ children_left old
-tells_less (CopyTree c) (CopyTree new) did t = (let a = t.after in tree_less c new a.top (λ o. (t.over o).0))
-tells_less (Copy c) (Copy new) did t = omega arith
-tells_less (Copy c) (CopyTree new) did t = absurd t
+tells_less (Copy c) (Copy new) did t = (let a = t.after in tree_less c new a.top (λ o. (t.over o).0))
 tells_less (Copy c) (Delete new) did t = absurd t
 tells_less (Copy c) (Make new) did t = absurd t
 tells_less (Copy c) (SetMode new) did t = absurd t
-tells_less (CopyTree c) (Copy new) did t = absurd t
-tells_less (CopyTree c) (Delete new) did t = absurd t
-tells_less (CopyTree c) (Make new) did t = absurd t
-tells_less (CopyTree c) (SetMode new) did t = absurd t
 tells_less (Delete d) (Copy new) did t = absurd t
-tells_less (Delete d) (CopyTree new) did t = absurd t
 tells_less (Delete d) (Delete new) did t = omega arith
 tells_less (Delete d) (Make new) did t = absurd t
 tells_less (Delete d) (SetMode new) did t = absurd t
 tells_less (Make m) (Copy new) did t = absurd t
-tells_less (Make m) (CopyTree new) did t = absurd t
 tells_less (Make m) (Delete new) did t = absurd t
 tells_less (Make m) (Make new) did t = omega arith
 tells_less (Make m) (SetMode new) did t = absurd t
 tells_less (SetMode s) (Copy new) did t = absurd t
-tells_less (SetMode s) (CopyTree new) did t = absurd t
 tells_less (SetMode s) (Delete new) did t = absurd t
 tells_less (SetMode s) (Make new) did t = absurd t
 tells_less (SetMode s) (SetMode new) did t = omega arith
 
 -- a skip of it
 skips_less : (cause : Cause) (old new : Work) (did : Did) (path : Route) → PassesOver old path new → SkipWalks cause old did new → children_left new ≤ children_left old
-skips_less cause (CopyTree c) (CopyTree new) did path p s = tree_less c new (ap (λ (k : SubtreeCopying). k.top) s.stands) (λ o. merged_law.skip cause c new did s o)
-skips_less cause (Copy c) (Copy new) did path p s = omega arith
-skips_less cause (Copy c) (CopyTree new) did path p s = absurd p
+skips_less cause (Copy c) (Copy new) did path p s = tree_less c new (ap (λ (k : SubtreeCopying). k.top) s.stands) (λ o. merged_law.skip cause c new did s o)
 skips_less cause (Copy c) (Delete new) did path p s = absurd p
 skips_less cause (Copy c) (Make new) did path p s = absurd p
 skips_less cause (Copy c) (SetMode new) did path p s = absurd p
-skips_less cause (CopyTree c) (Copy new) did path p s = absurd p
-skips_less cause (CopyTree c) (Delete new) did path p s = absurd p
-skips_less cause (CopyTree c) (Make new) did path p s = absurd p
-skips_less cause (CopyTree c) (SetMode new) did path p s = absurd p
 skips_less cause (Delete d) (Copy new) did path p s = absurd p
-skips_less cause (Delete d) (CopyTree new) did path p s = absurd p
 skips_less cause (Delete d) (Delete new) did path p s = omega arith
 skips_less cause (Delete d) (Make new) did path p s = absurd p
 skips_less cause (Delete d) (SetMode new) did path p s = absurd p
 skips_less cause (Make m) (Copy new) did path p s = absurd p
-skips_less cause (Make m) (CopyTree new) did path p s = absurd p
 skips_less cause (Make m) (Delete new) did path p s = absurd p
 skips_less cause (Make m) (Make new) did path p s = omega arith
 skips_less cause (Make m) (SetMode new) did path p s = absurd p
 skips_less cause (SetMode m) (Copy new) did path p s = absurd p
-skips_less cause (SetMode m) (CopyTree new) did path p s = absurd p
 skips_less cause (SetMode m) (Delete new) did path p s = absurd p
 skips_less cause (SetMode m) (Make new) did path p s = absurd p
 skips_less cause (SetMode m) (SetMode new) did path p s = omega arith
@@ -163,32 +144,23 @@ merged_exactly true b m n k begins over within = absurd (begins refl)
 merged_exactly false b m n k begins over within = let e : (if b then 0 else n) ≡ 0 = ap (λ x. if x then 0 else n) over in omega (arith, e, within)
 
 merges_less : (id : ℕ) (old new : Work) (pair : Pair) (names : List (List ℕ)) → WorkTells old (Merges pair names) new → children_left new + sources_rank id (children_in pair names) ≤ children_left old
-merges_less id (CopyTree c) (CopyTree new) pair names t =
+merges_less id (Copy c) (Copy new) pair names t =
     let m = t.merged pair names refl in
     merged_exactly (is_over c.at) (is_over new.at) (below_steps tree_steps (room_below c.top.source)) (below_steps tree_steps (room_below new.top.source)) (sources_rank id (children_in pair names))
     (λ was. m.begins (so_over c.at was)) (over_so new.at m.over)
     (subst (λ (p : Pair). sources_rank id (children_in pair names) ≤ below_steps tree_steps (room_below p.source)) m.top (children_within id pair names m.short m.few))
-merges_less id (Copy c) (Copy new) pair names t = absurd t
-merges_less id (Copy c) (CopyTree new) pair names t = absurd t
 merges_less id (Copy c) (Delete new) pair names t = absurd t
 merges_less id (Copy c) (Make new) pair names t = absurd t
 merges_less id (Copy c) (SetMode new) pair names t = absurd t
-merges_less id (CopyTree c) (Copy new) pair names t = absurd t
-merges_less id (CopyTree c) (Delete new) pair names t = absurd t
-merges_less id (CopyTree c) (Make new) pair names t = absurd t
-merges_less id (CopyTree c) (SetMode new) pair names t = absurd t
 merges_less id (Delete d) (Copy new) pair names t = absurd t
-merges_less id (Delete d) (CopyTree new) pair names t = absurd t
 merges_less id (Delete d) (Delete new) pair names t = absurd t
 merges_less id (Delete d) (Make new) pair names t = absurd t
 merges_less id (Delete d) (SetMode new) pair names t = absurd t
 merges_less id (Make m) (Copy new) pair names t = absurd t
-merges_less id (Make m) (CopyTree new) pair names t = absurd t
 merges_less id (Make m) (Delete new) pair names t = absurd t
 merges_less id (Make m) (Make new) pair names t = absurd t
 merges_less id (Make m) (SetMode new) pair names t = absurd t
 merges_less id (SetMode s) (Copy new) pair names t = absurd t
-merges_less id (SetMode s) (CopyTree new) pair names t = absurd t
 merges_less id (SetMode s) (Delete new) pair names t = absurd t
 merges_less id (SetMode s) (Make new) pair names t = absurd t
 merges_less id (SetMode s) (SetMode new) pair names t = absurd t

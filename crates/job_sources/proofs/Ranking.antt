@@ -1,22 +1,12 @@
 -- A step leaves the job fewer steps, also where the session is closed.
-use Rattle.std.proofs.Common.{◌≡◌, ℕ, ◌+◌, ◌<◌, ◌≤◌, Bool, true, false, not, List, [], ◌∷◌, length, refl, sym, ap, subst, inl, inr, Option, Some, None, arith}
-use Rattle.std.proofs.lemmas.List.{length-append}
-use Rattle.std.specs.Prelude.{◌^◌, if◌then◌else◌}
-use Rattle.mc_text.specs.Routes.{Route, same_path}
-use Rattle.tree_trait.specs.declared.calls.TreeError.{TreeError}
+use Rattle.std.proofs.Common.{◌≡◌, ℕ, ◌+◌, ◌<◌, ◌≤◌, Bool, true, false, List, length, refl, sym, ap, subst, inl, inr, Option, Some, None, arith}
+use Rattle.std.specs.Prelude.{if◌then◌else◌}
+use Rattle.mc_text.specs.Routes.{Route}
 use Rattle.tree_trait.specs.Change.{CallLog}
-use Rattle.tree_trait.specs.CrashImages.{Among}
-use Rattle.tree_trait.proofs.Visible.{same_path-self}
 use Rattle.job_reports.specs.declared.report.Did.{Did}
 use Rattle.job_reports.specs.declared.report.Did.TheVariants.{Began, Chunk, Placed, Removed, Made, Set, Kept, Skipped, Cleaned, Barrier, Asked, Merges, Troubled, Ended}
-use Rattle.file_copy.specs.declared.stage.Stage.{Stage}
-use Rattle.file_copy.specs.declared.stage.Stage.TheVariants.{Begin, Fill, Clean, Left, Decided}
-use Rattle.file_copy.specs.declared.stage.Next.TheVariants as next
-use Rattle.file_copy.specs.declared.stage.FolderState.{FolderState}
-use Rattle.file_copy.specs.declared.stage.FolderState.TheVariants.{Synced, Dirty}
-use Rattle.file_copy.specs.LastSteps.{last_steps}
 use Rattle.copy_move.specs.declared.work.Work.{Work}
-use Rattle.copy_move.specs.declared.work.Work.TheVariants.{Copy, CopyTree, Delete, Make, SetMode}
+use Rattle.copy_move.specs.declared.work.Work.TheVariants.{Copy, Delete, Make, SetMode}
 use Rattle.copy_move.specs.declared.run.Course.{Course}
 use Rattle.copy_move.specs.declared.run.Course.TheVariants.{GoesOn, Asking, InTrouble, OwedSyncFailed, Skips, Ends}
 use Rattle.copy_move.specs.Jobs.{Running, closed_course}
@@ -28,41 +18,14 @@ use Rattle.thing_making.specs.Makings as makings
 use Rattle.mode_setting.specs.declared.setting.Stage.{Stage as SettingStage}
 use Rattle.mode_setting.specs.declared.setting.Stage.TheVariants as setting
 use Rattle.mode_setting.specs.Settings as settings
-use Rattle.copy_move.specs.DeletionSteps.{after_try}
-use Rattle.copy_move.specs.Ranks.{copy_rank, last_making_steps, last_rank, last_setting_steps, making_rank, rank_at, rank_on, rank_with, setting_rank, work_rank}
-use Rattle.file_copy.specs.Copying as copying
+use Rattle.copy_move.specs.Ranks.{last_making_steps, last_rank, last_setting_steps, making_rank, rank_at, rank_on, rank_with, setting_rank, work_rank}
 use Rattle.tree_deletion.specs.Folders.{joined}
-use Rattle.copy_move.specs.Settling.{WorkLeaves, with_change}
+use Rattle.copy_move.specs.Settling.{WorkLeaves}
 use Rattle.job_reports.specs.Paths.{folder_of, without}
 use Rattle.copy_move.specs.Steps.{LeavesDirty, RunStep, OwedSyncStep, SyncsOwed, step_made}
 use Rattle.copy_move.specs.Told.{if_closed}
 use Rattle.copy_move.proofs.DeletionRuns.{fewer, one_fewer}
 use Rattle.copy_move.proofs.FolderSteps.{joined_more, one_more, tried_more}
-
-more : (most : ℕ) → 0 < most + 8
-more most = omega arith
-
-more_yet : (most : ℕ) → 0 < most + 9
-more_yet most = omega arith
-
-some_copy : (stage : Stage) (folder : FolderState) → 0 < copy_rank stage folder
-some_copy Begin folder = more (2 ^ 63)
-some_copy (Fill part said done) folder = omega arith
-some_copy (Clean part next.Begin) folder = more_yet (2 ^ 63)
-some_copy (Clean part next.Decided) folder = omega arith
-some_copy (Left part) folder = omega arith
-some_copy Decided Dirty = omega arith
-some_copy Decided Synced = omega arith
-
-some_last : (stage : Stage) (folder : FolderState) → 0 < last_steps stage folder
-some_last (Fill part said done) folder = omega arith
-some_last (Clean part follows) folder = omega arith
-some_last Begin Dirty = omega arith
-some_last Begin Synced = omega arith
-some_last (Left part) Dirty = omega arith
-some_last (Left part) Synced = omega arith
-some_last Decided Dirty = omega arith
-some_last Decided Synced = omega arith
 
 some_making : (stage : MakingStage) → 0 < making_rank stage
 some_making making.Make = omega arith
@@ -87,15 +50,13 @@ some_setting_try setting.Sync = omega arith
 some_setting_try setting.Done = omega arith
 
 some_end : (work : Work) → 0 < last_rank work
-some_end (Copy c) = some_last c.stage c.folder
-some_end (CopyTree c) = omega arith
+some_end (Copy c) = omega arith
 some_end (Delete d) = omega arith
 some_end (Make m) = some_making_try m.stage
 some_end (SetMode s) = some_setting_try s.stage
 
 some_work : (work : Work) → 0 < work_rank work
-some_work (Copy c) = some_copy c.stage c.folder
-some_work (CopyTree c) = omega arith
+some_work (Copy c) = omega arith
 some_work (Delete d) = omega arith
 some_work (Make m) = some_making m.stage
 some_work (SetMode s) = some_setting s.stage
@@ -107,7 +68,6 @@ some_steps (InTrouble halt) work = some_end work
 some_steps (OwedSyncFailed cause) work = some_end work
 some_steps Asking work = some_end work
 some_steps (Skips cause) (Copy c) = omega arith
-some_steps (Skips cause) (CopyTree c) = omega arith
 some_steps (Skips cause) (Delete d) = omega arith
 some_steps (Skips cause) (Make m) = omega arith
 some_steps (Skips cause) (SetMode s) = omega arith
@@ -117,17 +77,14 @@ some_steps (Ends ending) work = some_end work
 pub closed_rank : (course : Course) (work : Work) (dirty : List Route) → rank_at dirty (closed_course course) work ≤ rank_at dirty course work
 closed_rank GoesOn work dirty = omega arith
 closed_rank (InTrouble halt) (Copy c) dirty = omega arith
-closed_rank (InTrouble halt) (CopyTree c) dirty = omega arith
 closed_rank (InTrouble halt) (Delete d) dirty = omega arith
 closed_rank (InTrouble halt) (Make m) dirty = omega arith
 closed_rank (InTrouble halt) (SetMode s) dirty = omega arith
 closed_rank (OwedSyncFailed cause) (Copy c) dirty = omega arith
-closed_rank (OwedSyncFailed cause) (CopyTree c) dirty = omega arith
 closed_rank (OwedSyncFailed cause) (Delete d) dirty = omega arith
 closed_rank (OwedSyncFailed cause) (Make m) dirty = omega arith
 closed_rank (OwedSyncFailed cause) (SetMode s) dirty = omega arith
 closed_rank Asking (Copy c) dirty = omega arith
-closed_rank Asking (CopyTree c) dirty = omega arith
 closed_rank Asking (Delete d) dirty = omega arith
 closed_rank Asking (Make m) dirty = omega arith
 closed_rank Asking (SetMode s) dirty = omega arith
@@ -172,30 +129,21 @@ deletion_more d (Skipped path cause) dirty dirty_after before after h = let same
 deletion_more d (Cleaned part) dirty dirty_after before after h = let same = ap length h in omega (arith, same)
 
 work_more : (old new : Work) (did : Did) (dirty dirty_after : List Route) (before after : Option CallLog) → WorkLeaves old did new dirty dirty_after before after → length dirty_after ≤ length dirty + 1
-work_more (Copy c) (Copy new) did dirty dirty_after before after h = subst (λ xs. length xs ≤ length dirty + 1) (sym h) (one_more (copying.is_dirty c.folder) (copying.is_dirty new.folder) (folder_of c.target) dirty)
-work_more (CopyTree c) (CopyTree new) did dirty dirty_after before after h = subst (λ xs. length xs ≤ length dirty + 1) (sym h.list) (one_more h.was h.now h.folder dirty)
-work_more (CopyTree c) (Copy new) did dirty dirty_after before after h = absurd h
-work_more (CopyTree c) (Delete new) did dirty dirty_after before after h = absurd h
-work_more (CopyTree c) (Make new) did dirty dirty_after before after h = absurd h
-work_more (CopyTree c) (SetMode new) did dirty dirty_after before after h = absurd h
-work_more (Copy c) (CopyTree new) did dirty dirty_after before after h = absurd h
-work_more (Delete d) (CopyTree new) did dirty dirty_after before after h = absurd h
-work_more (Make m) (CopyTree new) did dirty dirty_after before after h = absurd h
-work_more (SetMode s) (CopyTree new) did dirty dirty_after before after h = absurd h
+work_more (Copy c) (Copy new) did dirty dirty_after before after h = subst (λ xs. length xs ≤ length dirty + 1) (sym h.list) (one_more h.was h.now h.folder dirty)
 work_more (Copy c) (Delete new) did dirty dirty_after before after h = absurd h
 work_more (Copy c) (Make new) did dirty dirty_after before after h = absurd h
-work_more (Delete d) (Make new) did dirty dirty_after before after h = absurd h
-work_more (Make m) (Copy new) did dirty dirty_after before after h = absurd h
-work_more (Make m) (Delete new) did dirty dirty_after before after h = absurd h
 work_more (Copy c) (SetMode new) did dirty dirty_after before after h = absurd h
+work_more (Delete d) (Copy new) did dirty dirty_after before after h = absurd h
+work_more (Make m) (Copy new) did dirty dirty_after before after h = absurd h
+work_more (SetMode s) (Copy new) did dirty dirty_after before after h = absurd h
+work_more (Delete d) (Make new) did dirty dirty_after before after h = absurd h
+work_more (Make m) (Delete new) did dirty dirty_after before after h = absurd h
 work_more (Delete d) (SetMode new) did dirty dirty_after before after h = absurd h
 work_more (Make m) (SetMode new) did dirty dirty_after before after h = absurd h
-work_more (SetMode s) (Copy new) did dirty dirty_after before after h = absurd h
 work_more (SetMode s) (Delete new) did dirty dirty_after before after h = absurd h
 work_more (SetMode s) (Make new) did dirty dirty_after before after h = absurd h
 work_more (SetMode s) (SetMode new) did dirty dirty_after before after h = subst (λ xs. length xs ≤ length dirty + 1) (sym h) (one_more (settings.is_dirty s.stage) (settings.is_dirty new.stage) s.path dirty)
 work_more (Make m) (Make new) did dirty dirty_after before after h = subst (λ xs. length xs ≤ length dirty + 1) (sym h) (one_more (makings.is_dirty m.stage) (makings.is_dirty new.stage) (folder_of m.path) dirty)
-work_more (Delete d) (Copy new) did dirty dirty_after before after h = absurd h
 work_more (Delete d) (Delete new) did dirty dirty_after before after h = deletion_more d did dirty dirty_after before after h
 
 leaves_more : (course : Course) (old new : Work) (did : Did) (dirty dirty_after : List Route) (before after : Option CallLog) → LeavesDirty course old did new dirty dirty_after before after → length dirty_after ≤ length dirty + 1

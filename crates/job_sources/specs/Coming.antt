@@ -1,7 +1,6 @@
 -- The sources that a job is yet to take up, as they are kept: what lies in a folder by its names alone.
 use Rattle.std.specs.Prelude.{ℕ, Bool, true, false, List, [], ◌∷◌, ◌++◌, reverse}
 use Rattle.job_reports.specs.declared.job.Job.{Job}
-use Rattle.job_reports.specs.declared.job.Pair.{Pair}
 use Rattle.job_reports.specs.Jobs.{is_workable}
 use Rattle.session_history.specs.Sources.{children_in}
 use Rattle.job_sources.specs.declared.left.Left.{Left}

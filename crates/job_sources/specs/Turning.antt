@@ -22,19 +22,18 @@ use Rattle.copy_move.specs.declared.run.Course.{Course}
 use Rattle.copy_move.specs.declared.run.Course.TheVariants.{GoesOn as OnWay, Asking, InTrouble, OwedSyncFailed, Skips, Ends}
 use Rattle.copy_move.specs.declared.work.Work.{Work}
 use Rattle.copy_move.specs.declared.work.Work.TheVariants as work
-use Rattle.copy_move.specs.Jobs.{Running, copies_tree, first_work, part_of}
+use Rattle.copy_move.specs.Jobs.{Running, copies, first_work, part_of}
 use Rattle.copy_move.specs.Ranks.{rank_with, work_rank}
 use Rattle.copy_move.specs.Told.{turned}
 use Rattle.job_sources.specs.declared.turning.Stepped.{Stepped}
 
--- the plan of one source: of a path that is deleted, or given this mode; of a pair that is copied, as one file or with all that lies in it
+-- the plan of one source: of a path that is deleted, or given this mode; of a pair that is copied
 abbrev pub path_source : Option ℕ → Route → Job
 path_source None path = plan.Delete (path ∷ [])
 path_source (Some mode) path = plan.SetMode (path ∷ []) mode
 
-abbrev pub pair_source : Bool → Pair → Job
-pair_source false pair = plan.Copy (pair ∷ [])
-pair_source true pair = plan.CopyTree (pair ∷ [])
+abbrev pub pair_source : Pair → Job
+pair_source pair = plan.Copy (pair ∷ [])
 
 -- the first of these sources is taken, if there is one
 abbrev pub Takes : List Job → Option Job → List Job → Type 0
@@ -80,9 +79,9 @@ GoesOn job did calls left stepped after =
     ⊎ ((finishes did ≡ true) × (source : Job) × (left ≡ source ∷ after) × Turns job source stepped)
     ⊎ (((finishes did ≡ true) ⊎ (merges did ≡ true)) × (after ≡ []) × RunsShort job stepped)
 
--- how many steps the copy of a thing takes with all that lies in it, just begun, and one more
+-- how many steps a copy takes that is just begun, and one more
 abbrev pub tree_steps : ℕ
-tree_steps = 3 * work_rank (copies_tree 0 (record { source = []; target = [] })) + 1
+tree_steps = 3 * work_rank (copies 0 (record { source = []; target = [] })) + 1
 
 -- A path has at most 4,096 names, each with its slash in a text of as many bytes: so many more may come below it, and one.
 abbrev pub room_below : Route → ℕ
@@ -99,7 +98,7 @@ abbrev pub below_steps : ℕ → ℕ → ℕ
 below_steps own zero = 0
 below_steps own (suc room) = 2 ^ 64 * merged_steps own room
 
--- how many steps the sources take that are left: each those of its work, just begun, and one more; a copy those of a whole thing
+-- how many steps the sources take that are left: each those of its work, just begun, and one more; a copy also those of all that is copied in its place
 abbrev pub work_steps : ℕ → Job → ℕ
 work_steps id source = option_map_or (λ work. 3 * work_rank work + 1) (first_work id source) 1
 
@@ -109,7 +108,6 @@ pair_steps (pair ∷ more) = merged_steps tree_steps (room_below pair.source)
 
 abbrev pub source_rank : ℕ → Job → ℕ
 source_rank id (plan.Copy pairs) = pair_steps pairs
-source_rank id (plan.CopyTree pairs) = pair_steps pairs
 source_rank id (plan.Delete paths) = work_steps id (plan.Delete paths)
 source_rank id (plan.MakeFolder path) = work_steps id (plan.MakeFolder path)
 source_rank id (plan.MakeLink path text) = work_steps id (plan.MakeLink path text)
@@ -131,8 +129,7 @@ is_over c = is_next c.item && (is_empty c.levels.around && (is_empty c.levels.in
 
 -- how many steps the children take that the live job may leave as sources yet, since it merges its folder
 abbrev pub children_left : Work → ℕ
-children_left (work.Copy c) = 0
-children_left (work.CopyTree c) = if is_over c.at then 0 else below_steps tree_steps (room_below c.top.source)
+children_left (work.Copy c) = if is_over c.at then 0 else below_steps tree_steps (room_below c.top.source)
 children_left (work.Delete d) = 0
 children_left (work.Make m) = 0
 children_left (work.SetMode s) = 0

@@ -151,7 +151,7 @@ fn child_of(alloc: Global, pair: &Pair, name: &Name) -> Result<Job, NoMemory>
         source: below(alloc, &pair.source, name)?,
         target: below(alloc, &pair.target, name)?,
     })?;
-    Ok(Job::CopyTree(Pairs(pairs)))
+    Ok(Job::Copy(Pairs(pairs)))
 }
 
 /// The path of what has this name in a folder.

@@ -16,8 +16,7 @@ pub fn sources_in(alloc: Global, plan: &Job) -> Result<Later, NoMemory>
     ensures { IfOk result (λ sources. sources ≡ sources_of plan.now) }
 {
     match plan {
-        Job::Copy(pairs) => of_pairs(alloc, pairs, false),
-        Job::CopyTree(pairs) => of_pairs(alloc, pairs, true),
+        Job::Copy(pairs) => of_pairs(alloc, pairs),
         Job::Delete(paths) => of_paths(alloc, paths, None),
         Job::MakeFolder(path) => of_one(alloc, Job::MakeFolder(path.copy(alloc)?)),
         Job::MakeLink(path, text) => of_one(
@@ -28,15 +27,15 @@ pub fn sources_in(alloc: Global, plan: &Job) -> Result<Later, NoMemory>
     }
 }
 
-/// The sources of a copy: of files, or of things with all that lies in them.
-fn of_pairs(alloc: Global, pairs: &Pairs, whole: bool) -> Result<Later, NoMemory>
-    requires { list_all is_workable (map (pair_source whole) pairs.now) ≡ true }
-    ensures { IfOk result (λ sources. sources ≡ map (pair_source whole) pairs.now) }
+/// The sources of a copy.
+fn of_pairs(alloc: Global, pairs: &Pairs) -> Result<Later, NoMemory>
+    requires { list_all is_workable (map pair_source pairs.now) ≡ true }
+    ensures { IfOk result (λ sources. sources ≡ map pair_source pairs.now) }
 {
     let mut sources = Later::new(alloc);
     let mut left = pairs.0.as_slice();
     while let Some((pair, before)) = left.split_last() {
-        sources.put_first(source_of_pair(alloc, pair, whole)?)?;
+        sources.put_first(source_of_pair(alloc, pair)?)?;
         left = before;
     }
     Ok(sources)
@@ -66,19 +65,15 @@ fn of_one(alloc: Global, plan: Job) -> Result<Later, NoMemory>
     Ok(sources)
 }
 
-fn source_of_pair(alloc: Global, pair: &Pair, whole: bool) -> Result<Job, NoMemory>
-    ensures { IfOk result (λ source. source ≡ pair_source whole pair.now) }
+fn source_of_pair(alloc: Global, pair: &Pair) -> Result<Job, NoMemory>
+    ensures { IfOk result (λ source. source ≡ pair_source pair.now) }
 {
     let mut pairs = Vec::new(alloc);
     pairs.push(Pair {
         source: pair.source.copy(alloc)?,
         target: pair.target.copy(alloc)?,
     })?;
-    if whole {
-        Ok(Job::CopyTree(Pairs(pairs)))
-    } else {
-        Ok(Job::Copy(Pairs(pairs)))
-    }
+    Ok(Job::Copy(Pairs(pairs)))
 }
 
 fn source_of_path(alloc: Global, path: &Path, mode: Option<u16>) -> Result<Job, NoMemory>

@@ -2,28 +2,18 @@
 use Rattle.std.proofs.Common.{◌≡◌, ℕ, false, [], ◌∷◌, refl, ◌∙◌, ap, Option, Some, None}
 use Rattle.std.specs.Prelude.{if◌then◌else◌}
 use Rattle.std.specs.Option.{option_map}
-use Rattle.file_copy.specs.declared.stage.Stage.{Stage}
-use Rattle.file_copy.specs.declared.stage.Stage.TheVariants.{Begin, Fill, Clean, Left, Decided}
-use Rattle.file_copy.specs.Copying as copying
 use Rattle.copy_move.specs.declared.work.Work.{Work}
-use Rattle.copy_move.specs.declared.work.Work.TheVariants.{Copy, CopyTree, Delete, Make, SetMode}
+use Rattle.copy_move.specs.declared.work.Work.TheVariants.{Copy, Delete, Make, SetMode}
 use Rattle.mc_text.specs.Routes.{Route}
 use Rattle.job_reports.specs.declared.waits.Waits.{Waits}
 use Rattle.job_reports.specs.declared.row.JobKind.{JobKind}
 use Rattle.job_reports.specs.declared.row.JobRow.{JobRow}
 use Rattle.copy_move.specs.Jobs.{Running, kind_of, part_of, path_of, waits_on}
-use Rattle.copy_move.specs.Told.{stage_told, told, work_told}
+use Rattle.copy_move.specs.Told.{told, work_told}
 use Rattle.subtree_copy.specs.Standing as tree
 use Rattle.tree_copy.specs.Ending.{stays_if}
 use Rattle.mc_desk.specs.LiveRows.{question_in, rows_of, state_with, trouble_in, waits_in}
 use Rattle.mc_desk.specs.Tallies.{can_step}
-
-stage_part : (stage : Stage) → copying.part_at (stage_told stage) ≡ copying.part_at stage
-stage_part Begin = refl
-stage_part (Fill part said done) = refl
-stage_part (Clean part follows) = refl
-stage_part (Left part) = refl
-stage_part Decided = refl
 
 -- the part of what is copied whole, as one that stays
 staying_part : (part : Option Route) → tree.part_of (stays_if part) ≡ part
@@ -31,8 +21,7 @@ staying_part None = refl
 staying_part (Some part) = refl
 
 work_part : (id : ℕ) (work : Work) → part_of (work_told id work) ≡ part_of work
-work_part id (Copy c) = stage_part c.stage
-work_part id (CopyTree c) = staying_part (tree.part_of c.at.item)
+work_part id (Copy c) = staying_part (tree.part_of c.at.item)
 work_part id (Delete d) = refl
 work_part id (Make m) = refl
 work_part id (SetMode s) = refl
@@ -50,14 +39,12 @@ steps_told (Some job) = refl
 -- what it does, and to what
 kind_told : (id : ℕ) (work : Work) → kind_of (work_told id work) ≡ kind_of work
 kind_told id (Copy c) = refl
-kind_told id (CopyTree c) = refl
 kind_told id (Delete d) = refl
 kind_told id (Make m) = refl
 kind_told id (SetMode s) = refl
 
 path_told : (id : ℕ) (work : Work) → path_of (work_told id work) ≡ path_of work
 path_told id (Copy c) = refl
-path_told id (CopyTree c) = refl
 path_told id (Delete d) = refl
 path_told id (Make m) = refl
 path_told id (SetMode s) = refl

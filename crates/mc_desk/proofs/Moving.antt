@@ -8,12 +8,10 @@ use Rattle.job_reports.specs.declared.report.Did.{Did}
 use Rattle.job_reports.specs.declared.report.Did.TheVariants.{Began, Chunk, Placed, Removed, Made, Set, Kept, Skipped, Cleaned, Barrier, Asked, Merges, Troubled, Ended}
 use Rattle.job_reports.specs.declared.report.Ending.{Ending}
 use Rattle.job_reports.specs.declared.report.Ending.TheVariants.{Finished, Aborted, Killed, NoMemory}
-use Rattle.file_copy.specs.AskedCopies.{AskedTells}
-use Rattle.file_copy.specs.Copying as copying
 use Rattle.session_history.specs.declared.history.Event.TheVariants.{Step}
 use Rattle.session_history.specs.declared.history.Entry.{Entry}
 use Rattle.copy_move.specs.declared.work.Work.{Work}
-use Rattle.copy_move.specs.declared.work.Work.TheVariants.{Copy, CopyTree, Delete, Make, SetMode}
+use Rattle.copy_move.specs.declared.work.Work.TheVariants.{Copy, Delete, Make, SetMode}
 use Rattle.copy_move.specs.declared.run.Course.{Course}
 use Rattle.copy_move.specs.declared.run.Course.TheVariants.{GoesOn, Asking, InTrouble, OwedSyncFailed, Skips, Ends}
 use Rattle.copy_move.specs.Deletions.{Deleting, DeletionLeaves}
@@ -34,12 +32,6 @@ use Rattle.mc_desk.specs.Desks.{HasRemoved, HasSynced, JoinsDirty, MovesDirty, R
 use Rattle.mc_desk.proofs.Adding.{entry}
 
 -- a job that is finished has synced its folder
-copy_finishes : (c new : copying.Copying) (ending : Ending) (part : Option Route) → copying.Tells c (Ended ending part) new → (ending ≡ Finished) × (copying.is_dirty c.folder ≡ false)
-copy_finishes c new Finished part t = (refl, ap copying.is_dirty t.1)
-copy_finishes c new Aborted part t = absurd t
-copy_finishes c new Killed part t = absurd t
-copy_finishes c new NoMemory part t = absurd t
-
 making_clean : (stage : MakingStage) → makings.is_done stage ≡ true → makings.is_dirty stage ≡ false
 making_clean making.Make h = absurd (false≢true h)
 making_clean making.Sync h = absurd (false≢true h)
@@ -59,22 +51,6 @@ setting_finishes s new Killed part t = absurd t
 setting_finishes s new NoMemory part t = absurd t
 
 -- a dirty folder is clean only after the report of its sync
-copy_synced : (c new : copying.Copying) (did : Did) → AskedTells c did new → copying.is_dirty c.folder ≡ true → copying.is_dirty new.folder ≡ false → did ≡ Barrier
-copy_synced c new Barrier t was now = refl
-copy_synced c new (Began part) t was now = absurd (true≢false (sym (ap (λ (n : copying.Copying). copying.is_dirty n.folder) t.1.1) ∙ now))
-copy_synced c new (Chunk count) (part, said, done, at, some, few, within, is) was now = absurd (true≢false (sym was ∙ (sym (ap (λ (n : copying.Copying). copying.is_dirty n.folder) is) ∙ now)))
-copy_synced c new (Asked question) (at, is) was now = absurd (true≢false (sym was ∙ (sym (ap (λ (n : copying.Copying). copying.is_dirty n.folder) is) ∙ now)))
-copy_synced c new (Merges pair names) t was now = absurd t
-copy_synced c new (Set path) t was now = absurd t
-copy_synced c new (Placed path) (part, said, at, target, is) was now = absurd (true≢false (sym was ∙ (sym (ap (λ (n : copying.Copying). copying.is_dirty n.folder) is) ∙ now)))
-copy_synced c new (Cleaned part) (follows, at, is) was now = absurd (true≢false (sym was ∙ (sym (ap (λ (n : copying.Copying). copying.is_dirty n.folder) is) ∙ now)))
-copy_synced c new (Troubled trouble) t was now = absurd (true≢false (sym was ∙ (sym (ap (λ (n : copying.Copying). copying.is_dirty n.folder) t.1) ∙ now)))
-copy_synced c new (Ended ending part) t was now = absurd (true≢false (sym was ∙ (copy_finishes c new ending part t).1))
-copy_synced c new (Removed path) t was now = absurd t
-copy_synced c new (Made made) t was now = absurd t
-copy_synced c new (Kept path) (at, target, is) was now = absurd (true≢false (sym was ∙ (sym (ap (λ (n : copying.Copying). copying.is_dirty n.folder) is) ∙ now)))
-copy_synced c new (Skipped path cause) t was now = absurd t
-
 making_synced : (m new : makings.Making) (did : Did) → makings.Tells m did new → makings.is_dirty m.stage ≡ true → makings.is_dirty new.stage ≡ false → did ≡ Barrier
 making_synced m new Barrier t was now = refl
 making_synced m new (Made path) t was now = absurd (true≢false (sym was ∙ ap makings.is_dirty t.0))
@@ -121,7 +97,7 @@ module _ (job : Option Running) (newest older : List Entry) (dirty dirty_after :
   removes : (path : Route) → did ≡ Removed path → dirty_after ≡ without path (joined (folder_of path) dirty) → Moves
   removes path is left = inr (inr (inl (record { path = path; removed = subst (λ es. HasRemoved es path) (sym more) (number, ap (Step number) is); leaves = left })))
 
-  -- the one folder in which a copy or a making changes names, or the thing that is given a mode
+  -- the one folder in which a step of a copy or a making changes names, or the thing that is given a mode
   folder_moves : (live : Running) (folder : Route) → job ≡ Some live → is_own live.work folder ≡ true → (was now : Bool) → (was ≡ true → now ≡ false → did ≡ Barrier) → dirty_after ≡ with_change was now folder dirty → Moves
   folder_moves live folder is own false true reports left = joins live folder is own left
   folder_moves live folder is own true false reports left = synced folder (reports refl refl) left
@@ -147,23 +123,12 @@ module _ (job : Option Running) (newest older : List Entry) (dirty dirty_after :
   deletion_moves live d new before after is work (Cleaned part) did_is t h = absurd t
 
   work_moves : (live : Running) (old work new : Work) (before after : Option CallLog) → job ≡ Some live → live.work ≡ old → work ≡ new → WorkTells old did work → WorkLeaves old did new dirty dirty_after before after → Moves
-  work_moves live (Copy c) (Copy w) (Copy new) before after is work same t h =
-      folder_moves live (folder_of c.target) is (subst (λ x. is_own x (folder_of c.target) ≡ true) (sym work) (same_path-self (folder_of c.target))) (copying.is_dirty c.folder) (copying.is_dirty new.folder)
-      (λ was now. copy_synced c w did t was (ap begun same ∙ now)) h
-    where
-      begun : Work → Bool
-      begun (Copy x) = copying.is_dirty x.folder
-      begun (CopyTree c) = false
-      begun (Delete d) = false
-      begun (Make m) = false
-      begun (SetMode s) = false
   work_moves live (Make m) (Make w) (Make new) before after is work same t h =
       folder_moves live (folder_of m.path) is (subst (λ x. is_own x (folder_of m.path) ≡ true) (sym work) (same_path-self (folder_of m.path))) (makings.is_dirty m.stage) (makings.is_dirty new.stage)
       (λ was now. making_synced m w did t was (ap begun same ∙ now)) h
     where
       begun : Work → Bool
-      begun (Copy x) = false
-      begun (CopyTree c) = false
+      begun (Copy c) = false
       begun (Delete d) = false
       begun (Make x) = makings.is_dirty x.stage
       begun (SetMode s) = false
@@ -172,53 +137,36 @@ module _ (job : Option Running) (newest older : List Entry) (dirty dirty_after :
       (λ was now. setting_synced s w did t was (ap begun same ∙ now)) h
     where
       begun : Work → Bool
-      begun (Copy x) = false
-      begun (CopyTree c) = false
+      begun (Copy c) = false
       begun (Delete d) = false
       begun (Make m) = false
       begun (SetMode x) = settings.is_dirty x.stage
-  work_moves live (CopyTree c) (CopyTree w) (CopyTree new) before after is work same t h =
+  work_moves live (Copy c) (Copy w) (Copy new) before after is work same t h =
       folder_moves live h.folder is (subst (λ x. is_own x h.folder ≡ true) (sym work) h.own) h.was h.now h.synced h.list
-  work_moves live (CopyTree c) (Copy w) new before after is work same t h = absurd t
-  work_moves live (CopyTree c) (Delete w) new before after is work same t h = absurd t
-  work_moves live (CopyTree c) (Make w) new before after is work same t h = absurd t
-  work_moves live (CopyTree c) (SetMode w) new before after is work same t h = absurd t
-  work_moves live (CopyTree c) (CopyTree w) (Copy new) before after is work same t h = absurd h
-  work_moves live (CopyTree c) (CopyTree w) (Delete new) before after is work same t h = absurd h
-  work_moves live (CopyTree c) (CopyTree w) (Make new) before after is work same t h = absurd h
-  work_moves live (CopyTree c) (CopyTree w) (SetMode new) before after is work same t h = absurd h
-  work_moves live (Copy c) (CopyTree w) new before after is work same t h = absurd t
-  work_moves live (Delete d) (CopyTree w) new before after is work same t h = absurd t
-  work_moves live (Make m) (CopyTree w) new before after is work same t h = absurd t
-  work_moves live (SetMode s) (CopyTree w) new before after is work same t h = absurd t
-  work_moves live (Copy c) (Copy w) (CopyTree new) before after is work same t h = absurd h
-  work_moves live (Delete d) (Delete w) (CopyTree new) before after is work same t h = absurd h
-  work_moves live (Make m) (Make w) (CopyTree new) before after is work same t h = absurd h
-  work_moves live (SetMode s) (SetMode w) (CopyTree new) before after is work same t h = absurd h
+  work_moves live (Copy c) (Delete w) new before after is work same t h = absurd t
+  work_moves live (Copy c) (Make w) new before after is work same t h = absurd t
+  work_moves live (Copy c) (SetMode w) new before after is work same t h = absurd t
+  work_moves live (Copy c) (Copy w) (Delete new) before after is work same t h = absurd h
+  work_moves live (Copy c) (Copy w) (Make new) before after is work same t h = absurd h
+  work_moves live (Copy c) (Copy w) (SetMode new) before after is work same t h = absurd h
+  work_moves live (Delete d) (Copy w) new before after is work same t h = absurd t
+  work_moves live (Make m) (Copy w) new before after is work same t h = absurd t
   work_moves live (SetMode s) (Copy w) new before after is work same t h = absurd t
+  work_moves live (Delete d) (Delete w) (Copy new) before after is work same t h = absurd h
+  work_moves live (Make m) (Make w) (Copy new) before after is work same t h = absurd h
+  work_moves live (SetMode s) (SetMode w) (Copy new) before after is work same t h = absurd h
   work_moves live (SetMode s) (Delete w) new before after is work same t h = absurd t
   work_moves live (SetMode s) (Make w) new before after is work same t h = absurd t
-  work_moves live (SetMode s) (SetMode w) (Copy new) before after is work same t h = absurd h
   work_moves live (SetMode s) (SetMode w) (Delete new) before after is work same t h = absurd h
   work_moves live (SetMode s) (SetMode w) (Make new) before after is work same t h = absurd h
-  work_moves live (Copy c) (SetMode w) new before after is work same t h = absurd t
-  work_moves live (Copy c) (Copy w) (SetMode new) before after is work same t h = absurd h
   work_moves live (Delete d) (SetMode w) new before after is work same t h = absurd t
   work_moves live (Delete d) (Delete w) (SetMode new) before after is work same t h = absurd h
   work_moves live (Make m) (SetMode w) new before after is work same t h = absurd t
   work_moves live (Make m) (Make w) (SetMode new) before after is work same t h = absurd h
-  work_moves live (Copy c) (Copy w) (Make new) before after is work same t h = absurd h
-  work_moves live (Copy c) (Make w) new before after is work same t h = absurd t
   work_moves live (Delete d) (Make w) new before after is work same t h = absurd t
   work_moves live (Delete d) (Delete w) (Make new) before after is work same t h = absurd h
-  work_moves live (Make m) (Copy w) new before after is work same t h = absurd t
   work_moves live (Make m) (Delete w) new before after is work same t h = absurd t
-  work_moves live (Make m) (Make w) (Copy new) before after is work same t h = absurd h
   work_moves live (Make m) (Make w) (Delete new) before after is work same t h = absurd h
-  work_moves live (Copy c) (Copy w) (Delete new) before after is work same t h = absurd h
-  work_moves live (Copy c) (Delete w) new before after is work same t h = absurd t
-  work_moves live (Delete d) (Copy w) new before after is work same t h = absurd t
-  work_moves live (Delete d) (Delete w) (Copy new) before after is work same t h = absurd h
   work_moves live (Delete d) (Delete w) (Delete new) before after is work same t h = deletion_moves live d w before after is work did refl t h
 
   tries : (folder : Route) (refusal : Option TreeError) (d : Did) → did ≡ d → dirty_after ≡ after_try d refusal folder dirty → Moves

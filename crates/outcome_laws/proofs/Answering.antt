@@ -1,10 +1,9 @@
 -- A step of a copy asks, keeps what stands at its target, or begins a part beside it as was answered.
-use Rattle.std.proofs.Common.{◌≡◌, ◌⊎◌, ℕ, Bool, true, false, List, [], ◌∷◌, ◌++◌, length, refl, sym, ◌∙◌, ap, subst, inl, inr, Option, Some, None, arith}
+use Rattle.std.proofs.Common.{◌≡◌, ℕ, Bool, true, List, [], ◌∷◌, ◌++◌, length, refl, sym, ◌∙◌, ap, subst, inl, inr, Option, Some, None, arith}
 use Rattle.std.specs.Prelude.{⊤, is_some}
 use Rattle.std.proofs.lemmas.List.{length-append}
 use Rattle.mc_text.specs.Routes.{Route}
 use Rattle.tree_trait.specs.declared.calls.Meta.{Meta}
-use Rattle.tree_trait.specs.declared.calls.TreeError.TheVariants as refused
 use Rattle.tree_trait.specs.Answers.{IsMeta}
 use Rattle.tree_trait.specs.Calls.{Stat}
 use Rattle.tree_trait.specs.Change.{CallLog, current, found}
@@ -18,17 +17,13 @@ use Rattle.job_reports.specs.declared.job.Pair.{Pair}
 use Rattle.job_reports.specs.declared.question.Question.{Question}
 use Rattle.job_reports.specs.declared.report.Did.{Did}
 use Rattle.job_reports.specs.declared.report.Did.TheVariants.{Began, Chunk, Placed, Removed, Made, Set, Kept, Skipped, Cleaned, Barrier, Asked, Merges, Troubled, Ended}
-use Rattle.job_reports.specs.declared.report.Ending.TheVariants.{Finished, Aborted, Killed, NoMemory}
 use Rattle.job_reports.specs.declared.report.StepResult.{StepResult}
 use Rattle.job_answers.specs.declared.replies.Decision.{Decision}
 use Rattle.job_answers.specs.declared.replies.Decision.TheVariants.{Ask, Keep, Replace}
 use Rattle.job_answers.specs.declared.replies.Replies.{Replies}
 use Rattle.job_answers.specs.Decisions.{decided}
-use Rattle.file_copy.specs.AskedCopies as asked
-use Rattle.file_copy.specs.AskedCopies.{AskedCalls, AskedTells, IsReplaceable}
 use Rattle.file_copy.specs.Copying as file
-use Rattle.file_copy.specs.Copying.{Copying, places, places_of}
-use Rattle.file_copy.specs.Looking.{AllPass, looks_at}
+use Rattle.file_copy.specs.Copying.{Copying, places}
 use Rattle.file_copy.specs.PartNames.{part_path}
 use Rattle.file_copy.specs.PartSteps.{MadeCalls, TellsMade}
 use Rattle.file_copy.specs.declared.stage.SourceFacts.{SourceFacts}
@@ -39,10 +34,10 @@ use Rattle.link_copy.specs.LinkCopying as link
 use Rattle.link_copy.specs.LinkCopying.{LinkCopying}
 use Rattle.link_copy.specs.declared.stage.Stage.TheVariants as link_stage
 use Rattle.tree_copy.specs.Asking as tops
-use Rattle.tree_copy.specs.Asking.{IsOpen}
+use Rattle.tree_copy.specs.Asking.{IsOpen, IsReplaceable}
 use Rattle.tree_copy.specs.InPlace.{IsInPlace, IsMoved}
 use Rattle.tree_copy.specs.Parts.{IsPartPlace}
-use Rattle.tree_copy.specs.Progress.{link_progress, progress}
+use Rattle.tree_copy.specs.Progress.{link_progress}
 use Rattle.tree_copy.specs.Reports.{IsToldAs}
 use Rattle.tree_copy.specs.Standing.{Seen, due}
 use Rattle.tree_copy.specs.declared.due.Due.TheVariants.{Thing}
@@ -56,13 +51,12 @@ use Rattle.subtree_copy.specs.Standing.{SubtreeCopying}
 use Rattle.subtree_copy.specs.SubtreeSteps.{ListSteps, SubtreeSteps, step_result}
 use Rattle.copy_move.specs.declared.run.Course.{Course}
 use Rattle.history_laws.proofs.Knowing.{IsKept, Said}
-use Rattle.history_laws.proofs.KnownParts.{FileKnows, StageKnows}
 use Rattle.history_laws.proofs.OwedModes.{ShowsTree}
 use Rattle.history_laws.proofs.TreeCalls.{left_item}
 use Rattle.history_laws.proofs.TreeKnown.{ItemHas}
 use Rattle.history_laws.proofs.TreeMachine.{SaysPassed, skip_says}
 use Rattle.outcome_laws.specs.Answered.{IsAsAnswered, IsQuestionOf, IsSized}
-use Rattle.outcome_laws.proofs.Accounts.{IsNext, ItemDone, TreeDone}
+use Rattle.outcome_laws.proofs.Accounts.{ItemDone}
 use Rattle.outcome_laws.proofs.CopyOutcome.{TreeAccounts, next_of, not_begun, shows_all, top_alone, top_source}
 use Rattle.outcome_laws.proofs.FileWork.{none_shown, some_shown}
 use Rattle.outcome_laws.proofs.TreeLevels.{leaves_done}
@@ -162,14 +156,6 @@ module _ (v : View) (log : CallLog) (tree : IsTree (current log)) (shows : Shows
         source_is = subst (IsSized v pair.source) (sym (ap (λ (q : Question). q.source_size) d.asks)) (sized pair.source b.source b.there b.of_source b.replacing);
         target_is = subst (IsSized v pair.target) (sym (ap (λ (q : Question). q.target_size) d.asks)) (sized pair.target b.target b.stands b.of_target b.replaceable);
       }
-
-  file_question : (c : Copying) (replies : Replies) (question : Question) (decision : Decision) → refusal_of (current log) (Stat c.source) ≡ None → asked.IsDecided (current log) (places_of c) replies question decision → IsQuestionOf v c.source c.target question
-  file_question c replies question decision there d = record {
-    from = ap (λ (q : Question). q.source) d.asks;
-    to = ap (λ (q : Question). q.target) d.asks;
-    source_is = subst (IsSized v c.source) (sym (ap (λ (q : Question). q.source_size) d.asks)) (sized c.source d.source there d.of_source (subst IsReplaceable (sym d.file) tt));
-    target_is = subst (IsSized v c.target) (sym (ap (λ (q : Question). q.target_size) d.asks)) (sized c.target d.target d.stands d.of_target d.replaceable);
-  }
 
 -- paths as far below the source as below the target
 above_none : (rest base : Route) → rest ++ base ≡ base → rest ≡ []
@@ -317,41 +303,3 @@ module _ (told : Said) (dirty dirty_after : List Route) (marks : Marks) (log now
       by : OrPassedOver c.skips r s.moved new.at (step_result did count) → Here did
       by (inl (none, same, at)) = subst Here (sym (ap (λ (x : StepResult). x.did) same)) (worked s.works)
       by (inr (cause, is, calls, skips)) = (let moved = s.moved in other_as replies c.top.source c.top.target told.tree did (passed_other did (skip_says moved.item cause moved new.at did skips)))
-
--- and of the copy of a file alone
-module _ (told : Said) (dirty : List Route) (marks : Marks) (log : CallLog) (kept : IsKept told dirty marks log) (c new : Copying) (unclaimed : Route → Type 0) (replies : Replies) (course : Course) (after : Option CallLog) (knows : FileKnows told dirty marks (current log) course c) where
-  shown : c.stage ≡ file_stage.Begin → ShowsTree told.tree log
-  shown is = (let k = subst (StageKnows told marks (current log) course c) is knows.2 in shows_all told dirty marks log kept k.0)
-
-  -- the first look is that at the source
-  source_there : AllPass (current log) (looks_at (places_of c)) → refusal_of (current log) (Stat c.source) ≡ None
-  source_there passes = by passes.0
-    where
-      by : {B : Type 0} → (refusal_of (current log) (Stat c.source) ≡ None) ⊎ ((false ≡ true) × B) → refusal_of (current log) (Stat c.source) ≡ None
-      by (inl there) = there
-      by (inr (wrong, rest)) = absurd (let f : ⊥ = cc in f)
-
-  began_as : c.stage ≡ file_stage.Begin → refusal_of (current log) (Stat c.source) ≡ None → (refusal_of (current log) (Stat c.target) ≡ Some refused.Missing) ⊎ ((question : Question) × asked.IsDecided (current log) (places_of c) replies question Replace)
-      → is_some (told.tree c.target).value ≡ true → (question : Question) × IsQuestionOf told.tree c.source c.target question × (decided replies question ≡ Replace)
-  began_as stage there (inl missing) some = none_there (told.tree c.target).value (none_shown told.tree log kept.known.guarded.tree (shown stage) c.target (stat_missing (current log) c.target missing)) some
-  began_as stage there (inr (question, d)) some = (question, file_question told.tree log kept.known.guarded.tree (shown stage) c replies question Replace there d, d.decides)
-
-  pub alone_as : (did : Did) → AskedTells c did new → AskedCalls unclaimed replies c did new log after → IsAsAnswered replies c.source c.target told.tree did
-  alone_as (Asked question) t called =
-      let d = called.0 in
-      (file_question told.tree log kept.known.guarded.tree (shown t.0) c replies question Ask (source_there d.passes) d, d.decides)
-  alone_as (Kept path) t called =
-      let d = called.0.1 in
-      (t.1, (called.0.0, file_question told.tree log kept.known.guarded.tree (shown t.0) c replies called.0.0 Keep (source_there d.passes) d, d.decides))
-  alone_as (Began part) t called = λ near some. let ready = called.0 in began_as t.0 ready.source ready.target some
-  alone_as (Chunk count) t called = tt
-  alone_as (Placed path) t called = tt
-  alone_as (Removed path) t called = tt
-  alone_as (Made path) t called = tt
-  alone_as (Set path) t called = tt
-  alone_as (Skipped path cause) t called = tt
-  alone_as (Cleaned part) t called = tt
-  alone_as Barrier t called = tt
-  alone_as (Merges pair names) t called = tt
-  alone_as (Troubled trouble) t called = tt
-  alone_as (Ended ending part) t called = tt

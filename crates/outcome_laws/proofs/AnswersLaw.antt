@@ -1,5 +1,5 @@
 -- Wherever in a history a job that copies asks, keeps or begins a part beside its target, that is as was answered to it before.
-use Rattle.std.proofs.Common.{◌≡◌, ℕ, Bool, true, List, [], ◌∷◌, refl, sym, ◌∙◌, ap, subst, inl, inr, Option, Some, None, append-nil}
+use Rattle.std.proofs.Common.{◌≡◌, ℕ, Bool, true, List, [], ◌∷◌, refl, sym, ◌∙◌, ap, subst, inl, inr, Option, Some, append-nil}
 use Rattle.mc_text.specs.Routes.{Route}
 use Rattle.tree_trait.specs.Shape.{IsTree}
 use Rattle.tree_trait.specs.Change.{CallLog, current}
@@ -7,15 +7,12 @@ use Rattle.tree_trait.specs.CrashImages.{all_settled}
 use Rattle.tree_trait.specs.FileSystem.{View}
 use Rattle.crash_law.specs.Guarded.{Marks}
 use Rattle.job_answers.specs.declared.replies.Replies.{Replies}
-use Rattle.job_reports.specs.Jobs.{Copies, Item}
+use Rattle.job_reports.specs.Jobs.{Copies}
 use Rattle.job_reports.specs.declared.report.Did.{Did}
 use Rattle.job_reports.specs.declared.report.Did.TheVariants.{Began, Chunk, Placed, Removed, Made, Set, Kept, Skipped, Cleaned, Barrier, Asked, Merges, Troubled, Ended}
 use Rattle.job_reports.specs.declared.report.Ending.{Ending}
-use Rattle.file_copy.specs.Copying.{Copying}
-use Rattle.file_copy.specs.LastSteps as last
 use Rattle.session_history.specs.declared.history.Entry.{Entry}
 use Rattle.session_history.specs.declared.history.Event.TheVariants.{Step}
-use Rattle.session_history.specs.Entries.{IsMoment}
 use Rattle.session_history.specs.LiveJobs.{live_item, live_jobs}
 use Rattle.subtree_copy.specs.Reporting.{MayWind}
 use Rattle.subtree_copy.specs.Standing.{part_of}
@@ -24,11 +21,11 @@ use Rattle.thing_making.specs.declared.new_thing.NewThing.TheVariants as thing
 use Rattle.copy_move.specs.declared.run.Course.{Course}
 use Rattle.copy_move.specs.declared.run.Course.TheVariants.{GoesOn, Asking, InTrouble, OwedSyncFailed, Skips, Ends}
 use Rattle.copy_move.specs.declared.work.Work.{Work}
-use Rattle.copy_move.specs.declared.work.Work.TheVariants.{Copy, CopyTree, Delete, Make, SetMode}
-use Rattle.copy_move.specs.Jobs.{CallsOn, Running, TellsOn, WorkCalls, WorkTells, WorkWinds}
+use Rattle.copy_move.specs.declared.work.Work.TheVariants.{Copy, Delete, Make, SetMode}
+use Rattle.copy_move.specs.Jobs.{Running, TellsOn, WorkTells, WorkWinds}
 use Rattle.copy_move.specs.Steps.{SyncsOwed, Walks, WalksOn}
 use Rattle.history_laws.specs.Replayed.{replayed_tree}
-use Rattle.history_laws.specs.Traces.{EventLeads, IsTraced, IsUnclaimed, Stand, StepLeads, WorkLeads}
+use Rattle.history_laws.specs.Traces.{EventLeads, IsUnclaimed, StepLeads}
 use Rattle.history_laws.proofs.Done.{IsFound, found_moment, same_item}
 use Rattle.history_laws.proofs.Going.{only_job}
 use Rattle.history_laws.proofs.Histories.{traced_reached}
@@ -41,28 +38,12 @@ use Rattle.history_laws.proofs.Sources.{item_in, making_item}
 use Rattle.outcome_laws.specs.Answered.{AnsweredLaw, IsAsAnswered, asks_still, replies_said}
 use Rattle.outcome_laws.specs.Outcomes.{passed_over}
 use Rattle.outcome_laws.proofs.AnswersSaid.{IsSaid, JobsSaid, traced_said}
-use Rattle.outcome_laws.proofs.Answering.{IsOther, alone_as, other_as, tree_as}
+use Rattle.outcome_laws.proofs.Answering.{IsOther, other_as, tree_as}
 use Rattle.outcome_laws.proofs.Doing.{CourseDone, JobDone, JobsDone, WorkDone}
 use Rattle.outcome_laws.proofs.Outcome.{traced_done}
 use Rattle.outcome_laws.proofs.Touching.{UnlessEnding}
 
 -- last steps ask nothing, keep nothing and begin no part
-file_wound : (ending : Ending) (c new : Copying) (did : Did) → last.Winds ending c did new → IsOther did
-file_wound ending c new (Asked question) w = absurd w
-file_wound ending c new (Kept path) w = absurd w
-file_wound ending c new (Began part) w = absurd w
-file_wound ending c new (Chunk count) w = tt
-file_wound ending c new (Placed path) w = tt
-file_wound ending c new (Removed path) w = tt
-file_wound ending c new (Made path) w = tt
-file_wound ending c new (Set path) w = tt
-file_wound ending c new (Skipped path cause) w = tt
-file_wound ending c new (Cleaned part) w = tt
-file_wound ending c new Barrier w = tt
-file_wound ending c new (Merges pair names) w = tt
-file_wound ending c new (Troubled trouble) w = tt
-file_wound ending c new (Ended how part) w = tt
-
 tree_wound : (ending : Ending) (stands : Option Route) (did : Did) → MayWind ending stands did → IsOther did
 tree_wound ending stands (Asked question) w = absurd w
 tree_wound ending stands (Kept path) w = absurd w
@@ -84,19 +65,13 @@ no_copy thing.Folder path source target is = absurd (let f : ⊥ = cc in f)
 no_copy (thing.Link text) path source target is = absurd (let f : ⊥ = cc in f)
 
 work_wound : (ending : Ending) (old new : Work) (did : Did) (source target : Route) → WorkWinds ending old did new → item_in old ≡ Copies source target → IsOther did
-work_wound ending (Copy c) (Copy new) did source target w is = file_wound ending c new did w
-work_wound ending (CopyTree c) (CopyTree new) did source target w is = tree_wound ending (part_of c.at.item) did w.may
+work_wound ending (Copy c) (Copy new) did source target w is = tree_wound ending (part_of c.at.item) did w.may
 work_wound ending (Delete d) new did source target w is = absurd (let f : ⊥ = cc in f)
 work_wound ending (Make m) new did source target w is = no_copy m.thing m.path source target is
 work_wound ending (SetMode s) new did source target w is = absurd (let f : ⊥ = cc in f)
-work_wound ending (Copy c) (CopyTree new) did source target w is = absurd w
 work_wound ending (Copy c) (Delete new) did source target w is = absurd w
 work_wound ending (Copy c) (Make new) did source target w is = absurd w
 work_wound ending (Copy c) (SetMode new) did source target w is = absurd w
-work_wound ending (CopyTree c) (Copy new) did source target w is = absurd w
-work_wound ending (CopyTree c) (Delete new) did source target w is = absurd w
-work_wound ending (CopyTree c) (Make new) did source target w is = absurd w
-work_wound ending (CopyTree c) (SetMode new) did source target w is = absurd w
 
 module _ (told : Said) (dirty dirty_after : List Route) (marks : Marks) (log now : CallLog) (kept : IsKept told dirty marks log) (passed : List Route) (source target : Route) where
   -- the item tells the paths
@@ -106,41 +81,35 @@ module _ (told : Said) (dirty dirty_after : List Route) (marks : Marks) (log now
       let second : to ≡ target = cc in
       subst (λ p. IsAsAnswered replies p target told.tree did) first (subst (λ p. IsAsAnswered replies from p told.tree did) second h)
 
-  work_as : (replies : Replies) (old new : Work) (did : Did) (calls f0 f1 : ℕ) → WorkTells old did new → Walks IsUnclaimed replies old new did calls dirty dirty_after (Some log) (Some now) f0 f1 → WorkCalls IsUnclaimed replies old did new log (Some now)
+  work_as : (replies : Replies) (old new : Work) (did : Did) (calls f0 f1 : ℕ) → WorkTells old did new → Walks IsUnclaimed replies old new did calls dirty dirty_after (Some log) (Some now) f0 f1
       → WorkKnows told dirty marks log GoesOn old → WorkDone passed told.tree (current log) old → item_in old ≡ Copies source target → IsAsAnswered replies source target told.tree did
-  work_as replies (Copy c) (Copy new) did calls f0 f1 t walks called knows done is = of_item replies c.source c.target did is (alone_as told dirty marks log kept c new IsUnclaimed replies GoesOn (Some now) knows did t called)
-  work_as replies (CopyTree c) (CopyTree new) did calls f0 f1 t walks called knows done is =
+  work_as replies (Copy c) (Copy new) did calls f0 f1 t walks knows done is =
       of_item replies c.top.source c.top.target did is (tree_as told dirty dirty_after marks log now kept c new did passed GoesOn walks.free replies calls walks.since f1 knows.part walks.steps done)
-  work_as replies (Delete d) new did calls f0 f1 t walks called knows done is = absurd (let f : ⊥ = cc in f)
-  work_as replies (Make m) new did calls f0 f1 t walks called knows done is = no_copy m.thing m.path source target is
-  work_as replies (SetMode s) new did calls f0 f1 t walks called knows done is = absurd (let f : ⊥ = cc in f)
-  work_as replies (Copy c) (CopyTree new) did calls f0 f1 t walks called knows done is = absurd t
-  work_as replies (Copy c) (Delete new) did calls f0 f1 t walks called knows done is = absurd t
-  work_as replies (Copy c) (Make new) did calls f0 f1 t walks called knows done is = absurd t
-  work_as replies (Copy c) (SetMode new) did calls f0 f1 t walks called knows done is = absurd t
-  work_as replies (CopyTree c) (Copy new) did calls f0 f1 t walks called knows done is = absurd t
-  work_as replies (CopyTree c) (Delete new) did calls f0 f1 t walks called knows done is = absurd t
-  work_as replies (CopyTree c) (Make new) did calls f0 f1 t walks called knows done is = absurd t
-  work_as replies (CopyTree c) (SetMode new) did calls f0 f1 t walks called knows done is = absurd t
+  work_as replies (Delete d) new did calls f0 f1 t walks knows done is = absurd (let f : ⊥ = cc in f)
+  work_as replies (Make m) new did calls f0 f1 t walks knows done is = no_copy m.thing m.path source target is
+  work_as replies (SetMode s) new did calls f0 f1 t walks knows done is = absurd (let f : ⊥ = cc in f)
+  work_as replies (Copy c) (Delete new) did calls f0 f1 t walks knows done is = absurd t
+  work_as replies (Copy c) (Make new) did calls f0 f1 t walks knows done is = absurd t
+  work_as replies (Copy c) (SetMode new) did calls f0 f1 t walks knows done is = absurd t
 
   course_as : (job new : Running) (did : Did) (course : Course) (asks : Bool) (said : Replies) (calls f0 f1 : ℕ) → TellsOn course job did new → WalksOn IsUnclaimed job.replies course job.work new.work did calls dirty dirty_after (Some log) (Some now) f0 f1
-      → CallsOn IsUnclaimed course job did new log (Some now) → WorkKnows told dirty marks log course job.work → CourseDone course passed told.tree (current log) job.work → UnlessEnding course (IsSaid asks said course job.replies) → item_in job.work ≡ Copies source target
+      → WorkKnows told dirty marks log course job.work → CourseDone course passed told.tree (current log) job.work → UnlessEnding course (IsSaid asks said course job.replies) → item_in job.work ≡ Copies source target
       → IsAsAnswered said source target told.tree did
-  course_as job new did GoesOn asks said calls f0 f1 (work, t, new_is) walks called knows done k is =
+  course_as job new did GoesOn asks said calls f0 f1 (work, t, new_is) walks knows done k is =
       subst (λ r. IsAsAnswered r source target told.tree did) k.1
-      (work_as job.replies job.work new.work did calls f0 f1 (subst (WorkTells job.work did) (sym (ap (λ (x : Running). x.work) new_is)) t) walks called knows done is)
-  course_as job new did (InTrouble halt) asks said calls f0 f1 t walks called knows done k is = absurd t
-  course_as job new did (OwedSyncFailed cause) asks said calls f0 f1 t walks called knows done k is = absurd t
-  course_as job new did Asking asks said calls f0 f1 t walks called knows done k is = absurd t
-  course_as job new did (Skips cause) asks said calls f0 f1 (inl (path, work, did_is, passes, new_is)) walks called knows done k is = subst (λ (d : Did). IsAsAnswered said source target told.tree d) (sym did_is) tt
-  course_as job new did (Skips cause) asks said calls f0 f1 (inr (off, did_is, new_is)) walks called knows done k is = subst (λ (d : Did). IsAsAnswered said source target told.tree d) (sym did_is) tt
-  course_as job new did (Ends ending) asks said calls f0 f1 (work, winds, new_is) walks called knows done k is = other_as said source target told.tree did (work_wound ending job.work work did source target winds is)
+      (work_as job.replies job.work new.work did calls f0 f1 (subst (WorkTells job.work did) (sym (ap (λ (x : Running). x.work) new_is)) t) walks knows done is)
+  course_as job new did (InTrouble halt) asks said calls f0 f1 t walks knows done k is = absurd t
+  course_as job new did (OwedSyncFailed cause) asks said calls f0 f1 t walks knows done k is = absurd t
+  course_as job new did Asking asks said calls f0 f1 t walks knows done k is = absurd t
+  course_as job new did (Skips cause) asks said calls f0 f1 (inl (path, work, did_is, passes, new_is)) walks knows done k is = subst (λ (d : Did). IsAsAnswered said source target told.tree d) (sym did_is) tt
+  course_as job new did (Skips cause) asks said calls f0 f1 (inr (off, did_is, new_is)) walks knows done k is = subst (λ (d : Did). IsAsAnswered said source target told.tree d) (sym did_is) tt
+  course_as job new did (Ends ending) asks said calls f0 f1 (work, winds, new_is) walks knows done k is = other_as said source target told.tree did (work_wound ending job.work work did source target winds is)
 
   leads_as : (job : Running) (did : Did) (new : Option Running) (asks : Bool) (said : Replies) → StepLeads job did new dirty dirty_after log now → WorkKnows told dirty marks log job.course job.work → JobDone passed told.tree (current log) job
       → UnlessEnding job.course (IsSaid asks said job.course job.replies) → item_in job.work ≡ Copies source target → IsAsAnswered said source target told.tree did
   leads_as job did new asks said (inl (next, inl works, after_is)) knows done k is =
       let w = works.walks in
-      course_as job next did job.course asks said w.0 w.1 w.2 works.tells w.3 works.called knows done k is
+      course_as job next did job.course asks said w.0 w.1 w.2 works.tells w.3 knows done k is
   leads_as job did new asks said (inl (next, inr syncs, after_is)) knows done k is = by syncs.synced
     where
       by : SyncsOwed job syncs.path did next dirty dirty_after (Some log) (Some now) → IsAsAnswered said source target told.tree did

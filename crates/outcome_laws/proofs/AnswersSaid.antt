@@ -278,7 +278,7 @@ module _ (opening : CallLog) (tree : IsTree (current opening)) (settled : all_se
   event_said older was before r traced k (Next id plan) after now s =
       let one = only_job id was.jobs s.job (told_of opening before older r.part) was.dirty r.marks before s.its r.knows in
       let job = s.job in
-      let t : IsTidyJob opening older before was.dirty job = subst (λ js. AreTidy opening older before was.dirty js) one.0 (traced_tidy opening tree settled older was before traced) in
+      let t : IsTidyJob opening older was.dirty job = subst (λ js. AreTidy opening older was.dirty js) one.0 (traced_tidy opening tree settled older was before traced) in
       let done = s.done in
       let said = subst (λ js. JobsSaid (λ n. asks_still n older) (λ n. replies_said n older) js) one.0 k in
       subst (λ js. Then older (Next id plan) js) (sym (one_turned id was.jobs s.job s.next after.jobs one.0 one.1 s.jobs_is))

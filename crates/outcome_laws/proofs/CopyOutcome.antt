@@ -20,10 +20,8 @@ use Rattle.job_reports.specs.declared.report.Did.TheVariants.{Asked, Kept, Merge
 use Rattle.job_reports.specs.declared.report.Ending.TheVariants.{Finished}
 use Rattle.job_reports.specs.declared.report.StepResult.{StepResult}
 use Rattle.job_reports.proofs.PermittedCalls.{stat_missing}
-use Rattle.file_copy.specs.AskedCopies.{AskedCalls, AskedTells, IsReplaceable}
 use Rattle.job_answers.specs.declared.replies.Replies.{Replies}
 use Rattle.file_copy.specs.Copying as file
-use Rattle.file_copy.specs.Copying.{Copying}
 use Rattle.file_copy.specs.declared.stage.Stage.{Stage as FileStage}
 use Rattle.file_copy.specs.declared.stage.Stage.TheVariants as file_stage
 use Rattle.folder_copy.specs.declared.stage.FolderDid.{FolderDid}
@@ -38,7 +36,7 @@ use Rattle.tree_copy.specs.Progress.{progress}
 use Rattle.tree_copy.specs.Reports.{IsToldAs}
 use Rattle.tree_copy.specs.Standing.{Seen, due, due_at, pair_of}
 use Rattle.tree_copy.specs.Steps.{CopySteps, TakesNext, WorksOn, at_end, is_top, link_begun}
-use Rattle.tree_copy.specs.Asking.{IsOpen}
+use Rattle.tree_copy.specs.Asking.{IsOpen, IsReplaceable}
 use Rattle.tree_copy.specs.Taking.{SourceIs}
 use Rattle.subtree_walk.specs.Places.{is_empty}
 use Rattle.tree_copy.specs.Parts.{IsPartPlace}
@@ -51,26 +49,20 @@ use Rattle.subtree_copy.specs.SubtreeSteps.{ListSteps, SubtreeSkips, SubtreeStep
 use Rattle.history_laws.specs.Replayed.{replayed_step}
 use Rattle.history_laws.proofs.Intact.{prefix_append}
 use Rattle.history_laws.proofs.Knowing.{IsKept, Said}
-use Rattle.history_laws.proofs.KnownParts.{FileKnows, StageKnows}
 use Rattle.history_laws.proofs.OwedModes.{ShowsTree}
 use Rattle.history_laws.proofs.Untouched.{IsBare as NoFolder, bare_free}
 use Rattle.history_laws.proofs.TreeCalls.{left_item}
 use Rattle.history_laws.proofs.TreeKnown.{ItemHas}
 use Rattle.history_laws.proofs.TreeMachine.{SaysPassed, passed_trouble, skip_says}
 use Rattle.copy_move.specs.declared.run.Course.{Course}
-use Rattle.outcome_laws.specs.Outcomes.{IsCopied, IsReached, passed_in}
-use Rattle.outcome_laws.proofs.Accounts.{CanPlace, IsAccounted, IsCovered, IsDue, IsNext, IsPending, IsRoom, ItemDone, TreeDone, covered_below, passed_at}
+use Rattle.outcome_laws.specs.Outcomes.{IsCopied, IsReached}
+use Rattle.outcome_laws.proofs.Accounts.{CanPlace, IsAccounted, IsCovered, IsDue, IsNext, IsPending, IsRoom, ItemDone, TreeDone, passed_at}
 use Rattle.outcome_laws.proofs.FileWork.{none_shown, plain_begins}
-use Rattle.outcome_laws.proofs.OverWork.{OverDone, over_anew, over_goes, over_skipped}
 use Rattle.outcome_laws.proofs.TreeItems.{file_begins, file_works, link_works}
 use Rattle.outcome_laws.proofs.TreeLevels.{closed_done, leaves_done, no_name}
 use Rattle.outcome_laws.proofs.TreeFolders.{syncs_done, takes_folder}
 use Rattle.outcome_laws.proofs.TreeClosings.{ends_done}
 use Rattle.outcome_laws.proofs.TreePasses.{name_passed, retries_done, skips_done}
-
--- what the copy of a file has done
-abbrev pub FileAccounts : List Route → View → Copying → Type 0
-FileAccounts passed v c = OverDone v passed c.source c.target c.stage
 
 -- what the copy of a thing with all that lies in it has done, which is in its place
 pub record TreeAccounts (passed : List Route) (v : View) (c : SubtreeCopying) : Type 0 where
@@ -84,29 +76,6 @@ covered_not passed path reached (left, among, above) = absurd (both_ways _ (reac
 -- where no part stands the history shows the tree
 pub shows_all : (told : Said) (dirty : List Route) (marks : Marks) (log : CallLog) → IsKept told dirty marks log → told.part ≡ None → ShowsTree told.tree log
 shows_all told dirty marks log kept none p = ap (λ (s : Spot). s.value) (kept.known.shows p (λ part. let e : (let o : Option Route = None in o) ≡ Some p = sym none ∙ part in let f : ⊥ = cc in f))
-
--- the copy of a file
-module _ (told : Said) (dirty : List Route) (marks : Marks) (log now : CallLog) (kept : IsKept told dirty marks log) (c new : Copying) (passed : List Route) where
-  pub file_steps : (unclaimed : Route → Type 0) (replies : Replies) (course : Course) (did : Did) (after : Option CallLog) → FileKnows told dirty marks (current log) course c → AskedTells c did new → AskedCalls unclaimed replies c did new log after
-      → FileAccounts passed told.tree c → FileAccounts (passed_in (Some (Copies c.source c.target)) did passed) (replayed_step now did (Some (Copies c.source c.target)) told.tree) new
-  file_steps unclaimed replies course did after knows tells called done = over_goes now told.tree passed c unclaimed replies new did log after tells called begins done
-    where
-      begins : c.stage ≡ file_stage.Begin → IsTree (current log) × ShowsTree told.tree log
-      begins is = (kept.known.guarded.tree, (let k = subst (StageKnows told marks (current log) course c) is knows.2 in shows_all told dirty marks log kept k.0))
-
-pub file_passed : (c new : Copying) (path : Route) (passed : List Route) (v : View) → path ≡ c.source → new ≡ record c { stage = file.skipped c.stage } → FileAccounts passed v c → FileAccounts (path ∷ passed) v new
-file_passed c new path passed v path_is new_is done =
-    subst (λ p. FileAccounts (p ∷ passed) v new) (sym path_is) (subst (λ (x : Copying). FileAccounts (c.source ∷ passed) v x) (sym new_is) (over_skipped v passed c.source c.target c.stage done))
-
-pub file_taken : (c : Copying) (passed : List Route) (v : View) → FileAccounts passed v c → FileAccounts passed v (record c { stage = file.taken_anew c.stage })
-file_taken c passed v done = over_anew v passed c.source c.target c.stage done
-
-pub file_ends : (c new : Copying) (part : Option Route) (passed : List Route) (v : View) → file.Tells c (Ended Finished part) new → FileAccounts passed v c → IsCopied c.source c.target passed v
-file_ends c new part passed v (stage, synced, part_is, new_is) done = λ rest off reached. by (subst (λ s. OverDone v passed c.source c.target s) stage done) rest off reached
-  where
-    by : OverDone v passed c.source c.target file_stage.Decided → IsCopied c.source c.target passed v
-    by (inl covered) rest off reached = covered_not passed (rest ++ c.source) reached (covered_below passed c.source (rest ++ c.source) (prefix_append c.source rest) covered)
-    by (inr all) rest off reached = all rest off
 
 -- the next name is that of what is taken up
 pub next_of : (c : Seen) (names : List (List ℕ)) (pair : Pair) → c.levels.inner.names.names ≡ names → due_at names c ≡ Thing pair → IsNext c.levels.inner pair.source

@@ -1,5 +1,5 @@
 -- What a step of a copy changes lies at or below its target.
-use Rattle.std.proofs.Common.{[], ◌≡◌, ℕ, Bool, true, List, sym, ◌∙◌, ap, subst, inl, inr, Option, Some, None}
+use Rattle.std.proofs.Common.{◌≡◌, ℕ, Bool, true, List, sym, ◌∙◌, ap, subst, inl, inr, Option, Some, None}
 use Rattle.mc_text.specs.Routes.{Route, is_prefix}
 use Rattle.tree_trait.specs.Change.{CallLog}
 use Rattle.job_answers.specs.declared.replies.Replies.{Replies}
@@ -8,8 +8,6 @@ use Rattle.job_reports.specs.declared.report.Did.{Did}
 use Rattle.job_reports.specs.declared.report.Did.TheVariants.{Began, Chunk, Placed, Removed, Made, Set, Kept, Skipped, Cleaned, Barrier, Asked, Merges, Troubled, Ended}
 use Rattle.job_reports.specs.declared.report.StepResult.{StepResult}
 use Rattle.session_history.specs.Named.{changed_by}
-use Rattle.file_copy.specs.AskedCopies.{AskedTells}
-use Rattle.file_copy.specs.Copying.{Copying}
 use Rattle.tree_copy.specs.InPlace.{IsInPlace, IsMoved, IsTargetOf, NamesTarget}
 use Rattle.tree_copy.specs.Standing.{Seen}
 use Rattle.tree_copy.proofs.InPlaces.{leaves_all, place_law}
@@ -25,22 +23,6 @@ some_path p q is = cc
 
 none_changed : {A : Type 0} (path : Route) → (let o : Option Route = None in o) ≡ Some path → A
 none_changed path is = absurd (let f : ⊥ = cc in f)
-
-pub copy_touches : (c new : Copying) (did : Did) (path : Route) → AskedTells c did new → changed_by did ≡ Some path → is_prefix c.target path ≡ true
-copy_touches c new (Placed placed) path (part, facts, stage, path_is, new_is) changed = subst (λ p. is_prefix c.target p ≡ true) (sym path_is ∙ some_path placed path changed) (prefix_append c.target [])
-copy_touches c new (Began part) path t changed = none_changed path changed
-copy_touches c new (Chunk count) path t changed = none_changed path changed
-copy_touches c new (Cleaned part) path t changed = none_changed path changed
-copy_touches c new Barrier path t changed = none_changed path changed
-copy_touches c new (Troubled trouble) path t changed = none_changed path changed
-copy_touches c new (Ended ending part) path t changed = none_changed path changed
-copy_touches c new (Removed gone) path t changed = absurd t
-copy_touches c new (Made made) path t changed = absurd t
-copy_touches c new (Set set) path t changed = absurd t
-copy_touches c new (Kept kept) path t changed = none_changed path changed
-copy_touches c new (Asked question) path t changed = none_changed path changed
-copy_touches c new (Merges pair names) path t changed = none_changed path changed
-copy_touches c new (Skipped left cause) path t changed = absurd t
 
 is_target : (top : Pair) (named path : Route) → IsTargetOf top named → named ≡ path → is_prefix top.target path ≡ true
 is_target top named path target is = (let m : IsMoved top target.0 named = target.1 in subst (λ p. is_prefix top.target p ≡ true) (sym m.to ∙ is) (prefix_append top.target m.rest))

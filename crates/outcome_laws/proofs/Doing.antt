@@ -30,7 +30,7 @@ use Rattle.thing_making.specs.declared.new_thing.NewThing.TheVariants as thing
 use Rattle.copy_move.specs.declared.run.Course.{Course}
 use Rattle.copy_move.specs.declared.run.Course.TheVariants.{GoesOn, Asking, InTrouble, OwedSyncFailed, Skips, Ends}
 use Rattle.copy_move.specs.declared.work.Work.{Work}
-use Rattle.copy_move.specs.declared.work.Work.TheVariants.{Copy, CopyTree, Delete, Make, SetMode}
+use Rattle.copy_move.specs.declared.work.Work.TheVariants.{Copy, Delete, Make, SetMode}
 use Rattle.copy_move.specs.Jobs.{Running, CallsOn, PassesOver, TellsOn, WorkCalls, WorkTells, answered, answered_on, begun_work, closed_course, closed_job, course_after, first_work, passing_over, skips_of, taken_anew, with_skips}
 use Rattle.copy_move.specs.Jobs as works
 use Rattle.copy_move.specs.Steps.{SkipWalks, Walks, WalksOn}
@@ -42,14 +42,13 @@ use Rattle.history_laws.proofs.Knowing.{IsKept, Said}
 use Rattle.history_laws.proofs.Sources.{item_in, making_item}
 use Rattle.history_laws.proofs.Turns.{Turned}
 use Rattle.outcome_laws.specs.Outcomes.{kept_of, passed_by, passed_in}
-use Rattle.outcome_laws.proofs.CopyOutcome.{FileAccounts, TreeAccounts, file_passed, file_steps, file_taken, tree_begins, tree_passed, tree_steps, tree_taken}
+use Rattle.outcome_laws.proofs.CopyOutcome.{TreeAccounts, tree_begins, tree_passed, tree_steps, tree_taken}
 use Rattle.outcome_laws.proofs.MadeThings.{MakingDone, SettingDone, Unless, making_skips, making_steps, setting_skips, setting_steps, unless_of}
 use Rattle.outcome_laws.proofs.Deciding.{DeletionDone}
 use Rattle.outcome_laws.proofs.Deletions.{deletion_skips, deletion_steps}
 
 abbrev pub WorkDone : List Route → View → FileSystem → Work → Type 0
-WorkDone passed v s (Copy c) = FileAccounts passed v c
-WorkDone passed v s (CopyTree c) = TreeAccounts passed v c
+WorkDone passed v s (Copy c) = TreeAccounts passed v c
 WorkDone passed v s (Delete d) = DeletionDone passed s d
 WorkDone passed v s (Make m) = MakingDone passed v m
 WorkDone passed v s (SetMode w) = SettingDone passed v w
@@ -106,29 +105,20 @@ jobs_after (Troubled trouble) passed v s new h = h
 
 -- something is passed over
 skips_work : (old new : Work) (cause : Cause) (path : Route) (passed : List Route) (v : View) (s : FileSystem) → PassesOver old path new → SkipWalks cause old (Skipped path cause) new → WorkDone passed v s old → WorkDone (path ∷ passed) v s new
-skips_work (Copy c) (Copy new) cause path passed v s (path_is, new_is) w k = file_passed c new path passed v path_is new_is k
-skips_work (CopyTree c) (CopyTree new) cause path passed v s p w k = tree_passed c new cause cause path passed v w k
+skips_work (Copy c) (Copy new) cause path passed v s p w k = tree_passed c new cause cause path passed v w k
 skips_work (Delete d) (Delete new) cause path passed v s p w k = deletion_skips d new cause (Skipped path cause) passed s w k
 skips_work (Make m) (Make new) cause path passed v s (path_is, new_is) w k = making_skips m new path passed v path_is new_is k
 skips_work (SetMode t) (SetMode new) cause path passed v s (path_is, new_is) w k = setting_skips t new path passed v path_is new_is k
-skips_work (Copy c) (CopyTree new) cause path passed v s p w k = absurd p
 skips_work (Copy c) (Delete new) cause path passed v s p w k = absurd p
 skips_work (Copy c) (Make new) cause path passed v s p w k = absurd p
 skips_work (Copy c) (SetMode new) cause path passed v s p w k = absurd p
-skips_work (CopyTree c) (Copy new) cause path passed v s p w k = absurd p
-skips_work (CopyTree c) (Delete new) cause path passed v s p w k = absurd p
-skips_work (CopyTree c) (Make new) cause path passed v s p w k = absurd p
-skips_work (CopyTree c) (SetMode new) cause path passed v s p w k = absurd p
 skips_work (Delete d) (Copy new) cause path passed v s p w k = absurd p
-skips_work (Delete d) (CopyTree new) cause path passed v s p w k = absurd p
 skips_work (Delete d) (Make new) cause path passed v s p w k = absurd p
 skips_work (Delete d) (SetMode new) cause path passed v s p w k = absurd p
 skips_work (Make m) (Copy new) cause path passed v s p w k = absurd p
-skips_work (Make m) (CopyTree new) cause path passed v s p w k = absurd p
 skips_work (Make m) (Delete new) cause path passed v s p w k = absurd p
 skips_work (Make m) (SetMode new) cause path passed v s p w k = absurd p
 skips_work (SetMode t) (Copy new) cause path passed v s p w k = absurd p
-skips_work (SetMode t) (CopyTree new) cause path passed v s p w k = absurd p
 skips_work (SetMode t) (Delete new) cause path passed v s p w k = absurd p
 skips_work (SetMode t) (Make new) cause path passed v s p w k = absurd p
 
@@ -171,9 +161,6 @@ module _ (told : Said) (dirty dirty_after : List Route) (marks : Marks) (log now
       → Walks IsUnclaimed replies old new did calls dirty dirty_after (Some log) (Some now) faults faults_after → WorkDone passed told.tree (current log) old → Then passed did old new
   work_steps replies (Copy c) (Copy new) did calls faults faults_after passed knows t called walks k =
       unless_of did (WorkDone (passed_in (Some (item_in (Copy c))) did passed) (replayed_step now did (Some (item_in (Copy c))) told.tree) (current now) (Copy new))
-      (file_steps told dirty marks log now kept c new passed IsUnclaimed replies GoesOn did (Some now) knows t called k)
-  work_steps replies (CopyTree c) (CopyTree new) did calls faults faults_after passed knows t called walks k =
-      unless_of did (WorkDone (passed_in (Some (item_in (CopyTree c))) did passed) (replayed_step now did (Some (item_in (CopyTree c))) told.tree) (current now) (CopyTree new))
       (tree_steps told dirty dirty_after marks log now kept c new did passed GoesOn walks.free replies calls walks.since faults_after knows.part walks.steps k)
   work_steps replies (Delete d) (Delete new) did calls faults faults_after passed knows t called walks k =
       subst (λ p. Unless did (DeletionDone p (current now) new)) (sym (in_plain (item_in (Delete d)) did passed refl)) (deletion_steps d new did calls dirty dirty_after log now faults faults_after passed kept.known.guarded.tree t walks k)
@@ -181,24 +168,16 @@ module _ (told : Said) (dirty dirty_after : List Route) (marks : Marks) (log now
       subst (λ p. Unless did (MakingDone p (replayed_step now did (Some (item_in (Make m))) told.tree) new)) (sym (in_plain (item_in (Make m)) did passed (makes_plain m.thing m.path passed))) (making_steps m new did now passed told.tree t k)
   work_steps replies (SetMode s) (SetMode new) did calls faults faults_after passed knows t called walks k =
       subst (λ p. Unless did (SettingDone p (replayed_step now did (Some (item_in (SetMode s))) told.tree) new)) (sym (in_plain (item_in (SetMode s)) did passed refl)) (setting_steps s new did now passed told.tree t (stands s did knows called) k)
-  work_steps replies (Copy c) (CopyTree new) did calls faults faults_after passed knows t called walks k = absurd t
   work_steps replies (Copy c) (Delete new) did calls faults faults_after passed knows t called walks k = absurd t
   work_steps replies (Copy c) (Make new) did calls faults faults_after passed knows t called walks k = absurd t
   work_steps replies (Copy c) (SetMode new) did calls faults faults_after passed knows t called walks k = absurd t
-  work_steps replies (CopyTree c) (Copy new) did calls faults faults_after passed knows t called walks k = absurd t
-  work_steps replies (CopyTree c) (Delete new) did calls faults faults_after passed knows t called walks k = absurd t
-  work_steps replies (CopyTree c) (Make new) did calls faults faults_after passed knows t called walks k = absurd t
-  work_steps replies (CopyTree c) (SetMode new) did calls faults faults_after passed knows t called walks k = absurd t
   work_steps replies (Delete d) (Copy new) did calls faults faults_after passed knows t called walks k = absurd t
-  work_steps replies (Delete d) (CopyTree new) did calls faults faults_after passed knows t called walks k = absurd t
   work_steps replies (Delete d) (Make new) did calls faults faults_after passed knows t called walks k = absurd t
   work_steps replies (Delete d) (SetMode new) did calls faults faults_after passed knows t called walks k = absurd t
   work_steps replies (Make m) (Copy new) did calls faults faults_after passed knows t called walks k = absurd t
-  work_steps replies (Make m) (CopyTree new) did calls faults faults_after passed knows t called walks k = absurd t
   work_steps replies (Make m) (Delete new) did calls faults faults_after passed knows t called walks k = absurd t
   work_steps replies (Make m) (SetMode new) did calls faults faults_after passed knows t called walks k = absurd t
   work_steps replies (SetMode s) (Copy new) did calls faults faults_after passed knows t called walks k = absurd t
-  work_steps replies (SetMode s) (CopyTree new) did calls faults faults_after passed knows t called walks k = absurd t
   work_steps replies (SetMode s) (Delete new) did calls faults faults_after passed knows t called walks k = absurd t
   work_steps replies (SetMode s) (Make new) did calls faults faults_after passed knows t called walks k = absurd t
 
@@ -235,15 +214,13 @@ module _ (told : Said) (dirty dirty_after : List Route) (marks : Marks) (log now
 -- an answer, and the close of a session
 module _ (passed : List Route) (v : View) (s : FileSystem) where
   anew_done : (work : Work) → WorkDone passed v s work → WorkDone passed v s (taken_anew work)
-  anew_done (Copy c) k = file_taken c passed v k
-  anew_done (CopyTree c) k = tree_taken c passed v k
+  anew_done (Copy c) k = tree_taken c passed v k
   anew_done (Delete d) k = k
   anew_done (Make m) k = k
   anew_done (SetMode t) k = k
 
   skips_done : (cause : Cause) (work : Work) → WorkDone passed v s work → WorkDone passed v s (with_skips cause work)
-  skips_done cause (Copy c) k = k
-  skips_done cause (CopyTree c) k = record { in_place = k.in_place; done = k.done }
+  skips_done cause (Copy c) k = record { in_place = k.in_place; done = k.done }
   skips_done cause (Delete d) k = k
   skips_done cause (Make m) k = k
   skips_done cause (SetMode t) k = k
@@ -365,11 +342,8 @@ module _ (v : View) (s : FileSystem) where
   first_done id (plan.Delete (path ∷ [])) w is = some_if (WorkDone [] v s) (is_some (parent_of path)) (works.deletes path) w refl is
   first_done id (plan.Delete (path ∷ more ∷ paths)) w is = absurd (let f : ⊥ = cc in f)
   first_done id (plan.Copy []) w is = absurd (let f : ⊥ = cc in f)
-  first_done id (plan.Copy (pair ∷ [])) w is = some_if (WorkDone [] v s) (is_some (parent_of pair.source) && is_some (parent_of pair.target)) (works.copies id pair.source pair.target) w tt is
+  first_done id (plan.Copy (pair ∷ [])) w is = some_and (WorkDone [] v s) (is_some (parent_of pair.source)) (is_some (parent_of pair.target)) (works.copies id pair) w (λ from to. tree_begins id pair v from to) is
   first_done id (plan.Copy (pair ∷ more ∷ pairs)) w is = absurd (let f : ⊥ = cc in f)
-  first_done id (plan.CopyTree []) w is = absurd (let f : ⊥ = cc in f)
-  first_done id (plan.CopyTree (pair ∷ [])) w is = some_and (WorkDone [] v s) (is_some (parent_of pair.source)) (is_some (parent_of pair.target)) (works.copies_tree id pair) w (λ from to. tree_begins id pair v from to) is
-  first_done id (plan.CopyTree (pair ∷ more ∷ pairs)) w is = absurd (let f : ⊥ = cc in f)
   first_done id (plan.MakeFolder path) w is = some_if (WorkDone [] v s) (is_some (parent_of path)) (works.makes thing.Folder path) w tt is
   first_done id (plan.MakeLink path text) w is = some_if (WorkDone [] v s) (is_some (parent_of path) && is_link_text text) (works.makes (thing.Link text) path) w tt is
   first_done id (plan.SetMode [] mode) w is = absurd (let f : ⊥ = cc in f)
@@ -382,8 +356,7 @@ module _ (v : View) (s : FileSystem) where
 
   -- and one that goes on with its next source, whatever it passes over without a question
   passing_done : (skips : SkippedKinds) (work : Work) → WorkDone [] v s work → WorkDone [] v s (passing_over skips work)
-  passing_done skips (Copy c) k = k
-  passing_done skips (CopyTree c) k = record { in_place = k.in_place; done = k.done }
+  passing_done skips (Copy c) k = record { in_place = k.in_place; done = k.done }
   passing_done skips (Delete d) k = k
   passing_done skips (Make m) k = k
   passing_done skips (SetMode t) k = k

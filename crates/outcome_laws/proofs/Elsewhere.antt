@@ -176,7 +176,7 @@ module _ (opening now : CallLog) (newest : List Entry) (stand : Stand) (tree : I
       of_job : (part : Option Route) (job new : Running) → f.was.jobs ≡ job ∷ [] → job.id ≡ id → WorkLeads job (Ended Finished part) new f.was.dirty f.after.dirty f.before f.now → item_in job.work ≡ item → AsBegun
       of_job part job new jobs_is id_is works same =
           let r = traced_reached opening tree settled older f.was f.before f.traced in
-          let t : IsTidyJob opening older f.before f.was.dirty job = subst (λ js. AreTidy opening older f.before f.was.dirty js) jobs_is (traced_tidy opening tree settled older f.was f.before f.traced) in
+          let t : IsTidyJob opening older f.was.dirty job = subst (λ js. AreTidy opening older f.was.dirty js) jobs_is (traced_tidy opening tree settled older f.was f.before f.traced) in
           let k : JobKept (replayed_tree opening f.before older) (λ n. tree_begun opening f.before n older) job =
           subst (λ js. JobsKept (replayed_tree opening f.before older) (λ n. tree_begun opening f.before n older) js) jobs_is (traced_kept opening tree settled older f.was f.before f.traced) in
           let kept : IsAsBegun (replayed_tree opening f.before older) (tree_begun opening f.before job.id older) (item_in job.work) =

@@ -19,14 +19,14 @@ use Rattle.subtree_copy.specs.Told.{IsAfter}
 use Rattle.subtree_copy.specs.Unbegun.{MayBegin}
 use Rattle.copy_move.specs.declared.run.Course.{Course}
 use Rattle.copy_move.specs.declared.run.Course.TheVariants.{GoesOn}
-use Rattle.copy_move.specs.declared.work.Work.TheVariants.{CopyTree}
+use Rattle.copy_move.specs.declared.work.Work.TheVariants.{Copy}
 use Rattle.copy_move.specs.Jobs.{Running, course_after}
 use Rattle.copy_move.specs.TreeCopies.{Goes, Tells}
 use Rattle.history_laws.specs.Traces.{IsUnclaimed, WorkLeads}
 
 -- the job of a copy that stands so
 abbrev pub job : Replies → Course → SubtreeCopying → Running
-job replies course c = record { id = 1; work = CopyTree c; course = course; replies = replies }
+job replies course c = record { id = 1; work = Copy c; course = course; replies = replies }
 
 -- the copy once it is done with its top, and at the end of the folder that holds that
 abbrev pub with_top_passed : SubtreeCopying → SubtreeCopying
@@ -76,7 +76,7 @@ tells_own old new did own may after first over = record {
 pub works : (replies : Replies) (course : Course) (old new : SubtreeCopying) (did : Did) (calls : ℕ) (dirty dirty_after : List Route) (before now : CallLog) → Tells old did new → course_after did ≡ course → IsStep replies old new did calls dirty dirty_after before now
     → (is_fresh old.at.stage ≡ true → dirty ≡ []) → ChangesOwn old did dirty dirty_after → WorkLeads (job replies GoesOn old) did (job replies course new) dirty dirty_after before now
 works replies course old new did calls dirty dirty_after before now tells on step clean leaves = record {
-  tells = (CopyTree new, tells, ap (λ c. job replies c new) (sym on));
+  tells = (Copy new, tells, ap (λ c. job replies c new) (sym on));
   called = record { calls = calls; dirty = dirty; dirty_after = dirty_after; faults = 0; faults_after = 0; goes = goes };
   settled = λ way fresh kept among. absurd (subst (λ xs. Among xs kept) (clean fresh) among);
   leaves = leaves;

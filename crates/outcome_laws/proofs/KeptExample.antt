@@ -128,7 +128,7 @@ stays c did dirty top = record { folder = holder; own = ap (λ (p : Pair). is_of
 
 -- the job begins, and asks
 abbrev pub begun_entries : List Entry
-begun_entries = entry 0 (Began 1 (plan.CopyTree (pair ∷ [])) false) ∷ []
+begun_entries = entry 0 (Began 1 (plan.Copy (pair ∷ [])) false) ∷ []
 
 abbrev pub begins : Running
 begins = job no_replies GoesOn begun

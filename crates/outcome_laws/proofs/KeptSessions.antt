@@ -1,4 +1,4 @@
--- By induction over a history: a job that keeps the target of a file's copy has changed nothing for that source.
+-- By induction over a history: a copy that keeps what stands at its target, or merges a folder with that there, has changed nothing for that source.
 use Rattle.std.proofs.Common.{◌≡◌, ℕ, Bool, true, false, List, [], ◌∷◌, length, refl, sym, ◌∙◌, ap, subst, inl, inr, Option, Some, None, append-nil}
 use Rattle.std.specs.Prelude.{◌+◌, ◌==◌, if◌then◌else◌}
 use Rattle.std.specs.Option.{option_map_or}
@@ -23,7 +23,7 @@ use Rattle.session_history.specs.LiveJobs.{live_jobs}
 use Rattle.session_history.specs.Sources.{sources_of}
 use Rattle.copy_move.specs.declared.run.Course.TheVariants.{GoesOn, Skips}
 use Rattle.copy_move.specs.declared.work.Work.{Work}
-use Rattle.copy_move.specs.declared.work.Work.TheVariants.{Copy, CopyTree, Delete, Make, SetMode}
+use Rattle.copy_move.specs.declared.work.Work.TheVariants.{Copy, Delete, Make, SetMode}
 use Rattle.thing_making.specs.declared.new_thing.NewThing.{NewThing}
 use Rattle.thing_making.specs.declared.new_thing.NewThing.TheVariants as thing
 use Rattle.copy_move.specs.Jobs.{Running, begun_work}
@@ -188,8 +188,7 @@ made_no_copy thing.Folder path source target is = absurd (let f : ⊥ = cc in f)
 made_no_copy (thing.Link text) path source target is = absurd (let f : ⊥ = cc in f)
 
 all_same : (v was : View) (kept : Bool) (work : Work) (source target : Route) → item_in work ≡ Copies source target → kept ≡ true → Spares v was kept work → AllSame v was
-all_same v was kept (Copy c) source target is has s = s.1 has
-all_same v was kept (CopyTree c) source target is has s = (s.spared.over has).1
+all_same v was kept (Copy c) source target is has s = (s.spared.over has).1
 all_same v was kept (Delete d) source target is has s = absurd (let f : ⊥ = cc in f)
 all_same v was kept (Make m) source target is has s = made_no_copy m.thing m.path source target is
 all_same v was kept (SetMode w) source target is has s = absurd (let f : ⊥ = cc in f)
@@ -205,7 +204,7 @@ module _ (opening now : CallLog) (newest : List Entry) (stand : Stand) (tree : I
       of_job : (part : Option Route) (job new : Running) → f.was.jobs ≡ job ∷ [] → job.id ≡ id → WorkLeads job (Ended Finished part) new f.was.dirty f.after.dirty f.before f.now → item_in job.work ≡ Copies source target → AsBegun
       of_job part job new jobs_is id_is works same =
           let r = traced_reached opening tree settled older f.was f.before f.traced in
-          let t : IsTidyJob opening older f.before f.was.dirty job = subst (λ js. AreTidy opening older f.before f.was.dirty js) jobs_is (traced_tidy opening tree settled older f.was f.before f.traced) in
+          let t : IsTidyJob opening older f.was.dirty job = subst (λ js. AreTidy opening older f.was.dirty js) jobs_is (traced_tidy opening tree settled older f.was f.before f.traced) in
           let k : JobSpares (replayed_tree opening f.before older) (λ n. tree_begun opening f.before n older) (λ n. has_kept n older) job =
           subst (λ js. JobsSpare (replayed_tree opening f.before older) (λ n. tree_begun opening f.before n older) (λ n. has_kept n older) js) jobs_is (traced_spared opening tree settled older f.was f.before f.traced) in
           let s : Spares (replayed_tree opening f.before older) (tree_begun opening f.before job.id older) (has_kept job.id older) job.work =

@@ -1,7 +1,6 @@
--- A copy of a file that isn't decided has changed nothing, and one that kept what stands at its target has changed nothing at all; nor has one of a thing with all that lies in it.
+-- What a job has spared for the source at which it is, and how each step, skip, answer and next source keeps that.
 use Rattle.std.proofs.Common.{◌≡◌, ℕ, Bool, true, false, List, [], ◌∷◌, refl, sym, ◌∙◌, ap, subst, inl, inr, Option, Some}
 use Rattle.std.specs.Prelude.{⊤, ◌&&◌, is_some, nat_le, if◌then◌else◌, map, ◌==◌}
-use Rattle.std.proofs.lemmas.Bool.{both_ways, false≢true}
 use Rattle.mc_text.specs.Routes.{Route, parent_of}
 use Rattle.tree_trait.specs.Change.{CallLog}
 use Rattle.tree_trait.specs.FileSystem.{View}
@@ -18,17 +17,11 @@ use Rattle.session_history.specs.declared.history.JobOrder.TheVariants.{Answered
 use Rattle.job_answers.specs.Skipping.{kind_in, with_kind}
 use Rattle.job_answers.specs.declared.replies.Replies.{Replies}
 use Rattle.job_answers.specs.declared.skips.Skips.{Skips as SkippedKinds}
-use Rattle.file_copy.specs.AskedCopies.{AskedTells}
-use Rattle.file_copy.specs.Copying.{Copying, after_clean, skipped, taken_anew}
-use Rattle.file_copy.specs.declared.stage.Next.{Next}
-use Rattle.file_copy.specs.declared.stage.Next.TheVariants as next
-use Rattle.file_copy.specs.declared.stage.Stage.{Stage}
-use Rattle.file_copy.specs.declared.stage.Stage.TheVariants as at
 use Rattle.thing_making.specs.declared.new_thing.NewThing.TheVariants as thing
 use Rattle.copy_move.specs.declared.run.Course.{Course}
 use Rattle.copy_move.specs.declared.run.Course.TheVariants.{GoesOn, Asking, InTrouble, OwedSyncFailed, Skips, Ends}
 use Rattle.copy_move.specs.declared.work.Work.{Work}
-use Rattle.copy_move.specs.declared.work.Work.TheVariants.{Copy, CopyTree, Delete, Make, SetMode}
+use Rattle.copy_move.specs.declared.work.Work.TheVariants.{Copy, Delete, Make, SetMode}
 use Rattle.copy_move.specs.Jobs.{PassesOver, Running, TellsOn, WorkTells, answered_on, answered, begun_work, closed_job, first_work, passing_over, skips_of, with_skips}
 use Rattle.copy_move.specs.Jobs as works
 use Rattle.copy_move.specs.Steps.{SkipWalks, Walks}
@@ -39,126 +32,53 @@ use Rattle.history_laws.proofs.Turns.{Turned}
 use Rattle.outcome_laws.specs.Keeps.{keeps_by}
 use Rattle.outcome_laws.proofs.Doing.{ordered_id, some_and, some_if}
 use Rattle.outcome_laws.proofs.KeptTrees.{TreeSpares, other_skips, tree_begins, tree_passes, tree_retries, tree_spares}
-use Rattle.outcome_laws.proofs.TopSteps.{AllSame}
 use Rattle.outcome_laws.proofs.MadeThings.{Unless, unless_of}
 use Rattle.outcome_laws.proofs.Touching.{UnlessEnding, close_by}
 
--- its target may be replaced still
-abbrev pub IsUndecided : Stage → Type 0
-IsUndecided at.Begin = ⊤
-IsUndecided (at.Fill part facts done) = ⊤
-IsUndecided (at.Clean part follows) = ⊤
-IsUndecided (at.Left part) = ⊤
-IsUndecided at.Decided = ⊥
-
+-- a copy has (`KeptTrees`), and no other job keeps anything
 abbrev pub Spares : View → View → Bool → Work → Type 0
-Spares v was kept (Copy c) = (IsUndecided c.stage → (kept ≡ false) × AllSame v was) × (kept ≡ true → AllSame v was)
-Spares v was kept (CopyTree c) = TreeSpares v was kept c
+Spares v was kept (Copy c) = TreeSpares v was kept c
 Spares v was kept (Delete d) = ⊤
 Spares v was kept (Make m) = ⊤
 Spares v was kept (SetMode s) = ⊤
-
--- each step of a file's copy
-module _ (now : CallLog) (v was : View) (kept : Bool) (c : Copying) where
-  abbrev Then : Did → Copying → Type 0
-  Then did new = Spares (replayed_step now did (Some (item_in (Copy c))) v) was (keeps_by did kept) (Copy new)
-
-  at_stage : (stage : Stage) → c.stage ≡ stage → IsUndecided stage → IsUndecided c.stage
-  at_stage stage is u = subst IsUndecided (sym is) u
-
-  cleaned : (part : Route) (follows : Next) → c.stage ≡ at.Clean part follows → IsUndecided (after_clean follows) → IsUndecided c.stage
-  cleaned part follows is u = at_stage (at.Clean part follows) is tt
-
-  copy_spares : (new : Copying) (did : Did) → AskedTells c did new → Spares v was kept (Copy c) → Unless did (Then did new)
-  copy_spares new (Asked question) (stage, new_is) s = subst (λ (x : Copying). Spares v was kept (Copy x)) (sym new_is) s
-  copy_spares new (Merges pair names) t s = absurd t
-  copy_spares new (Kept path) (stage, path_is, new_is) s =
-      let same = (s.0 (at_stage at.Begin stage tt)).1 in
-      subst (λ (x : Copying). Spares v was true (Copy x)) (sym new_is) (λ u. absurd u, λ k. same)
-  copy_spares new (Began part) (stage, (facts, new_is)) s = subst (λ (x : Copying). Spares v was kept (Copy x)) (sym new_is) (λ u. s.0 (at_stage at.Begin stage tt), s.1)
-  copy_spares new (Chunk count) (part, facts, done, stage, least, most, fits, new_is) s =
-      subst (λ (x : Copying). Spares v was kept (Copy x)) (sym new_is) (λ u. s.0 (at_stage (at.Fill part facts done) stage tt), s.1)
-  copy_spares new (Placed path) (part, facts, stage, path_is, new_is) s =
-      let none = (s.0 (at_stage (at.Fill part facts facts.size) stage tt)).0 in
-      subst (λ (x : Copying). Spares (replayed_step now (Placed path) (Some (item_in (Copy c))) v) was kept (Copy x)) (sym new_is) (λ u. absurd u, λ k. absurd (both_ways _ none k))
-  copy_spares new (Cleaned part) (follows, stage, new_is) s = subst (λ (x : Copying). Spares v was kept (Copy x)) (sym new_is) (λ u. s.0 (cleaned part follows stage u), s.1)
-  copy_spares new Barrier (stage, dirty, new_is) s = subst (λ (x : Copying). Spares v was kept (Copy x)) (sym new_is) s
-  copy_spares new (Troubled trouble) (barrier, new_is) s = subst (λ (x : Copying). Spares v was kept (Copy x)) (sym new_is) s
-  copy_spares new (Ended ending part) t s = tt
-  copy_spares new (Removed path) t s = absurd t
-  copy_spares new (Made path) t s = absurd t
-  copy_spares new (Set path) t s = absurd t
-  copy_spares new (Skipped path cause) t s = absurd t
-
-skipped_before : (stage : Stage) → IsUndecided (skipped stage) → IsUndecided stage
-skipped_before at.Begin u = tt
-skipped_before (at.Fill part facts done) u = tt
-skipped_before (at.Clean part follows) u = tt
-skipped_before (at.Left part) u = tt
-skipped_before at.Decided u = u
-
-anew_before : (stage : Stage) → IsUndecided (taken_anew stage) → IsUndecided stage
-anew_before at.Begin u = tt
-anew_before (at.Fill part facts done) u = tt
-anew_before (at.Clean part follows) u = tt
-anew_before (at.Left part) u = tt
-anew_before at.Decided u = u
 
 module _ (now : CallLog) (v was : View) (kept : Bool) where
   work_spares : (replies : Replies) (old new : Work) (did : Did) (calls faults faults_after : ℕ) (dirty dirty_after : List Route) (before after : Option CallLog) → WorkTells old did new
       → Walks IsUnclaimed replies old new did calls dirty dirty_after before after faults faults_after → Spares v was kept old
       → Unless did (Spares (replayed_step now did (Some (item_in old)) v) was (keeps_by did kept) new)
-  work_spares replies (Copy c) (Copy new) did calls faults faults_after dirty dirty_after before after t walks s = copy_spares now v was kept c new did t s
-  work_spares replies (CopyTree c) (CopyTree new) did calls faults faults_after dirty dirty_after before after t walks s =
-      tree_spares now (Some (item_in (CopyTree c))) v was kept c new did walks.free replies calls dirty dirty_after before after walks.since faults_after walks.steps s
+  work_spares replies (Copy c) (Copy new) did calls faults faults_after dirty dirty_after before after t walks s =
+      tree_spares now (Some (item_in (Copy c))) v was kept c new did walks.free replies calls dirty dirty_after before after walks.since faults_after walks.steps s
   work_spares replies (Delete d) (Delete new) did calls faults faults_after dirty dirty_after before after t walks s = unless_of did ⊤ tt
   work_spares replies (Make m) (Make new) did calls faults faults_after dirty dirty_after before after t walks s = unless_of did ⊤ tt
   work_spares replies (SetMode w) (SetMode new) did calls faults faults_after dirty dirty_after before after t walks s = unless_of did ⊤ tt
-  work_spares replies (Copy c) (CopyTree new) did calls faults faults_after dirty dirty_after before after t walks s = absurd t
   work_spares replies (Copy c) (Delete new) did calls faults faults_after dirty dirty_after before after t walks s = absurd t
   work_spares replies (Copy c) (Make new) did calls faults faults_after dirty dirty_after before after t walks s = absurd t
   work_spares replies (Copy c) (SetMode new) did calls faults faults_after dirty dirty_after before after t walks s = absurd t
-  work_spares replies (CopyTree c) (Copy new) did calls faults faults_after dirty dirty_after before after t walks s = absurd t
-  work_spares replies (CopyTree c) (Delete new) did calls faults faults_after dirty dirty_after before after t walks s = absurd t
-  work_spares replies (CopyTree c) (Make new) did calls faults faults_after dirty dirty_after before after t walks s = absurd t
-  work_spares replies (CopyTree c) (SetMode new) did calls faults faults_after dirty dirty_after before after t walks s = absurd t
   work_spares replies (Delete d) (Copy new) did calls faults faults_after dirty dirty_after before after t walks s = absurd t
-  work_spares replies (Delete d) (CopyTree new) did calls faults faults_after dirty dirty_after before after t walks s = absurd t
   work_spares replies (Delete d) (Make new) did calls faults faults_after dirty dirty_after before after t walks s = absurd t
   work_spares replies (Delete d) (SetMode new) did calls faults faults_after dirty dirty_after before after t walks s = absurd t
   work_spares replies (Make m) (Copy new) did calls faults faults_after dirty dirty_after before after t walks s = absurd t
-  work_spares replies (Make m) (CopyTree new) did calls faults faults_after dirty dirty_after before after t walks s = absurd t
   work_spares replies (Make m) (Delete new) did calls faults faults_after dirty dirty_after before after t walks s = absurd t
   work_spares replies (Make m) (SetMode new) did calls faults faults_after dirty dirty_after before after t walks s = absurd t
   work_spares replies (SetMode w) (Copy new) did calls faults faults_after dirty dirty_after before after t walks s = absurd t
-  work_spares replies (SetMode w) (CopyTree new) did calls faults faults_after dirty dirty_after before after t walks s = absurd t
   work_spares replies (SetMode w) (Delete new) did calls faults faults_after dirty dirty_after before after t walks s = absurd t
   work_spares replies (SetMode w) (Make new) did calls faults faults_after dirty dirty_after before after t walks s = absurd t
 
   passes_spares : (old new : Work) (cause : Cause) (did : Did) (path : Route) → PassesOver old path new → SkipWalks cause old did new → Spares v was kept old → Spares v was kept new
-  passes_spares (Copy c) (Copy new) cause did path (path_is, new_is) k s = subst (λ (x : Copying). Spares v was kept (Copy x)) (sym new_is) (λ u. s.0 (skipped_before c.stage u), s.1)
-  passes_spares (CopyTree c) (CopyTree new) cause did path p k s = tree_passes v was kept c new cause did k s
+  passes_spares (Copy c) (Copy new) cause did path p k s = tree_passes v was kept c new cause did k s
   passes_spares (Delete d) (Delete new) cause did path p k s = tt
   passes_spares (Make m) (Make new) cause did path p k s = tt
   passes_spares (SetMode w) (SetMode new) cause did path p k s = tt
-  passes_spares (Copy c) (CopyTree new) cause did path p k s = absurd p
   passes_spares (Copy c) (Delete new) cause did path p k s = absurd p
   passes_spares (Copy c) (Make new) cause did path p k s = absurd p
   passes_spares (Copy c) (SetMode new) cause did path p k s = absurd p
-  passes_spares (CopyTree c) (Copy new) cause did path p k s = absurd p
-  passes_spares (CopyTree c) (Delete new) cause did path p k s = absurd p
-  passes_spares (CopyTree c) (Make new) cause did path p k s = absurd p
-  passes_spares (CopyTree c) (SetMode new) cause did path p k s = absurd p
   passes_spares (Delete d) (Copy new) cause did path p k s = absurd p
-  passes_spares (Delete d) (CopyTree new) cause did path p k s = absurd p
   passes_spares (Delete d) (Make new) cause did path p k s = absurd p
   passes_spares (Delete d) (SetMode new) cause did path p k s = absurd p
   passes_spares (Make m) (Copy new) cause did path p k s = absurd p
-  passes_spares (Make m) (CopyTree new) cause did path p k s = absurd p
   passes_spares (Make m) (Delete new) cause did path p k s = absurd p
   passes_spares (Make m) (SetMode new) cause did path p k s = absurd p
   passes_spares (SetMode w) (Copy new) cause did path p k s = absurd p
-  passes_spares (SetMode w) (CopyTree new) cause did path p k s = absurd p
   passes_spares (SetMode w) (Delete new) cause did path p k s = absurd p
   passes_spares (SetMode w) (Make new) cause did path p k s = absurd p
 
@@ -226,15 +146,13 @@ spares_after (Troubled trouble) v was kept new h = h
 -- an answer, and the close of a session
 module _ (v was : View) (kept : Bool) where
   anew_spares : (work : Work) → Spares v was kept work → Spares v was kept (works.taken_anew work)
-  anew_spares (Copy c) s = (λ u. s.0 (anew_before c.stage u), s.1)
-  anew_spares (CopyTree c) s = tree_retries v was kept c s
+  anew_spares (Copy c) s = tree_retries v was kept c s
   anew_spares (Delete d) s = s
   anew_spares (Make m) s = s
   anew_spares (SetMode w) s = s
 
   skips_spares : (cause : Cause) (work : Work) → Spares v was kept work → Spares v was kept (with_skips cause work)
-  skips_spares cause (Copy c) s = s
-  skips_spares cause (CopyTree c) s = other_skips v was kept c (with_kind (kind_in cause) c.skips) s
+  skips_spares cause (Copy c) s = other_skips v was kept c (with_kind (kind_in cause) c.skips) s
   skips_spares cause (Delete d) s = s
   skips_spares cause (Make m) s = s
   skips_spares cause (SetMode w) s = s
@@ -296,19 +214,13 @@ module _ (v : View) (was : ℕ → View) (kept : ℕ → Bool) where
 
 -- A job that begins with a source has kept nothing of it, and all is as it is.
 module _ (v : View) where
-  nothing_kept : (IsUndecided at.Begin → (false ≡ false) × AllSame v v) × (false ≡ true → AllSame v v)
-  nothing_kept = (λ u. (refl, λ path. refl), λ k. absurd (false≢true k))
-
   first_spares : (id : ℕ) (job : Job) (w : Work) → first_work id job ≡ Some w → Spares v v false w
   first_spares id (plan.Delete []) w is = absurd (let f : ⊥ = cc in f)
   first_spares id (plan.Delete (path ∷ [])) w is = some_if (Spares v v false) (is_some (parent_of path)) (works.deletes path) w tt is
   first_spares id (plan.Delete (path ∷ more ∷ paths)) w is = absurd (let f : ⊥ = cc in f)
   first_spares id (plan.Copy []) w is = absurd (let f : ⊥ = cc in f)
-  first_spares id (plan.Copy (pair ∷ [])) w is = some_if (Spares v v false) (is_some (parent_of pair.source) && is_some (parent_of pair.target)) (works.copies id pair.source pair.target) w nothing_kept is
+  first_spares id (plan.Copy (pair ∷ [])) w is = some_and (Spares v v false) (is_some (parent_of pair.source)) (is_some (parent_of pair.target)) (works.copies id pair) w (λ from to. tree_begins id pair v from to) is
   first_spares id (plan.Copy (pair ∷ more ∷ pairs)) w is = absurd (let f : ⊥ = cc in f)
-  first_spares id (plan.CopyTree []) w is = absurd (let f : ⊥ = cc in f)
-  first_spares id (plan.CopyTree (pair ∷ [])) w is = some_and (Spares v v false) (is_some (parent_of pair.source)) (is_some (parent_of pair.target)) (works.copies_tree id pair) w (λ from to. tree_begins id pair v from to) is
-  first_spares id (plan.CopyTree (pair ∷ more ∷ pairs)) w is = absurd (let f : ⊥ = cc in f)
   first_spares id (plan.MakeFolder path) w is = some_if (Spares v v false) (is_some (parent_of path)) (works.makes thing.Folder path) w tt is
   first_spares id (plan.MakeLink path text) w is = some_if (Spares v v false) (is_some (parent_of path) && is_link_text text) (works.makes (thing.Link text) path) w tt is
   first_spares id (plan.SetMode [] mode) w is = absurd (let f : ⊥ = cc in f)
@@ -320,8 +232,7 @@ module _ (v : View) where
   begun_spares id (source ∷ more) w is = first_spares id source w is
 
   passing_spares : (skips : SkippedKinds) (work : Work) → Spares v v false work → Spares v v false (passing_over skips work)
-  passing_spares skips (Copy c) s = s
-  passing_spares skips (CopyTree c) s = other_skips v v false c skips s
+  passing_spares skips (Copy c) s = other_skips v v false c skips s
   passing_spares skips (Delete d) s = s
   passing_spares skips (Make m) s = s
   passing_spares skips (SetMode w) s = s

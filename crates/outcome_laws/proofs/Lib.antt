@@ -18,7 +18,6 @@ pub mod LinkWork
 pub mod MadeThings
 pub mod MergedExample
 pub mod Outcome
-pub mod OverWork
 pub mod Owed
 pub mod ReplacedExample
 pub mod SourcesExample

@@ -229,7 +229,7 @@ inner_begins = started 1 inner
 
 -- the job begins, and merges the outer folder
 abbrev pub begun_entries : List Entry
-begun_entries = entry 0 (Began 1 (plan.CopyTree (outer ∷ [])) false) ∷ []
+begun_entries = entry 0 (Began 1 (plan.Copy (outer ∷ [])) false) ∷ []
 
 begun_traced : IsTraced log begun_entries (stand (job outer_begins ∷ []) []) log
 begun_traced = (nothing_live, log, (refl, refl), record { after = stand (job outer_begins ∷ []) []; leads = record { none_live = refl; after_is = refl; now_is = refl }; stand_is = refl; counts = refl })
@@ -244,7 +244,7 @@ merged_traced =
 
 -- it goes on with what lies in it
 abbrev pub turn : Entry
-turn = entry 0 (Next 1 (plan.CopyTree (inner ∷ [])))
+turn = entry 0 (Next 1 (plan.Copy (inner ∷ [])))
 
 abbrev pub turned_entries : List Entry
 turned_entries = turn ∷ merged_entries

@@ -24,7 +24,7 @@ use Rattle.session_history.specs.Sources.{sources_of}
 use Rattle.copy_move.specs.declared.run.Course.{Course}
 use Rattle.copy_move.specs.declared.run.Course.TheVariants.{GoesOn, Asking, InTrouble, OwedSyncFailed, Skips, Ends}
 use Rattle.copy_move.specs.declared.work.Work.{Work}
-use Rattle.copy_move.specs.declared.work.Work.TheVariants.{Copy, CopyTree, Delete, Make, SetMode}
+use Rattle.copy_move.specs.declared.work.Work.TheVariants.{Copy, Delete, Make, SetMode}
 use Rattle.copy_move.specs.Jobs.{Running, TellsOn, WorkTells, begun_work}
 use Rattle.copy_move.specs.Steps.{SyncsOwed, Walks, WalksOn}
 use Rattle.copy_move.specs.Told.{running}
@@ -43,7 +43,7 @@ use Rattle.history_laws.proofs.Sources.{item_in, tells_same}
 use Rattle.history_laws.proofs.Stepped.{more}
 use Rattle.history_laws.proofs.Turns.{Turned, one_turned, turned_id, turned_to}
 use Rattle.outcome_laws.specs.Outcomes.{Finishes, IsOutcome, OutcomeLaw, passed_after, passed_in, passed_over}
-use Rattle.outcome_laws.proofs.CopyOutcome.{file_ends, tree_ends}
+use Rattle.outcome_laws.proofs.CopyOutcome.{tree_ends}
 use Rattle.outcome_laws.proofs.Deletions.{deletion_ends}
 use Rattle.outcome_laws.proofs.Doing.{CourseDone, JobDone, JobsDone, WorkDone, begun_done, closed_done, jobs_after, leads_done, orders_done, turned_done}
 use Rattle.outcome_laws.proofs.MadeThings.{Unless, making_ends, setting_ends}
@@ -184,31 +184,22 @@ module _ (opening : CallLog) (tree : IsTree (current opening)) (settled : all_se
 -- what a job that is finished has left
 module _ (told : Rattle.history_laws.proofs.Knowing.Said) (dirty dirty_after : List Route) (marks : Rattle.crash_law.specs.Guarded.Marks) (log now : CallLog) (kept : Rattle.history_laws.proofs.Knowing.IsKept told dirty marks log) (part : Option Route) (passed : List Route) where
   work_ends : (replies : Replies) (old new : Work) (course : Course) → WorkTells old (Ended Finished part) new → (calls f0 f1 : ℕ) → Walks IsUnclaimed replies old new (Ended Finished part) calls dirty dirty_after (Some log) (Some now) f0 f1 → WorkKnows told dirty marks log course old → WorkDone passed told.tree (current log) old → IsOutcome (item_in old) passed told.tree
-  work_ends replies (Copy c) (Copy new) course t calls f0 f1 walks knows k = file_ends c new part passed told.tree t k
-  work_ends replies (CopyTree c) (CopyTree new) course t calls f0 f1 walks knows k =
+  work_ends replies (Copy c) (Copy new) course t calls f0 f1 walks knows k =
       tree_ends told dirty dirty_after marks log now kept c new (Ended Finished part) passed course walks.free replies calls walks.since f1 knows.part walks.steps k part refl
-  work_ends replies (Copy c) (CopyTree new) course t calls f0 f1 walks knows k = absurd t
   work_ends replies (Copy c) (Delete new) course t calls f0 f1 walks knows k = absurd t
   work_ends replies (Copy c) (Make new) course t calls f0 f1 walks knows k = absurd t
   work_ends replies (Copy c) (SetMode new) course t calls f0 f1 walks knows k = absurd t
-  work_ends replies (CopyTree c) (Copy new) course t calls f0 f1 walks knows k = absurd t
-  work_ends replies (CopyTree c) (Delete new) course t calls f0 f1 walks knows k = absurd t
-  work_ends replies (CopyTree c) (Make new) course t calls f0 f1 walks knows k = absurd t
-  work_ends replies (CopyTree c) (SetMode new) course t calls f0 f1 walks knows k = absurd t
   work_ends replies (Delete d) (Delete new) course t calls f0 f1 walks knows k =
       deletion_ends d passed (current log) told.tree t.0 (λ p. kept.known.shows p (λ is. let none = knows.1 in let e : (let o : Option Route = None in o) ≡ Some p = sym none ∙ is in let x : ⊥ = cc in x)) k
   work_ends replies (Make m) (Make new) course t calls f0 f1 walks knows k = making_ends m passed told.tree t.0 k
   work_ends replies (SetMode s) (SetMode new) course t calls f0 f1 walks knows k = setting_ends s passed told.tree t.0 k
   work_ends replies (Delete d) (Copy new) course t calls f0 f1 walks knows k = absurd t
-  work_ends replies (Delete d) (CopyTree new) course t calls f0 f1 walks knows k = absurd t
   work_ends replies (Delete d) (Make new) course t calls f0 f1 walks knows k = absurd t
   work_ends replies (Delete d) (SetMode new) course t calls f0 f1 walks knows k = absurd t
   work_ends replies (Make m) (Copy new) course t calls f0 f1 walks knows k = absurd t
-  work_ends replies (Make m) (CopyTree new) course t calls f0 f1 walks knows k = absurd t
   work_ends replies (Make m) (Delete new) course t calls f0 f1 walks knows k = absurd t
   work_ends replies (Make m) (SetMode new) course t calls f0 f1 walks knows k = absurd t
   work_ends replies (SetMode s) (Copy new) course t calls f0 f1 walks knows k = absurd t
-  work_ends replies (SetMode s) (CopyTree new) course t calls f0 f1 walks knows k = absurd t
   work_ends replies (SetMode s) (Delete new) course t calls f0 f1 walks knows k = absurd t
   work_ends replies (SetMode s) (Make new) course t calls f0 f1 walks knows k = absurd t
 
@@ -233,7 +224,7 @@ module _ (opening now : CallLog) (newest : List Entry) (stand : Stand) (tree : I
       of_job : (part : Option Route) (job new : Running) → f.was.jobs ≡ job ∷ [] → job.id ≡ id → WorkLeads job (Ended Finished part) new f.was.dirty f.after.dirty f.before f.now → item_in job.work ≡ item → Left
       of_job part job new jobs_is id_is works same =
           let r = traced_reached opening tree settled older f.was f.before f.traced in
-          let t : IsTidyJob opening older f.before f.was.dirty job = subst (λ js. AreTidy opening older f.before f.was.dirty js) jobs_is (traced_tidy opening tree settled older f.was f.before f.traced) in
+          let t : IsTidyJob opening older f.was.dirty job = subst (λ js. AreTidy opening older f.was.dirty js) jobs_is (traced_tidy opening tree settled older f.was f.before f.traced) in
           let d : JobDone (passed_over job.id older) (replayed_tree opening f.before older) (current f.before) job =
           subst (λ js. JobsDone (λ n. passed_over n older) (replayed_tree opening f.before older) (current f.before) js) jobs_is (traced_done opening tree settled older f.was f.before f.traced) in
           subst (λ v. IsOutcome item (passed_over id older) v) (sym (ap (λ (l : CallLog). replayed_tree opening l older) f.end_is ∙ replayed_more opening f.before f.rest older r.within))

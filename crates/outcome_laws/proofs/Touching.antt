@@ -22,7 +22,7 @@ use Rattle.thing_making.specs.declared.new_thing.NewThing.TheVariants as thing
 use Rattle.copy_move.specs.declared.run.Course.{Course}
 use Rattle.copy_move.specs.declared.run.Course.TheVariants.{GoesOn, Asking, InTrouble, OwedSyncFailed, Skips, Ends}
 use Rattle.copy_move.specs.declared.work.Work.{Work}
-use Rattle.copy_move.specs.declared.work.Work.TheVariants.{Copy, CopyTree, Delete, Make, SetMode}
+use Rattle.copy_move.specs.declared.work.Work.TheVariants.{Copy, Delete, Make, SetMode}
 use Rattle.copy_move.specs.Deletions as deletions
 use Rattle.copy_move.specs.Deletions.{Deleting}
 use Rattle.thing_making.specs.Makings as makings
@@ -34,7 +34,7 @@ use Rattle.history_laws.specs.Traces.{IsUnclaimed, before_others, ordered, unles
 use Rattle.history_laws.proofs.Deleted.{put_off}
 use Rattle.history_laws.proofs.Sources.{IsSame, answer_same, item_in, making_item}
 use Rattle.outcome_laws.specs.Untouched.{touches}
-use Rattle.outcome_laws.proofs.CopyTouches.{copy_touches, tree_touches}
+use Rattle.outcome_laws.proofs.CopyTouches.{tree_touches}
 use Rattle.outcome_laws.proofs.Doing.{CourseDone, WorkDone}
 use Rattle.outcome_laws.proofs.MadeThings.{Unless, unless_of}
 
@@ -195,30 +195,21 @@ setting_touches s new (Cleaned part) path t is = absurd t
 module _ (dirty dirty_after : List Route) (log now : CallLog) (passed : List Route) (v : View) where
   work_touches : (replies : Replies) (old new : Work) (did : Did) (path : Route) (calls faults faults_after : ℕ) → WorkTells old did new → Walks IsUnclaimed replies old new did calls dirty dirty_after (Some log) (Some now) faults faults_after
       → WorkDone passed v (current log) old → changed_by did ≡ Some path → touches (item_in old) path ≡ true
-  work_touches replies (Copy c) (Copy new) did path calls faults faults_after t walks k is = copy_touches c new did path t is
-  work_touches replies (CopyTree c) (CopyTree new) did path calls faults faults_after t walks k is =
+  work_touches replies (Copy c) (Copy new) did path calls faults faults_after t walks k is =
       tree_touches c new did path walks.free replies calls dirty dirty_after (Some log) (Some now) walks.since faults_after walks.steps k.in_place t.may is
   work_touches replies (Delete d) (Delete new) did path calls faults faults_after t walks k is = deletion_touches d new did path t is
   work_touches replies (Make m) (Make new) did path calls faults faults_after t walks k is = making_touches m new did path t is
   work_touches replies (SetMode s) (SetMode new) did path calls faults faults_after t walks k is = setting_touches s new did path t is
-  work_touches replies (Copy x) (CopyTree new) did path calls faults faults_after t walks k is = absurd t
   work_touches replies (Copy x) (Delete new) did path calls faults faults_after t walks k is = absurd t
   work_touches replies (Copy x) (Make new) did path calls faults faults_after t walks k is = absurd t
   work_touches replies (Copy x) (SetMode new) did path calls faults faults_after t walks k is = absurd t
-  work_touches replies (CopyTree x) (Copy new) did path calls faults faults_after t walks k is = absurd t
-  work_touches replies (CopyTree x) (Delete new) did path calls faults faults_after t walks k is = absurd t
-  work_touches replies (CopyTree x) (Make new) did path calls faults faults_after t walks k is = absurd t
-  work_touches replies (CopyTree x) (SetMode new) did path calls faults faults_after t walks k is = absurd t
   work_touches replies (Delete x) (Copy new) did path calls faults faults_after t walks k is = absurd t
-  work_touches replies (Delete x) (CopyTree new) did path calls faults faults_after t walks k is = absurd t
   work_touches replies (Delete x) (Make new) did path calls faults faults_after t walks k is = absurd t
   work_touches replies (Delete x) (SetMode new) did path calls faults faults_after t walks k is = absurd t
   work_touches replies (Make x) (Copy new) did path calls faults faults_after t walks k is = absurd t
-  work_touches replies (Make x) (CopyTree new) did path calls faults faults_after t walks k is = absurd t
   work_touches replies (Make x) (Delete new) did path calls faults faults_after t walks k is = absurd t
   work_touches replies (Make x) (SetMode new) did path calls faults faults_after t walks k is = absurd t
   work_touches replies (SetMode x) (Copy new) did path calls faults faults_after t walks k is = absurd t
-  work_touches replies (SetMode x) (CopyTree new) did path calls faults faults_after t walks k is = absurd t
   work_touches replies (SetMode x) (Delete new) did path calls faults faults_after t walks k is = absurd t
   work_touches replies (SetMode x) (Make new) did path calls faults faults_after t walks k is = absurd t
 

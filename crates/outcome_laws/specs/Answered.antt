@@ -15,7 +15,7 @@ use Rattle.job_reports.specs.Paths.{folder_of}
 use Rattle.job_answers.specs.declared.replies.Decision.TheVariants.{Ask, Keep, Replace}
 use Rattle.job_answers.specs.declared.replies.Replies.{Replies}
 use Rattle.job_answers.specs.Decisions.{decided, no_replies, with_reply}
-use Rattle.file_copy.specs.AskedCopies.{IsReplaceable}
+use Rattle.tree_copy.specs.Asking.{IsReplaceable}
 use Rattle.session_history.specs.declared.history.Event.{Event}
 use Rattle.session_history.specs.declared.history.Event.TheVariants.{Key, Look, Sought, Order, Step, Next, Closed}
 use Rattle.session_history.specs.declared.history.Event.TheVariants as event

@@ -2,7 +2,7 @@
 use Rattle.std.specs.Prelude.{◌≡◌, ℕ, ⊤, Bool, true, false, List, [], ◌∷◌, ◌++◌, map, Option, None, if◌then◌else◌}
 use Rattle.std.specs.List.{list_all}
 use Rattle.job_reports.specs.declared.job.Job.{Job}
-use Rattle.job_reports.specs.declared.job.Job.TheVariants.{Copy, CopyTree, Delete, MakeFolder, MakeLink, SetMode}
+use Rattle.job_reports.specs.declared.job.Job.TheVariants.{Copy, Delete, MakeFolder, MakeLink, SetMode}
 use Rattle.job_reports.specs.declared.job.Pair.{Pair}
 use Rattle.job_reports.specs.declared.report.Did.{Did}
 use Rattle.job_reports.specs.declared.report.Did.TheVariants.{Ended, Merges}
@@ -17,7 +17,6 @@ use Rattle.session_history.specs.declared.history.Entry.{Entry}
 -- the plans of a job's sources, one by one; a job of one thing is its own
 abbrev pub sources_of : Job → List Job
 sources_of (Copy pairs) = map (λ pair. Copy (pair ∷ [])) pairs
-sources_of (CopyTree pairs) = map (λ pair. CopyTree (pair ∷ [])) pairs
 sources_of (Delete paths) = map (λ path. Delete (path ∷ [])) paths
 sources_of (MakeFolder path) = MakeFolder path ∷ []
 sources_of (MakeLink path text) = MakeLink path text ∷ []
@@ -47,7 +46,7 @@ later (source ∷ more) = more
 
 -- what lies in a folder that is merged with the one at its target, by these names, is copied next, each with all that lies in it
 abbrev pub children_in : Pair → List (List ℕ) → List Job
-children_in pair names = map (λ name. CopyTree (record { source = name ∷ pair.source; target = name ∷ pair.target } ∷ [])) names
+children_in pair names = map (λ name. Copy (record { source = name ∷ pair.source; target = name ∷ pair.target } ∷ [])) names
 
 -- the sources that are left once a step has reported this
 abbrev pub left_by : Did → List Job → List Job

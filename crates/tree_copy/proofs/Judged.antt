@@ -19,7 +19,7 @@ use Rattle.job_reports.specs.declared.report.Cause.TheVariants.{TargetKind}
 use Rattle.job_reports.specs.declared.report.Trouble.{Trouble}
 use Rattle.job_reports.specs.Questions.{question_on}
 use Rattle.job_reports.specs.Stops.{IsTroubleWithPath}
-use Rattle.file_copy.specs.AskedCopies.{IsReplaceable}
+use Rattle.tree_copy.specs.Asking.{IsReplaceable}
 use Rattle.file_copy.specs.Looking.{AreFactsOf, HasRange, IsThere, facts_in}
 use Rattle.tree_copy.specs.declared.copy.Stage.{Stage}
 use Rattle.tree_copy.specs.declared.looking.Taken.{Taken}

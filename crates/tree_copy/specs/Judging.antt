@@ -13,7 +13,7 @@ use Rattle.job_reports.specs.declared.report.Trouble.{Trouble}
 use Rattle.job_reports.specs.declared.question.Question.{Question}
 use Rattle.job_reports.specs.Questions.{question_on}
 use Rattle.job_reports.specs.Stops.{IsTroubleWithPath, out_of_memory_at}
-use Rattle.file_copy.specs.AskedCopies.{IsReplaceable}
+use Rattle.tree_copy.specs.Asking.{IsReplaceable}
 use Rattle.file_copy.specs.Looking.{facts_in}
 use Rattle.tree_copy.specs.declared.looking.Taken.{Taken}
 use Rattle.tree_copy.specs.declared.looking.Taken.TheVariants as taken

@@ -21,7 +21,7 @@ use Rattle.job_reports.specs.declared.report.Trouble.{Trouble}
 use Rattle.job_reports.specs.Paths.{folder_of}
 use Rattle.job_reports.specs.Reading.{IsRefusedWith, StatStops, TargetStops}
 use Rattle.job_reports.specs.Stops.{IsTroubleWithPath, out_of_memory_at}
-use Rattle.file_copy.specs.AskedCopies.{IsReplaceable}
+use Rattle.tree_copy.specs.Asking.{IsReplaceable}
 use Rattle.file_copy.specs.Looking.{AreFactsOf, HasRange}
 use Rattle.tree_copy.specs.declared.copy.Stage.{Stage}
 use Rattle.tree_copy.specs.declared.copy.Stage.TheVariants.{Begin}

@@ -1,7 +1,7 @@
 //! What comes of a thing that is no folder, by what stands at its target: only what is copied itself may replace a file or a link there, and
 //! it asks before.
 ghost use Rattle.std.specs.Prelude.{◌≡◌};
-ghost use Rattle.file_copy.specs.AskedCopies.{IsReplaceable};
+ghost use Rattle.tree_copy.specs.Asking.{IsReplaceable};
 ghost use Rattle.job_reports.specs.Stops.{IsTroubleWithPath};
 ghost use Rattle.tree_copy.specs.Judging.{ByAnswer, Judges, JudgesOnto, TakesSingle};
 

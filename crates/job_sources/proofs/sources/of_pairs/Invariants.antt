@@ -8,8 +8,8 @@ use Rattle.job_sources.proofs.sources.of_pairs.Given as goal
 
 abbrev pub invariant-loop-pair : goal.invariant-loop-pair
 invariant-loop-pair l =
-    (map (pair_source l.fn.whole) l.left ++ l.sources ≡ map (pair_source l.fn.whole) l.fn.pairs)
-    × (list_all is_workable (map (pair_source l.fn.whole) l.left) ≡ true)
+    (map pair_source l.left ++ l.sources ≡ map pair_source l.fn.pairs)
+    × (list_all is_workable (map pair_source l.left) ≡ true)
 
 abbrev pub decreases-loop-pair : goal.decreases-loop-pair
 decreases-loop-pair l = length l.left

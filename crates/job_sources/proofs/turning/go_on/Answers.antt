@@ -1,5 +1,5 @@
 -- The job turns to the source that was taken, or there is no memory for that.
-use Rattle.std.proofs.Common.{rules, ℕ, Ok, ◌≡◌, ◌⊎◌, ◌∷◌, [], List, Option, Some, Result, true, sym, ◌∙◌, inl, inr, subst, IfOk}
+use Rattle.std.proofs.Common.{rules, ℕ, Ok, ◌≡◌, ◌⊎◌, ◌∷◌, [], List, Option, Some, Result, true, sym, inl, inr, subst, IfOk}
 use Rattle.mc_text.specs.declared.error.NoMemory.{NoMemory}
 use Rattle.job_reports.specs.declared.job.Job.{Job}
 use Rattle.job_reports.specs.declared.report.Did.{Did}

@@ -1,7 +1,7 @@
 -- And a skip.
 use Rattle.std.proofs.Common.{◌≡◌, false, subst}
 use Rattle.copy_move.specs.Jobs.{IsGoing, at_barrier}
-use Rattle.copy_move.proofs.FolderSteps.{copy_skips, deletion_skips}
+use Rattle.copy_move.proofs.FolderSteps.{deletion_skips}
 use Rattle.copy_move.proofs.MakingWorks.{making_skips}
 use Rattle.copy_move.proofs.ModeSteps.{setting_skips}
 use Rattle.copy_move.proofs.TreeSteps.{tree_skipped, tree_skips}
@@ -9,14 +9,10 @@ use Rattle.copy_move.proofs.work.Work.skip.Goals as goal
 
 pub returns-in-Copy-clause-skips : goal.returns-in-Copy-clause-skips
 returns-in-Copy-clause-skips c =
-    rw c.in-Copy.is (copy_skips c.args.cause _ _ _ c.skip.ensures.skips (subst IsGoing c.in-Copy.is c.requires.going) (subst (λ w. at_barrier w ≡ false) c.in-Copy.is c.requires.apart))
+    rw c.in-Copy.is (tree_skips c.args.cause _ _ _ c.skip.ensures.skips (subst IsGoing c.in-Copy.is c.requires.going) (subst (λ w. at_barrier w ≡ false) c.in-Copy.is c.requires.apart))
 
-pub returns-in-CopyTree-clause-skips : goal.returns-in-CopyTree-clause-skips
-returns-in-CopyTree-clause-skips c =
-    rw c.in-CopyTree.is (tree_skips c.args.cause _ _ _ c.skip-in-CopyTree.ensures.skips (subst IsGoing c.in-CopyTree.is c.requires.going) (subst (λ w. at_barrier w ≡ false) c.in-CopyTree.is c.requires.apart))
-
-pub returns-in-CopyTree-clause-going : goal.returns-in-CopyTree-clause-going
-returns-in-CopyTree-clause-going c = tree_skipped c.args.cause _ _ _ c.skip-in-CopyTree.ensures.skips (subst IsGoing c.in-CopyTree.is c.requires.going) c.skip-in-CopyTree.ensures.going
+pub returns-in-Copy-clause-going : goal.returns-in-Copy-clause-going
+returns-in-Copy-clause-going c = tree_skipped c.args.cause _ _ _ c.skip.ensures.skips (subst IsGoing c.in-Copy.is c.requires.going) c.skip.ensures.going
 
 pub returns-in-Delete-clause-skips : goal.returns-in-Delete-clause-skips
 returns-in-Delete-clause-skips c = rw c.in-Delete.is (deletion_skips c.args.cause _ _ _ c.skip-in-Delete.ensures (subst (λ w. at_barrier w ≡ false) c.in-Delete.is c.requires.apart))

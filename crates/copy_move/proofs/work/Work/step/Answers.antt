@@ -11,16 +11,13 @@ pub returns-in-Delete-clause-steps : goal.returns-in-Delete-clause-steps
 returns-in-Delete-clause-steps g c = rw c.in-Delete.is (deletion_steps (λ path. g.P.PartTest.is_free c.args.parts.now path ≡ true) c.args.replies _ _ _ _ _ _ _ _ _ _ c.step-in-Delete.ensures)
 
 pub returns-in-Copy-clause-steps : goal.returns-in-Copy-clause-steps
-returns-in-Copy-clause-steps g c = rw c.in-Copy.is c.step_copy.ensures.steps
-
-pub returns-in-CopyTree-clause-steps : goal.returns-in-CopyTree-clause-steps
-returns-in-CopyTree-clause-steps g c =
-    rw c.in-CopyTree.is (tree_steps (g.P.PartTest.is_free c.args.parts.now) c.args.replies _ _ _ _ _ _ _ _ _ _ c.step.ensures.steps (subst IsGoing c.in-CopyTree.is c.requires.going)
+returns-in-Copy-clause-steps g c =
+    rw c.in-Copy.is (tree_steps (g.P.PartTest.is_free c.args.parts.now) c.args.replies _ _ _ _ _ _ _ _ _ _ c.step.ensures.steps (subst IsGoing c.in-Copy.is c.requires.going)
     (λ path. g.P.PartTest.is_free c.args.parts.now path ≡ true) (λ path free. free) c.step.ensures.in_place c.step.ensures.own)
 
-pub returns-in-CopyTree-clause-going : goal.returns-in-CopyTree-clause-going
-returns-in-CopyTree-clause-going g c =
-    tree_goes_on (g.P.PartTest.is_free c.args.parts.now) c.args.replies _ _ _ _ _ _ _ _ _ _ c.step.ensures.steps (subst IsGoing c.in-CopyTree.is c.requires.going) c.step.ensures.going
+pub returns-in-Copy-clause-going : goal.returns-in-Copy-clause-going
+returns-in-Copy-clause-going g c =
+    tree_goes_on (g.P.PartTest.is_free c.args.parts.now) c.args.replies _ _ _ _ _ _ _ _ _ _ c.step.ensures.steps (subst IsGoing c.in-Copy.is c.requires.going) c.step.ensures.going
 
 pub returns-in-Make-clause-steps : goal.returns-in-Make-clause-steps
 returns-in-Make-clause-steps g c =

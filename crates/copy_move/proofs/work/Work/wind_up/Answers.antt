@@ -8,9 +8,9 @@ use Rattle.copy_move.proofs.work.Work.wind_up.Goals as goal
 pub returns-in-Delete : goal.returns-in-Delete
 returns-in-Delete g c = rw c.in-Delete.is (deletion_winds_up c.args.ending _ _ _ _ _ _ _ _ _ _ _ c.wind_up-in-Delete.ensures)
 
-pub returns-in-CopyTree : goal.returns-in-CopyTree
-returns-in-CopyTree g c =
-    rw c.in-CopyTree.is (tree_winds_up c.args.ending _ _ c.wind_up.result _ _ _ _ _ _ c.wind_up.ensures.winds c.wind_up.ensures.wound c.wind_up.ensures.own c.wind_up.ensures.called c.wind_up.ensures.told)
+pub returns-in-Copy : goal.returns-in-Copy
+returns-in-Copy g c =
+    rw c.in-Copy.is (tree_winds_up c.args.ending _ _ c.wind_up.result _ _ _ _ _ _ c.wind_up.ensures.winds c.wind_up.ensures.wound c.wind_up.ensures.own c.wind_up.ensures.called c.wind_up.ensures.told)
 
 pub returns-in-Make : goal.returns-in-Make
 returns-in-Make g c = rw c.in-Make.is (making_winds_up c.args.ending _ _ _ _ _ _ _ _ _ _ _ c.wind_up_making.ensures.winds c.wind_up_making.ensures.tries)
