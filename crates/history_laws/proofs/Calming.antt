@@ -30,10 +30,9 @@ use Rattle.job_reports.specs.CallRuns.{RunStops}
 use Rattle.job_reports.specs.declared.report.Cause.{Cause}
 use Rattle.job_reports.proofs.PermittedCalls.{sync_finds}
 use Rattle.mode_setting.specs.SettingSteps.{SyncStops, sync_by, sync_of}
-use Rattle.history_laws.specs.Doubt.{is_pending}
-use Rattle.history_laws.proofs.Pending.{pending_synced}
 use Rattle.history_laws.proofs.Knowing.{Said, HasMode, IsKnown}
 use Rattle.history_laws.proofs.Quiet.{calm_known}
+use Rattle.history_laws.proofs.Restless.{is_restless, restless_synced}
 
 some_route : (p q : Route) → (let o : Option Route = Some p in o) ≡ Some q → q ≡ p
 some_route p q h = cc
@@ -206,10 +205,12 @@ module _ (said : Said) (dirty : List Route) (marks : Marks) (log : CallLog) (kno
     was_shown = k.was_shown;
     shows = k.shows;
     part = k.part;
-    tracked = λ g m waits. elim (k.tracked g m waits) [
-      | inl t ↦ inl (t.0, still_listed up t.0 dirty t.1 (off g m waits t.0 t.2), t.2)
+    tracked = λ g restless. elim (k.tracked g restless) [
+      | inl t ↦ inl (t.0, still_listed up t.0 dirty t.1 (off g restless t.0 t.2), t.2)
       | inr none ↦ inr none
     ];
+    joint = k.joint;
+    lone = k.lone;
     doubts = k.doubts;
     stand = k.stand;
   }
@@ -231,9 +232,9 @@ module _ (said : Said) (dirty : List Route) (marks : Marks) (log : CallLog) (kno
         shown = h.shown;
       }
 
-      off : (g : ℕ) (m : List ℕ) → is_pending g m (log.changes ++ Syncs f ∷ []) ≡ true → (q : Route) → find (current (with_change log (Syncs f))) q ≡ Some g → same_path q up ≡ false
-      off g m waits q there = false_from_ne_true _ (λ same.
+      off : (g : ℕ) → is_restless g (log.changes ++ Syncs f ∷ []) ≡ true → (q : Route) → find (current (with_change log (Syncs f))) q ≡ Some g → same_path q up ≡ false
+      off g restless q there = false_from_ne_true _ (λ same.
           let q_is = same_path-true q up same in
           let here : find (current (with_change log (Syncs f))) q ≡ Some f = same_quiet log (Syncs f) (λ h n. refl) q ∙ (ap (find (current log)) q_is ∙ at) in
           let g_is : g ≡ f = (let e = sym there ∙ here in cc) in
-          both_ways _ (pending_synced f m log.changes known.files.within) (subst (λ j. is_pending j m (log.changes ++ Syncs f ∷ []) ≡ true) g_is waits))
+          both_ways _ (restless_synced f log.changes) (subst (λ j. is_restless j (log.changes ++ Syncs f ∷ []) ≡ true) g_is restless))

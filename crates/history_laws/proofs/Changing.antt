@@ -22,9 +22,11 @@ use Rattle.crash_law.proofs.Syncing.{unaltered_law}
 use Rattle.crash_law.proofs.Tops.{under_removed, none_below}
 use Rattle.history_laws.specs.Doubt.{is_pending, way_waits, name_waits}
 use Rattle.history_laws.proofs.Pending.{pending_less, within_more}
-use Rattle.history_laws.proofs.Knowing.{HasMode, HasNoMode, IsCalmIn, IsKnown, IsUnreached, Said, held, nowhere}
+use Rattle.history_laws.proofs.Knowing.{HasMode, HasNoMode, IsCalmFolder, IsKnown, IsUnreached, Said, held, nowhere}
 use Rattle.history_laws.proofs.Quiet.{folder_same, held_same, kind_same, mount_same, shows_same, starts_same, unclean_before, was_bare}
-use Rattle.history_laws.proofs.Resting.{IsSureFolder, mounted, stands_at, sure_still, unborn_more}
+use Rattle.history_laws.proofs.Resting.{IsBeside, IsSureFolder, joint_still, mounted, stands_at, sure_still, unborn_more, unjoined_still}
+use Rattle.history_laws.proofs.Restless.{is_joint, is_restless, restless_less}
+use Rattle.history_laws.proofs.WaitsFor.{names_said}
 
 pub some_none : {A : Type 0} (x : ℕ) → (let o : Option ℕ = Some x in o) ≡ None → A
 some_none x h = absurd (let e : ⊥ = cc in e)
@@ -105,22 +107,23 @@ pub record SaysGone (said after : Said) (marks : Marks) (log : CallLog) (path : 
   pub gone : after.tree path ≡ nowhere
   pub was : marks.aside path ≡ false → held (current log) (marks.was path) ≡ (after.earlier path).value
   pub part : after.part ≡ None
+  pub lone : after.joins ≡ false → said.joins ≡ false
   pub doubts : (p : Route) → said.doubt p ≡ true → after.doubt p ≡ true
   pub doubted : after.doubt path ≡ true
   -- a folder that is said to be on the disk is another one, and it was said so before, or it is
   pub folders : (p : Route) → after.folders p ≡ true → (same_path p path ≡ false) × ((said.folders p ≡ true) ⊎ IsSureFolder log p)
   pub modes : (p : Route) → said.modes p ≡ true → after.modes p ≡ true
   -- nor does a mode wait in a folder of which that is said
-  pub calm : (p : Route) → after.calm p ≡ true → (said.calm p ≡ true) ⊎ IsCalmIn marks (current log) p
+  pub calm : (p : Route) → after.calm p ≡ true → (said.calm p ≡ true) ⊎ IsCalmFolder marks log p
 
 -- a mode that is known isn't one that waits
 pub other_mode : {A : Type 0} (marks : Marks) (i before : ℕ) → marks.modes i ≡ None → marks.modes i ≡ Some before → A
 other_mode marks i before none some = absurd (let e : (let o : Option ℕ = None in o) ≡ Some before = sym none ∙ some in let f : ⊥ = cc in f)
 
--- Its removal keeps what is known, where no mode of it waits. The folder that holds it is dirty then, and it is no longer one itself.
+-- Its removal keeps what is known, where no mode of it waits, nor a renaming for it and another folder. The folder that holds it is dirty then, and it is no longer one itself.
 module _ (told after : Said) (dirty dirty_after : List Route) (marks : Marks) (log : CallLog) (known : IsKnown told dirty marks log) (path : Route) (r : IsHollow (current log) path) (k : ℕ)
     (says : SaysGone told after marks log path) (was : marks.aside path ≡ false → marks.was path ≡ find (current log) path)
-    (no_mode : marks.modes r.i ≡ None) (listed : Among dirty_after r.up) (more : (q : Route) → Among dirty q → same_path q path ≡ false → Among dirty_after q) where
+    (no_mode : marks.modes r.i ≡ None) (apart : (g : ℕ) → is_joint r.i g log.changes ≡ false) (listed : Among dirty_after r.up) (more : (q : Route) → Among dirty q → same_path q path ≡ false → Among dirty_after q) where
   abbrev removes : Change
   removes = Removes r.f r.name k
 
@@ -222,10 +225,10 @@ module _ (told after : Said) (dirty dirty_after : List Route) (marks : Marks) (l
     | inr gone ↦ no_path q g leads gone
   ]
 
-  tracked : (g : ℕ) (m : List ℕ) → is_pending g m now.changes ≡ true → ((q : Route) × Among dirty_after q × (find (current now) q ≡ Some g)) ⊎ IsUnreached now g
-  tracked g m waits = elim (pending_less g m log.changes removes waits) [
-    | inl old ↦ elim (known.tracked g m old) [ inl t ↦ of_listed g t.0 t.1 t.2 (same_path t.0 path) refl | inr none ↦ inr (unreached_stays g none) ]
-    | inr new ↦ inl (r.up, listed, stands ∙ ap (λ h. Some h) (says_it g m new).0)
+  tracked : (g : ℕ) → is_restless g now.changes ≡ true → ((q : Route) × Among dirty_after q × (find (current now) q ≡ Some g)) ⊎ IsUnreached now g
+  tracked g restless = elim (restless_less g log.changes removes restless) [
+    | inl old ↦ elim (known.tracked g old) [ inl t ↦ of_listed g t.0 t.1 t.2 (same_path t.0 path) refl | inr none ↦ inr (unreached_stays g none) ]
+    | inr new ↦ inl (r.up, listed, stands ∙ ap (λ h. Some h) (let s = names_said g removes new in says_it g s.0 s.1).0)
   ]
     where
       of_listed : (g : ℕ) (q : Route) → Among dirty q → find (current log) q ≡ Some g → (b : Bool) → same_path q path ≡ b → ((p : Route) × Among dirty_after p × (find (current now) p ≡ Some g)) ⊎ IsUnreached now g
@@ -301,11 +304,32 @@ module _ (told after : Said) (dirty dirty_after : List Route) (marks : Marks) (l
           let i_is : i ≡ r.i = some_is r.i i (sym path_at ∙ (ap (find (current log)) (sym (same_path-true h.path path same)) ∙ h.leads)) in
           other_mode marks i before (subst (λ k. marks.modes k ≡ None) (sym i_is) no_mode) is)
 
-  calm_was : (p : Route) → IsCalmIn marks (current log) p → IsCalmIn marks (current now) p
-  calm_was p calm name i at = elim (found_then (name ∷ p)) [
-    | inl same ↦ elim (calm name i (sym same ∙ at)) [ inl none ↦ inl none | inr begins ↦ inr (starts_same log removes i ∙ begins) ]
-    | inr gone ↦ absurd (no_path (name ∷ p) i at gone)
+  as_before : (q : Route) (g h : ℕ) → find (current log) q ≡ Some g → is_folder (node (current log) g) ≡ true → find (current now) q ≡ Some h → h ≡ g
+  as_before q g h before holds then = elim (found_then q) [
+    | inl same ↦ let e : (let o : Option ℕ = Some g in o) ≡ Some h = sym before ∙ (sym same ∙ then) in cc
+    | inr gone ↦ absurd (no_path q h then gone)
   ]
+
+  was_at : (q : Route) (g : ℕ) → is_folder (node (current log) g) ≡ true → find (current now) q ≡ Some g → find (current log) q ≡ Some g
+  was_at q g folder then = elim (found_then q) [ inl same ↦ sym same ∙ then | inr gone ↦ absurd (no_path q g then gone) ]
+
+  -- what is removed is no folder for which and another one a renaming waits
+  joined_stays : (q : Route) (g h : ℕ) → is_joint g h log.changes ≡ true → find (current log) q ≡ Some g → find (current now) q ≡ Some g
+  joined_stays q g h joined at = off_path q (false_from_ne_true _ (λ same.
+      let g_is : g ≡ r.i = some_is r.i g (sym path_at ∙ (ap (find (current log)) (sym (same_path-true q path same)) ∙ at)) in
+      both_ways _ (apart h) (subst (λ k. is_joint k h log.changes ≡ true) g_is joined))) ∙ at
+
+  calm_was : (p : Route) → IsCalmFolder marks log p → IsCalmFolder marks now p
+  calm_was p calm = record {
+    modes = λ name i at. elim (found_then (name ∷ p)) [
+      | inl same ↦ elim (calm.modes name i (sym same ∙ at)) [ inl none ↦ inl none | inr begins ↦ inr (starts_same log removes i ∙ begins) ]
+      | inr gone ↦ absurd (no_path (name ∷ p) i at gone)
+    ];
+    apart = unjoined_still log removes known.guarded.tree known.files refl (starts_same log removes) as_before was_at p calm.apart;
+  }
+
+  joint : (g h : ℕ) (q : Route) → is_joint g h now.changes ≡ true → find (current now) q ≡ Some g → IsBeside now q h
+  joint = joint_still log removes known.guarded.tree known.files refl (starts_same log removes) as_before was_at joined_stays known.joint
 
   shows : (p : Route) → (after.part ≡ Some p → ⊥) → visible_tree (current now) p ≡ after.tree p
   shows p other = elim (where_is p) [
@@ -317,11 +341,7 @@ module _ (told after : Said) (dirty dirty_after : List Route) (marks : Marks) (l
 
   -- a folder that isn't in doubt and stays is in none then
   folder_sure : (p : Route) (j : ℕ) → find (current log) p ≡ Some j → is_folder (node (current log) j) ≡ true → find (current now) p ≡ Some j → way_waits log p ≡ false → way_waits now p ≡ false
-  folder_sure p j at folder stays sure = sure_still log removes known.guarded.tree
-      (λ q g h before holds then. elim (found_then q) [
-        | inl same ↦ let e : (let o : Option ℕ = Some g in o) ≡ Some h = sym before ∙ (sym same ∙ then) in cc
-        | inr gone ↦ absurd (no_path q h then gone)
-      ])
+  folder_sure p j at folder stays sure = sure_still log removes known.guarded.tree as_before
       (λ g m k said before then holds.
       let same = says_it g m said in
       some_none k (sym then ∙ (ap (λ h. lookup (current now).names h m) (sym same.0) ∙ (ap (lookup (current now).names r.f) (sym same.1) ∙ gone_name))))
@@ -358,7 +378,6 @@ module _ (told after : Said) (dirty dirty_after : List Route) (marks : Marks) (l
   removed_known = record {
     guarded = naming_law marks log removes known.guarded naming;
     files = record {
-      within = within_more log.changes removes refl known.files.within;
       bare = λ i m bare. false_from_ne_true _ (bare_now i m bare);
       unborn = unborn_more log removes (λ i past. naming.bytes i) naming.count known.files.unborn;
       mounts = mounts_sure;
@@ -373,6 +392,8 @@ module _ (told after : Said) (dirty dirty_after : List Route) (marks : Marks) (l
     shows = shows;
     part = λ p is. absurd (let e = says.part in let n : (let o : Option Route = None in o) ≡ Some p = sym e ∙ is in cc);
     tracked = tracked;
+    joint = joint;
+    lone = λ none. within_more log.changes removes refl (known.lone (says.lone none));
     doubts = doubts;
     stand = stand;
   }

@@ -48,10 +48,10 @@ use Rattle.tree_copy.specs.declared.progress.Progress.TheVariants.{Decided as Is
 use Rattle.history_laws.specs.Replayed.{moved_from}
 use Rattle.history_laws.proofs.Calming.{stopped_is, written_known}
 use Rattle.history_laws.proofs.Changing.{off_itself, removed_known}
-use Rattle.history_laws.proofs.Deleted.{IsRemoval, removal_done, removal_leads}
+use Rattle.history_laws.proofs.Deleted.{IsRemoval, file_unjoined, removal_done, removal_leads}
 use Rattle.history_laws.proofs.Resting.{IsSureFolder, folder_at}
 use Rattle.history_laws.proofs.Filling.{begun, filled_more}
-use Rattle.history_laws.proofs.Knowing.{IsCalmIn, Said, IsKnown, IsKept, settled_marks}
+use Rattle.history_laws.proofs.Knowing.{IsCalmFolder, Said, IsKnown, IsKept, settled_marks}
 use Rattle.history_laws.proofs.JobKnows.{FileKnows, HasName, HasPart, IsAsFound, StageKnows, found_settled, may_fill, none_of_part, part_settled}
 use Rattle.history_laws.proofs.MakingParts.{with_part}
 use Rattle.history_laws.proofs.Moved.{moved_below}
@@ -106,12 +106,15 @@ part_cleaned told dirty marks log now work target part i kept has listed done = 
           gone = (kept.known.part part has.part_is).1;
           was = λ out. absurd (both_ways _ out aside);
           part = refl;
+          lone = λ none. none;
           doubts = λ p h. or_left _ _ h;
           folders = λ p there. (no_file p (kept.known.stand p there).stands, inl there);
           modes = λ p h. h;
           calm = λ p h. inl h;
           doubted = or_right _ _ (same_path-self part);
-        }) (λ out. absurd (both_ways _ out aside)) (none_of_part told dirty marks log kept part it.r.i (removal_leads log now part it) aside) (subst (λ q. Among dirty q) (sym folder_is ∙ ap folder_of it.r.path_is) listed) (λ q among off. among) in
+        }) (λ out. absurd (both_ways _ out aside)) (none_of_part told dirty marks log kept part it.r.i (removal_leads log now part it) aside)
+        (file_unjoined log now part it kept.known.guarded.tree kept.known.files (ap (λ o. option_map_or (λ j. is_folder (node (current log) j)) o false) has.leads ∙ ap folder_kind has.file))
+        (subst (λ q. Among dirty q) (sym folder_is ∙ ap folder_of it.r.path_is) listed) (λ q among off. among) in
         let after = with_change log (Removes it.r.f it.r.name it.k) in
         let same : find (current after) target ≡ find (current log) target = left_alone it in
         comes_one told (said_after now (Cleaned part) work told) dirty dirty marks marks log now (Removes it.r.f it.r.name it.k) (λ m. IsAsFound m (current now) target) kept it.now_is
@@ -136,7 +139,7 @@ not_decided stage going is = absurd (let e : IsDecided ≡ UnderWay = sym (ap pr
 pub copy_begins : (told : Said) (dirty dirty_after : List Route) (marks : Marks) (log now : CallLog) → IsKept told dirty marks log → (c new : Copying) (part : Route) (unclaimed : Route → Type 0) (around : Route) (own : Route → Bool) → HasName c.target → told.part ≡ None
     → Tells c (Began part) new → IsOpen (current log) (places_of c)
     → BeganOf (current log) (places_of c) new.stage × ((k : ℕ) × (part ≡ part_path (places_of c) k) × IsFirstFree (current log) unclaimed (places_of c) k × AllDone log (making (current log) (places_of c) k ∷ []) (Some now))
-    → IsAsFound marks (current log) c.target → IsSureFolder log (folder_of c.target) → IsSureFolder log around → own (folder_of c.target) ≡ true → ((p : Route) → own p ≡ true → IsCalmIn marks (current log) p)
+    → IsAsFound marks (current log) c.target → IsSureFolder log (folder_of c.target) → IsSureFolder log around → own (folder_of c.target) ≡ true → ((p : Route) → own p ≡ true → IsCalmFolder marks log p)
     → Among dirty_after (folder_of c.target) → ((q : Route) → Among dirty q → Among dirty_after q)
     → Comes told (with_part told around own part) dirty_after log now (λ m. FileKnows (with_part told around own part) dirty_after m (current now) GoesOn new)
 copy_begins told dirty dirty_after marks log now kept c new part unclaimed around own name none (stage, (said, new_is)) ready (began_of, (k, part_is, free, rows)) found firm around_firm own_here calm listed more =

@@ -24,9 +24,10 @@ use Rattle.history_laws.specs.Staying.{may_change}
 use Rattle.history_laws.proofs.Calming.{nothing_known}
 use Rattle.history_laws.proofs.Changing.{IsHollow, hollow_file, removed_known}
 use Rattle.history_laws.proofs.Emptied.{IsEmptied, emptied}
-use Rattle.history_laws.proofs.Knowing.{IsCalmIn, IsKept, IsKnown, Said, held, settled_marks}
+use Rattle.history_laws.proofs.Knowing.{IsCalmFolder, IsKept, IsKnown, Said, held, settled_marks}
 use Rattle.history_laws.proofs.JobKnows.{WorkKnows, work_settled, work_still}
-use Rattle.history_laws.proofs.Resting.{IsSureFolder}
+use Rattle.history_laws.proofs.Resting.{IsOfFiles, IsSureFolder, bare_unjoined, folder_at}
+use Rattle.history_laws.proofs.Restless.{IsUnjoined, is_joint}
 use Rattle.history_laws.proofs.Sources.{item_in}
 use Rattle.history_laws.proofs.Stepped.{Comes, comes_none, comes_one, folders_by, said_after}
 
@@ -120,14 +121,19 @@ pub removal_leads : (log now : CallLog) (path : Route) (it : IsRemoval log now p
 removal_leads log now path it =
     ap (find (current log)) it.r.path_is ∙ (ap (Rattle.std.specs.Prelude.option_and_then (λ f. Rattle.tree_trait.specs.FileSystem.lookup (current log).names f it.r.name)) it.r.folder ∙ it.r.leads)
 
+-- for a file no renaming waits, as it does for a folder and another one
+pub file_unjoined : (log now : CallLog) (path : Route) (it : IsRemoval log now path) → IsTree (current log) → IsOfFiles log → folder_at (current log) path ≡ false → (g : ℕ) → is_joint (let h = (let i : IsRemoval log now path = it in i.r) in h.i) g log.changes ≡ false
+file_unjoined log now path it tree files bare g =
+    bare_unjoined log tree files it.r.i g (sym (ap (λ o. Rattle.std.specs.Option.option_map_or (λ j. is_folder (node (current log) j)) o false) (removal_leads log now path it)) ∙ bare)
+
 -- A thing is removed, of which a job knows that nothing was done there yet, that the folder in which it changes names is on the disk, and that no
--- mode waits in its folders, nor of the thing.
+-- mode waits in its folders, nor of the thing, and no renaming waits for a folder of them and another one.
 pub removes_thing : (told : Said) (dirty dirty_after : List Route) (marks : Marks) (log now : CallLog) (path : Route) (work : Work) (knows : Marks → Type 0) → IsKept told dirty marks log → told.part ≡ None
-    → (marks.aside path ≡ false → marks.was path ≡ find (current log) path) → IsSureFolder log (folder_changed (item_in work)) → ((p : Route) → may_change (item_in work) p ≡ true → IsCalmIn marks (current log) p)
-    → ((i : ℕ) → find (current log) path ≡ Some i → starts_mount (current log) i ≡ false → marks.modes i ≡ None) → Among dirty_after (folder_of path)
+    → (marks.aside path ≡ false → marks.was path ≡ find (current log) path) → IsSureFolder log (folder_changed (item_in work)) → ((p : Route) → may_change (item_in work) p ≡ true → IsCalmFolder marks log p)
+    → ((i : ℕ) → find (current log) path ≡ Some i → starts_mount (current log) i ≡ false → marks.modes i ≡ None) → IsUnjoined log path → Among dirty_after (folder_of path)
     → ((q : Route) → Among dirty q → same_path q path ≡ false → Among dirty_after q)
     → IsRemoval log now path → knows (settled_marks now marks) → Comes told (said_after now (Removed path) work told) dirty_after log now knows
-removes_thing told dirty dirty_after marks log now path work knows kept none was firm calm no_mode listed more it known_of =
+removes_thing told dirty dirty_after marks log now path work knows kept none was firm calm no_mode apart listed more it known_of =
     comes_one told (said_after now (Removed path) work told) dirty dirty_after marks marks log now (Removes it.r.f it.r.name it.k) knows kept it.now_is
     (subst (λ (l : CallLog). IsKnown (said_after now (Removed path) work told) dirty_after marks l) (sym it.now_is)
     (removed_known told (said_after now (Removed path) work told) dirty dirty_after marks log kept.known path it.r it.k (record {
@@ -137,12 +143,13 @@ removes_thing told dirty dirty_after marks log now path work knows kept none was
       gone = put_at told.tree path None ∙ ap (λ b. (let s : Spot = record { value = None; is_mount = b } in s)) mountless;
       was = λ out. ap (held (current log)) (was out) ∙ (sym (ap (λ (s : Spot). s.value) shown) ∙ sym (ap (λ (s : Spot). s.value) (put_at told.earlier path (told.tree path).value)));
       part = none;
+      lone = λ none. none;
       doubts = λ p h. or_left _ _ h;
       folders = folder_said;
       modes = λ p h. h;
       calm = λ p h. elim (either (may_change (item_in work) p) (told.calm p) h) [ inl here ↦ inr (calm p here) | inr before ↦ inl before ];
       doubted = or_right _ _ (same_path-self path);
-    }) was (no_mode it.r.i (removal_leads log now path it) it.mountless) (subst (λ q. Among dirty_after (folder_of q)) it.r.path_is listed) more))
+    }) was (no_mode it.r.i (removal_leads log now path it) it.mountless) (λ g. apart it.r.i g (removal_leads log now path it)) (subst (λ q. Among dirty_after (folder_of q)) it.r.path_is listed) more))
     known_of
   where
     no_part : (p : Route) → told.part ≡ Some p → ⊥

@@ -1,7 +1,7 @@
 -- Each step of a deletion keeps what is known.
 use Rattle.std.proofs.Common.{◌≡◌, ◌⊎◌, ℕ, Bool, true, false, List, [], ◌∷◌, ◌++◌, refl, sym, ◌∙◌, ap, subst, inl, inr, Option, Some, None, Ok, arith, ◌||◌, not}
 use Rattle.std.specs.Prelude.{if◌then◌else◌}
-use Rattle.std.proofs.lemmas.Bool.{and_from, both_ways, false≢true, or_cases, or_left}
+use Rattle.std.proofs.lemmas.Bool.{and_from, both_ways, false≢true, or_cases, or_left, or_right}
 use Rattle.mc_text.specs.Routes.{Route, is_prefix, same_path}
 use Rattle.mc_text.proofs.Prefixes.{same_path-lengths}
 use Rattle.tree_trait.specs.declared.calls.TreeError.{TreeError}
@@ -34,7 +34,7 @@ use Rattle.copy_move.specs.DeletionSteps.{after_try}
 use Rattle.copy_move.specs.Jobs.{course_after}
 use Rattle.copy_move.specs.Settling.{NoneOwed, is_own, with_change as moves_dirty}
 use Rattle.history_laws.proofs.Calming.{cleared_known, refused_is, still_listed, thing_done}
-use Rattle.history_laws.proofs.Knowing.{IsCalmIn, IsKept, IsKnown, Said, settled_marks}
+use Rattle.history_laws.proofs.Knowing.{IsCalmFolder, IsKept, IsKnown, Said, settled_marks}
 use Rattle.history_laws.proofs.JobKnows.{HasName, IsIntact, KnowsAfter, KnowsWithin, WorkKnows, work_settled, work_still}
 use Rattle.history_laws.proofs.Stepped.{Comes, comes_none, comes_one, folders_by, said_after}
 use Rattle.history_laws.proofs.Deleted.{IsRemoval, comes_refused, folder_removed, removal_done, removal_leads, removes_thing}
@@ -156,19 +156,20 @@ module _ (told : Said) (dirty dirty_after : List Route) (marks : Marks) (log now
 
   -- no mode waits in its folders
   calm_now : (d : Deleting) → WorkKnows told dirty marks log GoesOn (Delete d) → at_barrier d.stage ≡ false → (is_fresh d.stage ≡ true → NoneOwed (current log) (Delete d) dirty) → (q : Route) → is_own (Delete d) q ≡ true
-      → IsCalmIn marks (current log) q
+      → IsCalmFolder marks log q
   calm_now d (name, none, known) going settled q own = by d.stage refl
     where
-      by : (stage : Stage) → d.stage ≡ stage → IsCalmIn marks (current log) q
+      by : (stage : Stage) → d.stage ≡ stage → IsCalmFolder marks log q
       by Begin is = calm_begins told dirty marks log kept d name (settled (ap is_fresh is)) q own
       by Going is = kept.known.calm q ((known is).2 q own)
       by Sync is = absurd (false≢true (sym going ∙ ap at_barrier is))
 
   -- nor of what is removed, at which no mount begins
-  no_mode_now : (d : Deleting) (path : Route) → ((q : Route) → is_own (Delete d) q ≡ true → IsCalmIn marks (current log) q) → is_prefix d.path path ≡ true → IsRemoval log now path
+  no_mode_now : (d : Deleting) (path : Route) → ((q : Route) → is_own (Delete d) q ≡ true → IsCalmFolder marks log q) → is_prefix d.path path ≡ true → IsRemoval log now path
       → (i : ℕ) → find (current log) path ≡ Some i → starts_mount (current log) i ≡ false → marks.modes i ≡ None
   no_mode_now d path calm within it i at inside =
-      elim (calm it.r.up (own_folder d path it.r.up within (sym (ap folder_of it.r.path_is))) it.r.name i (ap (find (current log)) (sym it.r.path_is) ∙ at)) [ inl none ↦ none | inr begins ↦ absurd (both_ways _ inside begins) ]
+      let around = calm it.r.up (own_folder d path it.r.up within (sym (ap folder_of it.r.path_is))) in
+      elim (around.modes it.r.name i (ap (find (current log)) (sym it.r.path_is) ∙ at)) [ inl none ↦ none | inr begins ↦ absurd (both_ways _ inside begins) ]
 
   -- the folder that holds the thing is on the disk then
   firm_now : (d : Deleting) (path : Route) → WorkKnows told dirty marks log GoesOn (Delete d) → at_barrier d.stage ≡ false → (is_fresh d.stage ≡ true → NoneOwed (current log) (Delete d) dirty)
@@ -183,11 +184,11 @@ module _ (told : Said) (dirty dirty_after : List Route) (marks : Marks) (log now
   above_it : (path : Route) → IsRemoval log now path → same_path (folder_of path) path ≡ false
   above_it path it = subst (λ q. same_path (folder_of q) q ≡ false) (sym it.r.path_is) (same_path-lengths it.r.up (it.r.name ∷ it.r.up) (λ e. let n : ⊥ = absurd (omega (arith, e)) in n))
 
-  removes : (d new : Deleting) (path : Route) (stage : Stage) → WorkKnows told dirty marks log GoesOn (Delete d) → IsIntact marks (current log) d.path → IsSureFolder log (folder_of d.path) → ((q : Route) → is_own (Delete d) q ≡ true → IsCalmIn marks (current log) q) → is_prefix d.path path ≡ true
+  removes : (d new : Deleting) (path : Route) (stage : Stage) → WorkKnows told dirty marks log GoesOn (Delete d) → IsIntact marks (current log) d.path → IsSureFolder log (folder_of d.path) → ((q : Route) → is_own (Delete d) q ≡ true → IsCalmFolder marks log q) → is_prefix d.path path ≡ true
       → IsAtStage d stage new → Among dirty_after (folder_of path) → ((q : Route) → Among dirty q → same_path q path ≡ false → Among dirty_after q) → IsRemoval log now path → Steps (Removed path) GoesOn (Delete d) (Delete new)
   removes d new path stage (name, none, known) intact firm calm within at listed more it =
       removes_thing told dirty dirty_after marks log now path (Delete d) (KnowsAfter (Removed path) (said_after now (Removed path) (Delete d) told) dirty_after now GoesOn (Delete new)) kept none
-      (λ out. intact_was marks (current log) d.path path it.r.i intact within (removal_leads log now path it) out) firm calm (no_mode_now d path calm within it) listed more it (
+      (λ out. intact_was marks (current log) d.path path it.r.i intact within (removal_leads log now path it) out) firm calm (no_mode_now d path calm within it) (let own = calm path (or_right _ _ within) in own.apart) listed more it (
         subst HasName (sym at.path_is) name,
         none,
         λ is. (

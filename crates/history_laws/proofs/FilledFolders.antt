@@ -1,9 +1,9 @@
 -- Folders that a job fills. Each stands on the disk, but for one that was just made, and no change waits of a name that is yet to be met in
--- it. So at the target of what is met next nothing was done yet.
+-- it, nor a renaming for it and another folder. So at the target of what is met next nothing was done yet.
 use Rattle.std.proofs.Common.{◌≡◌, ℕ, ◌<◌, true, false, List, [], ◌∷◌, ◌++◌, length, refl, sym, ◌∙◌, ap, subst, inl, inr, Option, Some, None, arith, cond}
 use Rattle.std.specs.Prelude.{is_some, option_and_then}
 use Rattle.std.specs.Option.{option_map_or}
-use Rattle.std.proofs.lemmas.Bool.{both_ways, false_from_ne_true, false≢true}
+use Rattle.std.proofs.lemmas.Bool.{both_ways, eq-eqb, false_from_ne_true, false≢true}
 use Rattle.mc_text.specs.Routes.{Route}
 use Rattle.tree_trait.specs.declared.file_system.Node.{Node}
 use Rattle.tree_trait.specs.declared.file_system.FileSystem.{FileSystem}
@@ -21,10 +21,12 @@ use Rattle.crash_law.proofs.Leading.{current_more}
 use Rattle.crash_law.proofs.Tops.{none_below, under_made, under_moved, under_removed}
 use Rattle.history_laws.specs.Doubt.{is_pending, name_waits}
 use Rattle.history_laws.proofs.Changing.{none_below_file, said_one, said_two, some_is, some_none}
-use Rattle.history_laws.proofs.Untouched.{IsAsFound, IsBare, found_bare, IsUntouched, NoneOn, none_waits, untouched_free, way_sure}
+use Rattle.history_laws.proofs.Untouched.{IsAsFound, IsBare, found_bare, IsUntouched, NoneOn, none_joint, none_waits, untouched_free, way_sure}
 use Rattle.history_laws.proofs.Knowing.{IsKept, Said}
-use Rattle.history_laws.proofs.Pending.{pending_less, pending_synced}
-use Rattle.history_laws.proofs.Resting.{IsOfFiles, IsSureFolder, folder_at, folder_at_of, stands_at, sure_path, sure_still}
+use Rattle.history_laws.proofs.Pending.{is_within, pending_less, quiet_within}
+use Rattle.history_laws.proofs.Resting.{IsOfFiles, IsSureFolder, bare_unjoined, folder_at, folder_at_of, stands_at, sure_path, sure_still, unjoined_at}
+use Rattle.history_laws.proofs.Restless.{IsUnjoined, is_joint, joint_before}
+use Rattle.history_laws.proofs.WaitsFor.{pending_synced}
 
 -- no change of these names of the folder waits
 abbrev pub NoneWait : CallLog → Route → List (List ℕ) → Type 0
@@ -34,11 +36,13 @@ NoneWait log up coming = (name : List ℕ) → Among coming name → name_waits 
 pub record IsFilling (log : CallLog) (up : Route) (coming : List (List ℕ)) : Type 0 where
   pub firm : IsSureFolder log up
   pub calm : NoneWait log up coming
+  pub apart : IsUnjoined log up
 
 -- one that was made, and isn't on the disk yet
 pub record IsNew (log : CallLog) (up : Route) (coming : List (List ℕ)) : Type 0 where
   pub stands : folder_at (current log) up ≡ true
   pub calm : NoneWait log up coming
+  pub apart : IsUnjoined log up
 
 -- It begins where no dirty folder lies on its mount.
 pub filling_begins : (told : Said) (dirty : List Route) (marks : Marks) (log : CallLog) (up : Route) (f : ℕ) (coming : List (List ℕ)) → IsKept told dirty marks log → find (current log) up ≡ Some f → is_folder (node (current log) f) ≡ true
@@ -46,6 +50,7 @@ pub filling_begins : (told : Said) (dirty : List Route) (marks : Marks) (log : C
 filling_begins told dirty marks log up f coming kept at folder owed = record {
   firm = record { stands = folder_at_of (current log) up f at folder; sure = way_sure told dirty marks log up f kept.known at owed };
   calm = λ name among. none_waits told dirty marks log up kept.known owed name;
+  apart = none_joint told dirty marks log up kept.known owed;
 }
 
 -- What is met next, where nothing stands, is untouched.
@@ -64,7 +69,7 @@ met_found told dirty marks log up coming name kept filling among bare =
 
 -- fewer names are yet to be met
 pub filling_fewer : (log : CallLog) (up : Route) (coming fewer : List (List ℕ)) → ((name : List ℕ) → Among fewer name → Among coming name) → IsFilling log up coming → IsFilling log up fewer
-filling_fewer log up coming fewer less filling = record { firm = filling.firm; calm = λ name among. filling.calm name (less name among) }
+filling_fewer log up coming fewer less filling = record { firm = filling.firm; calm = λ name among. filling.calm name (less name among); apart = filling.apart }
 
 -- what a folder's names wait for hangs on its node
 waits_in : (log : CallLog) (up : Route) (f : ℕ) (name : List ℕ) → find (current log) up ≡ Some f → name_waits log (name ∷ up) ≡ is_pending f name log.changes
@@ -79,11 +84,15 @@ calm_still log c up f coming at then apart calm name among =
       | inr new ↦ apart name among new
     ])
 
+-- nor does a renaming then, for the folder and another one
+apart_still : (log : CallLog) (c : Change) (up : Route) (f : ℕ) → is_within c ≡ true → find (current log) up ≡ Some f → find (current (with_change log c)) up ≡ Some f → IsUnjoined log up → IsUnjoined (with_change log c) up
+apart_still log c up f one at then apart = unjoined_at log c up one (λ g now. at ∙ (sym then ∙ now)) apart
+
 still_folder : (log : CallLog) (c : Change) (i : ℕ) → i < length (current log).nodes → is_folder (node (current log) i) ≡ true → is_folder (node (current (with_change log c)) i) ≡ true
 still_folder log c i there folder = ap (λ (s : FileSystem). is_folder (node s i)) (current_more log c) ∙ (folder_kept (current log) c i there ∙ folder)
 
 -- A change after which each folder stands where it stood, and that touches no name of one.
-module _ (log : CallLog) (c : Change) (tree : IsTree (current log))
+module _ (log : CallLog) (c : Change) (tree : IsTree (current log)) (one : is_within c ≡ true)
     (stays : (q : Route) (g : ℕ) → find (current log) q ≡ Some g → is_folder (node (current log) g) ≡ true → find (current (with_change log c)) q ≡ Some g)
     (apart : (g : ℕ) (m : List ℕ) (j : ℕ) → is_some (says c 0 g m) ≡ true → lookup (current log).names g m ≡ Some j → is_folder (node (current log) j) ≡ true → ⊥) where
   sure_after : (up : Route) → IsSureFolder log up → IsSureFolder (with_change log c) up
@@ -103,6 +112,7 @@ module _ (log : CallLog) (c : Change) (tree : IsTree (current log))
       record {
         firm = sure_after up firm;
         calm = calm_still log c up there.i coming there.at (stays up there.i there.at there.folder) (other there.i there.at) filling.calm;
+        apart = apart_still log c up there.i one there.at (stays up there.i there.at there.folder) filling.apart;
       }
 
 -- the folder in which a name changes isn't this one, or the name is none of those that are yet to be met
@@ -137,7 +147,7 @@ module _ (log : CallLog) (tree : IsTree (current log)) (q : Route) (g : ℕ) (at
         some_none j (sym leads ∙ subst (λ n. lookup (current log).names n m ≡ None) e.0 (subst (λ n. lookup (current log).names g n ≡ None) e.1 free))
 
     pub filling_made : (up : Route) (coming : List (List ℕ)) → IsOff q k up coming → IsFilling log up coming → IsFilling (with_change log makes) up coming
-    filling_made up coming off = filling_still log makes tree stays_made made_apart up coming
+    filling_made up coming off = filling_still log makes tree refl stays_made made_apart up coming
         (λ f stands name among said. off_name log q up g f k name coming tree at stands off among (said_one (same_name g k f name) (Some 0) said))
 
     -- it is a folder: nothing waits in it yet
@@ -176,6 +186,9 @@ module _ (log : CallLog) (tree : IsTree (current log)) (q : Route) (g : ℕ) (at
       folder_opens coming = record {
         stands = folder_at_of (current now) (k ∷ q) new new_at new_folder;
         calm = λ m among. waits_in now (k ∷ q) new m new_at ∙ calm_new m;
+        apart = λ f other at. false_from_ne_true _ (λ joint.
+            let before = joint_before f other log.changes makes refl joint in
+            both_ways _ (bare_unjoined log tree files new other bare) (subst (λ j. is_joint j other log.changes ≡ true) (some_is new f (sym new_at ∙ at)) before));
       }
 
   -- a part is placed where no folder stands, or removed
@@ -229,7 +242,7 @@ module _ (log : CallLog) (tree : IsTree (current log)) (q : Route) (g : ℕ) (at
       ]
 
       pub filling_placed : (up : Route) (coming : List (List ℕ)) → IsOff q target up coming → IsOff q part up coming → IsFilling log up coming → IsFilling (with_change log moves) up coming
-      filling_placed up coming off_target off_part = filling_still log moves tree stays_placed placed_apart up coming
+      filling_placed up coming off_target off_part = filling_still log moves tree (eq-eqb g g refl) stays_placed placed_apart up coming
           (λ f stands name among said. elim (said_two (same_name g target f name) (same_name g part f name) (Some i) None said) [
             | inl same ↦ off_name log q up g f target name coming tree at stands off_target among same
             | inr same ↦ off_name log q up g f part name coming tree at stands off_part among same
@@ -245,7 +258,7 @@ module _ (log : CallLog) (tree : IsTree (current log)) (q : Route) (g : ℕ) (at
     ]
 
     pub filling_removed : (up : Route) (coming : List (List ℕ)) → IsOff q part up coming → IsFilling log up coming → IsFilling (with_change log removes) up coming
-    filling_removed up coming off = filling_still log removes tree stays_removed
+    filling_removed up coming off = filling_still log removes tree refl stays_removed
         (λ h m j said found folder. part_apart h m j (said_one (same_name g part h m) None said) found folder) up coming
         (λ f stands name among said. off_name log q up g f part name coming tree at stands off among (said_one (same_name g part f name) None said))
 
@@ -258,7 +271,7 @@ module _ (log : CallLog) (c : Change) (tree : IsTree (current log)) (none : (n g
   stays_quiet p f stands folder = same_quiet log c (none (length (current log).nodes)) p ∙ stands
 
   pub filling_quiet : (up : Route) (coming : List (List ℕ)) → IsFilling log up coming → IsFilling (with_change log c) up coming
-  filling_quiet up coming = filling_still log c tree stays_quiet (λ g m j said found folder. none_said g m said) up coming (λ f stands name among said. none_said f name said)
+  filling_quiet up coming = filling_still log c tree (quiet_within c none) stays_quiet (λ g m j said found folder. none_said g m said) up coming (λ f stands name among said. none_said f name said)
 
   pub new_quiet : (up : Route) (coming : List (List ℕ)) → IsNew log up coming → IsNew (with_change log c) up coming
   new_quiet up coming new =
@@ -267,20 +280,22 @@ module _ (log : CallLog) (c : Change) (tree : IsTree (current log)) (none : (n g
       record {
         stands = folder_at_of (current (with_change log c)) up there.i then (still_folder log c there.i (found_there (current log) tree up there.i there.at) there.folder);
         calm = calm_still log c up there.i coming there.at then (λ name among said. none_said there.i name said) new.calm;
+        apart = apart_still log c up there.i (quiet_within c none) there.at then new.apart;
       }
 
 -- A folder that was made is on the disk once the one around it was synced.
-pub opens_synced : (log : CallLog) (q : Route) (g : ℕ) (k : List ℕ) (coming : List (List ℕ)) → IsTree (current log) → IsOfFiles log → find (current log) q ≡ Some g → IsSureFolder log q → IsNew log (k ∷ q) coming
+pub opens_synced : (log : CallLog) (q : Route) (g : ℕ) (k : List ℕ) (coming : List (List ℕ)) → IsTree (current log) → find (current log) q ≡ Some g → IsFilling log q [] → IsNew log (k ∷ q) coming
     → IsFilling (with_change log (Syncs g)) (k ∷ q) coming
-opens_synced log q g k coming tree files at firm new =
+opens_synced log q g k coming tree at outer new =
     let then = new_quiet log (Syncs g) tree (λ n h m. refl) (k ∷ q) coming new in
-    let around = filling_quiet log (Syncs g) tree (λ n h m. refl) q [] (record { firm = firm; calm = λ name never. absurd never }) in
+    let around = filling_quiet log (Syncs g) tree (λ n h m. refl) q [] outer in
     let still = around.firm in
     let at_now : find (current (with_change log (Syncs g))) q ≡ Some g = same_quiet log (Syncs g) (λ h m. refl) q ∙ at in
     record {
       firm = record {
         stands = then.stands;
-        sure = sure_path (with_change log (Syncs g)) (k ∷ q) still.sure (waits_in (with_change log (Syncs g)) q g k at_now ∙ pending_synced g k log.changes files.within);
+        sure = sure_path (with_change log (Syncs g)) (k ∷ q) still.sure (waits_in (with_change log (Syncs g)) q g k at_now ∙ pending_synced g k log.changes (λ other. outer.apart g other at));
       };
       calm = then.calm;
+      apart = then.apart;
     }

@@ -26,7 +26,7 @@ use Rattle.file_copy.proofs.FilledParts.{Holds, written_on}
 use Rattle.job_reports.proofs.PermittedCalls.{IsMaking, making_passes}
 use Rattle.copy_move.specs.declared.run.Course.TheVariants.{GoesOn}
 use Rattle.history_laws.proofs.Calming.{written_known}
-use Rattle.history_laws.proofs.Knowing.{IsCalmIn, IsKept, IsKnown, Said, settled_marks}
+use Rattle.history_laws.proofs.Knowing.{IsCalmFolder, IsKept, IsKnown, Said, settled_marks}
 use Rattle.history_laws.proofs.JobKnows.{FileKnows, HasName, HasPart, IsAsFound, IsFilled, none_of_part, part_settled}
 use Rattle.history_laws.proofs.Quiet.{kind_same}
 use Rattle.history_laws.proofs.OpenTargets.{IsOpen}
@@ -46,7 +46,7 @@ making_stands log now c k d =
 module _ (told : Said) (dirty dirty_after : List Route) (marks : Marks) (log now : CallLog) (kept : IsKept told dirty marks log) (c : Copying) (unclaimed : Route → Type 0) (said : SourceFacts) (k : ℕ) (target_name : HasName c.target)
     (ready : IsOpen (current log) (places_of c)) (is_said : AreFactsOf (current log) c.source said) (free : IsFirstFree (current log) unclaimed (places_of c) k) (none : told.part ≡ None)
     (as_it_was : IsAsFound marks (current log) c.target) (d : IsDoneCall log (making (current log) (places_of c) k) now) (firm : IsSureFolder log (folder_of c.target)) (around : Route) (around_firm : IsSureFolder log around) (own : Route → Bool)
-    (own_here : own (folder_of c.target) ≡ true) (own_calm : (p : Route) → own p ≡ true → IsCalmIn marks (current log) p) (listed : Among dirty_after (folder_of c.target)) (more : (q : Route) → Among dirty q → Among dirty_after q) where
+    (own_here : own (folder_of c.target) ≡ true) (own_calm : (p : Route) → own p ≡ true → IsCalmFolder marks log p) (listed : Among dirty_after (folder_of c.target)) (more : (q : Route) → Among dirty q → Among dirty_after q) where
   abbrev up : Route
   up = folder_of c.target
 

@@ -32,6 +32,7 @@ use Rattle.history_laws.proofs.Prefixes.{AreWithin, calm_event, calm_told, earli
 use Rattle.history_laws.proofs.Going.{Goes, closed_know, closed_live, event_goes}
 use Rattle.history_laws.proofs.Knowing.{Said, IsKept, anywhere}
 use Rattle.history_laws.proofs.Pending.{pending_settled, within_settled}
+use Rattle.history_laws.proofs.WaitsFor.{joint_settled, restless_settled}
 use Rattle.history_laws.proofs.Reports.{HasLive, JobsKnow}
 use Rattle.history_laws.proofs.Sources.{item_in}
 use Rattle.history_laws.proofs.Stepped.{AreMids, calm_by, doubt_by, folders_by, modes_by, more, part_after, said_after}
@@ -202,18 +203,17 @@ entered_reached opening e older was before stand now r f =
     }))
 
 module _ (opening : CallLog) (tree : IsTree (current opening)) (settled : all_settled opening.changes ≡ true) where
-  at_opening : IsKept (told_of opening opening [] None) [] (as_it_stands opening) opening
+  pub at_opening : IsKept (told_of opening opening [] None) [] (as_it_stands opening) opening
   at_opening = record {
     known = record {
       guarded = opening_law opening tree settled;
       files = record {
-        within = all_in;
         bare = λ i m bare. pending_settled i m opening.changes settled;
         unborn = λ i past. (opening_law opening tree settled).clean i refl;
         mounts = λ p on. none_unsettled p;
       };
       moded = λ i before is unclean. absurd (let f : ⊥ = cc in f);
-      calm = λ p there name i at. inl refl;
+      calm = λ p there. record { modes = λ name i at. inl refl; apart = λ f g at. joint_settled f g opening.changes settled };
       folders = λ i folder. (refl, refl);
       aside = λ p is. absurd (false≢true is);
       left = λ p is there. absurd (false≢true is);
@@ -221,7 +221,9 @@ module _ (opening : CallLog) (tree : IsTree (current opening)) (settled : all_se
       was_shown = λ p out. inl refl;
       shows = λ p other. refl;
       part = λ p is. absurd (let f : ⊥ = cc in f);
-      tracked = λ f m waits. absurd (false≢true (sym (pending_settled f m opening.changes settled) ∙ waits));
+      tracked = λ f restless. absurd (false≢true (sym (restless_settled f opening.changes settled) ∙ restless));
+      joint = λ f g up joint at. absurd (false≢true (sym (joint_settled f g opening.changes settled) ∙ joint));
+      lone = λ none. within_settled opening.changes settled;
       doubts = λ p waits. refl;
       stand = λ p there. record { stands = there; sure = none_unsettled p };
     };
@@ -237,9 +239,6 @@ module _ (opening : CallLog) (tree : IsTree (current opening)) (settled : all_se
       none_unsettled : (p : Route) → way_waits opening p ≡ false
       none_unsettled [] = refl
       none_unsettled (name ∷ up) = ap (λ b. b || way_waits opening up) (none_by name (find (current opening) up)) ∙ none_unsettled up
-
-      all_in : Rattle.history_laws.proofs.Pending.all_within opening.changes ≡ true
-      all_in = within_settled opening.changes settled
 
   pub traced_reached : (newest : List Entry) (stand : Stand) (now : CallLog) → IsTraced opening newest stand now → IsReached opening newest stand now
   traced_reached [] stand now (stand_is, now_is) =

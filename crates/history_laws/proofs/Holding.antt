@@ -93,6 +93,8 @@ module _ (path : Route) (v : Option Value) (told : Said) where
       shows = kept.known.shows;
       part = kept.known.part;
       tracked = kept.known.tracked;
+      joint = kept.known.joint;
+      lone = kept.known.lone;
       doubts = kept.known.doubts;
       stand = kept.known.stand;
     };

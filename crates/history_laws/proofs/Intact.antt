@@ -1,11 +1,13 @@
 -- What a deletion knows of the thing that it deletes, and of what lies in it: nothing was done there yet but its own removals.
 use Rattle.std.proofs.Common.{◌≡◌, ◌⊎◌, ℕ, ◌≤◌, Bool, true, false, List, [], ◌∷◌, ◌++◌, length, length-append, arith, refl, sym, ◌∙◌, ap, subst, inl, inr, Option, Some, None}
 use Rattle.std.specs.Option.{option_map_or}
-use Rattle.std.proofs.lemmas.Bool.{both_ways, or_cases, or_left, or_right}
+use Rattle.std.proofs.lemmas.Bool.{both_ways, false_from_ne_true, or_cases, or_left, or_right}
 use Rattle.mc_text.specs.Routes.{Route, is_prefix, same_path}
 use Rattle.mc_text.proofs.Prefixes.{same_path-lengths}
 use Rattle.tree_trait.specs.declared.file_system.FileSystem.{FileSystem}
 use Rattle.tree_trait.specs.FileSystem.{find, lookup}
+use Rattle.tree_trait.specs.Answers.{mount_number}
+use Rattle.tree_trait.specs.Refusals.{mount_of}
 use Rattle.tree_trait.specs.Shape.{IsTree}
 use Rattle.tree_trait.specs.Change.{CallLog, current}
 use Rattle.tree_trait.specs.CrashImages.{Among}
@@ -22,8 +24,12 @@ use Rattle.history_laws.specs.Doubt.{is_pending, way_waits, name_waits}
 use Rattle.history_laws.proofs.Changing.{folder_anchored}
 use Rattle.history_laws.proofs.Deleted.{IsRemoval, removal_leads}
 use Rattle.history_laws.proofs.JobKnows.{HasName, IsIntact, calm_in, intact_settled, none_on, none_unlisted, way_sure}
-use Rattle.history_laws.proofs.Knowing.{IsCalmIn, IsKept, IsKnown, Said, settled_marks}
+use Rattle.history_laws.proofs.Knowing.{IsCalmFolder, IsCalmIn, IsKept, IsKnown, Said, settled_marks}
+use Rattle.history_laws.proofs.Mounts.{mount_above, mount_within}
 use Rattle.history_laws.proofs.Resting.{IsSureFolder, folder_at, folder_at_of, stands_at, sure_path}
+use Rattle.history_laws.proofs.Restless.{IsUnjoined, is_restless, joint_restless}
+use Rattle.history_laws.proofs.WaitsFor.{waits_for}
+use Rattle.history_laws.proofs.Untouched.{none_joint}
 
 pub prefix_way : (top p : Route) → is_prefix top p ≡ true → (rest : Route) × (p ≡ rest ++ top)
 prefix_way top [] h = ([], sym (same_path-true top [] h))
@@ -36,6 +42,11 @@ pub prefix_append : (top rest : Route) → is_prefix top (rest ++ top) ≡ true
 prefix_append [] [] = refl
 prefix_append (name ∷ top) [] = or_left (same_path (name ∷ top) (name ∷ top)) (is_prefix (name ∷ top) top) (same_path-self (name ∷ top))
 prefix_append top (name ∷ rest) = or_right (same_path top (name ∷ rest ++ top)) (is_prefix top (rest ++ top)) (prefix_append top rest)
+
+-- what lies below a path below the top lies below the top
+pub prefix_more : (top rest p : Route) → is_prefix top p ≡ true → is_prefix top (rest ++ p) ≡ true
+prefix_more top [] p h = h
+prefix_more top (name ∷ rest) p h = or_right (same_path top (name ∷ rest ++ p)) (is_prefix top (rest ++ p)) (prefix_more top rest p h)
 
 -- the folder of what a deletion removes is its own
 pub own_folder : (d : Deleting) (path q : Route) → is_prefix d.path path ≡ true → q ≡ folder_of path → is_own (Delete d) q ≡ true
@@ -56,14 +67,57 @@ module _ (told : Said) (dirty : List Route) (marks : Marks) (log : CallLog) (kep
     ]
   ]
 
+  -- a folder that stands and isn't dirty is at rest
+  at_rest : (q : Route) (f : ℕ) → find (current log) q ≡ Some f → (Among dirty q → ⊥) → is_restless f log.changes ≡ true → ⊥
+  at_rest q f at unlisted restless = elim (kept.known.tracked f restless) [
+    | inl t ↦ unlisted (subst (λ p. Among dirty p) (find-once (current log) kept.known.guarded.tree t.0 q f t.2 at) t.1)
+    | inr unreached ↦ unreached q at
+  ]
+
+  -- nor is one dirty on the mount of a folder that is deleted: such a mount begins within, or it is that of the folder around
+  none_beside : (rest : Route) (i : ℕ) → find (current log) (rest ++ d.path) ≡ Some i → (q : Route) (g : ℕ) → find (current log) q ≡ Some g → mount_of (current log) q ≡ mount_of (current log) (rest ++ d.path) → Among dirty q → ⊥
+  none_beside rest i at q g there mount among = elim (none q among) [
+    | inl gone ↦ (let e : (let o : Option ℕ = None in o) ≡ Some g = sym (stat_missing (current log) q gone) ∙ there in let x : ⊥ = cc in x)
+    | inr apart ↦ elim (mount_within (current log) has.name (folder_of d.path) rest i (sym (ap (λ top. find (current log) (rest ++ top)) has.is) ∙ at)) [
+      | inl inside ↦
+          let above = mount_above (current log) q g there in
+          let root_at : find (current log) (inside.0 ++ d.path) ≡ Some (mount_of (current log) (rest ++ d.path)) =
+          subst (λ (top : Route). find (current log) (inside.0 ++ top) ≡ Some (mount_of (current log) (rest ++ top))) (sym has.is) inside.1 in
+          let root_is = find-once (current log) kept.known.guarded.tree above.root (inside.0 ++ d.path) (mount_of (current log) q) above.at (root_at ∙ ap (λ n. Some n) (sym mount)) in
+          both_ways _ apart.0 (subst (λ p. is_prefix d.path p ≡ true) (sym (above.path_is ∙ ap (λ p. above.rest ++ p) root_is)) (prefix_more d.path above.rest (inside.0 ++ d.path) (prefix_append d.path inside.0)))
+      | inr same ↦
+          let a = apart.1 in
+          let around : mount_of (current log) (rest ++ d.path) ≡ mount_of (current log) (folder_of d.path) = ap (λ (top : Route). mount_of (current log) (rest ++ top)) has.is ∙ same in
+          a.2 (a.1 ∙ ap (mount_number (current log).mounts) (sym (mount ∙ around)))
+    ]
+  ]
+
+  -- so no renaming waits for one of the deletion's folders and another one
+  apart_begins : (q : Route) → is_own (Delete d) q ≡ true → IsUnjoined log q
+  apart_begins q own = elim (or_cases (same_path q (folder_of d.path)) (is_prefix d.path q) own) [
+    | inl here ↦ subst (IsUnjoined log) (sym (same_path-true q (folder_of d.path) here)) (none_joint told dirty marks log (folder_of d.path) kept.known (none_on (current log) (Delete d) dirty none))
+    | inr within ↦ (let way = prefix_way d.path q within in subst (IsUnjoined log) (sym way.1) (by way.0))
+  ]
+    where
+      by : (rest : Route) → IsUnjoined log (rest ++ d.path)
+      by rest f g at = false_from_ne_true _ (λ joint. elim (joint_restless f g log.changes joint) [
+        | inl own ↦ at_rest (rest ++ d.path) f at (not_listed (rest ++ d.path) f at (inl (prefix_append d.path rest))) own
+        | inr other ↦ (let b = kept.known.joint f g (rest ++ d.path) joint at in at_rest b.path g b.at (none_beside rest f at b.path g b.at b.mount) other)
+      ])
+
+  -- what is at or below the thing, or holds it, is such a folder
+  is_there : (up : Route) → (is_prefix d.path up ≡ true) ⊎ (up ≡ folder_of d.path) → is_own (Delete d) up ≡ true
+  is_there up (inl within) = or_right (same_path up (folder_of d.path)) (is_prefix d.path up) within
+  is_there up (inr same) = or_left (same_path up (folder_of d.path)) (is_prefix d.path up) (subst (λ q. same_path q (folder_of d.path) ≡ true) (sym same) (same_path-self (folder_of d.path)))
+
   calm : (name : List ℕ) (up : Route) (f : ℕ) → find (current log) up ≡ Some f → (is_prefix d.path up ≡ true) ⊎ (up ≡ folder_of d.path) → name_waits log (name ∷ up) ≡ false
   calm name up f at where_is = ap (λ o. option_map_or (λ g. is_pending g name log.changes) o false) at ∙ by (is_pending f name log.changes) refl
     where
       by : (b : Bool) → is_pending f name log.changes ≡ b → b ≡ false
       by false is = refl
-      by true is = elim (kept.known.tracked f name is) [
-        | inl t ↦ absurd (not_listed up f at where_is (subst (λ q. Among dirty q) (find-once (current log) kept.known.guarded.tree t.0 up f t.2 at) t.1))
-        | inr unreached ↦ absurd (unreached up at)
+      by true is = elim (waits_for f name log.changes is) [
+        | inl own ↦ absurd (at_rest up f at (not_listed up f at where_is) own)
+        | inr other ↦ absurd (both_ways _ (apart_begins up (is_there up where_is) f other.0 at) other.1)
       ]
 
   -- nor is the folder that holds it in doubt
@@ -86,14 +140,18 @@ module _ (told : Said) (dirty : List Route) (marks : Marks) (log : CallLog) (kep
       sure_path log (name ∷ rest ++ d.path) (sure_there rest h.0 h.1) (calm name (rest ++ d.path) h.0 h.1 (inl (prefix_append d.path rest)))
 
   -- no mode waits in its folders
-  pub calm_begins : (q : Route) → is_own (Delete d) q ≡ true → IsCalmIn marks (current log) q
-  calm_begins q own = elim (or_cases (same_path q (folder_of d.path)) (is_prefix d.path q) own) [
-    | inl here ↦ subst (IsCalmIn marks (current log)) (sym (same_path-true q (folder_of d.path) here)) (calm_in told dirty marks log kept (folder_of d.path) (none_on (current log) (Delete d) dirty none))
+  modes_begin : (q : Route) → is_own (Delete d) q ≡ true → IsCalmIn marks (current log) q
+  modes_begin q own = elim (or_cases (same_path q (folder_of d.path)) (is_prefix d.path q) own) [
+    | inl here ↦ subst (IsCalmIn marks (current log)) (sym (same_path-true q (folder_of d.path) here)) (let around = calm_in told dirty marks log kept (folder_of d.path) (none_on (current log) (Delete d) dirty none) in around.modes)
     | inr within ↦ λ name i at. inl (none_unlisted told dirty marks log kept (name ∷ q) i at (λ among. elim (none (name ∷ q) among) [
       | inl gone ↦ (let e : (let o : Option ℕ = None in o) ≡ Some i = sym (stat_missing (current log) (name ∷ q) gone) ∙ at in let x : ⊥ = cc in x)
       | inr apart ↦ both_ways _ apart.0 (or_right (same_path d.path (name ∷ q)) (is_prefix d.path q) within)
     ]))
   ]
+
+  -- so they are calm
+  pub calm_begins : (q : Route) → is_own (Delete d) q ≡ true → IsCalmFolder marks log q
+  calm_begins q own = record { modes = modes_begin q own; apart = apart_begins q own }
 
   -- before the first change nothing waits there, so all is as it was found
   pub intact_begins : IsIntact marks (current log) d.path

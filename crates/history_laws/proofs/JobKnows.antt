@@ -21,14 +21,14 @@ use Rattle.tree_deletion.specs.declared.deletion.Stage.TheVariants.{Going}
 use Rattle.tree_deletion.specs.Folders.{is_of}
 use Rattle.crash_law.proofs.Unworked.{unworked_law}
 use Rattle.history_laws.specs.Doubt.{way_waits}
-use Rattle.history_laws.proofs.Knowing.{HasMode, IsCalmIn, IsKept, Said, settled_marks}
+use Rattle.history_laws.proofs.Knowing.{HasMode, IsCalmFolder, IsCalmIn, IsKept, Said, settled_marks}
 use Rattle.job_reports.specs.Paths.{folder_of}
 use Rattle.tree_trait.specs.Shape.{IsTree}
 use Rattle.tree_trait.specs.Change.{Change, Nothing, Syncs, with_change}
 use Rattle.crash_law.proofs.Leading.{current_more}
 use Rattle.history_laws.proofs.TreeKnown.{IsStill, TreeKnown, is_over, tree_course, tree_said, tree_settled, tree_still}
 pub use Rattle.history_laws.proofs.KnownParts.{may_fill, found_settled, FileKnows, HasLink, HasName, HasPart, IsFilled, IsLeftPart, LinkKnows, StageKnows, file_course, file_settled, part_settled, stage_course, stage_settled, untouched_settled}
-pub use Rattle.history_laws.proofs.Untouched.{IsAsFound, IsBare, IsUntouched, as_found, bare_free, found_bare, NoneOn, none_on, none_waits, untouched_free, way_sure}
+pub use Rattle.history_laws.proofs.Untouched.{IsAsFound, IsBare, IsUntouched, as_found, bare_free, found_bare, NoneOn, none_joint, none_on, none_waits, untouched_free, way_sure}
 
 -- at and below the path stands what the job found there, or nothing any more
 abbrev pub IsIntact : Marks → FileSystem → Route → Type 0
@@ -74,8 +74,8 @@ module _ (told : Said) (dirty : List Route) (marks : Marks) (log : CallLog) (kep
           absurd (both_ways _ (subst (λ q. marks.aside q ≡ false) (find-once (current log) kept.known.guarded.tree h.path part i h.leads at) h.out) aside)
 
   -- Where no dirty path lies on the mount of a folder, no mode waits of what stands in it but where another mount begins.
-  pub calm_in : (up : Route) → NoneOn (current log) up dirty → IsCalmIn marks (current log) up
-  calm_in up none name i at = by (starts_mount (current log) i) refl
+  modes_in : (up : Route) → NoneOn (current log) up dirty → IsCalmIn marks (current log) up
+  modes_in up none name i at = by (starts_mount (current log) i) refl
     where
       by : (b : Bool) → starts_mount (current log) i ≡ b → (marks.modes i ≡ None) ⊎ (starts_mount (current log) i ≡ true)
       by true begins = inr begins
@@ -86,6 +86,10 @@ module _ (told : Said) (dirty : List Route) (marks : Marks) (log : CallLog) (kep
             | inl gone ↦ (let e : (let o : Option ℕ = None in o) ≡ Some i = sym (stat_missing (current log) (name ∷ up) gone) ∙ at in let f : ⊥ = cc in f)
             | inr apart ↦ apart.2 (subst (λ n. apart.0 ≡ mount_number (current log).mounts n) (sym same) apart.1)
           ]))
+
+  -- so it is calm
+  pub calm_in : (up : Route) → NoneOn (current log) up dirty → IsCalmFolder marks log up
+  calm_in up none = record { modes = modes_in up none; apart = none_joint told dirty marks log up kept.known none }
 
 -- What is known of a job is known with the marks that are settled.
 module _ (log : CallLog) (marks : Marks) where

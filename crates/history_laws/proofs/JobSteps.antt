@@ -89,6 +89,8 @@ module _ (told : Said) (dirty dirty_after : List Route) (marks : Marks) (log now
           shows = λ p other. by p (same_path p part) refl;
           part = λ p e. absurd (let f : ⊥ = cc in f);
           tracked = kept.known.tracked;
+          joint = kept.known.joint;
+          lone = kept.known.lone;
           doubts = kept.known.doubts;
           stand = kept.known.stand;
         };

@@ -13,12 +13,14 @@ use Rattle.tree_trait.proofs.Finding.{find-once}
 use Rattle.crash_law.specs.Possible.{MayFind, IsImage}
 use Rattle.crash_law.specs.Guarded.{Marks, IsGuarded, IsOnDisk, Holds, Shows, with_mode}
 use Rattle.crash_law.proofs.Guarding.{settle_law, guard_law, found_at}
-use Rattle.history_laws.specs.Doubt.{is_pending, is_unsettled, name_waits, node_waits, way_waits}
-use Rattle.history_laws.proofs.Resting.{IsOfFiles, IsSureFolder, settled_unless}
+use Rattle.history_laws.specs.Doubt.{is_unsettled, name_waits, node_waits, way_waits}
+use Rattle.history_laws.proofs.Pending.{all_within}
+use Rattle.history_laws.proofs.Resting.{IsBeside, IsOfFiles, IsSureFolder, settled_unless}
+use Rattle.history_laws.proofs.Restless.{IsUnjoined, is_joint, is_restless}
 
 -- what a history says: what each path shows, what it showed before its last change, the paths that were named as parts, the parts that
 -- ended jobs left, the part that stands, of which names a change may wait for a sync, and where folders are known to stand on the disk; of which paths a mode may
--- wait, and the folders in which none does
+-- wait, and the folders in which none does; and whether a job has moved something to another folder
 pub record Said : Type 0 where
   pub tree : View
   pub earlier : View
@@ -29,6 +31,7 @@ pub record Said : Type 0 where
   pub folders : Route → Bool
   pub modes : Route → Bool
   pub calm : Route → Bool
+  pub joins : Bool
 
 -- of any path
 abbrev pub anywhere : Route → Bool
@@ -62,13 +65,18 @@ pub record HasMode (said : Said) (dirty : List Route) (marks : Marks) (log : Cal
 abbrev pub IsCalmIn : Marks → FileSystem → Route → Type 0
 IsCalmIn marks s up = (name : List ℕ) (i : ℕ) → find s (name ∷ up) ≡ Some i → (marks.modes i ≡ None) ⊎ (starts_mount s i ≡ true)
 
+-- a folder in which none does, and for which and another one no renaming waits
+pub record IsCalmFolder (marks : Marks) (log : CallLog) (up : Route) : Type 0 where
+  pub modes : IsCalmIn marks (current log) up
+  pub apart : IsUnjoined log up
+
 -- What is known, and kept by each call. The marks say what stood at each path before the work under way there.
 pub record IsKnown (said : Said) (dirty : List Route) (marks : Marks) (log : CallLog) : Type 0 where
   pub guarded : IsGuarded marks log
   pub files : IsOfFiles log
   -- a mode that waits is of a dirty path
   pub moded : (i before : ℕ) → marks.modes i ≡ Some before → is_clean i log.changes ≡ false → HasMode said dirty marks log i before
-  pub calm : (p : Route) → said.calm p ≡ true → IsCalmIn marks (current log) p
+  pub calm : (p : Route) → said.calm p ≡ true → IsCalmFolder marks log p
   -- a folder is never loose, and never roams
   pub folders : (i : ℕ) → is_folder (node (current log) i) ≡ true → (marks.roams i ≡ false) × (marks.loose i ≡ false)
   pub aside : (p : Route) → marks.aside p ≡ true → Among said.named p
@@ -78,8 +86,12 @@ pub record IsKnown (said : Said) (dirty : List Route) (marks : Marks) (log : Cal
   pub was_shown : (p : Route) → marks.aside p ≡ false → (marks.was p ≡ find (current log) p) ⊎ ((held (current log) (marks.was p) ≡ (said.earlier p).value) × HasNoMode marks (marks.was p))
   pub shows : (p : Route) → (said.part ≡ Some p → ⊥) → visible_tree (current log) p ≡ said.tree p
   pub part : (p : Route) → said.part ≡ Some p → (marks.aside p ≡ true) × (said.tree p ≡ nowhere) × (is_some (find (current log) p) ≡ true)
-  -- what waits lies in a dirty folder, or in one to which no path leads any more
-  pub tracked : (f : ℕ) (m : List ℕ) → is_pending f m log.changes ≡ true → ((up : Route) × Among dirty up × (find (current log) up ≡ Some f)) ⊎ IsUnreached log f
+  -- a folder of which a name was changed after its last sync is dirty, or no path leads to it any more
+  pub tracked : (f : ℕ) → is_restless f log.changes ≡ true → ((up : Route) × Among dirty up × (find (current log) up ≡ Some f)) ⊎ IsUnreached log f
+  -- two folders for which a renaming waits lie on one mount
+  pub joint : (f g : ℕ) (up : Route) → is_joint f g log.changes ≡ true → find (current log) up ≡ Some f → IsBeside log up g
+  -- where no job has moved a thing to another folder no renaming waits for two: only `OwedLaw` stands on this
+  pub lone : said.joins ≡ false → all_within log.changes ≡ true
   pub doubts : (p : Route) → name_waits log p ≡ true → said.doubt p ≡ true
   pub stand : (p : Route) → said.folders p ≡ true → IsSureFolder log p
 
@@ -160,8 +172,10 @@ module _ (said : Said) (dirty : List Route) (marks : Marks) (log : CallLog) (kno
       let h = known.moded i before (sym (ap (λ b. cond b (let o : Option ℕ = None in o) (marks.modes i)) unclean) ∙ is) unclean in
       record { path = h.path; leads = h.leads; out = ap (λ a. a && (way_waits log h.path || is_some (find (current log) h.path))) h.out; listed = h.listed; told = h.told; shown = h.shown }
 
-  calm_by : (p : Route) → said.calm p ≡ true → IsCalmIn after (current log) p
-  calm_by p there name i at = elim (known.calm p there name i at) [ inl none ↦ inl (still_none i none) | inr begins ↦ inr begins ]
+  calm_by : (p : Route) → said.calm p ≡ true → IsCalmFolder after log p
+  calm_by p there =
+      let calm = known.calm p there in
+      record { modes = λ name i at. elim (calm.modes name i at) [ inl none ↦ inl (still_none i none) | inr begins ↦ inr begins ]; apart = calm.apart }
 
   firm_of : (i : ℕ) → (marks.loose i ≡ false) ⊎ (is_folder (node (current log) i) ≡ true) → marks.loose i ≡ false
   firm_of i (inl firm) = firm
@@ -220,6 +234,8 @@ module _ (said : Said) (dirty : List Route) (marks : Marks) (log : CallLog) (kno
       shows = known.shows;
       part = λ p is. let k = known.part p is in (still_aside p k.0 k.2, k.1, k.2);
       tracked = known.tracked;
+      joint = known.joint;
+      lone = known.lone;
       doubts = known.doubts;
       stand = known.stand;
     };

@@ -67,7 +67,10 @@ pub mod ModeExample
 pub mod ModeSteps
 pub mod ModesStay
 pub mod Moments
+pub mod Mounts
 pub mod Moved
+pub mod MovingExample
+pub mod MovingFiles
 pub mod NameChanges
 pub mod NameItems
 pub mod NameLaws
@@ -93,6 +96,7 @@ pub mod Refused
 pub mod Renaming
 pub mod Reports
 pub mod Restated
+pub mod Restless
 pub mod Resting
 pub mod SetFolders
 pub mod SettingModes
@@ -133,3 +137,4 @@ pub mod Turns
 pub mod Unchanged
 pub mod Unnamed
 pub mod Untouched
+pub mod WaitsFor

@@ -17,7 +17,7 @@ use Rattle.crash_law.proofs.Guarding.{found_there}
 use Rattle.history_laws.proofs.Untouched.{IsAsFound}
 use Rattle.history_laws.proofs.Quiet.{kind_same}
 pub use Rattle.history_laws.proofs.KnownParts.{HasLink, link_settled}
-use Rattle.history_laws.proofs.Knowing.{IsCalmIn, IsKept, IsKnown, Said}
+use Rattle.history_laws.proofs.Knowing.{IsCalmFolder, IsKept, IsKnown, Said}
 use Rattle.history_laws.proofs.MakingParts.{MakesPart, made_known, marks_new, new_node, off_part, part_leads, part_node, with_part}
 use Rattle.history_laws.proofs.PlacingParts.{firm_known, marks_firm}
 use Rattle.history_laws.proofs.PlacingSteps.{IsWhole}
@@ -74,7 +74,7 @@ module _ (told : Said) (dirty dirty_after : List Route) (marks : Marks) (log : C
   bare : is_folder made ≡ false
   bare = ap folder_kind link
 
-  pub link_known : IsSureFolder log folder → IsSureFolder log up → ((p : Route) → own p ≡ true → IsCalmIn marks (current log) p) → Among dirty_after up → ((q : Route) → Among dirty q → Among dirty_after q) → IsKnown (with_part told folder own part) dirty_after marks_then after
+  pub link_known : IsSureFolder log folder → IsSureFolder log up → ((p : Route) → own p ≡ true → IsCalmFolder marks log p) → Among dirty_after up → ((q : Route) → Among dirty q → Among dirty_after q) → IsKnown (with_part told folder own part) dirty_after marks_then after
   link_known around firm calm listed more =
       firm_known (with_part told folder own part) dirty_after (marks_new marks part n) after n link_clean new_mode
       (made_known told dirty dirty_after marks log kept.known name up f made m bare new_mode folder own around firm calm listed more)

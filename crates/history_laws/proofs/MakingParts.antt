@@ -20,9 +20,10 @@ use Rattle.crash_law.proofs.Leading.{current_more}
 use Rattle.crash_law.proofs.Making.{making_law}
 use Rattle.crash_law.proofs.Tops.{under_made, none_below}
 use Rattle.job_reports.specs.Paths.{folder_of}
-use Rattle.history_laws.proofs.Knowing.{HasMode, IsCalmIn, IsKnown, Said, nowhere}
+use Rattle.history_laws.proofs.Knowing.{HasMode, IsCalmFolder, IsKnown, Said, nowhere}
+use Rattle.history_laws.proofs.Restless.{unjoined_within}
 use Rattle.history_laws.proofs.Resting.{IsSureFolder}
-use Rattle.history_laws.proofs.Renaming.{naming_known}
+use Rattle.history_laws.proofs.Renaming.{in_one_folder, naming_known}
 use Rattle.history_laws.proofs.Changing.{seen_nowhere, none_below_file, folder_anchored, off_itself, said_one, some_none, some_is}
 
 abbrev pub new_node : CallLog → ℕ
@@ -90,7 +91,7 @@ module _ (told : Said) (dirty : List Route) (marks : Marks) (log : CallLog) (kno
     });
     files = known.files;
     moded = λ i before is unclean. moded_apart i before (known.moded i before is unclean);
-    calm = known.calm;
+    calm = λ p there. let calm = known.calm p there in record { modes = calm.modes; apart = calm.apart };
     folders = λ i is. let o = older i n (there_folder i is) in let k = known.folders i is in (both_false _ _ o k.0, both_false _ _ o k.1);
     aside = λ p is. elim (either _ _ is) [ inl same ↦ inl (same_path-true p part same) | inr before ↦ inr (known.aside p before) ];
     left = λ p is there. elim (either _ _ is) [
@@ -102,6 +103,8 @@ module _ (told : Said) (dirty : List Route) (marks : Marks) (log : CallLog) (kno
     shows = known.shows;
     part = λ p is. let k = known.part p is in (or_right _ _ k.0, k.1, k.2);
     tracked = known.tracked;
+    joint = known.joint;
+    lone = known.lone;
     doubts = known.doubts;
     stand = known.stand;
   }
@@ -197,20 +200,20 @@ module _ (told : Said) (dirty dirty_after : List Route) (marks : Marks) (log : C
   nodes_more : length (current now).nodes ≡ count_after makes (new_node log)
   nodes_more = ap (λ (s : FileSystem). length s.nodes) (current_more log makes) ∙ count-after_change (current log) makes
 
-  pub made_known : (folder : Route) (own : Route → Bool) → IsSureFolder log folder → IsSureFolder log up → ((p : Route) → own p ≡ true → IsCalmIn marks (current log) p) → Among dirty_after up → ((q : Route) → Among dirty q → Among dirty_after q)
+  pub made_known : (folder : Route) (own : Route → Bool) → IsSureFolder log folder → IsSureFolder log up → ((p : Route) → own p ≡ true → IsCalmFolder marks log p) → Among dirty_after up → ((q : Route) → Among dirty q → Among dirty_after q)
       → IsKnown (with_part told folder own part) dirty_after (marks_new marks part (new_node log)) now
-  made_known folder own around firm calm listed more = naming_known (naming_part told part) (with_part told folder own part) dirty dirty_after (marks_new marks part (new_node log)) log makes up part part f marked (record {
+  made_known folder own around firm calm listed more = naming_known (naming_part told part) (with_part told folder own part) dirty dirty_after (marks_new marks part (new_node log)) log makes up up part part f f marked (record {
     naming = naming;
-    within = refl;
-    stands = stands;
-    folder = m.folder;
-    here = λ g k h. sym (same_name-true f g name k (said_one (same_name f name g k) (Some 0) h)).0;
-    files = λ k j h lead. some_none j (sym lead ∙ (ap (lookup (current log).names f) (sym (name_is k h)) ∙ m.free));
-    files_now = λ k j h lead. subst (λ i. is_folder (node (current now) i) ≡ false) (sym (some_is (new_node log) j (sym leads ∙ (ap (lookup (current now).names f) (name_is k h) ∙ lead)))) bare_part;
+    names = in_one_folder log makes up part part f stands m.folder
+        (λ g k h. sym (same_name-true f g name k (said_one (same_name f name g k) (Some 0) h)).0)
+        (λ k h. inl (ap (λ q. (let r : Route = q ∷ up in r)) (sym (name_is k h))))
+        (λ k j h lead. some_none j (sym lead ∙ (ap (lookup (current log).names f) (sym (name_is k h)) ∙ m.free)))
+        (λ k j h lead. subst (λ i. is_folder (node (current now) i) ≡ false) (sym (some_is (new_node log) j (sym leads ∙ (ap (lookup (current now).names f) (name_is k h) ∙ lead)))) bare_part);
     made = made_bare;
     listed = listed;
+    listed_beside = listed;
     more = more;
-    at = λ k h. inl (ap (λ q. (let r : Route = q ∷ up in r)) (sym (name_is k h)));
+    lone = λ none. (none, refl);
     doubts = λ p h. or_left _ _ h;
     folders = λ p h. elim (either _ _ h) [
       | inl here ↦ inr (elim (either _ _ here) [
@@ -220,7 +223,8 @@ module _ (told : Said) (dirty dirty_after : List Route) (marks : Marks) (log : C
       | inr before ↦ inl before
     ];
     modes = λ p h. h;
-    calm = λ p h. elim (either (own p) (told.calm p) h) [ inl here ↦ inr (calm p here) | inr before ↦ inl before ];
+    calm = λ p h. elim (either (own p) (told.calm p) h) [ inl here ↦ inr (let still = calm p here in record { modes = still.modes; apart = still.apart }) | inr before ↦ inl before ];
+    apart = λ p g h still at. unjoined_within g h makes refl;
     no_mode = λ p i at there. mode_of i (elim there [ inl before ↦ inl (sym (ap (find (current log)) (either_is p at)) ∙ before) | inr then ↦ inr (sym (ap (find (current now)) (either_is p at)) ∙ then) ]);
     touched = λ p at. or_right _ _ (subst (λ q. same_path q part ≡ true) (sym (either_is p at)) (same_path-self part));
     named = marked.aside;

@@ -46,7 +46,7 @@ use Rattle.history_laws.proofs.Deleted.{comes_refused, either, put_at, put_off}
 use Rattle.history_laws.proofs.DeletionSteps.{Steps, ends, joined_holds, joined_more, same_dirty, tried}
 use Rattle.tree_deletion.specs.Folders.{joined}
 use Rattle.history_laws.proofs.JobKnows.{HasName, IsUntouched, KnowsAfter, NoneOn, WorkKnows, calm_in, none_waits, untouched_free, way_sure}
-use Rattle.history_laws.proofs.Knowing.{IsCalmIn, IsKept, IsKnown, Said, nowhere, settled_marks}
+use Rattle.history_laws.proofs.Knowing.{IsCalmFolder, IsKept, IsKnown, Said, nowhere, settled_marks}
 use Rattle.history_laws.proofs.MakingThings.{marks_born, new_node, thing_made_known}
 use Rattle.history_laws.proofs.Resting.{IsSureFolder, folder_at_of, sure_path}
 use Rattle.history_laws.proofs.Sources.{folder_is, item_in, making_changed, making_item}
@@ -100,8 +100,8 @@ module _ (told : Said) (dirty dirty_after : List Route) (marks : Marks) (log now
     sure = way_sure told dirty marks log up (found (current log) up) kept.known passes.folder owed;
   }
 
-  calm : (p : Route) → may_change (item_in work) p ≡ true → IsCalmIn marks (current log) p
-  calm p here = subst (IsCalmIn marks (current log)) (sym (own p here)) (calm_in told dirty marks log kept up owed)
+  calm : (p : Route) → may_change (item_in work) p ≡ true → IsCalmFolder marks log p
+  calm p here = subst (IsCalmFolder marks log) (sym (own p here)) (calm_in told dirty marks log kept up owed)
 
   was_free : find (current log) made_path ≡ None
   was_free = ap (option_and_then (λ g. lookup (current log).names g name)) passes.folder ∙ passes.none
@@ -135,6 +135,7 @@ module _ (told : Said) (dirty dirty_after : List Route) (marks : Marks) (log now
         ∙ ap (λ v. (let t : Spot = record { value = Some v; is_mount = false } in t)) said_made;
     earlier = ap (λ (s : Spot). s.value) (put_at told.earlier made_path (told.tree made_path).value) ∙ ap (λ (s : Spot). s.value) nothing_told;
     no_part = none;
+    lone = λ none. none;
     doubts = λ p h. or_left _ _ h;
     doubted = or_right _ _ (same_path-self made_path);
     modes = λ p h. h;

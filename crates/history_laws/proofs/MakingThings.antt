@@ -24,9 +24,11 @@ use Rattle.crash_law.proofs.Syncing.{unaltered_law}
 use Rattle.crash_law.proofs.Tops.{under_made, none_below}
 use Rattle.history_laws.specs.Doubt.{is_pending, way_waits, name_waits}
 use Rattle.history_laws.proofs.Pending.{pending_less, within_more}
-use Rattle.history_laws.proofs.Knowing.{HasMode, HasNoMode, IsCalmIn, IsKnown, IsUnreached, Said, held}
+use Rattle.history_laws.proofs.Knowing.{HasMode, HasNoMode, IsCalmFolder, IsCalmIn, IsKnown, IsUnreached, Said, held}
 use Rattle.history_laws.proofs.Quiet.{held_same, kind_same, mount_same, mounts_same, shows_same, starts_same, unclean_before, was_bare}
-use Rattle.history_laws.proofs.Resting.{IsSureFolder, folder_at_of, mounted, stands_at, sure_still, unborn_more}
+use Rattle.history_laws.proofs.Resting.{IsBeside, IsSureFolder, folder_at_of, joint_still, mounted, restless_folder, stands_at, sure_still, unborn_more, unjoined_still}
+use Rattle.history_laws.proofs.Restless.{IsUnjoined, is_joint, is_restless, restless_less}
+use Rattle.history_laws.proofs.WaitsFor.{names_said}
 use Rattle.history_laws.proofs.Changing.{folder_anchored, off_itself, said_one, some_none, some_is}
 
 abbrev pub new_node : CallLog → ℕ
@@ -62,7 +64,7 @@ module _ (told : Said) (dirty : List Route) (marks : Marks) (log : CallLog) (kno
     });
     files = known.files;
     moded = λ i before is unclean. let h = known.moded i before is unclean in record { path = h.path; leads = h.leads; out = h.out; listed = h.listed; told = h.told; shown = h.shown };
-    calm = known.calm;
+    calm = λ p there. let calm = known.calm p there in record { modes = calm.modes; apart = calm.apart };
     folders = λ i is. let k = known.folders i is in (low _ _ k.0, low _ _ k.1);
     aside = known.aside;
     left = known.left;
@@ -71,6 +73,8 @@ module _ (told : Said) (dirty : List Route) (marks : Marks) (log : CallLog) (kno
     shows = known.shows;
     part = known.part;
     tracked = known.tracked;
+    joint = known.joint;
+    lone = known.lone;
     doubts = known.doubts;
     stand = known.stand;
   }
@@ -89,11 +93,12 @@ pub record MakesThing (told after : Said) (marks : Marks) (log : CallLog) (name 
   pub shown : after.tree (name ∷ up) ≡ record { value = Some (value made); is_mount = false }
   pub earlier : (after.earlier (name ∷ up)).value ≡ None
   pub no_part : after.part ≡ None
+  pub lone : after.joins ≡ false → told.joins ≡ false
   pub doubts : (p : Route) → told.doubt p ≡ true → after.doubt p ≡ true
   pub doubted : after.doubt (name ∷ up) ≡ true
   pub folders : (p : Route) → after.folders p ≡ true → (told.folders p ≡ true) ⊎ (p ≡ up)
   pub modes : (p : Route) → told.modes p ≡ true → after.modes p ≡ true
-  pub calm : (p : Route) → after.calm p ≡ true → (told.calm p ≡ true) ⊎ IsCalmIn marks (current log) p
+  pub calm : (p : Route) → after.calm p ≡ true → (told.calm p ≡ true) ⊎ IsCalmFolder marks log p
   pub new_mode : marks.modes (length (current log).nodes) ≡ None
 
 module _ (told after : Said) (dirty dirty_after : List Route) (marks : Marks) (log : CallLog) (was_known : IsKnown told dirty marks log) (name : List ℕ) (up : Route) (f : ℕ) (made : Node)
@@ -195,6 +200,20 @@ module _ (told after : Said) (dirty dirty_after : List Route) (marks : Marks) (l
   stays : (p : Route) (g : ℕ) → find (current log) p ≡ Some g → find (current now) p ≡ Some g
   stays p g there = off_path p (elsewhere p g there) ∙ there
 
+  as_before : (q : Route) (g h : ℕ) → find (current log) q ≡ Some g → is_folder (node (current log) g) ≡ true → find (current now) q ≡ Some h → h ≡ g
+  as_before q g h before holds then = let e : (let o : Option ℕ = Some g in o) ≡ Some h = sym (stays q g before) ∙ then in cc
+
+  -- and a folder that was there stood where it stands
+  was_at : (q : Route) (g : ℕ) → is_folder (node (current log) g) ≡ true → find (current now) q ≡ Some g → find (current log) q ≡ Some g
+  was_at q g folder then = by (same_path q path) refl
+    where
+      by : (b : Bool) → same_path q path ≡ b → find (current log) q ≡ Some g
+      by false off = sym (off_path q off) ∙ then
+      by true same =
+          let g_is : g ≡ new = some_is new g (sym path_leads ∙ (ap (find (current now)) (sym (same_path-true q path same)) ∙ then)) in
+          let there = folder_there (current log).nodes g folder in
+          absurd (omega (arith, g_is, there))
+
   unaltered : (i : ℕ) → i < length (current log).nodes → node (current now) i ≡ node (current log) i
   unaltered i there = unaltered_law log makes i (naming.bytes i) there
 
@@ -221,20 +240,20 @@ module _ (told after : Said) (dirty dirty_after : List Route) (marks : Marks) (l
   none_waits_new : (k : List ℕ) → is_pending new k log.changes ≡ true → ⊥
   none_waits_new k waits = both_ways _ (known.files.bare new k (false_from_ne_true _ (λ is. let there = folder_there (current log).nodes new is in absurd (omega (arith, there))))) waits
 
-  unreached_stays : (g : ℕ) (k : List ℕ) → is_pending g k log.changes ≡ true → IsUnreached log g → IsUnreached now g
-  unreached_stays g k waits none q there = by (same_path q path) refl
-    where
-      by : (b : Bool) → same_path q path ≡ b → ⊥
-      by false off = none q (sym (off_path q off) ∙ there)
-      by true same =
-          let g_is : g ≡ new = some_is new g (sym path_leads ∙ (ap (find (current now)) (sym (same_path-true q path same)) ∙ there)) in
-          none_waits_new k (subst (λ i. is_pending i k log.changes ≡ true) g_is waits)
+  unreached_stays : (g : ℕ) → is_folder (node (current log) g) ≡ true → IsUnreached log g → IsUnreached now g
+  unreached_stays g folder none q there = none q (was_at q g folder there)
 
-  tracked : (g : ℕ) (k : List ℕ) → is_pending g k now.changes ≡ true → ((q : Route) × Among dirty_after q × (find (current now) q ≡ Some g)) ⊎ IsUnreached now g
-  tracked g k waits = elim (pending_less g k log.changes makes waits) [
-    | inl old ↦ elim (known.tracked g k old) [ inl t ↦ inl (t.0, more t.0 t.1, stays t.0 g t.2) | inr none ↦ inr (unreached_stays g k old none) ]
-    | inr said ↦ inl (up, listed, stands ∙ ap (λ i. Some i) (says_it g k said).0)
+  tracked : (g : ℕ) → is_restless g now.changes ≡ true → ((q : Route) × Among dirty_after q × (find (current now) q ≡ Some g)) ⊎ IsUnreached now g
+  tracked g restless = elim (restless_less g log.changes makes restless) [
+    | inl old ↦ elim (known.tracked g old) [
+      | inl t ↦ inl (t.0, more t.0 t.1, stays t.0 g t.2)
+      | inr none ↦ inr (unreached_stays g (restless_folder log known.guarded.tree known.files g old) none)
+    ]
+    | inr new ↦ inl (up, listed, stands ∙ ap (λ i. Some i) (let s = names_said g makes new in says_it g s.0 s.1).0)
   ]
+
+  joint : (g h : ℕ) (q : Route) → is_joint g h now.changes ≡ true → find (current now) q ≡ Some g → IsBeside now q h
+  joint = joint_still log makes known.guarded.tree known.files refl (starts_same log makes) as_before was_at (λ q g h joined at. stays q g at) known.joint
 
   doubts : (p : Route) → name_waits now p ≡ true → after.doubt p ≡ true
   doubts [] waits = absurd (false≢true waits)
@@ -295,11 +314,14 @@ module _ (told after : Said) (dirty dirty_after : List Route) (marks : Marks) (l
         shown = ap (λ (s : Spot). s.value) (m.off h.path off).1 ∙ (h.shown ∙ ap (λ n. Some (value (with_mode before n))) (sym (unaltered i (known.guarded.there h.path i (found_at log h.path (Some i) h.leads)))));
       }
 
-  calm_was : (p : Route) → IsCalmIn marks (current log) p → IsCalmIn marks (current now) p
-  calm_was p calm k i there = elim (where_is (k ∷ p)) [
-    | inl here ↦ inl (subst (λ j. marks.modes j ≡ None) (sym (some_is new i (sym path_leads ∙ (ap (find (current now)) (sym here) ∙ there)))) m.new_mode)
-    | inr off ↦ elim (calm k i (sym (off_path (k ∷ p) off) ∙ there)) [ inl none ↦ inl none | inr begins ↦ inr (starts_same log makes i ∙ begins) ]
-  ]
+  calm_was : (p : Route) → IsCalmIn marks (current log) p → IsUnjoined log p → IsCalmFolder marked now p
+  calm_was p modes apart = record {
+    modes = λ k i there. elim (where_is (k ∷ p)) [
+      | inl here ↦ inl (subst (λ j. marks.modes j ≡ None) (sym (some_is new i (sym path_leads ∙ (ap (find (current now)) (sym here) ∙ there)))) m.new_mode)
+      | inr off ↦ elim (modes k i (sym (off_path (k ∷ p) off) ∙ there)) [ inl none ↦ inl none | inr begins ↦ inr (starts_same log makes i ∙ begins) ]
+    ];
+    apart = unjoined_still log makes known.guarded.tree known.files refl (starts_same log makes) as_before was_at p apart;
+  }
 
   no_mount : starts_mount (current now) new ≡ false
   no_mount = false_from_ne_true _ (λ on.
@@ -327,7 +349,7 @@ module _ (told after : Said) (dirty dirty_after : List Route) (marks : Marks) (l
   -- a folder that isn't in doubt stays so
   folder_sure : (p : Route) (j : ℕ) → find (current log) p ≡ Some j → is_folder (node (current log) j) ≡ true → way_waits log p ≡ false → way_waits now p ≡ false
   folder_sure p j there folder sure = sure_still log makes known.guarded.tree
-      (λ q g h before holds then. let e : (let o : Option ℕ = Some g in o) ≡ Some h = sym (stays q g before) ∙ then in cc)
+      as_before
       (λ g k j said before then holds.
       let s = says_it g k said in
       some_none j (sym before ∙ (ap (λ h. lookup (current log).names h k) (sym s.0) ∙ (ap (lookup (current log).names f) (sym s.1) ∙ m.free))))
@@ -357,13 +379,12 @@ module _ (told after : Said) (dirty dirty_after : List Route) (marks : Marks) (l
   thing_made_known = record {
     guarded = naming_law marked log makes known.guarded naming;
     files = record {
-      within = within_more log.changes makes refl known.files.within;
       bare = λ i k bare. false_from_ne_true _ (bare_now i k bare);
       unborn = unborn_more log makes (λ i past. naming.bytes i) naming.count known.files.unborn;
       mounts = mounts_sure;
     };
     moded = λ i before is unclean. moded_still i before (known.moded i before is (unclean_before log makes i refl unclean));
-    calm = λ p there. elim (m.calm p there) [ inl before ↦ calm_was p (known.calm p before) | inr calm ↦ calm_was p calm ];
+    calm = λ p there. elim (m.calm p there) [ inl before ↦ (let calm = was_known.calm p before in calm_was p calm.modes calm.apart) | inr calm ↦ calm_was p calm.modes calm.apart ];
     folders = folder_marks;
     aside = m.named;
     left = λ p is there.
@@ -377,6 +398,8 @@ module _ (told after : Said) (dirty dirty_after : List Route) (marks : Marks) (l
     shows = shows;
     part = λ p is. absurd (let e = m.no_part in let x : (let o : Option Route = None in o) ≡ Some p = sym e ∙ is in cc);
     tracked = tracked;
+    joint = joint;
+    lone = λ none. within_more log.changes makes refl (known.lone (m.lone none));
     doubts = doubts;
     stand = stand;
   }

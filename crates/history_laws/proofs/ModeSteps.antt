@@ -101,6 +101,7 @@ module _ (told : Said) (dirty dirty_after : List Route) (marks : Marks) (log now
     shown = put_at told.tree s.path (option_map (moded_value s.mode) (told.tree s.path).value)
         ∙ ap (λ v. (let t : Spot = record (told.tree s.path) { value = option_map (moded_value s.mode) v } in t)) told_value;
     earlier = ap (λ (x : Spot). x.value) (put_at told.earlier s.path (told.tree s.path).value);
+    lone = λ none. none;
     doubts = λ p waits. or_left _ _ waits;
     folders = λ p there. elim (either (same_path p (folder_of s.path) || same_path p (folder_of s.path)) (told.folders p) there) [
       | inl here ↦ inr (subst (λ q. IsSureFolder log q) (sym (same_path-true p (folder_of s.path) (elim (either (same_path p (folder_of s.path)) (same_path p (folder_of s.path)) here) [ inl same ↦ same | inr same ↦ same ]))) firm)

@@ -32,7 +32,8 @@ use Rattle.link_copy.specs.declared.stage.Stage.TheVariants as link_stage
 use Rattle.folder_copy.specs.FolderCopying.{is_dirty}
 use Rattle.copy_levels.specs.Levels.{Levels, dirtied}
 use Rattle.history_laws.proofs.FileMoves.{MoveCalls, MoveStops}
-use Rattle.history_laws.proofs.Resting.{IsOfFiles}
+use Rattle.history_laws.proofs.Resting.{IsOfFiles, bare_unjoined}
+use Rattle.history_laws.proofs.Restless.{is_joint}
 use Rattle.history_laws.proofs.AtWork.{HasItem}
 use Rattle.history_laws.proofs.CalmChanges.{some_same}
 use Rattle.history_laws.proofs.ItemLinks.{no_row}
@@ -60,6 +61,7 @@ module _ (name : List ℕ) (up : Route) (log now : CallLog) (files : IsOfFiles l
     item = item;
     waits = h;
     bare = λ i at. (let w = item.work in subst (λ j. is_pending j name log.changes ≡ false) (sym (some_same w.i i (sym w.leads ∙ at))) (files.bare w.i name w.file));
+    apart = λ i g at. (let w = item.work in subst (λ j. is_joint j g log.changes ≡ false) (sym (some_same w.i i (sym w.leads ∙ at))) (bare_unjoined log tree files w.i g w.file));
   }
 
   -- a file

@@ -155,7 +155,7 @@ module _ (name : List ℕ) (up : Route) where
         ] in
         waits_map name up now (Marks old) _ marked (subst (λ (x : CallLog). WaitsIf name up x (Marks old)) (sym d.is) (quiet_waits name up (Marks old) log _ known.tree (λ n g m. refl) h))
     ends_by moved folder_did.Barrier says (stage, dirty, new_is) rows =
-        folder_synced name up log now known.files c.target (Marks old) _ (rows_at (at.Close None) Dirty stage dirty rows)
+        folder_synced name up log now c.target (Marks old) _ (rows_at (at.Close None) Dirty stage dirty rows)
         (λ m. elim (split m) [ inl is ↦ inl (sym is.0) | inr other ↦ inr (other (level old.levels.inner.names moved)) ]) h
     ends_by moved folder_did.Closed says tells is = absurd says
     ends_by moved (folder_did.Troubled trouble) says (barrier, new_is) run =
@@ -179,7 +179,7 @@ module _ (name : List ℕ) (up : Route) where
       either F (inr f) = f
 
       around_by : (names : NamesState) (report : FolderDid) → Tells (at_sync outer.copy) report (record (at_sync outer.copy) { names = names }) → FolderCalls (at_sync outer.copy) report log (Some now) → WaitsIf name up now (Marked up (with_state names))
-      around_by names folder_did.Barrier tells rows = folder_synced name up log now known.files outer.copy.target (Marks old) _ rows (λ m. around_marks names m (λ is. inl (sym is.0))) h
+      around_by names folder_did.Barrier tells rows = folder_synced name up log now outer.copy.target (Marks old) _ rows (λ m. around_marks names m (λ is. inl (sym is.0))) h
       around_by names (folder_did.Troubled trouble) (barrier, new_is) run =
           waits_map name up now (Marks old) _ (stays (ap (λ (x : FolderCopying). x.names) new_is)) (next_stops (Marks old) outer.copy.target (at.Close None) Dirty trouble.cause trouble.path run h)
         where

@@ -16,6 +16,7 @@ use Rattle.tree_copy.specs.Standing.{Seen, begun}
 use Rattle.tree_copy.specs.Steps.{CopySteps}
 use Rattle.history_laws.specs.Doubt.{name_waits}
 use Rattle.history_laws.proofs.Resting.{IsOfFiles}
+use Rattle.history_laws.proofs.Restless.{IsUnjoined}
 use Rattle.history_laws.proofs.FoldersEnd.{EndsLast}
 use Rattle.history_laws.proofs.CopyLaws.{CopyKnown}
 
@@ -27,9 +28,9 @@ abbrev pub IsMarkedIn : Route → Level → List Level → Type 0
 IsMarkedIn up inner [] = IsMarkedAt up inner
 IsMarkedIn up inner (outer ∷ around) = IsMarkedAt up inner ⊎ IsMarkedIn up outer around
 
--- a change of this name of the folder at this path waits only where that is so
+-- a change of this name of the folder at this path waits only where that is so, and no renaming does for the folder and another one
 abbrev pub WaitsMarked : CallLog → Seen → List ℕ → Route → Type 0
-WaitsMarked log c name up = name_waits log (name ∷ up) ≡ true → IsMarkedIn up c.levels.inner c.levels.around
+WaitsMarked log c name up = (name_waits log (name ∷ up) ≡ true → IsMarkedIn up c.levels.inner c.levels.around) × IsUnjoined log up
 
 -- the folder that is worked is marked while something is at work in it
 abbrev pub WorkedMarked : Item → Level → Type 0

@@ -38,18 +38,23 @@ use Rattle.history_laws.proofs.Histories.{IsReached, traced_reached}
 use Rattle.history_laws.proofs.Intact.{own_folder}
 use Rattle.history_laws.proofs.Knowing.{IsKnown, Said, clean_now, mode_waits}
 use Rattle.history_laws.proofs.Prefixes.{calm_told}
+use Rattle.history_laws.proofs.Restless.{within_joint}
+use Rattle.history_laws.proofs.WaitsFor.{waits_for}
 
--- a path of which a change waits lies in a dirty folder
-listed : (told : Said) (dirty : List Route) (marks : Marks) (log : CallLog) (path : Route) → IsKnown told dirty marks log → name_waits log path ≡ true → Among dirty (folder_of path)
-listed told dirty marks log [] known waits = absurd (false≢true waits)
-listed told dirty marks log (name ∷ up) known waits = by (find (current log) up) refl waits
+-- a path of which a change waits lies in a dirty folder, where no job has moved a thing to another one
+listed : (told : Said) (dirty : List Route) (marks : Marks) (log : CallLog) (path : Route) → IsKnown told dirty marks log → told.joins ≡ false → name_waits log path ≡ true → Among dirty (folder_of path)
+listed told dirty marks log [] known unjoined waits = absurd (false≢true waits)
+listed told dirty marks log (name ∷ up) known unjoined waits = by (find (current log) up) refl waits
   where
     by : (o : Option ℕ) → find (current log) up ≡ o → option_map_or (λ f. is_pending f name log.changes) (find (current log) up) false ≡ true → Among dirty up
     by None is h = absurd (false≢true (sym (ap (λ x. option_map_or (λ f. is_pending f name log.changes) x false) is) ∙ h))
     by (Some f) is h =
-        elim (known.tracked f name (sym (ap (λ x. option_map_or (λ g. is_pending g name log.changes) x false) is) ∙ h)) [
-          | inl t ↦ subst (λ q. Among dirty q) (find-once (current log) known.guarded.tree t.0 up f t.2 is) t.1
-          | inr none ↦ absurd (none up is)
+        elim (waits_for f name log.changes (sym (ap (λ x. option_map_or (λ g. is_pending g name log.changes) x false) is) ∙ h)) [
+          | inl own ↦ elim (known.tracked f own) [
+            | inl t ↦ subst (λ q. Among dirty q) (find-once (current log) known.guarded.tree t.0 up f t.2 is) t.1
+            | inr none ↦ absurd (none up is)
+          ]
+          | inr other ↦ absurd (both_ways _ (within_joint f other.0 log.changes (known.lone unjoined)) other.1)
         ]
 
 module _ (opening now : CallLog) (newest : List Entry) (stand : Stand) (path : Route) (tree : IsTree (current opening)) (settled : all_settled opening.changes ≡ true) (traced : IsTraced opening newest stand now) where
@@ -57,7 +62,7 @@ module _ (opening now : CallLog) (newest : List Entry) (stand : Stand) (path : R
   reached = traced_reached opening tree settled newest stand now traced
 
   pub owed_names : name_waits now path ≡ true → Among stand.dirty (folder_of path)
-  owed_names waits = listed _ stand.dirty reached.marks now path reached.kept.known waits
+  owed_names waits = listed _ stand.dirty reached.marks now path reached.kept.known refl waits
 
   -- a path that was named as no part isn't aside
   not_aside : (Among (named_parts newest) path → ⊥) → (b : Bool) → reached.marks.aside path ≡ b → reached.marks.aside path ≡ false
@@ -86,7 +91,7 @@ module _ (opening now : CallLog) (newest : List Entry) (stand : Stand) (path : R
     where
       by : (q : Route) → path ≡ q → node_waits now path ≡ false
       by [] is = absurd (both_ways _ no_mount (ap (λ q. (visible_tree (current now) q).is_mount) is ∙ reached.kept.known.guarded.tree.mounted))
-      by (name ∷ up) is = calm_at unnamed (λ i at. reached.kept.known.calm up (subst (λ q. calm_told newest (folder_of q) ≡ true) is calm) name i (ap (find (current now)) (sym is) ∙ at)) no_mount
+      by (name ∷ up) is = calm_at unnamed (λ i at. (let still = reached.kept.known.calm up (subst (λ q. calm_told newest (folder_of q) ≡ true) is calm) in still.modes name i (ap (find (current now)) (sym is) ∙ at))) no_mount
 
 pub owed_law : OwedLaw
 owed_law = record {

@@ -1,14 +1,13 @@
 -- Which names wait for a sync after one call more, and where a name leads of which none does.
-use Rattle.std.proofs.Common.{◌≡◌, ◌⊎◌, ℕ, Bool, true, false, not, ◌&&◌, ◌||◌, List, [], ◌∷◌, ◌++◌, length, refl, sym, ◌∙◌, ap, subst, inl, inr, Option, Some, None, cond}
+use Rattle.std.proofs.Common.{◌≡◌, ◌⊎◌, ℕ, Bool, true, false, not, ◌&&◌, ◌||◌, List, [], ◌∷◌, ◌++◌, length, refl, sym, ◌∙◌, ap, inl, inr, Option, Some, None, cond}
 use Rattle.std.specs.Prelude.{is_some, is_none, ◌==◌}
-use Rattle.std.proofs.lemmas.Bool.{false≢true, true≢false, and_parts, and_from, eqb-true, not-true, or_left, or_right}
+use Rattle.std.proofs.lemmas.Bool.{false≢true, true≢false, and_parts, and_from, not-true, or_left, or_right}
 use Rattle.tree_trait.specs.declared.file_system.FileSystem.{FileSystem}
 use Rattle.tree_trait.specs.FileSystem.{lookup}
 use Rattle.tree_trait.specs.Change.{Change, Nothing, Makes, Moves, Removes, Sets, Writes, Syncs, after_change, after_changes, CallLog, current}
-use Rattle.tree_trait.specs.CrashImages.{all_settled, is_settled, is_unsynced, same_name, says, may_lead}
-use Rattle.tree_trait.proofs.Finding.{same_name-true}
+use Rattle.tree_trait.specs.CrashImages.{all_settled, is_unsynced, same_name, says, may_lead}
+use Rattle.tree_trait.proofs.Finding.{same_name-self}
 use Rattle.tree_trait.proofs.Settled.{is_unsynced-more}
-use Rattle.tree_trait.proofs.Synced.{is_settled-end}
 use Rattle.crash_law.specs.Possible.{MayLead}
 use Rattle.crash_law.proofs.Syncing.{only_one}
 use Rattle.history_laws.specs.Doubt.{is_pending}
@@ -73,6 +72,10 @@ pending_less f m (d ∷ cs) c h =
     either true false v p q r more h next = elim (next h) [ inl old ↦ inl (or_right v q old) | inr new ↦ inr new ]
     either false u v p q r more h next = next h
 
+pub some_first : (a b : Bool) (x y : Option ℕ) → a ≡ true → is_some (let o : Option (Option ℕ) = cond a (Some x) (cond b (Some y) None) in o) ≡ true
+some_first true b x y h = refl
+some_first false b x y h = absurd (false≢true h)
+
 -- a renaming stays within its folder
 abbrev pub is_within : Change → Bool
 is_within (Moves a old b new i r) = a == b
@@ -82,6 +85,16 @@ is_within (Removes f name i) = true
 is_within (Sets i mode) = true
 is_within (Writes i bytes mtime) = true
 is_within (Syncs i) = true
+
+-- so it is of a change that names nothing
+pub quiet_within : (c : Change) → ((n g : ℕ) (m : List ℕ) → says c n g m ≡ None) → is_within c ≡ true
+quiet_within (Moves a old b new i r) none = absurd (false≢true (sym (ap is_some (none 0 b new)) ∙ some_first (same_name b new b new) (same_name a old b new) (Some i) None (same_name-self b new)))
+quiet_within Nothing none = refl
+quiet_within (Makes f name made) none = refl
+quiet_within (Removes f name i) none = refl
+quiet_within (Sets i mode) none = refl
+quiet_within (Writes i bytes mtime) none = refl
+quiet_within (Syncs i) none = refl
 
 -- each of these renamings does, or it waits for nothing any more
 abbrev pub all_within : List Change → Bool
@@ -98,58 +111,23 @@ within_more [] c one all = and_from _ _ (or_left _ _ one) refl
 within_more (d ∷ cs) c one all =
     and_from _ _ (still_within (is_within d) (is_unsynced d cs) (is_unsynced d (cs ++ c ∷ [])) (is_unsynced-more d cs (c ∷ [])) (and_parts _ _ all).0) (within_more cs c one (and_parts _ _ all).1)
 
-later_within : (c : Change) (cs : List Change) → all_within (c ∷ cs) ≡ true → all_within cs ≡ true
-later_within c cs all = (and_parts (is_within c || not (is_unsynced c cs)) (all_within cs) all).1
-
 pub within_settled : (cs : List Change) → all_settled cs ≡ true → all_within cs ≡ true
 within_settled [] h = refl
 within_settled (c ∷ cs) h =
     let parts = and_parts (not (is_unsynced c cs)) (all_settled cs) h in
     and_from (is_within c || not (is_unsynced c cs)) (all_within cs) (or_right (is_within c) (not (is_unsynced c cs)) parts.0) (within_settled cs parts.1)
 
-unless : (s u p : Bool) → (s ≡ true → u ≡ false) → p ≡ false → ((s && u) || p) ≡ false
+pub unless : (s u p : Bool) → (s ≡ true → u ≡ false) → p ≡ false → ((s && u) || p) ≡ false
 unless true u p f h = ap (λ b. b || p) (f refl) ∙ h
 unless false u p f h = h
 
-one_said : (b : Bool) (to : Option ℕ) → is_some (let o : Option (Option ℕ) = cond b (Some to) None in o) ≡ true → b ≡ true
+pub one_said : (b : Bool) (to : Option ℕ) → is_some (let o : Option (Option ℕ) = cond b (Some to) None in o) ≡ true → b ≡ true
 one_said true to h = refl
 one_said false to h = absurd (false≢true h)
 
-two_said : (a b : Bool) (x y : Option ℕ) → is_some (let o : Option (Option ℕ) = cond a (Some x) (cond b (Some y) None) in o) ≡ true → (a ≡ true) ⊎ (b ≡ true)
+pub two_said : (a b : Bool) (x y : Option ℕ) → is_some (let o : Option (Option ℕ) = cond a (Some x) (cond b (Some y) None) in o) ≡ true → (a ≡ true) ⊎ (b ≡ true)
 two_said true b x y h = inl refl
 two_said false b x y h = inr (one_said b y h)
-
-settled_end : (f g : ℕ) (cs : List Change) → g ≡ f → is_settled g (cs ++ Syncs f ∷ []) ≡ true
-settled_end f g cs e = subst (λ j. is_settled j (cs ++ Syncs f ∷ []) ≡ true) (sym e) (is_settled-end f cs)
-
--- after a sync of its folder nothing of a name waits
-pub pending_synced : (f : ℕ) (m : List ℕ) (cs : List Change) → all_within cs ≡ true → is_pending f m (cs ++ Syncs f ∷ []) ≡ false
-pending_synced f m [] all = refl
-pending_synced f m (Nothing ∷ cs) all = pending_synced f m cs (later_within Nothing cs all)
-pending_synced f m (Makes g name made ∷ cs) all =
-    unless (is_some (says (Makes g name made) 0 f m)) (not (is_settled g (cs ++ Syncs f ∷ []))) (is_pending f m (cs ++ Syncs f ∷ []))
-    (λ s. ap not (settled_end f g cs (same_name-true g f name m (one_said (same_name g name f m) (Some 0) s)).0)) (pending_synced f m cs (later_within (Makes g name made) cs all))
-pending_synced f m (Moves a old b new i r ∷ cs) all =
-    unless (is_some (says (Moves a old b new i r) 0 f m)) (is_unsynced (Moves a old b new i r) (cs ++ Syncs f ∷ [])) (is_pending f m (cs ++ Syncs f ∷ []))
-    (λ s. by (a == b) (is_unsynced (Moves a old b new i r) cs) refl refl (and_parts _ _ all).0 (two_said (same_name b new f m) (same_name a old f m) (Some i) None s)) (pending_synced f m cs (later_within (Moves a old b new i r) cs all))
-  where
-    by : (w u : Bool) → (a == b) ≡ w → is_unsynced (Moves a old b new i r) cs ≡ u → (w || not u) ≡ true → (same_name b new f m ≡ true) ⊎ (same_name a old f m ≡ true)
-        → is_unsynced (Moves a old b new i r) (cs ++ Syncs f ∷ []) ≡ false
-    by true u w_is u_is h here =
-        let same : a ≡ b = eqb-true a b w_is in
-        let both : (a ≡ f) × (b ≡ f) = elim here [
-          | inl at ↦ let e = (same_name-true b f new m at).0 in (same ∙ e, e)
-          | inr at ↦ let e = (same_name-true a f old m at).0 in (e, sym same ∙ e)
-        ] in
-        ap not (and_from _ _ (settled_end f a cs both.0) (settled_end f b cs both.1))
-    by false true w_is u_is h here = absurd (false≢true h)
-    by false false w_is u_is h here = is_unsynced-more (Moves a old b new i r) cs (Syncs f ∷ []) u_is
-pending_synced f m (Removes g name i ∷ cs) all =
-    unless (is_some (says (Removes g name i) 0 f m)) (not (is_settled g (cs ++ Syncs f ∷ []))) (is_pending f m (cs ++ Syncs f ∷ []))
-    (λ s. ap not (settled_end f g cs (same_name-true g f name m (one_said (same_name g name f m) None s)).0)) (pending_synced f m cs (later_within (Removes g name i) cs all))
-pending_synced f m (Sets i mode ∷ cs) all = pending_synced f m cs (later_within (Sets i mode) cs all)
-pending_synced f m (Writes i bytes mtime ∷ cs) all = pending_synced f m cs (later_within (Writes i bytes mtime) cs all)
-pending_synced f m (Syncs i ∷ cs) all = pending_synced f m cs (later_within (Syncs i) cs all)
 
 -- nothing of any name waits where nothing does
 pub pending_settled : (f : ℕ) (m : List ℕ) (cs : List Change) → all_settled cs ≡ true → is_pending f m cs ≡ false

@@ -18,9 +18,10 @@ use Rattle.crash_law.proofs.Leading.{current_more}
 use Rattle.crash_law.proofs.Placing.{placing_law}
 use Rattle.crash_law.proofs.Syncing.{unaltered_law}
 use Rattle.crash_law.proofs.Tops.{under_moved, none_below}
+use Rattle.history_laws.proofs.Restless.{unjoined_within}
 use Rattle.history_laws.proofs.Resting.{bare_may}
 use Rattle.history_laws.proofs.Knowing.{IsKnown, Said, held}
-use Rattle.history_laws.proofs.Renaming.{naming_known}
+use Rattle.history_laws.proofs.Renaming.{in_one_folder, naming_known}
 use Rattle.history_laws.proofs.Changing.{seen_nowhere, none_below_file, folder_anchored, off_itself, said_two, some_none, some_is}
 
 some_route : (p q : Route) → (let o : Option Route = Some p in o) ≡ Some q → q ≡ p
@@ -49,7 +50,7 @@ firm_known told dirty marks log i clean no_mode known = record {
   });
   files = known.files;
   moded = λ j before is unclean. let h = known.moded j before is unclean in record { path = h.path; leads = h.leads; out = h.out; listed = h.listed; told = h.told; shown = h.shown };
-  calm = known.calm;
+  calm = λ p there. let calm = known.calm p there in record { modes = calm.modes; apart = calm.apart };
   folders = λ j is. let k = known.folders j is in (k.0, still _ _ k.1);
   aside = known.aside;
   left = known.left;
@@ -58,6 +59,8 @@ firm_known told dirty marks log i clean no_mode known = record {
   shows = known.shows;
   part = known.part;
   tracked = known.tracked;
+  joint = known.joint;
+  lone = known.lone;
   doubts = known.doubts;
   stand = known.stand;
 }
@@ -84,6 +87,7 @@ pub record PlacesPart (told after : Said) (marks : Marks) (log : CallLog) (part 
   pub placed : after.tree (target ∷ up) ≡ record { value = Some (value (node (current log) i)); is_mount = false }
   pub earlier : (after.earlier (target ∷ up)).value ≡ held (current log) (find (current log) (target ∷ up))
   pub none : after.part ≡ None
+  pub lone : after.joins ≡ false → told.joins ≡ false
   pub doubts : (p : Route) → told.doubt p ≡ true → after.doubt p ≡ true
   pub folders : (p : Route) → after.folders p ≡ true → told.folders p ≡ true
   pub modes : (p : Route) → told.modes p ≡ true → after.modes p ≡ true
@@ -207,34 +211,19 @@ module _ (told after : Said) (dirty dirty_after : List Route) (marks : Marks) (l
       apart_path = false_from_ne_true _ (λ e. let s : (part ∷ up) ≡ target ∷ up = same_path-true (part ∷ up) (target ∷ up) e in h.apart cc)
 
   pub placed_known : Among dirty_after up → ((q : Route) → Among dirty q → Among dirty_after q) → IsKnown after dirty_after marks now
-  placed_known listed more = naming_known told after dirty dirty_after marks log moves up (target ∷ up) (part ∷ up) f known (record {
+  placed_known listed more = naming_known told after dirty dirty_after marks log moves up up (target ∷ up) (part ∷ up) f f known (record {
     naming = naming;
-    within = ap_same;
-    stands = stands;
-    folder = h.folder;
-    here = λ g m s. elim (said_two (same_name f target g m) (same_name f part g m) (Some i) None s) [
-      | inl e ↦ sym (same_name-true f g target m e).0
-      | inr e ↦ sym (same_name-true f g part m e).0
-    ];
-    files = λ m j s lead. elim (name_is m s) [
-      | inl e ↦ h.bare j (at_target j (ap (lookup (current log).names f) e ∙ lead))
-      | inr e ↦ subst (λ k. is_folder (node (current log) k) ≡ false) (sym (some_is i j (sym part_name ∙ (ap (lookup (current log).names f) e ∙ lead)))) h.file
-    ];
-    files_now = λ m j s lead. elim (name_is m s) [
-      | inl e ↦ subst (λ k. is_folder (node (current now) k) ≡ false) (sym (some_is i j (sym target_leads ∙ (ap (lookup (current now).names f) e ∙ lead)))) file_now
-      | inr e ↦ some_none j (sym lead ∙ (ap (lookup (current now).names f) (sym e) ∙ part_gone))
-    ];
+    names = in_one_folder log moves up (target ∷ up) (part ∷ up) f stands h.folder here at files files_now;
     made = λ j past. false_from_ne_true _ (λ is. let t = folder_there (current now).nodes j is in let n = ap (λ (s : FileSystem). length s.nodes) (current_more log moves) in absurd (omega (arith, past, t, n)));
     listed = listed;
+    listed_beside = listed;
     more = more;
-    at = λ m s. elim (name_is m s) [
-      | inl e ↦ inl (ap (λ q. (let l : Route = q ∷ up in l)) (sym e))
-      | inr e ↦ inr (ap (λ q. (let l : Route = q ∷ up in l)) (sym e))
-    ];
+    lone = λ none. (h.lone none, ap_same);
     doubts = h.doubts;
     folders = λ p there. inl (h.folders p there);
     modes = h.modes;
     calm = λ p there. inl (h.calm p there);
+    apart = λ p g k still there. unjoined_within g k moves ap_same;
     no_mode = no_mode;
     touched = λ p at. elim at [
       | inl e ↦ subst (λ q. after.doubt q ≡ true) (sym e) h.doubted.0
@@ -260,6 +249,30 @@ module _ (told after : Said) (dirty dirty_after : List Route) (marks : Marks) (l
     part = λ p is. absurd (let e = h.none in let n : (let o : Option Route = None in o) ≡ Some p = sym e ∙ is in cc);
   })
     where
+      here : (g : ℕ) (m : List ℕ) → is_some (says moves 0 g m) ≡ true → g ≡ f
+      here g m s = elim (said_two (same_name f target g m) (same_name f part g m) (Some i) None s) [
+        | inl e ↦ sym (same_name-true f g target m e).0
+        | inr e ↦ sym (same_name-true f g part m e).0
+      ]
+
+      at : (m : List ℕ) → is_some (says moves 0 f m) ≡ true → ((m ∷ up) ≡ target ∷ up) ⊎ ((m ∷ up) ≡ part ∷ up)
+      at m s = elim (name_is m s) [
+        | inl e ↦ inl (ap (λ q. (let l : Route = q ∷ up in l)) (sym e))
+        | inr e ↦ inr (ap (λ q. (let l : Route = q ∷ up in l)) (sym e))
+      ]
+
+      files : (m : List ℕ) (j : ℕ) → is_some (says moves 0 f m) ≡ true → lookup (current log).names f m ≡ Some j → is_folder (node (current log) j) ≡ false
+      files m j s lead = elim (name_is m s) [
+        | inl e ↦ h.bare j (at_target j (ap (lookup (current log).names f) e ∙ lead))
+        | inr e ↦ subst (λ k. is_folder (node (current log) k) ≡ false) (sym (some_is i j (sym part_name ∙ (ap (lookup (current log).names f) e ∙ lead)))) h.file
+      ]
+
+      files_now : (m : List ℕ) (j : ℕ) → is_some (says moves 0 f m) ≡ true → lookup (current now).names f m ≡ Some j → is_folder (node (current now) j) ≡ false
+      files_now m j s lead = elim (name_is m s) [
+        | inl e ↦ subst (λ k. is_folder (node (current now) k) ≡ false) (sym (some_is i j (sym target_leads ∙ (ap (lookup (current now).names f) e ∙ lead)))) file_now
+        | inr e ↦ some_none j (sym lead ∙ (ap (lookup (current now).names f) (sym e) ∙ part_gone))
+      ]
+
       of_moved : (j : ℕ) → j ≡ i → marks.modes j ≡ None
       of_moved j is = subst (λ k. marks.modes k ≡ None) (sym is) h.no_mode
 

@@ -194,6 +194,7 @@ said_placed told source to target = record {
   folders = told.folders;
   modes = told.modes;
   calm = told.calm;
+  joins = told.joins;
 }
 
 -- it is renamed to a path that lies at or below that target, and holds what stands where this comes from
@@ -268,7 +269,7 @@ module _ (told : Said) (dirty : List Route) (source to target : Route) (tname : 
 
   -- nor does a mode of it wait
   calm_there : (j : ℕ) → find (current mid) target ≡ Some j → marks.modes j ≡ None
-  calm_there j at = elim (kept.known.calm up calm tname j (ap (find (current mid)) (sym target_is) ∙ at)) [
+  calm_there j at = elim (let still = kept.known.calm up calm in still.modes tname j (ap (find (current mid)) (sym target_is) ∙ at)) [
     | inl none ↦ none
     | inr begins ↦ absurd (both_ways _ (file_no_mount (current mid) kept.known.guarded.tree j (as_it_was.bare j at)) begins)
   ]
@@ -321,6 +322,7 @@ module _ (told : Said) (dirty : List Route) (source to target : Route) (tname : 
     earlier = subst (λ q. (after.earlier q).value ≡ held (current mid) (find (current mid) q)) target_is
         (ap (λ (s : Spot). s.value) (put_at told.earlier target (told.tree target).value) ∙ ap (λ (s : Spot). s.value) target_seen);
     none = refl;
+    lone = λ none. none;
     doubts = λ p h. or_left _ _ (or_left _ _ h);
     folders = λ p there. there;
     modes = λ p there. there;

@@ -65,6 +65,7 @@ told_of opening end g part = record {
   folders = folders_told opening g;
   modes = anywhere;
   calm = calm_told g;
+  joins = false;
 }
 
 -- the same after one event more, by which so many calls were made
@@ -79,6 +80,7 @@ told_with opening end older calls what part = record {
   folders = folders_event what (live_jobs older) (folders_told opening older);
   modes = anywhere;
   calm = calm_event what (live_jobs older) (calm_told older);
+  joins = false;
 }
 
 -- the calls of these entries were made
@@ -107,7 +109,7 @@ earlier_more opening now cs (e ∷ older) (few, w) =
 
 abbrev pub said_by : (Route → Bool) → (Route → Bool) → View → View → List Route → List Route → Option Route → Said
 said_by folders calm tree earlier named left part =
-    record { tree = tree; earlier = earlier; named = named; left = left; part = part; doubt = anywhere; folders = folders; modes = anywhere; calm = calm }
+    record { tree = tree; earlier = earlier; named = named; left = left; part = part; doubt = anywhere; folders = folders; modes = anywhere; calm = calm; joins = false }
 
 pub told_more : (opening now : CallLog) (cs : List Change) (g : List Entry) (part : Option Route) → AreWithin opening g now → told_of opening (more now cs) g part ≡ told_of opening now g part
 told_more opening now cs g part w =

@@ -18,9 +18,11 @@ use Rattle.crash_law.proofs.Guarding.{quiet_law, same_quiet, folder_kept, found_
 use Rattle.crash_law.proofs.Leading.{clean_more, current_more}
 use Rattle.crash_law.proofs.Syncing.{unaltered_law}
 use Rattle.history_laws.specs.Doubt.{is_pending, way_waits, name_waits}
-use Rattle.history_laws.proofs.Pending.{is_within, within_more, pending_less, says_at}
-use Rattle.history_laws.proofs.Knowing.{Said, HasMode, IsKnown, IsUnreached, held}
-use Rattle.history_laws.proofs.Resting.{IsOfFiles, IsSureFolder, folder_at, mounted, stands_at, sure_still, unborn_more}
+use Rattle.history_laws.proofs.Pending.{all_within, is_within, within_more, pending_less, says_at}
+use Rattle.history_laws.proofs.Knowing.{Said, HasMode, IsCalmFolder, IsKnown, IsUnreached, held}
+use Rattle.history_laws.proofs.Resting.{IsBeside, IsOfFiles, IsSureFolder, folder_at, joint_still, mounted, stands_at, sure_still, unborn_more, unjoined_still}
+use Rattle.history_laws.proofs.Restless.{IsUnjoined, is_joint, is_restless, restless_less}
+use Rattle.history_laws.proofs.WaitsFor.{names_said}
 
 mounts_after : (s : FileSystem) (c : Change) → (after_change s c).mounts ≡ s.mounts
 mounts_after s Nothing = refl
@@ -152,17 +154,35 @@ module _ (said : Said) (dirty : List Route) (marks : Marks) (log : CallLog) (c :
 
   pub calm_files : IsOfFiles now
   calm_files = record {
-    within = within_more log.changes c n.within known.files.within;
     bare = λ i m h. waits_not i m (known.files.bare i m (was_bare log c i h));
     unborn = unborn_more log c n.unborn (let same = n.count in omega (arith, same)) known.files.unborn;
     mounts = calm_mounts;
   }
 
-  pub calm_tracked : (f : ℕ) (m : List ℕ) → is_pending f m now.changes ≡ true → ((up : Route) × Among dirty up × (find (current now) up ≡ Some f)) ⊎ IsUnreached now f
-  calm_tracked f m waits = elim (known.tracked f m (waited f m waits)) [
-    | inl t ↦ inl (t.0, t.1, same_quiet log c n.names t.0 ∙ t.2)
-    | inr none ↦ inr (λ p leads. none p (sym (same_quiet log c n.names p) ∙ leads))
+  pub calm_tracked : (f : ℕ) → is_restless f now.changes ≡ true → ((up : Route) × Among dirty up × (find (current now) up ≡ Some f)) ⊎ IsUnreached now f
+  calm_tracked f restless = elim (restless_less f log.changes c restless) [
+    | inl old ↦ elim (known.tracked f old) [
+      | inl t ↦ inl (t.0, t.1, same_quiet log c n.names t.0 ∙ t.2)
+      | inr none ↦ inr (λ p leads. none p (sym (same_quiet log c n.names p) ∙ leads))
+    ]
+    | inr new ↦ absurd (let s = names_said f c new in said_none f s.0 s.1)
   ]
+
+  -- a path leads where it led
+  as_before : (q : Route) (g h : ℕ) → find (current log) q ≡ Some g → is_folder (node (current log) g) ≡ true → find (current now) q ≡ Some h → h ≡ g
+  as_before q g h before holds then = let e : (let o : Option ℕ = Some g in o) ≡ Some h = sym before ∙ (sym (same_quiet log c n.names q) ∙ then) in cc
+
+  was_at : (q : Route) (g : ℕ) → is_folder (node (current log) g) ≡ true → find (current now) q ≡ Some g → find (current log) q ≡ Some g
+  was_at q g holds then = sym (same_quiet log c n.names q) ∙ then
+
+  pub calm_joint : (f g : ℕ) (up : Route) → is_joint f g now.changes ≡ true → find (current now) up ≡ Some f → IsBeside now up g
+  calm_joint = joint_still log c known.guarded.tree known.files n.within (starts_same log c) as_before was_at (λ q f g joint at. same_quiet log c n.names q ∙ at) known.joint
+
+  pub calm_apart : (p : Route) → IsUnjoined log p → IsUnjoined now p
+  calm_apart p apart = unjoined_still log c known.guarded.tree known.files n.within (starts_same log c) as_before was_at p apart
+
+  pub calm_lone : said.joins ≡ false → all_within now.changes ≡ true
+  calm_lone none = within_more log.changes c n.within (known.lone none)
 
 -- a quiet call, and what it alters is nothing that can be seen but the part that stands
 pub record IsCalm (said : Said) (marks : Marks) (log : CallLog) (c : Change) : Type 0 where
@@ -200,12 +220,20 @@ module _ (said : Said) (dirty : List Route) (marks : Marks) (log : CallLog) (c :
             shown = h.shown ∙ ap (λ n. Some (value (with_mode before n))) (sym (unaltered i same there));
           }
 
+  calm_still : (p : Route) → said.calm p ≡ true → IsCalmFolder marks (with_change log c) p
+  calm_still p there =
+      let calm = known.calm p there in
+      record {
+        modes = λ name i at. elim (calm.modes name i (sym (same_quiet log c quiet_of.names (name ∷ p)) ∙ at)) [ inl none ↦ inl none | inr begins ↦ inr (starts_same log c i ∙ begins) ];
+        apart = calm_apart said dirty marks log c known nameless p calm.apart;
+      }
+
   pub calm_known : IsKnown said dirty marks (with_change log c)
   calm_known = record {
     guarded = quiet_law marks log c known.guarded quiet_of;
     files = calm_files said dirty marks log c known nameless;
     moded = moded_still;
-    calm = λ p there name i at. elim (known.calm p there name i (sym (same_quiet log c quiet_of.names (name ∷ p)) ∙ at)) [ inl none ↦ inl none | inr begins ↦ inr (starts_same log c i ∙ begins) ];
+    calm = calm_still;
     folders = λ i folder. known.folders i (was_folder said dirty marks log c known nameless i folder);
     aside = known.aside;
     left = λ p is there. known.left p is (sym (ap is_some (same_quiet log c quiet_of.names p)) ∙ there);
@@ -217,6 +245,8 @@ module _ (said : Said) (dirty : List Route) (marks : Marks) (log : CallLog) (c :
     shows = λ p other. shows_same log c p (same_quiet log c quiet_of.names p) (λ i is. unaltered i (calm.still p i other is) (known.guarded.there p i (found_at log p (Some i) is))) ∙ known.shows p other;
     part = λ p is. let k = known.part p is in (k.0, k.1, ap is_some (same_quiet log c quiet_of.names p) ∙ k.2);
     tracked = calm_tracked said dirty marks log c known nameless;
+    joint = calm_joint said dirty marks log c known nameless;
+    lone = calm_lone said dirty marks log c known nameless;
     doubts = λ p waits. known.doubts p (waits_before said dirty marks log c known nameless p waits);
     stand = λ p there. calm_firm said dirty marks log c known nameless p (known.stand p there);
   }

@@ -5,7 +5,7 @@ use Rattle.std.specs.Option.{option_map_or}
 use Rattle.std.proofs.lemmas.Bool.{false≢true, both_ways, false_from_ne_true, cases_lt}
 use Rattle.mc_text.specs.Routes.{Route, same_path}
 use Rattle.tree_trait.specs.FileSystem.{lookup, find, node, value, visible_tree}
-use Rattle.tree_trait.specs.Refusals.{is_folder}
+use Rattle.tree_trait.specs.Refusals.{is_folder, mount_of}
 use Rattle.tree_trait.specs.Change.{Change, CallLog, current, with_change}
 use Rattle.tree_trait.specs.CrashImages.{says, Among}
 use Rattle.tree_trait.proofs.Finding.{and_then-some, find-once}
@@ -16,33 +16,68 @@ use Rattle.crash_law.proofs.Guarding.{naming_law, find_same, found_at}
 use Rattle.crash_law.proofs.Syncing.{unaltered_law}
 use Rattle.history_laws.specs.Doubt.{is_pending, way_waits, name_waits}
 use Rattle.history_laws.proofs.Pending.{is_within, within_more, pending_less, says_at}
-use Rattle.history_laws.proofs.Knowing.{HasMode, HasNoMode, IsCalmIn, IsKnown, IsUnreached, Said, held, nowhere}
+use Rattle.history_laws.proofs.Knowing.{HasMode, HasNoMode, IsCalmFolder, IsKnown, IsUnreached, Said, held, nowhere}
 use Rattle.history_laws.proofs.Quiet.{held_same, kind_same, mount_same, shows_same, starts_same, unclean_before, was_bare}
-use Rattle.history_laws.proofs.Resting.{IsSureFolder, folder_at_of, mounted, stands_at, sure_still, unborn_more}
+use Rattle.history_laws.proofs.Resting.{IsBeside, IsSureFolder, folder_at_of, joint_after, joint_folder, mount_still, mounted, restless_folder, stands_at, sure_still, unborn_more, unjoined_after}
+use Rattle.history_laws.proofs.Restless.{is_joint, is_restless, joins, named_both, names_in, restless_less}
+use Rattle.history_laws.proofs.WaitsFor.{names_said}
 
--- A call that changes the names of files in one folder, at these two paths alone, and what the history says then.
-pub record IsFileNaming (said after : Said) (dirty dirty_after : List Route) (marks : Marks) (log : CallLog) (c : Change) (up first second : Route) (f : ℕ) : Type 0 where
-  pub naming : IsNaming marks log c
-  pub within : is_within c ≡ true
+-- Where a call changes names of files: at these two paths alone, each in its folder, which may be the same one; and both folders lie on one mount.
+pub record ChangesFiles (log : CallLog) (c : Change) (up beside first second : Route) (f g : ℕ) : Type 0 where
   pub stands : find (current (with_change log c)) up ≡ Some f
+  pub stands_beside : find (current (with_change log c)) beside ≡ Some g
   pub folder : is_folder (node (current log) f) ≡ true
-  pub here : (g : ℕ) (m : List ℕ) → is_some (says c 0 g m) ≡ true → g ≡ f
+  pub folder_beside : is_folder (node (current log) g) ≡ true
+  pub mount : mount_of (current log) beside ≡ mount_of (current log) up
+  pub at : (h : ℕ) (m : List ℕ) → is_some (says c 0 h m) ≡ true → ((h ≡ f) × ((m ∷ up) ≡ first)) ⊎ ((h ≡ g) × ((m ∷ beside) ≡ second))
   -- the names lead to no folder, before and after
-  pub files : (m : List ℕ) (j : ℕ) → is_some (says c 0 f m) ≡ true → lookup (current log).names f m ≡ Some j → is_folder (node (current log) j) ≡ false
-  pub files_now : (m : List ℕ) (j : ℕ) → is_some (says c 0 f m) ≡ true → lookup (current (with_change log c)).names f m ≡ Some j → is_folder (node (current (with_change log c)) j) ≡ false
+  pub files : (h : ℕ) (m : List ℕ) (j : ℕ) → is_some (says c 0 h m) ≡ true → lookup (current log).names h m ≡ Some j → is_folder (node (current log) j) ≡ false
+  pub files_now : (h : ℕ) (m : List ℕ) (j : ℕ) → is_some (says c 0 h m) ≡ true → lookup (current (with_change log c)).names h m ≡ Some j → is_folder (node (current (with_change log c)) j) ≡ false
+
+-- the same of a call that changes names of one folder
+pub in_one_folder : (log : CallLog) (c : Change) (up first second : Route) (f : ℕ) → find (current (with_change log c)) up ≡ Some f → is_folder (node (current log) f) ≡ true
+    → ((h : ℕ) (m : List ℕ) → is_some (says c 0 h m) ≡ true → h ≡ f)
+    → ((m : List ℕ) → is_some (says c 0 f m) ≡ true → ((m ∷ up) ≡ first) ⊎ ((m ∷ up) ≡ second))
+    → ((m : List ℕ) (j : ℕ) → is_some (says c 0 f m) ≡ true → lookup (current log).names f m ≡ Some j → is_folder (node (current log) j) ≡ false)
+    → ((m : List ℕ) (j : ℕ) → is_some (says c 0 f m) ≡ true → lookup (current (with_change log c)).names f m ≡ Some j → is_folder (node (current (with_change log c)) j) ≡ false)
+    → ChangesFiles log c up up first second f f
+in_one_folder log c up first second f stands folder here at files files_now = record {
+  stands = stands;
+  stands_beside = stands;
+  folder = folder;
+  folder_beside = folder;
+  mount = refl;
+  at = λ h m said.
+      let h_is = here h m said in
+      elim (at m (subst (λ k. is_some (says c 0 k m) ≡ true) h_is said)) [ inl one ↦ inl (h_is, one) | inr other ↦ inr (h_is, other) ];
+  files = λ h m j said leads.
+      let h_is = here h m said in
+      files m j (subst (λ k. is_some (says c 0 k m) ≡ true) h_is said) (subst (λ k. lookup (current log).names k m ≡ Some j) h_is leads);
+  files_now = λ h m j said leads.
+      let h_is = here h m said in
+      files_now m j (subst (λ k. is_some (says c 0 k m) ≡ true) h_is said) (subst (λ k. lookup (current (with_change log c)).names k m ≡ Some j) h_is leads);
+}
+
+-- A call that changes the names of files in one folder or in two, at these two paths alone, and what the history says then.
+pub record IsFileNaming (said after : Said) (dirty dirty_after : List Route) (marks : Marks) (log : CallLog) (c : Change) (up beside first second : Route) (f g : ℕ) : Type 0 where
+  pub naming : IsNaming marks log c
+  pub names : ChangesFiles log c up beside first second f g
   pub made : (i : ℕ) → length (current log).nodes ≤ i → is_folder (node (current (with_change log c)) i) ≡ false
-  -- the folder is dirty then
+  -- both folders are dirty then
   pub listed : Among dirty_after up
+  pub listed_beside : Among dirty_after beside
   pub more : (q : Route) → Among dirty q → Among dirty_after q
-  -- of these two a change may wait then
-  pub at : (m : List ℕ) → is_some (says c 0 f m) ≡ true → ((m ∷ up) ≡ first) ⊎ ((m ∷ up) ≡ second)
+  pub lone : after.joins ≡ false → (said.joins ≡ false) × (is_within c ≡ true)
   pub doubts : (p : Route) → said.doubt p ≡ true → after.doubt p ≡ true
   -- where a folder is said to be on the disk it was said so before, or it is
   pub folders : (p : Route) → after.folders p ≡ true → (said.folders p ≡ true) ⊎ IsSureFolder log p
   pub modes : (p : Route) → said.modes p ≡ true → after.modes p ≡ true
   -- nor does a mode wait in a folder of which that is said, nor of what stands at the two paths
-  pub calm : (p : Route) → after.calm p ≡ true → (said.calm p ≡ true) ⊎ IsCalmIn marks (current log) p
+  pub calm : (p : Route) → after.calm p ≡ true → (said.calm p ≡ true) ⊎ IsCalmFolder marks log p
+  -- nor does the call join such a folder with another one
+  pub apart : (p : Route) (k h : ℕ) → after.calm p ≡ true → find (current (with_change log c)) p ≡ Some k → joins k h c ≡ false
   pub no_mode : (p : Route) (i : ℕ) → (p ≡ first) ⊎ (p ≡ second) → (find (current log) p ≡ Some i) ⊎ (find (current (with_change log c)) p ≡ Some i) → marks.modes i ≡ None
+  -- of these two a change may wait then
   pub touched : (p : Route) → (p ≡ first) ⊎ (p ≡ second) → after.doubt p ≡ true
   pub named : (p : Route) → marks.aside p ≡ true → Among after.named p
   -- a part that stands is the live job's then, or an ended one left it
@@ -56,13 +91,23 @@ pub record IsFileNaming (said after : Said) (dirty dirty_after : List Route) (ma
       → (marks.was p ≡ find (current (with_change log c)) p) ⊎ ((held (current log) (marks.was p) ≡ (after.earlier p).value) × HasNoMode marks (marks.was p))
   pub part : (p : Route) → after.part ≡ Some p → (marks.aside p ≡ true) × (after.tree p ≡ nowhere) × (is_some (find (current (with_change log c)) p) ≡ true)
 
-module _ (said after : Said) (dirty dirty_after : List Route) (marks : Marks) (log : CallLog) (c : Change) (up first second : Route) (f : ℕ)
-    (known : IsKnown said dirty marks log) (n : IsFileNaming said after dirty dirty_after marks log c up first second f) where
+module _ (said after : Said) (dirty dirty_after : List Route) (marks : Marks) (log : CallLog) (c : Change) (up beside first second : Route) (f e : ℕ)
+    (known : IsKnown said dirty marks log) (n : IsFileNaming said after dirty dirty_after marks log c up beside first second f e) where
   abbrev now : CallLog
   now = with_change log c
 
   naming_of : IsNaming marks log c
   naming_of = n.naming
+
+  names : ChangesFiles log c up beside first second f e
+  names = n.names
+
+  -- what holds of both folders holds of that in which a name changes
+  either_folder : (P : ℕ → Type 0) → P f → P e → (h : ℕ) (m : List ℕ) → is_some (says c 0 h m) ≡ true → P h
+  either_folder P one other h m said = elim (names.at h m said) [ inl here ↦ subst P (sym here.0) one | inr here ↦ subst P (sym here.0) other ]
+
+  named_folder : (h : ℕ) (m : List ℕ) → is_some (says c 0 h m) ≡ true → is_folder (node (current log) h) ≡ true
+  named_folder = either_folder (λ h. is_folder (node (current log) h) ≡ true) names.folder names.folder_beside
 
   said_so : (g : ℕ) (m : List ℕ) → is_some (says c (length (current log).nodes) g m) ≡ true → is_some (says c 0 g m) ≡ true
   said_so g m h = says_at c (length (current log).nodes) g m ∙ h
@@ -91,10 +136,8 @@ module _ (said after : Said) (dirty dirty_after : List Route) (marks : Marks) (l
       by : (o : Option ℕ) → find (current log) q ≡ o → Touches log c o name → ⊥
       by None is h = h
       by (Some g) is h =
-          let s = said_so g name h in
-          let g_is : g ≡ f = n.here g name s in
           let leads : lookup (current log).names g name ≡ Some j = sym (ap (option_and_then (λ k. lookup (current log).names k name)) is) ∙ at in
-          both_ways _ (n.files name j (subst (λ k. is_some (says c 0 k name) ≡ true) g_is s) (subst (λ k. lookup (current log).names k name ≡ Some j) g_is leads)) folder
+          both_ways _ (names.files g name j (said_so g name h) leads) folder
 
   -- a folder stands where it stood
   folder_stays : (p : Route) (j : ℕ) → find (current log) p ≡ Some j → is_folder (node (current log) j) ≡ true → find (current now) p ≡ Some j
@@ -112,18 +155,24 @@ module _ (said after : Said) (dirty dirty_after : List Route) (marks : Marks) (l
       by None is h = h
       by (Some g) is h =
           let s = said_so g name h in
-          let g_is : g ≡ f = n.here g name s in
-          let stands : find (current now) q ≡ Some f = folder_stays q f (is ∙ ap (λ k. Some k) g_is) n.folder in
-          let leads : lookup (current now).names f name ≡ Some j = sym (ap (option_and_then (λ k. lookup (current now).names k name)) stands) ∙ at in
-          both_ways _ (n.files_now name j (subst (λ k. is_some (says c 0 k name) ≡ true) g_is s) leads) folder
+          let stands : find (current now) q ≡ Some g = folder_stays q g is (named_folder g name s) in
+          let leads : lookup (current now).names g name ≡ Some j = sym (ap (option_and_then (λ k. lookup (current now).names k name)) stands) ∙ at in
+          both_ways _ (names.files_now g name j s leads) folder
+
+  as_before : (q : Route) (g h : ℕ) → find (current log) q ≡ Some g → is_folder (node (current log) g) ≡ true → find (current now) q ≡ Some h → h ≡ g
+  as_before q g h before holds then = let e : (let o : Option ℕ = Some g in o) ≡ Some h = sym (folder_stays q g before holds) ∙ then in cc
+
+  -- and stood where it stands
+  folder_was : (q : Route) (g : ℕ) → is_folder (node (current log) g) ≡ true → find (current now) q ≡ Some g → find (current log) q ≡ Some g
+  folder_was q g folder then = elim (find_same log c q) [
+    | inl same ↦ sym same ∙ then
+    | inr under ↦ absurd (no_folder_then q g under then (kind_same log c g (folder_there (current log).nodes g folder) ∙ folder))
+  ]
 
   -- so a folder that isn't in doubt stays so
   folder_sure : (p : Route) (j : ℕ) → find (current log) p ≡ Some j → is_folder (node (current log) j) ≡ true → way_waits log p ≡ false → way_waits now p ≡ false
-  folder_sure p j at folder sure = sure_still log c known.guarded.tree
-      (λ q g h before holds then. let e : (let o : Option ℕ = Some g in o) ≡ Some h = sym (folder_stays q g before holds) ∙ then in cc)
-      (λ g m k said before then holds.
-      let g_is : g ≡ f = n.here g m said in
-      both_ways _ (n.files m k (subst (λ h. is_some (says c 0 h m) ≡ true) g_is said) (subst (λ h. lookup (current log).names h m ≡ Some k) g_is before)) holds)
+  folder_sure p j at folder sure = sure_still log c known.guarded.tree as_before
+      (λ g m k said before then holds. both_ways _ (names.files g m k said before) holds)
       p j at folder (folder_stays p j at folder) sure
 
   firm_still : (p : Route) → IsSureFolder log p → IsSureFolder now p
@@ -159,10 +208,7 @@ module _ (said after : Said) (dirty dirty_after : List Route) (marks : Marks) (l
   bare_now : (i : ℕ) (m : List ℕ) → is_folder (node (current now) i) ≡ false → is_pending i m now.changes ≡ true → ⊥
   bare_now i m bare waits = elim (pending_less i m log.changes c waits) [
     | inl old ↦ both_ways _ (known.files.bare i m (was_bare log c i bare)) old
-    | inr new ↦
-        let i_is : i ≡ f = n.here i m new in
-        let there = folder_there (current log).nodes f n.folder in
-        both_ways _ (subst (λ k. is_folder (node (current now) k) ≡ false) i_is bare) (kind_same log c f there ∙ n.folder)
+    | inr new ↦ (let folder = named_folder i m new in both_ways _ bare (kind_same log c i (folder_there (current log).nodes i folder) ∙ folder))
   ]
 
   -- one of the two paths, or another
@@ -207,11 +253,37 @@ module _ (said after : Said) (dirty dirty_after : List Route) (marks : Marks) (l
         }
   ]
 
-  calm_was : (p : Route) → IsCalmIn marks (current log) p → IsCalmIn marks (current now) p
-  calm_was p calm name i at = elim (where_is (name ∷ p)) [
-    | inl here ↦ inl (n.no_mode (name ∷ p) i here (inr at))
-    | inr off ↦ elim (calm name i (sym (n.off (name ∷ p) off.0 off.1).0 ∙ at)) [ inl none ↦ inl none | inr begins ↦ inr (starts_same log c i ∙ begins) ]
-  ]
+  calm_was : (p : Route) → after.calm p ≡ true → IsCalmFolder marks log p → IsCalmFolder marks now p
+  calm_was p then calm = record {
+    modes = λ name i at. elim (where_is (name ∷ p)) [
+      | inl here ↦ inl (n.no_mode (name ∷ p) i here (inr at))
+      | inr off ↦ elim (calm.modes name i (sym (n.off (name ∷ p) off.0 off.1).0 ∙ at)) [ inl none ↦ inl none | inr begins ↦ inr (starts_same log c i ∙ begins) ]
+    ];
+    apart = unjoined_after log c known.guarded.tree known.files (starts_same log c) as_before folder_was p (λ g h at. n.apart p g h then at) calm.apart;
+  }
+
+  -- a path on the mount of the two folders leads to one in which a name changes
+  abbrev OnMount : ℕ → Type 0
+  OnMount h = (q : Route) × (find (current now) q ≡ Some h) × (mount_of (current now) q ≡ mount_of (current log) up)
+
+  on_mount : (h : ℕ) → names_in h c ≡ true → OnMount h
+  on_mount h named =
+      let s = names_said h c named in
+      let still = mount_still log c known.guarded.tree known.files (starts_same log c) as_before folder_was in
+      either_folder OnMount (up, names.stands, still up f (folder_was up f names.folder names.stands) names.stands)
+      (beside, names.stands_beside, still beside e (folder_was beside e names.folder_beside names.stands_beside) names.stands_beside ∙ names.mount) h s.0 s.1
+
+  -- the folders that the call joins lie on one mount
+  joined_beside : (g h : ℕ) (q : Route) → joins g h c ≡ true → find (current now) q ≡ Some g → IsBeside now q h
+  joined_beside g h q joined at =
+      let both = named_both g h c joined in
+      let here = on_mount g both.0 in
+      let there = on_mount h both.1 in
+      record { path = there.0; at = there.1; mount = there.2 ∙ sym (ap (mount_of (current now)) (find-once (current now) naming_of.tree q here.0 g at here.1) ∙ here.2) }
+
+  joint : (g h : ℕ) (q : Route) → is_joint g h now.changes ≡ true → find (current now) q ≡ Some g → IsBeside now q h
+  joint = joint_after log c known.guarded.tree known.files (starts_same log c) as_before folder_was
+      (λ q g h joined at. folder_stays q g at (joint_folder log known.guarded.tree known.files g h joined)) joined_beside known.joint
 
   shows : (p : Route) → (after.part ≡ Some p → ⊥) → visible_tree (current now) p ≡ after.tree p
   shows p other = elim (where_is p) [
@@ -221,13 +293,15 @@ module _ (said after : Said) (dirty dirty_after : List Route) (marks : Marks) (l
         shows_same log c p o.0 (λ i is. unaltered i (known.guarded.there p i (found_at log p (Some i) is))) ∙ (known.shows p o.3 ∙ sym o.1)
   ]
 
-  tracked : (g : ℕ) (m : List ℕ) → is_pending g m now.changes ≡ true → ((q : Route) × Among dirty_after q × (find (current now) q ≡ Some g)) ⊎ IsUnreached now g
-  tracked g m waits = elim (pending_less g m log.changes c waits) [
-    | inl old ↦ elim (known.tracked g m old) [
-      | inl t ↦ inl (t.0, n.more t.0 t.1, folder_stays t.0 g t.2 (waits_in_folder g m old))
-      | inr none ↦ inr (unreached_stays g (waits_in_folder g m old) none)
+  tracked : (g : ℕ) → is_restless g now.changes ≡ true → ((q : Route) × Among dirty_after q × (find (current now) q ≡ Some g)) ⊎ IsUnreached now g
+  tracked g restless = elim (restless_less g log.changes c restless) [
+    | inl old ↦ elim (known.tracked g old) [
+      | inl t ↦ inl (t.0, n.more t.0 t.1, folder_stays t.0 g t.2 (restless_folder log known.guarded.tree known.files g old))
+      | inr none ↦ inr (unreached_stays g (restless_folder log known.guarded.tree known.files g old) none)
     ]
-    | inr new ↦ inl (up, n.listed, n.stands ∙ ap (λ k. Some k) (sym (n.here g m new)))
+    | inr new ↦
+        let s = names_said g c new in
+        inl (either_folder (λ h. (q : Route) × Among dirty_after q × (find (current now) q ≡ Some h)) (up, n.listed, names.stands) (beside, n.listed_beside, names.stands_beside) g s.0 s.1)
   ]
 
   -- a path of which a change waits was one before, or it is one of the two
@@ -238,20 +312,21 @@ module _ (said after : Said) (dirty dirty_after : List Route) (marks : Marks) (l
       in_now : (o : Option ℕ) → find (current now) q ≡ o → option_map_or (λ g. is_pending g name now.changes) o false ≡ true
       in_now o is = sym (ap (λ x. option_map_or (λ g. is_pending g name now.changes) x false) is) ∙ waits
 
-      reached : (g : ℕ) → find (current now) q ≡ Some g → is_pending g name log.changes ≡ true → (r : Route) × Among dirty r × (find (current log) r ≡ Some g) → after.doubt (name ∷ q) ≡ true
-      reached g is old t =
-          let same : t.0 ≡ q = find-once (current now) naming_of.tree t.0 q g (folder_stays t.0 g t.2 (waits_in_folder g name old)) is in
-          let at : find (current log) q ≡ Some g = subst (λ r. find (current log) r ≡ Some g) same t.2 in
-          n.doubts (name ∷ q) (known.doubts (name ∷ q) (ap (λ x. option_map_or (λ k. is_pending k name log.changes) x false) at ∙ old))
-
       waited : (g : ℕ) → find (current now) q ≡ Some g → is_pending g name log.changes ≡ true → after.doubt (name ∷ q) ≡ true
-      waited g is old = elim (known.tracked g name old) [ inl t ↦ reached g is old t | inr none ↦ absurd (unreached_stays g (waits_in_folder g name old) none q is) ]
+      waited g is old =
+          let at : find (current log) q ≡ Some g = folder_was q g (waits_in_folder g name old) is in
+          n.doubts (name ∷ q) (known.doubts (name ∷ q) (ap (λ x. option_map_or (λ k. is_pending k name log.changes) x false) at ∙ old))
 
       new : (g : ℕ) → find (current now) q ≡ Some g → is_some (says c 0 g name) ≡ true → after.doubt (name ∷ q) ≡ true
       new g is s =
-          let g_is : g ≡ f = n.here g name s in
-          let same : up ≡ q = find-once (current now) naming_of.tree up q f n.stands (is ∙ ap (λ k. Some k) g_is) in
-          n.touched (name ∷ q) (subst (λ (r : Route). ((name ∷ r) ≡ first) ⊎ ((name ∷ r) ≡ second)) same (n.at name (subst (λ k. is_some (says c 0 k name) ≡ true) g_is s)))
+          elim (names.at g name s) [
+            | inl one ↦
+                let same : up ≡ q = find-once (current now) naming_of.tree up q f names.stands (is ∙ ap (λ k. Some k) one.0) in
+                n.touched (name ∷ q) (inl (subst (λ (r : Route). (name ∷ r) ≡ first) same one.1))
+            | inr other ↦
+                let same : beside ≡ q = find-once (current now) naming_of.tree beside q e names.stands_beside (is ∙ ap (λ k. Some k) other.0) in
+                n.touched (name ∷ q) (inr (subst (λ (r : Route). (name ∷ r) ≡ second) same other.1))
+          ]
 
       by : (o : Option ℕ) → find (current now) q ≡ o → after.doubt (name ∷ q) ≡ true
       by None is = absurd (false≢true (in_now None is))
@@ -269,13 +344,12 @@ module _ (said after : Said) (dirty dirty_after : List Route) (marks : Marks) (l
   naming_known = record {
     guarded = naming_law marks log c known.guarded naming_of;
     files = record {
-      within = within_more log.changes c n.within known.files.within;
       bare = λ i m bare. false_from_ne_true _ (bare_now i m bare);
       unborn = unborn_more log c (λ i past. naming_of.bytes i) naming_of.count known.files.unborn;
       mounts = mounts_sure;
     };
     moded = λ i before is unclean. moded_still i before is (known.moded i before is (unclean_before log c i (naming_of.bytes i) unclean));
-    calm = λ p there. elim (n.calm p there) [ inl before ↦ calm_was p (known.calm p before) | inr calm ↦ calm_was p calm ];
+    calm = λ p there. elim (n.calm p there) [ inl before ↦ calm_was p there (known.calm p before) | inr calm ↦ calm_was p there calm ];
     folders = λ i folder. known.folders i (was_folder i folder);
     aside = n.named;
     left = left_then;
@@ -284,6 +358,8 @@ module _ (said after : Said) (dirty dirty_after : List Route) (marks : Marks) (l
     shows = shows;
     part = n.part;
     tracked = tracked;
+    joint = joint;
+    lone = λ none. let j = n.lone none in within_more log.changes c j.1 (known.lone j.0);
     doubts = doubts;
     stand = λ p there. elim (n.folders p there) [ inl before ↦ firm_still p (known.stand p before) | inr firm ↦ firm_still p firm ];
   }

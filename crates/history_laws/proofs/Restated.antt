@@ -1,9 +1,9 @@
 -- What a history says of folders that are on the disk, and of those in which no mode waits, may be any that are so.
 use Rattle.std.specs.Prelude.{◌≡◌, Bool, true, List}
 use Rattle.mc_text.specs.Routes.{Route}
-use Rattle.tree_trait.specs.Change.{CallLog, current}
+use Rattle.tree_trait.specs.Change.{CallLog}
 use Rattle.crash_law.specs.Guarded.{Marks}
-use Rattle.history_laws.proofs.Knowing.{HasMode, IsCalmIn, IsKept, Said}
+use Rattle.history_laws.proofs.Knowing.{HasMode, IsCalmFolder, IsKept, Said}
 use Rattle.history_laws.proofs.Resting.{IsSureFolder}
 
 abbrev pub restated : Said → (Route → Bool) → (Route → Bool) → Said
@@ -13,7 +13,7 @@ module _ (told : Said) (folders calm : Route → Bool) where
   abbrev other : Said
   other = restated told folders calm
 
-  pub restated_kept : (dirty : List Route) (marks : Marks) (log : CallLog) → IsKept told dirty marks log → ((p : Route) → folders p ≡ true → IsSureFolder log p) → ((p : Route) → calm p ≡ true → IsCalmIn marks (current log) p)
+  pub restated_kept : (dirty : List Route) (marks : Marks) (log : CallLog) → IsKept told dirty marks log → ((p : Route) → folders p ≡ true → IsSureFolder log p) → ((p : Route) → calm p ≡ true → IsCalmFolder marks log p)
       → IsKept other dirty marks log
   restated_kept dirty marks log kept firm quiet =
       let k = kept.known in
@@ -33,6 +33,8 @@ module _ (told : Said) (folders calm : Route → Bool) where
           shows = k.shows;
           part = k.part;
           tracked = k.tracked;
+          joint = k.joint;
+          lone = k.lone;
           doubts = k.doubts;
           stand = firm;
         };

@@ -26,10 +26,12 @@ use Rattle.job_reports.specs.Paths.{folder_of}
 use Rattle.history_laws.specs.Doubt.{is_pending, name_waits, way_waits}
 use Rattle.history_laws.proofs.Changing.{folder_anchored}
 use Rattle.history_laws.proofs.JobKnows.{none_unlisted}
-use Rattle.history_laws.proofs.Knowing.{HasMode, IsCalmIn, IsKept, IsKnown, Said, firm_now, held}
+use Rattle.history_laws.proofs.Knowing.{HasMode, IsCalmFolder, IsCalmIn, IsKept, IsKnown, Said, firm_now, held}
 use Rattle.history_laws.proofs.PartNodes.{moded_node}
-use Rattle.history_laws.proofs.Quiet.{IsNameless, calm_files, calm_firm, calm_tracked, held_same, shows_same, starts_same, unclean_before, waits_before, was_folder}
+use Rattle.history_laws.proofs.Quiet.{IsNameless, calm_apart, calm_files, calm_firm, calm_joint, calm_lone, calm_tracked, held_same, shows_same, starts_same, unclean_before, waits_before, was_folder}
 use Rattle.history_laws.proofs.Resting.{IsSureFolder, settled_unless}
+use Rattle.history_laws.proofs.Restless.{is_restless}
+use Rattle.history_laws.proofs.WaitsFor.{waits_for}
 
 -- A mode is to be set where nothing of the path waits, nor another mode of what stands there, and what the history says once it is.
 pub record SetsMode (told after : Said) (dirty dirty_after : List Route) (marks : Marks) (log : CallLog) (path : Route) (i mode : ℕ) : Type 0 where
@@ -47,11 +49,12 @@ pub record SetsMode (told after : Said) (dirty dirty_after : List Route) (marks 
   pub off : (p : Route) → same_path p path ≡ false → (after.tree p ≡ told.tree p) × (after.earlier p ≡ told.earlier p)
   pub shown : after.tree path ≡ record (told.tree path) { value = Some (value (with_mode mode (node (current log) i))) }
   pub earlier : (after.earlier path).value ≡ (told.tree path).value
+  pub lone : after.joins ≡ false → told.joins ≡ false
   pub doubts : (p : Route) → told.doubt p ≡ true → after.doubt p ≡ true
   pub folders : (p : Route) → after.folders p ≡ true → (told.folders p ≡ true) ⊎ IsSureFolder log p
   pub modes : after.modes path ≡ true
   pub modes_more : (p : Route) → told.modes p ≡ true → after.modes p ≡ true
-  pub calm : (p : Route) → after.calm p ≡ true → IsCalmIn marks (current log) p × (p ≡ folder_of path → ⊥)
+  pub calm : (p : Route) → after.calm p ≡ true → IsCalmFolder marks log p × (p ≡ folder_of path → ⊥)
 
 some_not_none : {A : Type 0} (x : ℕ) → (let o : Option ℕ = None in o) ≡ Some x → A
 some_not_none x h = absurd (let e : ⊥ = cc in e)
@@ -67,10 +70,16 @@ module _ (told : Said) (dirty : List Route) (marks : Marks) (log : CallLog) (kep
     where
       none : (f : ℕ) → find (current log) up ≡ Some f → (b : Bool) → is_pending f name log.changes ≡ b → is_pending f name log.changes ≡ false
       none f at false is = is
-      none f at true is = elim (kept.known.tracked f name is) [
-        | inl t ↦ some_not_none f (sym (gone t.0 t.1) ∙ t.2)
-        | inr unreached ↦ absurd (unreached up at)
+      none f at true is = elim (waits_for f name log.changes is) [
+        | inl own ↦ at_rest up f at own
+        | inr other ↦ (let b = kept.known.joint f other.0 up other.1 at in at_rest b.path other.0 b.at other.2)
       ]
+        where
+          at_rest : (q : Route) (g : ℕ) → find (current log) q ≡ Some g → is_restless g log.changes ≡ true → is_pending f name log.changes ≡ false
+          at_rest q g there restless = elim (kept.known.tracked g restless) [
+            | inl t ↦ some_not_none g (sym (gone t.0 t.1) ∙ t.2)
+            | inr unreached ↦ absurd (unreached q there)
+          ]
 
       by : (o : Option ℕ) → find (current log) up ≡ o → name_waits log (name ∷ up) ≡ false
       by None at = ap (λ x. option_map_or (λ f. is_pending f name log.changes) x false) at
@@ -324,14 +333,19 @@ module _ (told after : Said) (dirty dirty_after : List Route) (marks : Marks) (l
                   ∙ ap (λ n. (let v : Option Value = Some (value (with_mode before n)) in v)) (sym (unaltered j off (kept.known.guarded.there h.path j (found_at log h.path (Some j) h.leads)))));
             }
 
-    calm_then : (p : Route) → after.calm p ≡ true → IsCalmIn new (current now) p
-    calm_then p there_calm name j at =
-        let here : find (current log) (name ∷ p) ≡ Some j = sym (found_as (name ∷ p)) ∙ at in
+    calm_then : (p : Route) → after.calm p ≡ true → IsCalmFolder new now p
+    calm_then p there_calm =
         let calm = s.calm p there_calm in
-        elim (calm.0 name j here) [
-          | inl none ↦ inl (still_none j (λ same. calm.1 (ap folder_of (find-once (current log) kept.known.guarded.tree (name ∷ p) path i (here ∙ ap (λ n. Some n) same) s.at))) none)
-          | inr begins ↦ inr (starts_same log sets j ∙ begins)
-        ]
+        let before = calm.0 in
+        record {
+          modes = λ name j at.
+              let here : find (current log) (name ∷ p) ≡ Some j = sym (found_as (name ∷ p)) ∙ at in
+              elim (before.modes name j here) [
+                | inl none ↦ inl (still_none j (λ same. calm.1 (ap folder_of (find-once (current log) kept.known.guarded.tree (name ∷ p) path i (here ∙ ap (λ n. Some n) same) s.at))) none)
+                | inr begins ↦ inr (starts_same log sets j ∙ begins)
+              ];
+          apart = calm_apart told dirty marks log sets kept.known nameless p before.apart;
+        }
 
     shows_then : (p : Route) (b : Bool) → same_path p path ≡ b → visible_tree (current now) p ≡ after.tree p
     shows_then p true same = subst (λ q. visible_tree (current now) q ≡ after.tree q) (sym (same_path-true p path same)) path_shown
@@ -386,7 +400,9 @@ module _ (told after : Said) (dirty dirty_after : List Route) (marks : Marks) (l
       was_shown = was_shown_then;
       shows = λ p other. shows_then p (same_path p path) refl;
       part = λ p is. absurd (let e : (let o : Option Route = None in o) ≡ Some p = sym s.none ∙ is in let x : ⊥ = cc in x);
-      tracked = λ f k waits. elim (calm_tracked told dirty marks log sets kept.known nameless f k waits) [ inl t ↦ inl (t.0, s.more t.0 t.1, t.2) | inr none ↦ inr none ];
+      tracked = λ f restless. elim (calm_tracked told dirty marks log sets kept.known nameless f restless) [ inl t ↦ inl (t.0, s.more t.0 t.1, t.2) | inr none ↦ inr none ];
+      joint = calm_joint told dirty marks log sets kept.known nameless;
+      lone = λ none. calm_lone told dirty marks log sets kept.known nameless (s.lone none);
       doubts = λ p waits. s.doubts p (kept.known.doubts p (waits_before told dirty marks log sets kept.known nameless p waits));
       stand = λ p there_stands. calm_firm told dirty marks log sets kept.known nameless p (elim (s.folders p there_stands) [ inl before ↦ kept.known.stand p before | inr firm ↦ firm ]);
     }

@@ -63,6 +63,8 @@ module _ (told : Said) (log : CallLog) where
       shows = kept.known.shows;
       part = kept.known.part;
       tracked = kept.known.tracked;
+      joint = kept.known.joint;
+      lone = kept.known.lone;
       doubts = λ p waits. waits;
       stand = kept.known.stand;
     };

@@ -155,6 +155,7 @@ said_after now did work told = record {
   folders = folders_by did (folder_changed (item_in work)) told.folders;
   modes = modes_by did told.modes;
   calm = calm_by did (item_in work) told.calm;
+  joins = told.joins;
 }
 
 -- What a step comes to.

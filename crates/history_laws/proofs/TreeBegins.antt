@@ -36,7 +36,7 @@ use Rattle.history_laws.proofs.EndSteps.{filled_if, met_not}
 use Rattle.history_laws.proofs.FilledFolders.{IsFilling}
 use Rattle.history_laws.proofs.Intact.{prefix_append, prefix_way}
 use Rattle.history_laws.proofs.JobKnows.{calm_in}
-use Rattle.history_laws.proofs.Knowing.{IsCalmIn, IsKept, Said}
+use Rattle.history_laws.proofs.Knowing.{IsCalmFolder, IsCalmIn, IsKept, Said}
 use Rattle.history_laws.proofs.Resting.{IsFolderAt, IsSureFolder, folder_at, stands_at}
 use Rattle.history_laws.proofs.Restated.{restated, restated_kept}
 use Rattle.history_laws.proofs.TreeGoing.{LogHas, leaves_has}
@@ -54,13 +54,13 @@ pub record Meets (log : CallLog) (pair : Pair) : Type 0 where
   pub source : find (current log) pair.source ≡ Some n
 
 -- What is known where a thing is made: of the log as the step began, and once folders were left; the folder that holds the target is on the disk, and in no
--- folder that the copy may change a mode waits.
+-- folder that the copy may change a mode waits, nor a renaming for it and another folder.
 pub record MayChange (marks : Marks) (log : CallLog) (c : SubtreeCopying) (mid : Seen) : Type 0 where
   pub outside : LiesOutside c.top
   pub has : LogHas c.top log c.at
   pub here : LogHas c.top log mid
   pub firm : IsSureFolder log (folder_of c.top.target)
-  pub calm : (p : Route) → may_change (Copies c.top.source c.top.target) p ≡ true → IsCalmIn marks (current log) p
+  pub calm : (p : Route) → may_change (Copies c.top.source c.top.target) p ≡ true → IsCalmFolder marks log p
 
 none_some : {A : Type 0} (i : ℕ) → (let o : Option ℕ = None in o) ≡ Some i → A
 none_some i is = absurd (let f : ⊥ = cc in f)
@@ -114,7 +114,7 @@ module _ (told : Said) (dirty : List Route) (marks : Marks) (log : CallLog) (kep
 
     around : IsCalmIn marks (current log) up
     around = elim h.around [
-      | inl calm ↦ kept.known.calm up calm
+      | inl calm ↦ (let still = kept.known.calm up calm in still.modes)
       | inr but ↦ λ name i at. by but.1 name i at (same_path (name ∷ up) top.target) refl
     ]
       where
@@ -134,13 +134,16 @@ module _ (told : Said) (dirty : List Route) (marks : Marks) (log : CallLog) (kep
       has = had;
       here = here;
       firm = kept.known.stand up h.folder;
-      calm = λ p own. elim (or_cases (same_path p up) (is_prefix top.target p) own) [
-        | inl same ↦ subst (IsCalmIn marks (current log)) (sym (same_path-true p up same)) around
-        | inr within ↦
-            let way = prefix_way top.target p within in
-            λ k i at. elim (below (k ∷ way.0) i (ap (find (current log)) (sym (ap (λ (q : Route). k ∷ q) way.1)) ∙ at)) [ inl none ↦ inl none | inr b ↦ absurd (let e : (k ∷ way.0) ≡ [] = b.0 in let f : ⊥ = cc in f) ]
-      ];
+      calm = λ p own. record { modes = modes p own; apart = (here.names [] p own).1 };
     }
+      where
+        modes : (p : Route) → may_change (Copies top.source top.target) p ≡ true → IsCalmIn marks (current log) p
+        modes p own = elim (or_cases (same_path p up) (is_prefix top.target p) own) [
+          | inl same ↦ subst (IsCalmIn marks (current log)) (sym (same_path-true p up same)) around
+          | inr within ↦
+              let way = prefix_way top.target p within in
+              λ k i at. elim (below (k ∷ way.0) i (ap (find (current log)) (sym (ap (λ (q : Route). k ∷ q) way.1)) ∙ at)) [ inl none ↦ inl none | inr b ↦ absurd (let e : (k ∷ way.0) ≡ [] = b.0 in let f : ⊥ = cc in f) ]
+        ]
 
   -- as the first change is made
   module _ (fresh : is_fresh c.at.stage ≡ true) (owed : NoneOwed (current log) (Copy c) dirty) where
@@ -195,8 +198,13 @@ module _ (told : Said) (dirty : List Route) (marks : Marks) (log : CallLog) (kep
             sure = way_sure told dirty marks log up t.i kept.known t.at none_there;
           };
           calm = λ p own. elim (or_cases (same_path p up) (is_prefix top.target p) own) [
-            | inl here ↦ subst (IsCalmIn marks (current log)) (sym (same_path-true p up here)) (calm_in told dirty marks log kept up none_there)
-            | inr within ↦ let way = prefix_way top.target p within in λ k i at. none_some i (sym (ap (find (current log)) (ap (λ (q : Route). k ∷ q) way.1) ∙ none_below_open log kept.known.guarded.tree top.target open_there k way.0) ∙ at)
+            | inl here ↦ subst (IsCalmFolder marks log) (sym (same_path-true p up here)) (calm_in told dirty marks log kept up none_there)
+            | inr within ↦
+                let way = prefix_way top.target p within in
+                record {
+                  modes = λ k i at. none_some i (sym (ap (find (current log)) (ap (λ (q : Route). k ∷ q) way.1) ∙ none_below_open log kept.known.guarded.tree top.target open_there k way.0) ∙ at);
+                  apart = (has.names [] p own).1;
+                }
           ];
         }
 

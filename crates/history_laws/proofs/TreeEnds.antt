@@ -78,7 +78,7 @@ module _ (top : Pair) (log : CallLog) (c : Seen) (h : LogHas top log c) where
   -- no name waits in a folder of its own
   pub ended_names : IsAtEnd c → (name : List ℕ) (up : Route) → is_of (folder_of top.target) top.target up ≡ true → name_waits log (name ∷ up) ≡ false
   ended_names end name up own = false_from_ne_true _ (λ waits.
-      let marked = subst (λ (around : List Level). IsMarkedIn up c.levels.inner around) end.outermost (h.names name up own waits) in
+      let marked = subst (λ (around : List Level). IsMarkedIn up c.levels.inner around) end.outermost ((h.names name up own).0 waits) in
       both_ways _ end.clean marked.1)
 
   none_set : (stage : Stage) (names : NamesState) → is_dirty names ≡ false → was_set stage names ≡ true → ⊥

@@ -153,7 +153,7 @@ module _ (log now : CallLog) (name : List ℕ) (l : Levels) (known : FolderKnown
     opens h =
         let d = done_call log (SyncFolder outer.copy.target) now h in
         subst (λ (x : CallLog). LevelsKnow x name (with_state Synced)) (sym d.is)
-        (levels_opened log known.tree known.files name lies.0 (found (current log) outer.copy.target) l outer around was (subst (λ (ls : List Level). is_around_dirty ls ≡ true) was dirty) lies.1
+        (levels_opened log known.tree name lies.0 (found (current log) outer.copy.target) l outer around was (subst (λ (ls : List Level). is_around_dirty ls ≡ true) was dirty) lies.1
         (sync_finds (current log) outer.copy.target d.permits) known.levels)
 
     still_dirty : LevelsKnow now name l → LevelsKnow now name (with_state Dirty)

@@ -17,19 +17,18 @@ use Rattle.copy_levels.specs.declared.level.Level.{Level}
 use Rattle.copy_levels.specs.Levels.{IsLeft, Levels, coming, dirtied, emptied, entered, is_around_dirty, level, passed}
 use Rattle.history_laws.proofs.FilledCalls.{MayFill, filling_call}
 use Rattle.history_laws.proofs.FilledFolders.{IsFilling, IsNew, filling_fewer, filling_quiet, new_quiet, opens_synced}
-use Rattle.history_laws.proofs.Resting.{IsOfFiles}
 use Rattle.history_laws.proofs.OpenFolders.{AroundKnow, InnerKnows, LevelsKnow}
 use Rattle.history_laws.proofs.Refused.{refused_change}
 
 new_of : (log : CallLog) (up : Route) (names : List (List ℕ)) → IsFilling log up names → IsNew log up names
-new_of log up names filling = let firm = filling.firm in record { stands = firm.stands; calm = filling.calm }
+new_of log up names filling = let firm = filling.firm in record { stands = firm.stands; calm = filling.calm; apart = filling.apart }
 
 inner_of : (b : Bool) (log : CallLog) (up : Route) (names : List (List ℕ)) → IsFilling log up names → InnerKnows b log up names
 inner_of true log up names filling = new_of log up names filling
 inner_of false log up names filling = filling
 
 inner_fewer : (b : Bool) (log : CallLog) (up : Route) (names fewer : List (List ℕ)) → ((k : List ℕ) → Among fewer k → Among names k) → InnerKnows b log up names → InnerKnows b log up fewer
-inner_fewer true log up names fewer less new = record { stands = new.stands; calm = λ k among. new.calm k (less k among) }
+inner_fewer true log up names fewer less new = record { stands = new.stands; calm = λ k among. new.calm k (less k among); apart = new.apart }
 inner_fewer false log up names fewer less filling = filling_fewer log up names fewer less filling
 
 among_later : (names : List (List ℕ)) (k : List ℕ) → Among (drop 1 names) k → Among names k
@@ -127,10 +126,10 @@ levels_call log now tree call answer done name l clean may may_around known =
     }
 
 -- The nearest folder around was synced: so the innermost, which lies in it, is on the disk, and is filled from now on.
-pub levels_opened : (log : CallLog) (tree : IsTree (current log)) (files : IsOfFiles log) (name k : List ℕ) (g : ℕ) (l : Levels) (outer : Level) (around : List Level) → l.around ≡ outer ∷ around
+pub levels_opened : (log : CallLog) (tree : IsTree (current log)) (name k : List ℕ) (g : ℕ) (l : Levels) (outer : Level) (around : List Level) → l.around ≡ outer ∷ around
     → is_dirty outer.copy.names ≡ true → l.inner.copy.target ≡ k ∷ outer.copy.target → find (current log) outer.copy.target ≡ Some g → LevelsKnow log name l
     → LevelsKnow (with_change log (Syncs g)) name (record l { around = level outer.names (record outer.copy { names = Synced }) ∷ around })
-levels_opened log tree files name k g l outer around was dirty lies at known =
+levels_opened log tree name k g l outer around was dirty lies at known =
     let outside = subst (AroundKnow log name) was known.around in
     let now = with_change log (Syncs g) in
     let filled = outside.0 in
@@ -139,6 +138,6 @@ levels_opened log tree files name k g l outer around was dirty lies at known =
     (subst (λ b. InnerKnows b log l.inner.copy.target l.inner.names.names) dirty
     (subst (λ (ls : List Level). InnerKnows (is_around_dirty ls) log l.inner.copy.target (coming name l.inner.names ls)) was known.inner)) in
     record {
-      inner = subst (λ up. IsFilling now up l.inner.names.names) (sym lies) (opens_synced log outer.copy.target g k l.inner.names.names tree files at filled.firm new);
+      inner = subst (λ up. IsFilling now up l.inner.names.names) (sym lies) (opens_synced log outer.copy.target g k l.inner.names.names tree at (filling_fewer log outer.copy.target (coming name outer.names around) [] (λ met never. absurd never) filled) new);
       around = (filling_quiet log (Syncs g) tree (λ n h m. refl) outer.copy.target (coming name outer.names around) filled, around_quiet log (Syncs g) tree (λ n h m. refl) name around outside.1);
     }

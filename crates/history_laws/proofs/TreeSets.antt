@@ -193,6 +193,7 @@ module _ (told : Said) (dirty dirty_after : List Route) (marks : Marks) (log now
       off = λ p off. (put_off told.tree up given p off, put_off told.earlier up (told.tree up).value p off);
       shown = put_at told.tree up given ∙ ap (λ x. (let s : Spot = record (told.tree up) { value = x } in s)) given_is;
       earlier = ap (λ (s : Spot). s.value) (put_at told.earlier up (told.tree up).value);
+      lone = λ none. none;
       doubts = λ p h. or_left _ _ h;
       folders = λ p there. elim (or_cases (same_path p (folder_of top.target) || same_path p (folder_of up)) (told.folders p) there) [
         | inl first ↦ elim (or_cases (same_path p (folder_of top.target)) (same_path p (folder_of up)) first) [
@@ -224,7 +225,7 @@ module _ (told : Said) (dirty dirty_after : List Route) (marks : Marks) (log now
 
     -- of the other things in the folder around no mode waits
     but_before : IsCalmBut marks (current log) top.target
-    but_before = elim (b.around some) [ inl calm ↦ (λ name j other at. kept.known.calm (folder_of top.target) calm name j at) | inr but ↦ but.1 ]
+    but_before = elim (b.around some) [ inl calm ↦ (λ name j other at. let still = kept.known.calm (folder_of top.target) calm in still.modes name j at) | inr but ↦ but.1 ]
 
     but_then : IsCalmBut m (current (with_change log change)) top.target
     but_then name j other at = elim (but_before name j (λ is. sym still_kind ∙ other is) here) [

@@ -40,7 +40,7 @@ use Rattle.copy_move.specs.DeletionSteps.{after_try}
 use Rattle.copy_move.specs.Steps.{LastLeaves}
 use Rattle.history_laws.proofs.Calming.{refused_is}
 use Rattle.history_laws.proofs.Changing.{removed_known}
-use Rattle.history_laws.proofs.Deleted.{IsRemoval, comes_refused, removal_done, removal_leads}
+use Rattle.history_laws.proofs.Deleted.{IsRemoval, comes_refused, file_unjoined, removal_done, removal_leads}
 use Rattle.history_laws.proofs.DeletionSteps.{Steps, tried}
 use Rattle.history_laws.proofs.JobKnows.{HasName, none_of_part}
 use Rattle.history_laws.proofs.JobSteps.{ends_left, removed_part}
@@ -125,12 +125,15 @@ module _ (told : Said) (dirty dirty_after : List Route) (marks : Marks) (log now
             gone = (kept.known.part part left.part_is).1;
             was = λ out. absurd (both_ways _ out aside);
             part = refl;
+            lone = λ none. none;
             doubts = λ p h. or_left _ _ h;
             folders = λ p there. (no_file p (let firm = kept.known.stand p there in firm.stands), inl there);
             modes = λ p h. h;
             calm = λ p h. inl h;
             doubted = or_right _ _ (same_path-self part);
-          }) (λ out. absurd (both_ways _ out aside)) (none_of_part told dirty marks log kept part it.r.i (removal_leads log now part it) aside) (subst (λ q. Among dirty q) (ap folder_of it.r.path_is) listed) (λ q among off. among) in
+          }) (λ out. absurd (both_ways _ out aside)) (none_of_part told dirty marks log kept part it.r.i (removal_leads log now part it) aside)
+          (file_unjoined log now part it kept.known.guarded.tree kept.known.files (ap (λ o. option_map_or (λ j. is_folder (node (current log) j)) o false) left.leads ∙ left.bare))
+          (subst (λ q. Among dirty q) (ap folder_of it.r.path_is) listed) (λ q among off. among) in
           comes_one told (said_after now (Cleaned part) work told) dirty dirty marks marks log now (Removes it.r.f it.r.name it.k) knows kept it.now_is
           (subst (λ (l : CallLog). IsKnown (said_after now (Cleaned part) work told) dirty marks l) (sym it.now_is) known)
           (known_of _)

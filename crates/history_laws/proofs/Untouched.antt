@@ -2,7 +2,7 @@
 use Rattle.std.proofs.Common.{◌≡◌, ◌⊎◌, ℕ, Bool, true, false, ◌||◌, List, [], ◌∷◌, refl, sym, ◌∙◌, ap, subst, inl, inr, Option, Some, None, cond}
 use Rattle.std.specs.Prelude.{is_some}
 use Rattle.std.specs.Option.{option_map_or}
-use Rattle.std.proofs.lemmas.Bool.{false≢true, both_ways}
+use Rattle.std.proofs.lemmas.Bool.{false≢true, both_ways, false_from_ne_true}
 use Rattle.mc_text.specs.Routes.{Route}
 use Rattle.tree_trait.specs.declared.file_system.FileSystem.{FileSystem}
 use Rattle.tree_trait.specs.declared.calls.TreeError.TheVariants.{Missing}
@@ -19,6 +19,8 @@ use Rattle.copy_move.specs.declared.work.Work.{Work}
 use Rattle.copy_move.specs.Settling.{IsMountOf, LiesApart, NoneOwed, changed_folder}
 use Rattle.history_laws.specs.Doubt.{is_pending, name_waits, way_waits}
 use Rattle.history_laws.proofs.Knowing.{IsKept, IsKnown, Said}
+use Rattle.history_laws.proofs.Restless.{IsUnjoined, is_restless, joint_restless}
+use Rattle.history_laws.proofs.WaitsFor.{waits_for}
 
 -- nothing was done at the target yet, and nothing stands there
 pub record IsUntouched (marks : Marks) (s : FileSystem) (target : Route) : Type 0 where
@@ -72,25 +74,40 @@ NoneOn s up dirty = (kept : Route) → Among dirty kept → (refusal_of s (Stat 
 pub none_on : (s : FileSystem) (work : Work) (dirty : List Route) → NoneOwed s work dirty → NoneOn s (changed_folder work) dirty
 none_on s work dirty none kept among = elim (none kept among) [ inl gone ↦ inl gone | inr apart ↦ inr apart.1 ]
 
--- Where no dirty folder lies on the mount of this one, nothing waits in it.
-pub none_waits : (told : Said) (dirty : List Route) (marks : Marks) (log : CallLog) (up : Route) → IsKnown told dirty marks log → NoneOn (current log) up dirty → (m : List ℕ) → name_waits log (m ∷ up) ≡ false
-none_waits told dirty marks log up known none m = by (find (current log) up) refl
-  where
-    listed : (f : ℕ) → find (current log) up ≡ Some f → (q : Route) × Among dirty q × (find (current log) q ≡ Some f) → true ≡ false
-    listed f at t =
-        let same = find-once (current log) known.guarded.tree t.0 up f t.2 at in
-        elim (none t.0 t.1) [
-          | inl gone ↦ absurd (let e : (let o : Option ℕ = None in o) ≡ Some f = sym (stat_missing (current log) t.0 gone) ∙ t.2 in cc)
-          | inr elsewhere ↦ absurd (elsewhere.2 (subst (λ q. elsewhere.0 ≡ mount_number (current log).mounts (mount_of (current log) q)) (sym same) elsewhere.1))
-        ]
+-- Where no dirty folder lies on the mount of this one, each folder there is at rest, so nothing waits in it, nor a renaming for it and another folder.
+module _ (told : Said) (dirty : List Route) (marks : Marks) (log : CallLog) (up : Route) (known : IsKnown told dirty marks log) (none : NoneOn (current log) up dirty) where
+  at_rest : (q : Route) (f : ℕ) → find (current log) q ≡ Some f → mount_of (current log) q ≡ mount_of (current log) up → is_restless f log.changes ≡ true → ⊥
+  at_rest q f at beside restless = elim (known.tracked f restless) [
+    | inl t ↦ listed t.0 t.1 t.2
+    | inr unreached ↦ unreached q at
+  ]
+    where
+      listed : (p : Route) → Among dirty p → find (current log) p ≡ Some f → ⊥
+      listed p among there =
+          let same = find-once (current log) known.guarded.tree p q f there at in
+          elim (none p among) [
+            | inl gone ↦ (let e : (let o : Option ℕ = None in o) ≡ Some f = sym (stat_missing (current log) p gone) ∙ there in let x : ⊥ = cc in x)
+            | inr elsewhere ↦ elsewhere.2 (elsewhere.1 ∙ ap (mount_number (current log).mounts) (sym (ap (mount_of (current log)) same ∙ beside)))
+          ]
 
-    no_more : (f : ℕ) → find (current log) up ≡ Some f → (b : Bool) → is_pending f m log.changes ≡ b → b ≡ false
-    no_more f at false is = refl
-    no_more f at true is = elim (known.tracked f m is) [ inl t ↦ listed f at t | inr unreached ↦ absurd (unreached up at) ]
+  pub none_joint : IsUnjoined log up
+  none_joint f g at = false_from_ne_true _ (λ joint. elim (joint_restless f g log.changes joint) [
+    | inl own ↦ at_rest up f at refl own
+    | inr other ↦ (let b = known.joint f g up joint at in at_rest b.path g b.at b.mount other)
+  ])
 
-    by : (o : Option ℕ) → find (current log) up ≡ o → name_waits log (m ∷ up) ≡ false
-    by None is = ap (λ x. option_map_or (λ f. is_pending f m log.changes) x false) is
-    by (Some f) is = ap (λ x. option_map_or (λ f. is_pending f m log.changes) x false) is ∙ no_more f is (is_pending f m log.changes) refl
+  pub none_waits : (m : List ℕ) → name_waits log (m ∷ up) ≡ false
+  none_waits m = by (find (current log) up) refl
+    where
+      no_more : (f : ℕ) → find (current log) up ≡ Some f → is_pending f m log.changes ≡ false
+      no_more f at = false_from_ne_true _ (λ waits. elim (waits_for f m log.changes waits) [
+        | inl own ↦ at_rest up f at refl own
+        | inr other ↦ both_ways _ (none_joint f other.0 at) other.1
+      ])
+
+      by : (o : Option ℕ) → find (current log) up ≡ o → name_waits log (m ∷ up) ≡ false
+      by None is = ap (λ x. option_map_or (λ f. is_pending f m log.changes) x false) is
+      by (Some f) is = ap (λ x. option_map_or (λ f. is_pending f m log.changes) x false) is ∙ no_more f is
 
 -- nor is the folder itself in doubt, nor one above it: those on other mounts never are
 pub way_sure : (told : Said) (dirty : List Route) (marks : Marks) (log : CallLog) (up : Route) (i : ℕ) → IsKnown told dirty marks log → find (current log) up ≡ Some i → NoneOn (current log) up dirty
