@@ -14,7 +14,7 @@ use Rattle.job_reports.specs.declared.report.Trouble.{Trouble}
 use Rattle.job_reports.specs.declared.report.Ending.{Ending}
 use Rattle.job_reports.specs.declared.report.Ending.TheVariants.{Finished, Aborted, Killed, NoMemory}
 use Rattle.job_reports.specs.declared.report.Did.{Did}
-use Rattle.job_reports.specs.declared.report.Did.TheVariants.{Began, Chunk, Placed, Removed, Made, Set, Kept, Skipped, Cleaned, Barrier, Asked, Merges, Troubled, Ended}
+use Rattle.job_reports.specs.declared.report.Did.TheVariants.{Began, Chunk, Placed, Removed, Made, Set, Kept, Skipped, Cleaned, Barrier, Asked, Merges, Moved, Troubled, Ended}
 use Rattle.job_reports.specs.Paths.{folder_of, without}
 use Rattle.job_reports.specs.Reports.{IsFault}
 use Rattle.job_reports.specs.Stops.{cause_of, out_of_memory_at, sync_answer}
@@ -89,6 +89,7 @@ met_by course P (Began part) none p h = h
 met_by course P (Chunk count) none p h = h
 met_by course P (Asked question) none p h = h
 met_by course P (Merges pair names) none p h = h
+met_by course P (Moved pair) none p h = h
 met_by course P (Set path) none p h = h
 met_by course P (Placed path) none p h = h
 met_by course P (Removed path) none p h = h
@@ -111,6 +112,7 @@ module _ (m : Deletion) (tried : ℕ) (skips : Kinds) (holds : parent_of m.path 
   sync_tells (Chunk count) s = absurd s
   sync_tells (Asked question) s = absurd s
   sync_tells (Merges pair names) s = absurd s
+  sync_tells (Moved pair) s = absurd s
   sync_tells (Set path) s = absurd s
   sync_tells (Placed path) s = absurd s
   sync_tells (Made path) s = absurd s
@@ -127,6 +129,7 @@ module _ (m : Deletion) (tried : ℕ) (skips : Kinds) (holds : parent_of m.path 
   sync_calls (Chunk count) s log known = absurd s
   sync_calls (Asked question) s log known = absurd s
   sync_calls (Merges pair names) s log known = absurd s
+  sync_calls (Moved pair) s log known = absurd s
   sync_calls (Set path) s log known = absurd s
   sync_calls (Placed path) s log known = absurd s
   sync_calls (Made path) s log known = absurd s
@@ -146,6 +149,7 @@ module _ (m : Deletion) (tried : ℕ) (skips : Kinds) (holds : parent_of m.path 
   sync_leaves (Chunk count) s = absurd s
   sync_leaves (Asked question) s = absurd s
   sync_leaves (Merges pair names) s = absurd s
+  sync_leaves (Moved pair) s = absurd s
   sync_leaves (Set path) s = absurd s
   sync_leaves (Placed path) s = absurd s
   sync_leaves (Made path) s = absurd s
@@ -164,6 +168,7 @@ module _ (m : Deletion) (tried : ℕ) (skips : Kinds) (holds : parent_of m.path 
   no_progress (Chunk count) s h = s
   no_progress (Asked question) s h = s
   no_progress (Merges pair names) s h = s
+  no_progress (Moved pair) s h = s
   no_progress (Set path) s h = s
   no_progress (Placed path) s h = s
   no_progress (Made path) s h = s
@@ -232,6 +237,7 @@ module _ (m new : Deletion) (tried : ℕ) (skips : Kinds) (holds : parent_of m.p
     work_tells (Chunk count) w = absurd w
     work_tells (Asked question) w = absurd w
     work_tells (Merges pair names) w = absurd w
+    work_tells (Moved pair) w = absurd w
     work_tells (Set path) w = absurd w
     work_tells (Placed path) w = absurd w
     work_tells (Made path) w = absurd w
@@ -248,6 +254,7 @@ module _ (m new : Deletion) (tried : ℕ) (skips : Kinds) (holds : parent_of m.p
     work_keeps (Chunk count) w = absurd w
     work_keeps (Asked question) w = absurd w
     work_keeps (Merges pair names) w = absurd w
+    work_keeps (Moved pair) w = absurd w
     work_keeps (Set path) w = absurd w
     work_keeps (Placed path) w = absurd w
     work_keeps (Made path) w = absurd w
@@ -265,6 +272,7 @@ module _ (m new : Deletion) (tried : ℕ) (skips : Kinds) (holds : parent_of m.p
     work_calls (Chunk count) log after w h = absurd w
     work_calls (Asked question) log after w h = absurd w
     work_calls (Merges pair names) log after w h = absurd w
+    work_calls (Moved pair) log after w h = absurd w
     work_calls (Set path) log after w h = absurd w
     work_calls (Placed path) log after w h = absurd w
     work_calls (Made path) log after w h = absurd w
@@ -282,6 +290,7 @@ module _ (m new : Deletion) (tried : ℕ) (skips : Kinds) (holds : parent_of m.p
     work_leaves (Chunk count) dirty dirty_after before after w leaves called = absurd w
     work_leaves (Asked question) dirty dirty_after before after w leaves called = absurd w
     work_leaves (Merges pair names) dirty dirty_after before after w leaves called = absurd w
+    work_leaves (Moved pair) dirty dirty_after before after w leaves called = absurd w
     work_leaves (Set path) dirty dirty_after before after w leaves called = absurd w
     work_leaves (Placed path) dirty dirty_after before after w leaves called = absurd w
     work_leaves (Made path) dirty dirty_after before after w leaves called = absurd w
@@ -314,6 +323,7 @@ module _ (m new : Deletion) (tried : ℕ) (skips : Kinds) (holds : parent_of m.p
     fewer_worked (Chunk count) falls w h = falls h
     fewer_worked (Asked question) falls w h = falls h
     fewer_worked (Merges pair names) falls w h = falls h
+    fewer_worked (Moved pair) falls w h = falls h
     fewer_worked (Set path) falls w h = falls h
     fewer_worked (Placed path) falls w h = falls h
     fewer_worked (Cleaned part) falls w h = falls h
@@ -393,6 +403,7 @@ passed_is skips (Began part) cause is = absurd (let f : ⊥ = cc in f)
 passed_is skips (Chunk count) cause is = absurd (let f : ⊥ = cc in f)
 passed_is skips (Asked question) cause is = absurd (let f : ⊥ = cc in f)
 passed_is skips (Merges pair names) cause is = absurd (let f : ⊥ = cc in f)
+passed_is skips (Moved pair) cause is = absurd (let f : ⊥ = cc in f)
 passed_is skips (Set path) cause is = absurd (let f : ⊥ = cc in f)
 passed_is skips (Placed path) cause is = absurd (let f : ⊥ = cc in f)
 passed_is skips (Skipped path why) cause is = absurd (let f : ⊥ = cc in f)
@@ -582,6 +593,7 @@ module _ (ending : Ending) (m : Deletion) (from next : ℕ) (skips : Kinds) (hol
   by_did (Chunk count) s t = absurd t
   by_did (Asked question) s t = absurd t
   by_did (Merges pair names) s t = absurd t
+  by_did (Moved pair) s t = absurd t
   by_did (Set path) s t = absurd t
   by_did (Placed path) s t = absurd t
   by_did (Made path) s t = absurd t

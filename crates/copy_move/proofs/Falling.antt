@@ -3,11 +3,11 @@ use Rattle.std.proofs.Common.{◌≡◌, ℕ, ◌+◌, ◌<◌, false, sym, subs
 use Rattle.job_reports.specs.declared.report.Ending.{Ending}
 use Rattle.job_reports.specs.declared.report.Ending.TheVariants.{Finished, Aborted, Killed, NoMemory}
 use Rattle.job_reports.specs.declared.report.Did.{Did}
-use Rattle.job_reports.specs.declared.report.Did.TheVariants.{Began, Chunk, Placed, Removed, Made, Set, Kept, Skipped, Cleaned, Barrier, Asked, Merges, Troubled, Ended}
+use Rattle.job_reports.specs.declared.report.Did.TheVariants.{Began, Chunk, Placed, Removed, Made, Set, Kept, Skipped, Cleaned, Barrier, Asked, Merges, Moved, Troubled, Ended}
 use Rattle.thing_making.specs.declared.making.MakingStage.{MakingStage}
 use Rattle.thing_making.specs.declared.making.MakingStage.TheVariants as making
 use Rattle.copy_move.specs.declared.work.Work.{Work}
-use Rattle.copy_move.specs.declared.work.Work.TheVariants.{Copy, Delete, Make, SetMode}
+use Rattle.copy_move.specs.declared.work.Work.TheVariants.{Copy, Delete, Make, Move, SetMode}
 use Rattle.thing_making.specs.Makings.{Making}
 use Rattle.thing_making.specs.Makings as makings
 use Rattle.copy_move.specs.Jobs.{IsGoing, course_after}
@@ -17,6 +17,7 @@ use Rattle.job_reports.specs.Reports.{ends}
 use Rattle.copy_move.specs.Ranks.{last_making_steps, last_rank, last_setting_steps, making_rank, rank_on, setting_rank, skip_rank, work_rank}
 use Rattle.mode_setting.specs.declared.setting.Stage.{Stage as SettingStage}
 use Rattle.mode_setting.specs.declared.setting.Stage.TheVariants as setting
+use Rattle.copy_move.proofs.MovingFalls.{moving_low, moving_tried_low}
 
 tried_low : (stage : MakingStage) → last_making_steps stage < making_rank stage
 tried_low making.Make = omega arith
@@ -41,6 +42,7 @@ pub trouble_falls : (work : Work) → IsGoing work → last_rank work < work_ran
 trouble_falls (Copy c) g = above (tree.last_rank c.at) (tree.rank c.at) (waiting_law c g.can)
 trouble_falls (Delete d) g = omega arith
 trouble_falls (Make m) g = tried_low m.stage
+trouble_falls (Move m) g = moving_tried_low m.stage
 trouble_falls (SetMode s) g = setting_tried_low s.stage
 
 pub making_falls : (old new : Making) (did : Did) → makings.Tells old did new → ends did ≡ false → rank_on (course_after did) (Make new) < work_rank (Make old)
@@ -58,6 +60,7 @@ making_falls old new (Began part) t h = absurd t
 making_falls old new (Chunk count) t h = absurd t
 making_falls old new (Asked question) t h = absurd t
 making_falls old new (Merges pair names) t h = absurd t
+making_falls old new (Moved pair) t h = absurd t
 making_falls old new (Set path) t h = absurd t
 making_falls old new (Placed path) t h = absurd t
 making_falls old new (Removed made) t h = absurd t
@@ -73,6 +76,7 @@ last_making_falls ending old new (Began part) w h = absurd w
 last_making_falls ending old new (Chunk count) w h = absurd w
 last_making_falls ending old new (Asked question) w h = absurd w
 last_making_falls ending old new (Merges pair names) w h = absurd w
+last_making_falls ending old new (Moved pair) w h = absurd w
 last_making_falls ending old new (Set path) w h = absurd w
 last_making_falls ending old new (Placed path) w h = absurd w
 last_making_falls ending old new (Made path) w h = absurd w
@@ -106,3 +110,4 @@ waiting_falls (Make m) g = by m.stage
     by making.Sync = omega arith
     by making.Finish = omega arith
     by making.PassedOver = omega arith
+waiting_falls (Move m) g = moving_low m.stage

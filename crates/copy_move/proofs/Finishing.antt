@@ -15,15 +15,17 @@ use Rattle.mode_setting.specs.Settings as settings
 use Rattle.subtree_copy.proofs.Finishes.{finish_is_still}
 use Rattle.tree_deletion.specs.Folders as folders
 use Rattle.thing_making.specs.Makings as makings
+use Rattle.thing_moving.specs.Movings as movings
 use Rattle.copy_move.specs.declared.run.Course.{Course}
 use Rattle.copy_move.specs.declared.run.Course.TheVariants.{GoesOn, Asking, InTrouble, OwedSyncFailed, Skips, Ends}
 use Rattle.copy_move.specs.declared.work.Work.{Work}
-use Rattle.copy_move.specs.declared.work.Work.TheVariants.{Copy, Delete, Make, SetMode}
+use Rattle.copy_move.specs.declared.work.Work.TheVariants.{Copy, Delete, Make, Move, SetMode}
 use Rattle.copy_move.specs.Jobs.{CallsOn, Running, TellsOn, WorkCalls, WorkTells, WorkWinds, first_work, part_of, passing_over, skips_of}
 use Rattle.copy_move.specs.Ranks.{work_rank}
 use Rattle.copy_move.specs.Settling.{WorkLeaves}
 use Rattle.copy_move.specs.Steps.{LeavesDirty, RunStep, SyncsOwed, Walks, WalksOn, step_made}
 use Rattle.copy_move.specs.Told.{running, told, turned, work_told}
+use Rattle.copy_move.proofs.MovingWorks.{no_moves}
 use Rattle.copy_move.proofs.Telling.{began_told}
 
 -- a job with all that its next source needs of it, as it was before the step
@@ -42,19 +44,28 @@ work_stays : (old new : Work) (part : Option Route) → WorkTells old (Ended Fin
 work_stays (Copy c) (Copy new) part t = (let a = t.after in (t.may, a.part, a.skips))
 work_stays (Delete d) (Delete new) part (stage, none, at) = (none, refl, at.skips_is)
 work_stays (Make m) (Make new) part (done, none, is) = (none, refl, refl)
+work_stays (Move m) (Move new) part (done, none, is) = (none, refl, ap (λ (k : movings.Moving). k.skips) is)
 work_stays (SetMode s) (SetMode new) part (stage, none, is) = (none, refl, refl)
 work_stays (Copy c) (Delete new) part h = absurd h
 work_stays (Copy c) (Make new) part h = absurd h
+work_stays (Copy c) (Move new) part h = absurd h
 work_stays (Copy c) (SetMode new) part h = absurd h
 work_stays (Delete d) (Copy new) part h = absurd h
 work_stays (Delete d) (Make new) part h = absurd h
+work_stays (Delete d) (Move new) part h = absurd h
 work_stays (Delete d) (SetMode new) part h = absurd h
 work_stays (Make m) (Copy new) part h = absurd h
+work_stays (Move m) (Copy new) part h = absurd h
 work_stays (Make m) (Delete new) part h = absurd h
+work_stays (Move m) (Delete new) part h = absurd h
 work_stays (Make m) (SetMode new) part h = absurd h
+work_stays (Make m) (Move new) part h = absurd h
+work_stays (Move m) (SetMode new) part h = absurd h
 work_stays (SetMode s) (Copy new) part h = absurd h
 work_stays (SetMode s) (Delete new) part h = absurd h
 work_stays (SetMode s) (Make new) part h = absurd h
+work_stays (Move s) (Make new) part h = absurd h
+work_stays (SetMode s) (Move new) part h = absurd h
 
 -- it makes no call
 work_calls : (unclaimed : Route → Type 0) (replies : Replies) (old new : Work) (part : Option Route) (log : CallLog) (after : Option CallLog) → WorkCalls unclaimed replies old (Ended Finished part) new log after → after ≡ Some log
@@ -62,9 +73,11 @@ work_calls unclaimed replies (Copy c) (Copy new) part log after h =
     (let g = h.goes in (finish_is_still g.free replies c new part h.calls h.dirty h.dirty_after (Some log) after g.since h.faults_after g.steps).1 log refl)
 work_calls unclaimed replies (Delete d) new part log after h = h
 work_calls unclaimed replies (Make m) new part log after h = h
+work_calls unclaimed replies (Move m) new part log after h = h
 work_calls unclaimed replies (SetMode s) new part log after h = h
 work_calls unclaimed replies (Copy c) (Delete new) part log after h = absurd h
 work_calls unclaimed replies (Copy c) (Make new) part log after h = absurd h
+work_calls unclaimed replies (Copy c) (Move new) part log after h = absurd h
 work_calls unclaimed replies (Copy c) (SetMode new) part log after h = absurd h
 
 no_change : (b : Bool) (folder : Route) (dirty : List Route) → folders.with_change b b folder dirty ≡ dirty
@@ -80,39 +93,58 @@ module _ (unclaimed : Route → Type 0) (part : Option Route) (calls : ℕ) (dir
   work_list replies (Make m) (Make new) (done, none, is) leaves walks =
       leaves ∙ (ap (λ (k : makings.Making). folders.with_change (makings.is_dirty m.stage) (makings.is_dirty k.stage) (folder_of m.path) dirty) is
       ∙ no_change (makings.is_dirty m.stage) (folder_of m.path) dirty)
+  work_list replies (Move m) (Move new) (done, none, is) leaves walks =
+      leaves ∙ (ap (λ (k : movings.Moving). movings.with_moves m.stage k.stage m.pair dirty) is ∙ no_moves m.stage m.pair dirty)
   work_list replies (SetMode s) (SetMode new) (stage, none, is) leaves walks =
       leaves ∙ (ap (λ (k : settings.Setting). folders.with_change (settings.is_dirty s.stage) (settings.is_dirty k.stage) s.path dirty) is ∙ no_change (settings.is_dirty s.stage) s.path dirty)
   work_list replies (Copy c) (Delete new) tells leaves walks = absurd tells
   work_list replies (Copy c) (Make new) tells leaves walks = absurd tells
+  work_list replies (Copy c) (Move new) tells leaves walks = absurd tells
   work_list replies (Copy c) (SetMode new) tells leaves walks = absurd tells
   work_list replies (Delete d) (Copy new) tells leaves walks = absurd tells
   work_list replies (Delete d) (Make new) tells leaves walks = absurd tells
+  work_list replies (Delete d) (Move new) tells leaves walks = absurd tells
   work_list replies (Delete d) (SetMode new) tells leaves walks = absurd tells
   work_list replies (Make m) (Copy new) tells leaves walks = absurd tells
+  work_list replies (Move m) (Copy new) tells leaves walks = absurd tells
   work_list replies (Make m) (Delete new) tells leaves walks = absurd tells
+  work_list replies (Move m) (Delete new) tells leaves walks = absurd tells
   work_list replies (Make m) (SetMode new) tells leaves walks = absurd tells
+  work_list replies (Make m) (Move new) tells leaves walks = absurd tells
+  work_list replies (Move m) (SetMode new) tells leaves walks = absurd tells
   work_list replies (SetMode s) (Copy new) tells leaves walks = absurd tells
   work_list replies (SetMode s) (Delete new) tells leaves walks = absurd tells
   work_list replies (SetMode s) (Make new) tells leaves walks = absurd tells
+  work_list replies (Move s) (Make new) tells leaves walks = absurd tells
+  work_list replies (SetMode s) (Move new) tells leaves walks = absurd tells
 
 -- last steps end as was ordered
 wound_as : (ending how : Ending) (old new : Work) (part : Option Route) → WorkWinds ending old (Ended how part) new → how ≡ ending
 wound_as ending how (Copy c) (Copy new) part w = (let may = w.may in may.0)
 wound_as ending how (Delete d) (Delete new) part w = w.0
 wound_as ending how (Make m) (Make new) part (apart, is, none, stands) = is
+wound_as ending how (Move m) (Move new) part (clean, is, none, stands) = is
 wound_as ending how (SetMode s) (SetMode new) part (clean, is, none, stands) = is
 wound_as ending how (Copy c) (Delete new) part h = absurd h
 wound_as ending how (Copy c) (Make new) part h = absurd h
+wound_as ending how (Copy c) (Move new) part h = absurd h
 wound_as ending how (Copy c) (SetMode new) part h = absurd h
 wound_as ending how (Delete d) (Copy new) part h = absurd h
 wound_as ending how (Delete d) (Make new) part h = absurd h
+wound_as ending how (Delete d) (Move new) part h = absurd h
 wound_as ending how (Delete d) (SetMode new) part h = absurd h
 wound_as ending how (Make m) (Copy new) part h = absurd h
+wound_as ending how (Move m) (Copy new) part h = absurd h
 wound_as ending how (Make m) (Delete new) part h = absurd h
+wound_as ending how (Move m) (Delete new) part h = absurd h
 wound_as ending how (Make m) (SetMode new) part h = absurd h
+wound_as ending how (Make m) (Move new) part h = absurd h
+wound_as ending how (Move m) (SetMode new) part h = absurd h
 wound_as ending how (SetMode s) (Copy new) part h = absurd h
 wound_as ending how (SetMode s) (Delete new) part h = absurd h
 wound_as ending how (SetMode s) (Make new) part h = absurd h
+wound_as ending how (Move s) (Make new) part h = absurd h
+wound_as ending how (SetMode s) (Move new) part h = absurd h
 
 module _ (unclaimed : Route → Type 0) (job new : Running) (part : Option Route) (calls : ℕ) (dirty dirty_after : List Route) (before after : Option CallLog) (f0 f1 : ℕ) (never : job.course ≡ Ends Finished → ⊥) where
   owed : (path : Route) → SyncsOwed job path (Ended Finished part) new dirty dirty_after before after → Finishes job new part dirty dirty_after before after
@@ -153,6 +185,7 @@ pub passing_rank : (skips : SkippedKinds) (work : Work) → work_rank (passing_o
 passing_rank skips (Copy c) = refl
 passing_rank skips (Delete d) = refl
 passing_rank skips (Make m) = refl
+passing_rank skips (Move m) = refl
 passing_rank skips (SetMode s) = refl
 
 -- What a history tells of a job that goes on with its next source.
@@ -160,12 +193,14 @@ skips_kept : (id : ℕ) (work : Work) → skips_of (work_told id work) ≡ skips
 skips_kept id (Copy c) = refl
 skips_kept id (Delete d) = refl
 skips_kept id (Make m) = refl
+skips_kept id (Move m) = refl
 skips_kept id (SetMode s) = refl
 
 passing_told : (id : ℕ) (skips : SkippedKinds) (work : Work) → work_told id (passing_over skips work) ≡ passing_over skips (work_told id work)
 passing_told id skips (Copy c) = refl
 passing_told id skips (Delete d) = refl
 passing_told id skips (Make m) = refl
+passing_told id skips (Move m) = refl
 passing_told id skips (SetMode s) = refl
 
 -- the job with this number that begins so, and keeps of what was answered what holds for all items

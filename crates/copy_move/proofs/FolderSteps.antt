@@ -10,7 +10,7 @@ use Rattle.tree_trait.specs.Answers.{IfKnown}
 use Rattle.job_reports.specs.declared.report.Cause.{Cause}
 use Rattle.job_reports.specs.declared.report.Ending.{Ending}
 use Rattle.job_reports.specs.declared.report.Did.{Did}
-use Rattle.job_reports.specs.declared.report.Did.TheVariants.{Began, Chunk, Placed, Removed, Made, Set, Kept, Skipped, Cleaned, Barrier, Asked, Merges, Troubled, Ended}
+use Rattle.job_reports.specs.declared.report.Did.TheVariants.{Began, Chunk, Placed, Removed, Made, Set, Kept, Skipped, Cleaned, Barrier, Asked, Merges, Moved, Troubled, Ended}
 use Rattle.job_answers.specs.declared.replies.Replies.{Replies}
 use Rattle.job_reports.specs.CallRuns.{HasMore}
 use Rattle.job_reports.specs.Reports.{ends}
@@ -19,7 +19,7 @@ use Rattle.job_reports.specs.Stops.{out_of_memory_at}
 use Rattle.tree_deletion.specs.Folders.{is_one_of, joined}
 use Rattle.tree_deletion.specs.Standing.{at_barrier as deletion_barrier}
 use Rattle.copy_move.specs.declared.work.Work.{Work}
-use Rattle.copy_move.specs.declared.work.Work.TheVariants.{Copy, Delete, Make, SetMode}
+use Rattle.copy_move.specs.declared.work.Work.TheVariants.{Copy, Delete, Make, Move, SetMode}
 use Rattle.copy_move.specs.declared.run.Course.{Course}
 use Rattle.copy_move.specs.declared.run.Course.TheVariants.{GoesOn, Skips, Ends}
 use Rattle.copy_move.specs.Deletions.{Deleting, left_in}
@@ -55,6 +55,7 @@ tries_after (Began part) work dirty = refl
 tries_after (Chunk count) work dirty = refl
 tries_after (Asked question) work dirty = refl
 tries_after (Merges pair names) work dirty = refl
+tries_after (Moved pair) work dirty = refl
 tries_after (Set path) work dirty = refl
 tries_after (Placed path) work dirty = refl
 tries_after (Removed path) work dirty = refl
@@ -76,6 +77,7 @@ tried_more (Began part) left folder dirty = omega arith
 tried_more (Chunk bytes) left folder dirty = omega arith
 tried_more (Asked question) left folder dirty = omega arith
 tried_more (Merges pair names) left folder dirty = omega arith
+tried_more (Moved pair) left folder dirty = omega arith
 tried_more (Set path) left folder dirty = omega arith
 tried_more (Placed path) left folder dirty = omega arith
 tried_more (Removed path) left folder dirty = omega arith
@@ -107,6 +109,7 @@ module _ (unclaimed : Route → Type 0) (replies : Replies) (d new : Deleting) (
   falls_by (Chunk count) t h less going = absurd t
   falls_by (Asked question) t h less going = absurd t
   falls_by (Merges pair names) t h less going = absurd t
+  falls_by (Moved pair) t h less going = absurd t
   falls_by (Set path) t h less going = absurd t
   falls_by (Placed path) t h less going = absurd t
   falls_by (Made made) t h less going = absurd t
@@ -258,11 +261,14 @@ winding_step ending id old work course replies job did calls left dirty dirty_af
 -- a step after looks at the tree, which may have met faults
 walks_later : (unclaimed : Route → Type 0) (replies : Replies) (old new : Work) (did : Did) (calls : ℕ) (dirty dirty_after : List Route) (before after : Option CallLog) (f0 f1 f2 : ℕ) → f0 ≤ f1 → Walks unclaimed replies old new did calls dirty dirty_after before after f1 f2 → Walks unclaimed replies old new did calls dirty dirty_after before after f0 f2
 walks_later unclaimed replies (Make m) new did calls dirty dirty_after before after f0 f1 f2 later w = tt
+walks_later unclaimed replies (Move m) new did calls dirty dirty_after before after f0 f1 f2 later w = tt
 walks_later unclaimed replies (SetMode s) new did calls dirty dirty_after before after f0 f1 f2 later w = tt
 walks_later unclaimed replies (Delete d) (Make new) did calls dirty dirty_after before after f0 f1 f2 later w = absurd w
+walks_later unclaimed replies (Delete d) (Move new) did calls dirty dirty_after before after f0 f1 f2 later w = absurd w
 walks_later unclaimed replies (Delete d) (SetMode new) did calls dirty dirty_after before after f0 f1 f2 later w = absurd w
 walks_later unclaimed replies (Copy c) (Delete new) did calls dirty dirty_after before after f0 f1 f2 later w = absurd w
 walks_later unclaimed replies (Copy c) (Make new) did calls dirty dirty_after before after f0 f1 f2 later w = absurd w
+walks_later unclaimed replies (Copy c) (Move new) did calls dirty dirty_after before after f0 f1 f2 later w = absurd w
 walks_later unclaimed replies (Copy c) (SetMode new) did calls dirty dirty_after before after f0 f1 f2 later w = absurd w
 walks_later unclaimed replies (Copy c) (Copy new) did calls dirty dirty_after before after f0 f1 f2 later w =
     record { free = w.free; allows = w.allows; since = w.since; later = let more = w.later in omega (arith, later, more); steps = w.steps }

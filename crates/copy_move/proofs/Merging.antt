@@ -10,7 +10,7 @@ use Rattle.subtree_copy.proofs.MergeStill.{merge_is_still}
 use Rattle.copy_move.specs.declared.run.Course.{Course}
 use Rattle.copy_move.specs.declared.run.Course.TheVariants.{GoesOn, Asking, InTrouble, OwedSyncFailed, Skips, Ends}
 use Rattle.copy_move.specs.declared.work.Work.{Work}
-use Rattle.copy_move.specs.declared.work.Work.TheVariants.{Copy, Delete, Make, SetMode}
+use Rattle.copy_move.specs.declared.work.Work.TheVariants.{Copy, Delete, Make, Move, SetMode}
 use Rattle.copy_move.specs.Jobs.{Running, TellsOn, WorkTells, WorkWinds, part_of, skips_of}
 use Rattle.copy_move.specs.Steps.{RunStep, SyncsOwed, Walks, WalksOn, step_made}
 use Rattle.copy_move.proofs.Finishing.{Finishes}
@@ -27,18 +27,27 @@ pub none_wound : (pair : Pair) (names : List (List ℕ)) (ending : Ending) (old 
 none_wound pair names ending (Copy c) (Copy new) w = w.may
 none_wound pair names ending (Copy c) (Delete new) w = w
 none_wound pair names ending (Copy c) (Make new) w = w
+none_wound pair names ending (Copy c) (Move new) w = w
 none_wound pair names ending (Copy c) (SetMode new) w = w
 none_wound pair names ending (Delete d) (Copy new) w = w
 none_wound pair names ending (Delete d) (Delete new) w = w
 none_wound pair names ending (Delete d) (Make new) w = w
+none_wound pair names ending (Delete d) (Move new) w = w
 none_wound pair names ending (Delete d) (SetMode new) w = w
 none_wound pair names ending (Make m) (Copy new) w = w
+none_wound pair names ending (Move m) (Copy new) w = w
 none_wound pair names ending (Make m) (Delete new) w = w
+none_wound pair names ending (Move m) (Delete new) w = w
 none_wound pair names ending (Make m) (Make new) w = w
+none_wound pair names ending (Move m) (Move new) w = w
 none_wound pair names ending (Make m) (SetMode new) w = w
+none_wound pair names ending (Make m) (Move new) w = w
+none_wound pair names ending (Move m) (SetMode new) w = w
 none_wound pair names ending (SetMode s) (Copy new) w = w
 none_wound pair names ending (SetMode s) (Delete new) w = w
 none_wound pair names ending (SetMode s) (Make new) w = w
+none_wound pair names ending (Move s) (Make new) w = w
+none_wound pair names ending (SetMode s) (Move new) w = w
 none_wound pair names ending (SetMode s) (SetMode new) w = w
 
 module _ (unclaimed : Route → Type 0) (pair : Pair) (names : List (List ℕ)) (calls : ℕ) (dirty dirty_after : List Route) (before after : Option CallLog) (f0 f1 : ℕ) where
@@ -50,18 +59,27 @@ module _ (unclaimed : Route → Type 0) (pair : Pair) (names : List (List ℕ)) 
       record { stays = a.part; skips = a.skips; list = still.0; log = still.1 }
   work_keeps replies (Copy c) (Delete new) t walks = absurd t
   work_keeps replies (Copy c) (Make new) t walks = absurd t
+  work_keeps replies (Copy c) (Move new) t walks = absurd t
   work_keeps replies (Copy c) (SetMode new) t walks = absurd t
   work_keeps replies (Delete d) (Copy new) t walks = absurd t
   work_keeps replies (Delete d) (Delete new) t walks = absurd t
   work_keeps replies (Delete d) (Make new) t walks = absurd t
+  work_keeps replies (Delete d) (Move new) t walks = absurd t
   work_keeps replies (Delete d) (SetMode new) t walks = absurd t
   work_keeps replies (Make m) (Copy new) t walks = absurd t
+  work_keeps replies (Move m) (Copy new) t walks = absurd t
   work_keeps replies (Make m) (Delete new) t walks = absurd t
+  work_keeps replies (Move m) (Delete new) t walks = absurd t
   work_keeps replies (Make m) (Make new) t walks = absurd t
+  work_keeps replies (Move m) (Move new) t walks = absurd t
   work_keeps replies (Make m) (SetMode new) t walks = absurd t
+  work_keeps replies (Make m) (Move new) t walks = absurd t
+  work_keeps replies (Move m) (SetMode new) t walks = absurd t
   work_keeps replies (SetMode s) (Copy new) t walks = absurd t
   work_keeps replies (SetMode s) (Delete new) t walks = absurd t
   work_keeps replies (SetMode s) (Make new) t walks = absurd t
+  work_keeps replies (Move s) (Make new) t walks = absurd t
+  work_keeps replies (SetMode s) (Move new) t walks = absurd t
   work_keeps replies (SetMode s) (SetMode new) t walks = absurd t
 
   module _ (job new : Running) where

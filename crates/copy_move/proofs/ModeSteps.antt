@@ -9,7 +9,7 @@ use Rattle.job_reports.specs.declared.report.Cause.TheVariants.{Memory}
 use Rattle.job_reports.specs.declared.report.Ending.{Ending}
 use Rattle.job_reports.specs.declared.report.Ending.TheVariants.{Finished, Aborted, Killed, NoMemory}
 use Rattle.job_reports.specs.declared.report.Did.{Did}
-use Rattle.job_reports.specs.declared.report.Did.TheVariants.{Began, Chunk, Placed, Removed, Made, Set, Kept, Skipped, Cleaned, Barrier, Asked, Merges, Troubled, Ended}
+use Rattle.job_reports.specs.declared.report.Did.TheVariants.{Began, Chunk, Placed, Removed, Made, Set, Kept, Skipped, Cleaned, Barrier, Asked, Merges, Moved, Troubled, Ended}
 use Rattle.job_reports.specs.declared.report.LastStepResult.{LastStepResult}
 use Rattle.job_reports.specs.Reports.{ends}
 use Rattle.job_reports.specs.Stops.{out_of_memory_at}
@@ -46,6 +46,7 @@ setting_stays s new (Began part) t = absurd t
 setting_stays s new (Chunk count) t = absurd t
 setting_stays s new (Asked question) t = absurd t
 setting_stays s new (Merges pair names) t = absurd t
+setting_stays s new (Moved pair) t = absurd t
 setting_stays s new (Placed path) t = absurd t
 setting_stays s new (Removed path) t = absurd t
 setting_stays s new (Made path) t = absurd t
@@ -70,6 +71,7 @@ clean_setting s new (Began part) t changed clean = absurd t
 clean_setting s new (Chunk count) t changed clean = absurd t
 clean_setting s new (Asked question) t changed clean = absurd t
 clean_setting s new (Merges pair names) t changed clean = absurd t
+clean_setting s new (Moved pair) t changed clean = absurd t
 clean_setting s new (Placed path) t changed clean = absurd t
 clean_setting s new (Removed path) t changed clean = absurd t
 clean_setting s new (Made path) t changed clean = absurd t
@@ -101,6 +103,7 @@ setting_falls old new (Began part) t h = absurd t
 setting_falls old new (Chunk count) t h = absurd t
 setting_falls old new (Asked question) t h = absurd t
 setting_falls old new (Merges pair names) t h = absurd t
+setting_falls old new (Moved pair) t h = absurd t
 setting_falls old new (Placed path) t h = absurd t
 setting_falls old new (Removed path) t h = absurd t
 setting_falls old new (Made path) t h = absurd t

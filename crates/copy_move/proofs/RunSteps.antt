@@ -5,10 +5,10 @@ use Rattle.tree_trait.specs.declared.calls.TreeError.{TreeError}
 use Rattle.tree_trait.specs.Change.{CallLog}
 use Rattle.job_reports.specs.declared.report.Ending.{Ending}
 use Rattle.job_reports.specs.declared.report.Did.{Did}
-use Rattle.job_reports.specs.declared.report.Did.TheVariants.{Began, Chunk, Placed, Removed, Made, Set, Kept, Skipped, Cleaned, Barrier, Asked, Merges, Troubled, Ended}
+use Rattle.job_reports.specs.declared.report.Did.TheVariants.{Began, Chunk, Placed, Removed, Made, Set, Kept, Skipped, Cleaned, Barrier, Asked, Merges, Moved, Troubled, Ended}
 use Rattle.job_reports.specs.Reports.{IsFault}
 use Rattle.copy_move.specs.declared.work.Work.{Work}
-use Rattle.copy_move.specs.declared.work.Work.TheVariants.{Copy, Delete, Make, SetMode}
+use Rattle.copy_move.specs.declared.work.Work.TheVariants.{Copy, Delete, Make, Move, SetMode}
 use Rattle.copy_move.specs.declared.run.Course.TheVariants.{GoesOn, Ends}
 use Rattle.copy_move.specs.Jobs.{Running, TellsOn, CallsOn, WorkWinds, course_after}
 use Rattle.copy_move.specs.Faults.{MeetsFault}
@@ -18,25 +18,35 @@ use Rattle.copy_move.proofs.DeletionRuns.{met_by}
 -- no last step reports a fault
 quiet_end : (ending : Ending) (old new : Work) (did : Did) → WorkWinds ending old did new → IsFault did → ⊥
 quiet_end ending (Delete d) (Make new) (Troubled trouble) w h = w
+quiet_end ending (Delete d) (Move new) (Troubled trouble) w h = w
 quiet_end ending (Make m) (Delete new) (Troubled trouble) w h = w
+quiet_end ending (Move m) (Delete new) (Troubled trouble) w h = w
 quiet_end ending (Delete d) (Delete new) (Troubled trouble) w h = w
 quiet_end ending (Make m) (Make new) (Troubled trouble) w h = w
+quiet_end ending (Move m) (Move new) (Troubled trouble) w h = w
 quiet_end ending (Delete d) (SetMode new) (Troubled trouble) w h = w
 quiet_end ending (Make m) (SetMode new) (Troubled trouble) w h = w
+quiet_end ending (Make m) (Move new) (Troubled trouble) w h = w
+quiet_end ending (Move m) (SetMode new) (Troubled trouble) w h = w
 quiet_end ending (SetMode s) (Delete new) (Troubled trouble) w h = w
 quiet_end ending (SetMode s) (Make new) (Troubled trouble) w h = w
+quiet_end ending (Move s) (Make new) (Troubled trouble) w h = w
+quiet_end ending (SetMode s) (Move new) (Troubled trouble) w h = w
 quiet_end ending (SetMode s) (SetMode new) (Troubled trouble) w h = w
 quiet_end ending (Delete d) (Copy new) (Troubled trouble) w h = w
 quiet_end ending (Make m) (Copy new) (Troubled trouble) w h = w
+quiet_end ending (Move m) (Copy new) (Troubled trouble) w h = w
 quiet_end ending (SetMode s) (Copy new) (Troubled trouble) w h = w
 quiet_end ending (Copy c) (Delete new) (Troubled trouble) w h = w
 quiet_end ending (Copy c) (Make new) (Troubled trouble) w h = w
+quiet_end ending (Copy c) (Move new) (Troubled trouble) w h = w
 quiet_end ending (Copy c) (SetMode new) (Troubled trouble) w h = w
 quiet_end ending (Copy c) (Copy new) (Troubled trouble) w h = w.may
 quiet_end ending old new (Began part) w h = h
 quiet_end ending old new (Chunk count) w h = h
 quiet_end ending old new (Asked question) w h = h
 quiet_end ending old new (Merges pair names) w h = h
+quiet_end ending old new (Moved pair) w h = h
 quiet_end ending old new (Set path) w h = h
 quiet_end ending old new (Placed path) w h = h
 quiet_end ending old new (Removed path) w h = h

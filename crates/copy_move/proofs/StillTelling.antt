@@ -7,7 +7,7 @@ use Rattle.tree_trait.specs.Calls as calls
 use Rattle.tree_trait.specs.Change.{CallLog, current}
 use Rattle.job_reports.specs.declared.report.Cause.{Cause}
 use Rattle.job_reports.specs.declared.report.Did.{Did}
-use Rattle.job_reports.specs.declared.report.Did.TheVariants.{Began, Chunk, Placed, Removed, Made, Set, Kept, Skipped, Cleaned, Barrier, Asked, Merges, Troubled, Ended}
+use Rattle.job_reports.specs.declared.report.Did.TheVariants.{Began, Chunk, Placed, Removed, Made, Set, Kept, Skipped, Cleaned, Barrier, Asked, Merges, Moved, Troubled, Ended}
 use Rattle.job_answers.specs.declared.replies.Replies.{Replies}
 use Rattle.job_reports.proofs.Runs.{all_some}
 use Rattle.subtree_copy.specs.Known as known
@@ -16,7 +16,7 @@ use Rattle.subtree_copy.specs.Standing.{part_of}
 use Rattle.subtree_copy.proofs.StillTelling.{known_law, performs_tells, run_tells}
 use Rattle.job_reports.specs.Stops.{sync_answer}
 use Rattle.copy_move.specs.declared.work.Work.{Work}
-use Rattle.copy_move.specs.declared.work.Work.TheVariants.{Copy, Delete, Make, SetMode}
+use Rattle.copy_move.specs.declared.work.Work.TheVariants.{Copy, Delete, Make, Move, SetMode}
 use Rattle.copy_move.specs.declared.run.Course.{Course}
 use Rattle.copy_move.specs.declared.run.Course.TheVariants.{GoesOn, Asking, InTrouble, OwedSyncFailed, Skips, Ends}
 use Rattle.copy_move.specs.Deletions.{DeletionCalls, IsRefused, LastCalls}
@@ -24,6 +24,9 @@ use Rattle.copy_move.specs.Deletions as deletions
 use Rattle.thing_making.specs.Makings.{Answers, LastMakingCalls, Making, MakingCalls}
 use Rattle.thing_making.specs.Makings as makings
 use Rattle.thing_making.specs.NewThings.{making_call}
+use Rattle.thing_moving.specs.declared.moving.MovingStage.{MovingStage}
+use Rattle.thing_moving.specs.declared.moving.MovingStage.TheVariants as moving
+use Rattle.thing_moving.specs.Movings.{LastMovingCalls, Moving, MovingCalls, Stops, owed_folder}
 use Rattle.copy_move.specs.ModeSettings.{LastSettingCalls}
 use Rattle.mode_setting.specs.declared.setting.Stage.{Stage as SettingStage}
 use Rattle.mode_setting.specs.declared.setting.Stage.TheVariants as setting
@@ -55,6 +58,7 @@ deletion_tells (Began part) log after h = absurd h
 deletion_tells (Chunk count) log after h = absurd h
 deletion_tells (Asked question) log after h = absurd h
 deletion_tells (Merges pair names) log after h = absurd h
+deletion_tells (Moved pair) log after h = absurd h
 deletion_tells (Set path) log after h = absurd h
 deletion_tells (Placed path) log after h = absurd h
 deletion_tells (Made made) log after h = absurd h
@@ -73,6 +77,7 @@ making_tells m (Began part) log after h = absurd h
 making_tells m (Chunk count) log after h = absurd h
 making_tells m (Asked question) log after h = absurd h
 making_tells m (Merges pair names) log after h = absurd h
+making_tells m (Moved pair) log after h = absurd h
 making_tells m (Set path) log after h = absurd h
 making_tells m (Placed path) log after h = absurd h
 making_tells m (Removed made) log after h = absurd h
@@ -87,6 +92,7 @@ last_tells (Began part) log after h = absurd h
 last_tells (Chunk count) log after h = absurd h
 last_tells (Asked question) log after h = absurd h
 last_tells (Merges pair names) log after h = absurd h
+last_tells (Moved pair) log after h = absurd h
 last_tells (Set path) log after h = absurd h
 last_tells (Placed path) log after h = absurd h
 last_tells (Removed path) log after h = absurd h
@@ -103,6 +109,7 @@ last_making_tells m (Began part) log after h = absurd h
 last_making_tells m (Chunk count) log after h = absurd h
 last_making_tells m (Asked question) log after h = absurd h
 last_making_tells m (Merges pair names) log after h = absurd h
+last_making_tells m (Moved pair) log after h = absurd h
 last_making_tells m (Set path) log after h = absurd h
 last_making_tells m (Placed path) log after h = absurd h
 last_making_tells m (Made path) log after h = absurd h
@@ -111,6 +118,49 @@ last_making_tells m (Kept kept) log after h = absurd h
 last_making_tells m (Skipped path cause) log after h = absurd h
 last_making_tells m (Cleaned part) log after h = absurd h
 last_making_tells m (Troubled trouble) log after h = absurd h
+
+-- a move
+moving_stop_tells : (replies : Replies) (m : Moving) (stage : MovingStage) (cause : Cause) (named : Option Route) (log : CallLog) (after : Option CallLog) → Stops m replies stage cause named log after → StillTells after
+moving_stop_tells replies m moving.Take cause named log after (inl look) = (log, look.1)
+moving_stop_tells replies m moving.Take cause named log after (inr s) = performs_tells log (calls.Rename m.pair.source m.pair.target) (Err s.error) after s.called
+moving_stop_tells replies m moving.SyncTarget cause named log after s = performs_tells log (SyncFolder (owed_folder m)) (Err s.error) after s.called
+moving_stop_tells replies m moving.SyncSource cause named log after s = performs_tells log (SyncFolder (owed_folder m)) (Err s.error) after s.called
+moving_stop_tells replies m moving.Finish cause named log after s = performs_tells log (SyncFolder (owed_folder m)) (Err s.error) after s.called
+moving_stop_tells replies m moving.PassedOver cause named log after s = performs_tells log (SyncFolder (owed_folder m)) (Err s.error) after s.called
+
+moving_tells : (replies : Replies) (m : Moving) (did : Did) (log : CallLog) (after : Option CallLog) → MovingCalls replies m did log after → StillTells after
+moving_tells replies m (Moved pair) log after (may, h) = performs_tells log (calls.Rename m.pair.source m.pair.target) (Ok tt) after h
+moving_tells replies m (Kept path) log after (kept, is) = (log, is)
+moving_tells replies m (Skipped path cause) log after h = moving_stop_tells replies m m.stage cause h.0 log after h.1
+moving_tells replies m Barrier log after h = performs_tells log (SyncFolder (owed_folder m)) (Ok tt) after h
+moving_tells replies m (Asked question) log after (asks, is) = (log, is)
+moving_tells replies m (Troubled trouble) log after h = moving_stop_tells replies m m.stage trouble.cause trouble.path log after h
+moving_tells replies m (Ended ending part) log after h = (log, h)
+moving_tells replies m (Began part) log after h = absurd h
+moving_tells replies m (Chunk count) log after h = absurd h
+moving_tells replies m (Merges pair names) log after h = absurd h
+moving_tells replies m (Set path) log after h = absurd h
+moving_tells replies m (Placed path) log after h = absurd h
+moving_tells replies m (Removed path) log after h = absurd h
+moving_tells replies m (Made path) log after h = absurd h
+moving_tells replies m (Cleaned part) log after h = absurd h
+
+last_moving_tells : (m : Moving) (did : Did) (log : CallLog) (after : Option CallLog) → LastMovingCalls m did log after → StillTells after
+last_moving_tells m Barrier log after h = performs_tells log (SyncFolder (owed_folder m)) h.0 after h.1
+last_moving_tells m (Ended ending part) log after h = (log, h)
+last_moving_tells m (Began part) log after h = absurd h
+last_moving_tells m (Chunk count) log after h = absurd h
+last_moving_tells m (Asked question) log after h = absurd h
+last_moving_tells m (Merges pair names) log after h = absurd h
+last_moving_tells m (Moved pair) log after h = absurd h
+last_moving_tells m (Set path) log after h = absurd h
+last_moving_tells m (Placed path) log after h = absurd h
+last_moving_tells m (Removed path) log after h = absurd h
+last_moving_tells m (Made path) log after h = absurd h
+last_moving_tells m (Kept path) log after h = absurd h
+last_moving_tells m (Skipped path cause) log after h = absurd h
+last_moving_tells m (Cleaned part) log after h = absurd h
+last_moving_tells m (Troubled trouble) log after h = absurd h
 
 -- a setting
 pub sync_stop_tells : (path : Route) (cause : Cause) (named : Option Route) (log : CallLog) (after : Option CallLog) → SyncStops path cause named log after → StillTells after
@@ -131,6 +181,7 @@ setting_tells s (Began part) log after h = absurd h
 setting_tells s (Chunk count) log after h = absurd h
 setting_tells s (Asked question) log after h = absurd h
 setting_tells s (Merges pair names) log after h = absurd h
+setting_tells s (Moved pair) log after h = absurd h
 setting_tells s (Placed path) log after h = absurd h
 setting_tells s (Removed path) log after h = absurd h
 setting_tells s (Made path) log after h = absurd h
@@ -150,6 +201,7 @@ last_setting_tells s (Began part) log after h = absurd h
 last_setting_tells s (Chunk count) log after h = absurd h
 last_setting_tells s (Asked question) log after h = absurd h
 last_setting_tells s (Merges pair names) log after h = absurd h
+last_setting_tells s (Moved pair) log after h = absurd h
 last_setting_tells s (Set path) log after h = absurd h
 last_setting_tells s (Placed path) log after h = absurd h
 last_setting_tells s (Removed path) log after h = absurd h
@@ -168,6 +220,7 @@ last_tree_tells part (Began path) log after h = absurd h
 last_tree_tells part (Chunk count) log after h = absurd h
 last_tree_tells part (Asked question) log after h = absurd h
 last_tree_tells part (Merges pair names) log after h = absurd h
+last_tree_tells part (Moved pair) log after h = absurd h
 last_tree_tells part (Set path) log after h = absurd h
 last_tree_tells part (Placed path) log after h = absurd h
 last_tree_tells part (Removed path) log after h = absurd h
@@ -180,16 +233,19 @@ last_tree_tells part (Troubled trouble) log after h = absurd h
 work_tells : (unclaimed : Route → Type 0) (replies : Replies) (work : Work) (did : Did) (new : Work) (log : CallLog) (after : Option CallLog) → WorkCalls unclaimed replies work did new log after → StillTells after
 work_tells unclaimed replies (Copy c) did (Delete new) log after h = absurd h
 work_tells unclaimed replies (Copy c) did (Make new) log after h = absurd h
+work_tells unclaimed replies (Copy c) did (Move new) log after h = absurd h
 work_tells unclaimed replies (Copy c) did (SetMode new) log after h = absurd h
 work_tells unclaimed replies (Copy c) did (Copy new) log after h = (let g = h.goes in known_law g.free replies c new did h.calls h.dirty h.dirty_after log after g.since h.faults_after g.steps)
 work_tells unclaimed replies (Delete d) did new log after h = deletion_tells did log after h
 work_tells unclaimed replies (Make m) did new log after h = making_tells m did log after h
+work_tells unclaimed replies (Move m) did new log after h = moving_tells replies m did log after h
 work_tells unclaimed replies (SetMode s) did new log after h = setting_tells s did log after h
 
 last_work_tells : (work : Work) (did : Did) (log : CallLog) (after : Option CallLog) → WorkLastCalls work did log after → StillTells after
 last_work_tells (Copy c) did log after h = last_tree_tells (part_of c.at.item) did log after h
 last_work_tells (Delete d) did log after h = last_tells did log after h
 last_work_tells (Make m) did log after h = last_making_tells m did log after h
+last_work_tells (Move m) did log after h = last_moving_tells m did log after h
 last_work_tells (SetMode s) did log after h = last_setting_tells s did log after h
 
 calls_tell : (unclaimed : Route → Type 0) (course : Course) (job : Running) (did : Did) (new : Running) (log : CallLog) (after : Option CallLog) → CallsOn unclaimed course job did new log after → StillTells after

@@ -1,22 +1,22 @@
 -- What a history tells of a job follows each thing that the job does.
 use Rattle.std.proofs.Common.{◌≡◌, ℕ, Bool, true, false, [], ◌∷◌, refl, sym, ap, ◌∙◌, ◌⊎◌, inl, inr, Option, Some, None}
-use Rattle.std.specs.Prelude.{is_some, ◌&&◌, nat_le, if◌then◌else◌}
+use Rattle.std.specs.Prelude.{is_some, ◌&&◌, nat_le, not, if◌then◌else◌}
 use Rattle.std.specs.Option.{option_map}
-use Rattle.mc_text.specs.Routes.{Route, parent_of}
+use Rattle.mc_text.specs.Routes.{Route, parent_of, same_path}
 use Rattle.std.proofs.lemmas.Bool.{false≢true}
 use Rattle.job_reports.specs.declared.report.Cause.{Cause}
 use Rattle.job_reports.specs.declared.report.Trouble.{Trouble}
 use Rattle.job_reports.specs.declared.report.Ending.{Ending}
 use Rattle.job_reports.specs.declared.report.Ending.TheVariants.{Finished, Aborted, Killed, NoMemory}
 use Rattle.job_reports.specs.declared.report.Did.{Did}
-use Rattle.job_reports.specs.declared.report.Did.TheVariants.{Began, Chunk, Placed, Removed, Made, Set, Kept, Skipped, Cleaned, Barrier, Asked, Merges, Troubled, Ended}
+use Rattle.job_reports.specs.declared.report.Did.TheVariants.{Began, Chunk, Placed, Removed, Made, Set, Kept, Skipped, Cleaned, Barrier, Asked, Merges, Moved, Troubled, Ended}
 use Rattle.job_reports.specs.Stops.{out_of_memory_at}
 use Rattle.job_reports.specs.declared.job.Job.{Job}
 use Rattle.job_reports.specs.declared.job.Job.TheVariants as plan
 use Rattle.job_reports.specs.declared.answer.Answer.{Answer}
 use Rattle.job_reports.specs.declared.answer.Answer.TheVariants.{Yes, No, All, Update, Nothing, SizeDiffers, Retry, Skip, SkipAll, Abort}
 use Rattle.copy_move.specs.declared.work.Work.{Work}
-use Rattle.copy_move.specs.declared.work.Work.TheVariants.{Copy, Delete, Make, SetMode}
+use Rattle.copy_move.specs.declared.work.Work.TheVariants.{Copy, Delete, Make, Move, SetMode}
 use Rattle.copy_move.specs.declared.run.Course.{Course}
 use Rattle.copy_move.specs.declared.run.Course.TheVariants.{GoesOn, Asking, InTrouble, OwedSyncFailed, Skips, Ends}
 use Rattle.subtree_walk.specs.Places.{unopened}
@@ -38,7 +38,7 @@ use Rattle.mode_setting.specs.declared.setting.Stage.{Stage as SettingStage}
 use Rattle.mode_setting.specs.declared.setting.Stage.TheVariants as setting
 use Rattle.mode_setting.specs.Settings.{Setting}
 use Rattle.mode_setting.specs.Settings as settings
-use Rattle.copy_move.specs.Jobs.{Running, JobTells, TellsOn, WorkTells, WorkWinds, answered, answered_on, copies, course_after, deletes, first_work, halt_of, is_fresh, makes, sets, PassesOver, taken_anew, unreported_skip, with_skips}
+use Rattle.copy_move.specs.Jobs.{Running, JobTells, TellsOn, WorkTells, WorkWinds, answered, answered_on, copies, course_after, deletes, first_work, halt_of, is_fresh, makes, moves, sets, PassesOver, taken_anew, unreported_skip, with_skips}
 use Rattle.job_reports.specs.Reports.{ends}
 use Rattle.job_answers.specs.declared.replies.Replies.{Replies}
 use Rattle.job_answers.specs.declared.skips.Skips.{Skips as Kinds}
@@ -53,6 +53,7 @@ use Rattle.subtree_copy.specs.Told.{IsAfter, part_after}
 use Rattle.subtree_copy.proofs.Tellings.{told_law}
 use Rattle.copy_move.specs.TreeCopies as trees
 use Rattle.copy_move.specs.Told.{after_step, course_told, if_closed, running, skipped, synced, told, work_told}
+use Rattle.copy_move.proofs.MovingTold.{moving_told, moving_winds, synced_moving}
 
 -- a job, by its parts
 abbrev job_of : ℕ → Replies → Work → Course → Running
@@ -88,18 +89,27 @@ skipped_told : (id : ℕ) (work new : Work) (path : Route) → PassesOver work p
 skipped_told id (Copy c) (Copy new) path (cause, a) = told_so id c new (Skipped path cause) a refl refl
 skipped_told id (Copy c) (Delete new) path h = absurd h
 skipped_told id (Copy c) (Make new) path h = absurd h
+skipped_told id (Copy c) (Move new) path h = absurd h
 skipped_told id (Copy c) (SetMode new) path h = absurd h
 skipped_told id (Delete d) (Copy new) path h = absurd h
 skipped_told id (Make m) (Copy new) path h = absurd h
+skipped_told id (Move m) (Copy new) path h = absurd h
 skipped_told id (SetMode s) (Copy new) path h = absurd h
 skipped_told id (Delete d) (Delete new) path at = stage_is_told id d new (after_item d.path path d.stage) at
 skipped_told id (Delete d) (Make new) path h = absurd h
+skipped_told id (Delete d) (Move new) path h = absurd h
 skipped_told id (Make m) (Delete new) path h = absurd h
+skipped_told id (Move m) (Delete new) path h = absurd h
 skipped_told id (Make m) (Make new) path (path_is, new_is) = ap Make (sym new_is)
+skipped_told id (Move m) (Move new) path (path_is, new_is) = ap Move (sym new_is)
 skipped_told id (Delete d) (SetMode new) path h = absurd h
 skipped_told id (Make m) (SetMode new) path h = absurd h
+skipped_told id (Make m) (Move new) path h = absurd h
+skipped_told id (Move m) (SetMode new) path h = absurd h
 skipped_told id (SetMode s) (Delete new) path h = absurd h
 skipped_told id (SetMode s) (Make new) path h = absurd h
+skipped_told id (Move s) (Make new) path h = absurd h
+skipped_told id (SetMode s) (Move new) path h = absurd h
 skipped_told id (SetMode s) (SetMode new) path (path_is, new_is) = ap SetMode (sym new_is)
 
 retries_told : (id : ℕ) (top : Pair) (stage : TreeStage) (part : Option Route) (skips : Kinds) → tree.retries (trees.told_at id top stage part skips) ≡ trees.told_at id top stage part skips
@@ -113,6 +123,7 @@ anew_told id (Copy c) =
     ap Copy (retries_told id c.top c.at.stage (tree.part_of c.at.item) c.skips) ∙ told_is id c (tree.retries c) c.at.stage (tree.part_of c.at.item) refl k.stage k.part refl
 anew_told id (Delete d) = refl
 anew_told id (Make m) = refl
+anew_told id (Move m) = refl
 anew_told id (SetMode s) = refl
 
 -- before the first change no trouble of the work is at a barrier
@@ -144,6 +155,7 @@ pub fresh_told : (id : ℕ) (work : Work) → is_fresh (work_told id work) ≡ i
 fresh_told id (Copy c) = refl
 fresh_told id (Delete d) = refl
 fresh_told id (Make m) = refl
+fresh_told id (Move m) = refl
 fresh_told id (SetMode s) = refl
 
 -- then the job is in trouble, as its history tells it
@@ -178,6 +190,7 @@ deletion_told id replies old new (Began part) t h = absurd t
 deletion_told id replies old new (Chunk count) t h = absurd t
 deletion_told id replies old new (Asked question) t h = absurd t
 deletion_told id replies old new (Merges pair names) t h = absurd t
+deletion_told id replies old new (Moved pair) t h = absurd t
 deletion_told id replies old new (Set path) t h = absurd t
 deletion_told id replies old new (Placed path) t h = absurd t
 deletion_told id replies old new (Made made) t h = absurd t
@@ -198,6 +211,7 @@ making_told id replies old new (Began part) t h = absurd t
 making_told id replies old new (Chunk count) t h = absurd t
 making_told id replies old new (Asked question) t h = absurd t
 making_told id replies old new (Merges pair names) t h = absurd t
+making_told id replies old new (Moved pair) t h = absurd t
 making_told id replies old new (Set path) t h = absurd t
 making_told id replies old new (Placed path) t h = absurd t
 making_told id replies old new (Removed made) t h = absurd t
@@ -217,6 +231,7 @@ setting_told id replies old new (Began part) t h = absurd t
 setting_told id replies old new (Chunk count) t h = absurd t
 setting_told id replies old new (Asked question) t h = absurd t
 setting_told id replies old new (Merges pair names) t h = absurd t
+setting_told id replies old new (Moved pair) t h = absurd t
 setting_told id replies old new (Placed path) t h = absurd t
 setting_told id replies old new (Removed path) t h = absurd t
 setting_told id replies old new (Made path) t h = absurd t
@@ -248,6 +263,7 @@ tree_told id replies old new (Troubled trouble) t h =
     ∙ ap (λ w. Some (job_of id replies w (InTrouble (halt_of trouble)))) (told_so id old new (Troubled trouble) t.after refl refl)
 tree_told id replies old new (Asked question) t h = ap (λ w. Some (job_of id replies w Asking)) (told_so id old new (Asked question) t.after refl refl)
 tree_told id replies old new (Merges pair names) t h = ap (λ w. Some (job_of id replies w GoesOn)) (told_so id old new (Merges pair names) t.after refl refl)
+tree_told id replies old new (Moved pair) t h = absurd t.may
 tree_told id replies old new (Removed path) t h = absurd t.may
 tree_told id replies old new (Kept path) t h = ap (λ w. Some (job_of id replies w GoesOn)) (told_so id old new (Kept path) t.after refl refl)
 tree_told id replies old new (Ended ending part) t h = absurd cc
@@ -261,6 +277,7 @@ tree_winds id replies ending old new (Began part) w h = absurd w.may
 tree_winds id replies ending old new (Chunk count) w h = absurd w.may
 tree_winds id replies ending old new (Asked question) w h = absurd w.may
 tree_winds id replies ending old new (Merges pair names) w h = absurd w.may
+tree_winds id replies ending old new (Moved pair) w h = absurd w.may
 tree_winds id replies ending old new (Set path) w h = absurd w.may
 tree_winds id replies ending old new (Placed path) w h = absurd w.may
 tree_winds id replies ending old new (Removed path) w h = absurd w.may
@@ -278,6 +295,7 @@ deletion_winds id replies ending old new (Began part) t h = absurd t
 deletion_winds id replies ending old new (Chunk count) t h = absurd t
 deletion_winds id replies ending old new (Asked question) t h = absurd t
 deletion_winds id replies ending old new (Merges pair names) t h = absurd t
+deletion_winds id replies ending old new (Moved pair) t h = absurd t
 deletion_winds id replies ending old new (Set path) t h = absurd t
 deletion_winds id replies ending old new (Placed path) t h = absurd t
 deletion_winds id replies ending old new (Removed path) t h = absurd t
@@ -295,6 +313,7 @@ making_winds id replies ending old new (Began part) t h = absurd t
 making_winds id replies ending old new (Chunk count) t h = absurd t
 making_winds id replies ending old new (Asked question) t h = absurd t
 making_winds id replies ending old new (Merges pair names) t h = absurd t
+making_winds id replies ending old new (Moved pair) t h = absurd t
 making_winds id replies ending old new (Set path) t h = absurd t
 making_winds id replies ending old new (Placed path) t h = absurd t
 making_winds id replies ending old new (Made path) t h = absurd t
@@ -312,6 +331,7 @@ setting_winds id replies ending old new (Began part) t h = absurd t
 setting_winds id replies ending old new (Chunk count) t h = absurd t
 setting_winds id replies ending old new (Asked question) t h = absurd t
 setting_winds id replies ending old new (Merges pair names) t h = absurd t
+setting_winds id replies ending old new (Moved pair) t h = absurd t
 setting_winds id replies ending old new (Set path) t h = absurd t
 setting_winds id replies ending old new (Placed path) t h = absurd t
 setting_winds id replies ending old new (Removed path) t h = absurd t
@@ -326,18 +346,27 @@ goes_told : (id : ℕ) (replies : Replies) (old new : Work) (did : Did) → Work
 goes_told id replies (Copy c) (Copy new) did t h = tree_told id replies c new did t h
 goes_told id replies (Copy c) (Delete new) did t h = absurd t
 goes_told id replies (Copy c) (Make new) did t h = absurd t
+goes_told id replies (Copy c) (Move new) did t h = absurd t
 goes_told id replies (Copy c) (SetMode new) did t h = absurd t
 goes_told id replies (Delete d) (Copy new) did t h = absurd t
 goes_told id replies (Make m) (Copy new) did t h = absurd t
+goes_told id replies (Move m) (Copy new) did t h = absurd t
 goes_told id replies (SetMode s) (Copy new) did t h = absurd t
 goes_told id replies (Delete d) (Make new) did t h = absurd t
+goes_told id replies (Delete d) (Move new) did t h = absurd t
 goes_told id replies (Make m) (Delete new) did t h = absurd t
+goes_told id replies (Move m) (Delete new) did t h = absurd t
 goes_told id replies (Delete d) (Delete new) did t h = deletion_told id replies d new did t h
 goes_told id replies (Make m) (Make new) did t h = making_told id replies m new did t h
+goes_told id replies (Move m) (Move new) did t h = moving_told id replies m new did t h
 goes_told id replies (Delete d) (SetMode new) did t h = absurd t
 goes_told id replies (Make m) (SetMode new) did t h = absurd t
+goes_told id replies (Make m) (Move new) did t h = absurd t
+goes_told id replies (Move m) (SetMode new) did t h = absurd t
 goes_told id replies (SetMode s) (Delete new) did t h = absurd t
 goes_told id replies (SetMode s) (Make new) did t h = absurd t
+goes_told id replies (Move s) (Make new) did t h = absurd t
+goes_told id replies (SetMode s) (Move new) did t h = absurd t
 goes_told id replies (SetMode s) (SetMode new) did t h = setting_told id replies s new did t h
 
 winds_told : (id : ℕ) (replies : Replies) (ending : Ending) (old new : Work) (did : Did) → WorkWinds ending old did new → ends did ≡ false
@@ -345,18 +374,27 @@ winds_told : (id : ℕ) (replies : Replies) (ending : Ending) (old new : Work) (
 winds_told id replies ending (Copy c) (Copy new) did t h = tree_winds id replies ending c new did t h
 winds_told id replies ending (Copy c) (Delete new) did t h = absurd t
 winds_told id replies ending (Copy c) (Make new) did t h = absurd t
+winds_told id replies ending (Copy c) (Move new) did t h = absurd t
 winds_told id replies ending (Copy c) (SetMode new) did t h = absurd t
 winds_told id replies ending (Delete d) (Copy new) did t h = absurd t
 winds_told id replies ending (Make m) (Copy new) did t h = absurd t
+winds_told id replies ending (Move m) (Copy new) did t h = absurd t
 winds_told id replies ending (SetMode s) (Copy new) did t h = absurd t
 winds_told id replies ending (Delete d) (Make new) did t h = absurd t
+winds_told id replies ending (Delete d) (Move new) did t h = absurd t
 winds_told id replies ending (Make m) (Delete new) did t h = absurd t
+winds_told id replies ending (Move m) (Delete new) did t h = absurd t
 winds_told id replies ending (Delete d) (Delete new) did t h = deletion_winds id replies ending d new did t h
 winds_told id replies ending (Make m) (Make new) did t h = making_winds id replies ending m new did t h
+winds_told id replies ending (Move m) (Move new) did t h = moving_winds id replies ending m new did t h
 winds_told id replies ending (Delete d) (SetMode new) did t h = absurd t
 winds_told id replies ending (Make m) (SetMode new) did t h = absurd t
+winds_told id replies ending (Make m) (Move new) did t h = absurd t
+winds_told id replies ending (Move m) (SetMode new) did t h = absurd t
 winds_told id replies ending (SetMode s) (Delete new) did t h = absurd t
 winds_told id replies ending (SetMode s) (Make new) did t h = absurd t
+winds_told id replies ending (Move s) (Make new) did t h = absurd t
+winds_told id replies ending (SetMode s) (Move new) did t h = absurd t
 winds_told id replies ending (SetMode s) (SetMode new) did t h = setting_winds id replies ending s new did t h
 
 told_on : (course : Course) (id : ℕ) (replies : Replies) (work : Work) (new : Running) (did : Did) → TellsOn course (job_of id replies work course) did new → ends did ≡ false
@@ -379,6 +417,7 @@ step_told job new (Began part) t = sym (told_follows job new (Began part) t refl
 step_told job new (Chunk count) t = sym (told_follows job new (Chunk count) t refl)
 step_told job new (Asked question) t = sym (told_follows job new (Asked question) t refl)
 step_told job new (Merges pair names) t = sym (told_follows job new (Merges pair names) t refl)
+step_told job new (Moved pair) t = sym (told_follows job new (Moved pair) t refl)
 step_told job new (Set path) t = sym (told_follows job new (Set path) t refl)
 step_told job new (Placed path) t = sym (told_follows job new (Placed path) t refl)
 step_told job new (Removed path) t = sym (told_follows job new (Removed path) t refl)
@@ -394,6 +433,7 @@ skips_told : (id : ℕ) (cause : Cause) (work : Work) → work_told id (with_ski
 skips_told id cause (Copy c) = refl
 skips_told id cause (Delete d) = refl
 skips_told id cause (Make m) = refl
+skips_told id cause (Move m) = refl
 skips_told id cause (SetMode s) = refl
 
 -- an answer, and the beginning of a job, are told whole
@@ -446,6 +486,9 @@ began_told id (plan.Delete (path ∷ more ∷ paths)) = refl
 began_told id (plan.Copy []) = refl
 began_told id (plan.Copy (pair ∷ [])) = began_if id (is_some (parent_of pair.source) && is_some (parent_of pair.target)) (copies id pair) refl
 began_told id (plan.Copy (pair ∷ more ∷ pairs)) = refl
+began_told id (plan.Move []) = refl
+began_told id (plan.Move (pair ∷ [])) = began_if id ((is_some (parent_of pair.source) && is_some (parent_of pair.target)) && not (same_path pair.source pair.target)) (moves pair) refl
+began_told id (plan.Move (pair ∷ more ∷ pairs)) = refl
 began_told id (plan.MakeFolder path) = began_if id (is_some (parent_of path)) (makes thing.Folder path) refl
 began_told id (plan.MakeLink path text) = began_if id (is_some (parent_of path) && is_link_text text) (makes (thing.Link text) path) refl
 began_told id (plan.SetMode [] mode) = refl
@@ -468,6 +511,7 @@ fresh_synced : (id : ℕ) (work : Work) → is_fresh work ≡ true → synced (w
 fresh_synced id (Copy c) h = refl
 fresh_synced id (Delete d) h = refl
 fresh_synced id (Make m) h = synced_making m m.stage h
+fresh_synced id (Move m) h = synced_moving m m.stage h
 fresh_synced id (SetMode s) h = synced_setting s s.stage h
 
 fresh_unsettled : (id : ℕ) (work : Work) (trouble : Trouble) → is_fresh work ≡ true → trouble.barrier ≡ true → course_told (work_told id work) trouble ≡ OwedSyncFailed trouble.cause

@@ -9,7 +9,7 @@ use Rattle.job_reports.specs.declared.report.Cause.{Cause}
 use Rattle.job_reports.specs.declared.report.Trouble.{Trouble}
 use Rattle.job_reports.specs.declared.report.Ending.{Ending}
 use Rattle.job_reports.specs.declared.report.Did.{Did}
-use Rattle.job_reports.specs.declared.report.Did.TheVariants.{Began, Chunk, Placed, Removed, Made, Set, Kept, Skipped, Cleaned, Barrier, Asked, Merges, Troubled, Ended}
+use Rattle.job_reports.specs.declared.report.Did.TheVariants.{Began, Chunk, Placed, Removed, Made, Set, Kept, Skipped, Cleaned, Barrier, Asked, Merges, Moved, Troubled, Ended}
 use Rattle.job_reports.specs.declared.report.LastStepResult.{LastStepResult}
 use Rattle.job_reports.specs.Reports.{ends}
 use Rattle.job_reports.specs.Stops.{out_of_memory_at}
@@ -52,6 +52,7 @@ met_so (Began part) h = h
 met_so (Chunk count) h = h
 met_so (Asked question) h = h
 met_so (Merges pair names) h = h
+met_so (Moved pair) h = h
 met_so (Set path) h = h
 met_so (Placed path) h = h
 met_so (Removed path) h = h
@@ -126,6 +127,7 @@ module _ (free : Route → Bool) (replies : Replies) (c new : SubtreeCopying) (d
   falls_on (Chunk count) m h = above (rank new.at) (rank c.at) (rank_law free replies c new (Chunk count) calls dirty dirty_after before after f0 f1 m g.steady g.can refl)
   falls_on (Asked question) m h = at_most (last_rank new.at) (rank c.at) (let law = trouble_law in (law.ask free replies c new question calls dirty dirty_after before after f0 f1 m g.steady).1)
   falls_on (Merges pair names) m h = above (rank new.at) (rank c.at) (rank_law free replies c new (Merges pair names) calls dirty dirty_after before after f0 f1 m g.steady g.can refl)
+  falls_on (Moved pair) m h = above (rank new.at) (rank c.at) (rank_law free replies c new (Moved pair) calls dirty dirty_after before after f0 f1 m g.steady g.can refl)
   falls_on (Set path) m h = above (rank new.at) (rank c.at) (rank_law free replies c new (Set path) calls dirty dirty_after before after f0 f1 m g.steady g.can refl)
   falls_on (Placed path) m h = above (rank new.at) (rank c.at) (rank_law free replies c new (Placed path) calls dirty dirty_after before after f0 f1 m g.steady g.can refl)
   falls_on (Removed path) m h = above (rank new.at) (rank c.at) (rank_law free replies c new (Removed path) calls dirty dirty_after before after f0 f1 m g.steady g.can refl)

@@ -4,7 +4,7 @@ use Rattle.tree_trait.specs.declared.calls.TreeError.TheVariants as refused
 use Rattle.job_reports.specs.declared.report.Cause.{Cause}
 use Rattle.job_reports.specs.declared.report.Cause.TheVariants.{Tree}
 use Rattle.job_reports.specs.declared.report.Did.{Did}
-use Rattle.job_reports.specs.declared.report.Did.TheVariants.{Began, Chunk, Placed, Removed, Made, Set, Kept, Skipped, Cleaned, Barrier, Asked, Merges, Troubled, Ended}
+use Rattle.job_reports.specs.declared.report.Did.TheVariants.{Began, Chunk, Placed, Removed, Made, Set, Kept, Skipped, Cleaned, Barrier, Asked, Merges, Moved, Troubled, Ended}
 use Rattle.copy_move.specs.declared.run.Course.{Course}
 use Rattle.copy_move.specs.declared.run.Course.TheVariants.{GoesOn, Asking, InTrouble, OwedSyncFailed, Skips, Ends}
 
@@ -32,4 +32,5 @@ MeetsFault course (Cleaned part) = ⊥
 MeetsFault course Barrier = ⊥
 MeetsFault course (Asked question) = ⊥
 MeetsFault course (Merges pair names) = ⊥
+MeetsFault course (Moved pair) = ⊥
 MeetsFault course (Ended ending part) = ⊥

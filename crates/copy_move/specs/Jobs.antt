@@ -1,7 +1,7 @@
 -- A live job: what it does, how far it is, and whether it goes on; what a step of it may report, and what that says of the
 -- tree's calls.
-use Rattle.std.specs.Prelude.{◌≡◌, ◌⊎◌, ℕ, ⊤, Bool, true, false, ◌&&◌, nat_le, is_some, List, [], ◌∷◌, Option, Some, None, if◌then◌else◌, IsOk}
-use Rattle.mc_text.specs.Routes.{Route, parent_of}
+use Rattle.std.specs.Prelude.{◌≡◌, ◌⊎◌, ℕ, ⊤, Bool, true, false, not, ◌&&◌, nat_le, is_some, List, [], ◌∷◌, Option, Some, None, if◌then◌else◌, IsOk}
+use Rattle.mc_text.specs.Routes.{Route, parent_of, same_path}
 use Rattle.tree_trait.specs.Change.{CallLog}
 use Rattle.job_reports.specs.declared.report.Cause.{Cause}
 use Rattle.job_answers.specs.declared.answer.Waiting.{Waiting}
@@ -15,7 +15,7 @@ use Rattle.job_reports.specs.declared.report.Trouble.{Trouble}
 use Rattle.job_reports.specs.declared.report.Ending.{Ending}
 use Rattle.job_reports.specs.declared.report.Ending.TheVariants.{Aborted}
 use Rattle.job_reports.specs.declared.report.Did.{Did}
-use Rattle.job_reports.specs.declared.report.Did.TheVariants.{Began, Chunk, Placed, Removed, Made, Set, Kept, Skipped, Cleaned, Barrier, Asked, Merges, Troubled, Ended}
+use Rattle.job_reports.specs.declared.report.Did.TheVariants.{Began, Chunk, Placed, Removed, Made, Set, Kept, Skipped, Cleaned, Barrier, Asked, Merges, Moved, Troubled, Ended}
 use Rattle.job_reports.specs.Jobs.{is_link_text}
 use Rattle.job_reports.specs.Stops.{out_of_memory_at}
 use Rattle.job_reports.specs.declared.job.Job.{Job}
@@ -28,7 +28,7 @@ use Rattle.thing_making.specs.declared.making.MakingStage.TheVariants as making
 use Rattle.thing_making.specs.declared.new_thing.NewThing.{NewThing}
 use Rattle.thing_making.specs.declared.new_thing.NewThing.TheVariants as thing
 use Rattle.copy_move.specs.declared.work.Work.{Work}
-use Rattle.copy_move.specs.declared.work.Work.TheVariants.{Copy, Delete, Make, SetMode}
+use Rattle.copy_move.specs.declared.work.Work.TheVariants.{Copy, Delete, Make, Move, SetMode}
 use Rattle.copy_move.specs.declared.run.Halt.{Halt}
 use Rattle.copy_move.specs.declared.run.Course.{Course}
 use Rattle.copy_move.specs.declared.run.Course.TheVariants.{GoesOn, Asking, InTrouble, OwedSyncFailed, Skips, Ends}
@@ -38,6 +38,8 @@ use Rattle.copy_move.specs.Deletions.{DeletionCalls, IsAtStage, LastCalls, start
 use Rattle.copy_move.specs.Deletions as deletions
 use Rattle.thing_making.specs.Makings.{LastMakingCalls, MakingCalls}
 use Rattle.thing_making.specs.Makings as makings
+use Rattle.thing_moving.specs.Movings.{LastMovingCalls, MovingCalls}
+use Rattle.thing_moving.specs.Movings as movings
 use Rattle.thing_making.specs.NewThings.{making_kind}
 use Rattle.copy_move.specs.ModeSettings.{LastSettingCalls}
 use Rattle.copy_move.specs.ModeSettings as modes
@@ -64,6 +66,10 @@ pub record Running : Type 0 where
 abbrev pub copies : ℕ → Pair → Work
 copies id pair = Copy (tree_started id pair)
 
+-- the move of a thing, just begun
+abbrev pub moves : Pair → Work
+moves pair = Move (movings.started pair)
+
 -- the deletion of a thing with all that lies in it, just begun
 abbrev pub deletes : Route → Work
 deletes path = Delete (started path)
@@ -76,8 +82,8 @@ makes new path = Make (record { path = path; thing = new; stage = making.Make })
 abbrev pub sets : Route → ℕ → Work
 sets path mode = SetMode (setting path mode Give)
 
--- The work of the plan of one source. The root, which no folder holds, is neither copied, deleted, made nor given a mode. A mode has
--- twelve bits.
+-- The work of the plan of one source. The root, which no folder holds, is neither copied, moved, deleted, made nor given a mode. Nothing is moved to where
+-- it is. A mode has twelve bits.
 abbrev pub first_work : ℕ → Job → Option Work
 first_work id (plan.Delete []) = None
 first_work id (plan.Delete (path ∷ [])) = if is_some (parent_of path) then Some (deletes path) else None
@@ -85,6 +91,10 @@ first_work id (plan.Delete (path ∷ more ∷ paths)) = None
 first_work id (plan.Copy []) = None
 first_work id (plan.Copy (pair ∷ [])) = if is_some (parent_of pair.source) && is_some (parent_of pair.target) then Some (copies id pair) else None
 first_work id (plan.Copy (pair ∷ more ∷ pairs)) = None
+first_work id (plan.Move []) = None
+first_work id (plan.Move (pair ∷ [])) =
+    if (is_some (parent_of pair.source) && is_some (parent_of pair.target)) && not (same_path pair.source pair.target) then Some (moves pair) else None
+first_work id (plan.Move (pair ∷ more ∷ pairs)) = None
 first_work id (plan.MakeFolder path) = if is_some (parent_of path) then Some (makes thing.Folder path) else None
 first_work id (plan.MakeLink path text) = if is_some (parent_of path) && is_link_text text then Some (makes (thing.Link text) path) else None
 first_work id (plan.SetMode [] mode) = None
@@ -101,12 +111,14 @@ abbrev pub kind_of : Work → JobKind
 kind_of (Copy c) = kind.Copy
 kind_of (Delete d) = kind.Delete
 kind_of (Make m) = making_kind m.thing
+kind_of (Move m) = kind.Move
 kind_of (SetMode s) = kind.SetMode
 
 abbrev pub path_of : Work → Route
 path_of (Copy c) = c.top.source
 path_of (Delete d) = d.path
 path_of (Make m) = m.path
+path_of (Move m) = m.pair.source
 path_of (SetMode s) = s.path
 
 -- the next call is at a barrier, where nothing can be skipped
@@ -114,6 +126,7 @@ abbrev pub at_barrier : Work → Bool
 at_barrier (Copy c) = tree.at_barrier c.at
 at_barrier (Delete d) = standing.at_barrier d.stage
 at_barrier (Make m) = makings.at_barrier m.stage
+at_barrier (Move m) = movings.at_barrier m.stage
 at_barrier (SetMode s) = settings.at_barrier s.stage
 
 -- the work of a job that has changed nothing yet
@@ -121,22 +134,25 @@ abbrev pub is_fresh : Work → Bool
 is_fresh (Copy c) = tree_copy.is_fresh c.at.stage
 is_fresh (Delete d) = standing.is_fresh d.stage
 is_fresh (Make m) = makings.is_fresh m.stage
+is_fresh (Move m) = movings.is_fresh m.stage
 is_fresh (SetMode s) = settings.is_fresh s.stage
 
--- the work once what stands at this path was left as it is: something of what is copied or deleted, the thing that is not made, or the one that keeps
+-- the work once what stands at this path was left as it is: something of what is copied or deleted, the thing that is not moved, or not made, or the one that keeps
 -- its mode
 abbrev pub PassesOver : Work → Route → Work → Type 0
 PassesOver (Copy c) path (Copy new) = trees.Passes c path new
 PassesOver (Delete d) path (Delete new) = IsAtStage d (after_item d.path path d.stage) new
 PassesOver (Make m) path (Make new) = (path ≡ m.path) × (new ≡ record m { stage = makings.skipped m.stage })
+PassesOver (Move m) path (Move new) = (path ≡ m.pair.source) × (new ≡ record m { stage = movings.skipped m.stage })
 PassesOver (SetMode s) path (SetMode new) = (path ≡ s.path) × (new ≡ record s { stage = settings.skipped s.stage })
 PassesOver old path new = ⊥
 
--- the work taken up once more after a trouble; a deletion, a making and the setting of a mode try their call again
+-- the work taken up once more after a trouble; a move, a deletion, a making and the setting of a mode try their call again
 abbrev pub taken_anew : Work → Work
 taken_anew (Copy c) = Copy (retries c)
 taken_anew (Delete d) = Delete d
 taken_anew (Make m) = Make m
+taken_anew (Move m) = Move m
 taken_anew (SetMode s) = SetMode s
 
 -- The work once troubles of this kind are passed over without a question. One that makes one thing, or sets its mode, comes to no later one.
@@ -144,6 +160,7 @@ abbrev pub with_skips : Cause → Work → Work
 with_skips cause (Copy c) = Copy (record c { skips = with_kind (kind_in cause) c.skips })
 with_skips cause (Delete d) = Delete (record d { skips = with_kind (kind_in cause) d.skips })
 with_skips cause (Make m) = Make m
+with_skips cause (Move m) = Move (record m { skips = with_kind (kind_in cause) m.skips })
 with_skips cause (SetMode s) = SetMode s
 
 -- the work after an answer by which what stands next is left as it is
@@ -164,6 +181,7 @@ abbrev pub skips_of : Work → SkippedKinds
 skips_of (Copy c) = c.skips
 skips_of (Delete d) = d.skips
 skips_of (Make m) = no_skips
+skips_of (Move m) = m.skips
 skips_of (SetMode s) = no_skips
 
 -- the work where these kinds are passed over
@@ -171,6 +189,7 @@ abbrev pub passing_over : SkippedKinds → Work → Work
 passing_over skips (Copy c) = Copy (record c { skips = skips })
 passing_over skips (Delete d) = Delete (record d { skips = skips })
 passing_over skips (Make m) = Make m
+passing_over skips (Move m) = Move (record m { skips = skips })
 passing_over skips (SetMode s) = SetMode s
 
 -- the part that stands
@@ -178,6 +197,7 @@ abbrev pub part_of : Work → Option Route
 part_of (Copy c) = tree.part_of c.at.item
 part_of (Delete d) = None
 part_of (Make m) = None
+part_of (Move m) = None
 part_of (SetMode s) = None
 
 -- work that goes on: no part of it was left in last steps
@@ -185,6 +205,7 @@ abbrev pub IsGoing : Work → Type 0
 IsGoing (Copy c) = trees.IsGoing c
 IsGoing (Delete d) = ⊤
 IsGoing (Make m) = ⊤
+IsGoing (Move m) = ⊤
 IsGoing (SetMode s) = ⊤
 
 -- Only a job that makes its last steps leaves a part, and nothing is skipped at a barrier.
@@ -201,6 +222,7 @@ abbrev pub WorkTells : Work → Did → Work → Type 0
 WorkTells (Copy c) did (Copy new) = trees.Tells c did new
 WorkTells (Delete d) did (Delete new) = deletions.Tells d did new
 WorkTells (Make m) did (Make new) = makings.Tells m did new
+WorkTells (Move m) did (Move new) = movings.Tells m did new
 WorkTells (SetMode s) did (SetMode new) = settings.Tells s did new
 WorkTells old did new = ⊥
 
@@ -209,6 +231,7 @@ abbrev pub WorkWinds : Ending → Work → Did → Work → Type 0
 WorkWinds ending (Copy c) did (Copy new) = IsWound ending c did new
 WorkWinds ending (Delete d) did (Delete new) = deletions.Winds ending d did new
 WorkWinds ending (Make m) did (Make new) = makings.Winds ending m did new
+WorkWinds ending (Move m) did (Move new) = movings.Winds ending m did new
 WorkWinds ending (SetMode s) did (SetMode new) = modes.Winds ending s did new
 WorkWinds ending old did new = ⊥
 
@@ -225,6 +248,7 @@ abbrev pub course_after : Did → Course
 course_after (Troubled trouble) = InTrouble (halt_of trouble)
 course_after (Asked question) = Asking
 course_after (Merges pair names) = GoesOn
+course_after (Moved pair) = GoesOn
 course_after (Began part) = GoesOn
 course_after (Chunk count) = GoesOn
 course_after (Set path) = GoesOn
@@ -257,9 +281,11 @@ abbrev pub WorkCalls : (Route → Type 0) → Replies → Work → Did → Work 
 WorkCalls unclaimed replies (Copy c) did (Copy new) log after = trees.Calls unclaimed replies c did new log after
 WorkCalls unclaimed replies (Copy c) did (Delete new) log after = ⊥
 WorkCalls unclaimed replies (Copy c) did (Make new) log after = ⊥
+WorkCalls unclaimed replies (Copy c) did (Move new) log after = ⊥
 WorkCalls unclaimed replies (Copy c) did (SetMode new) log after = ⊥
 WorkCalls unclaimed replies (Delete d) did new log after = DeletionCalls did log after
 WorkCalls unclaimed replies (Make m) did new log after = MakingCalls m did log after
+WorkCalls unclaimed replies (Move m) did new log after = MovingCalls replies m did log after
 WorkCalls unclaimed replies (SetMode s) did new log after = SettingCalls s did log after
 
 -- the same of a last step
@@ -267,6 +293,7 @@ abbrev pub WorkLastCalls : Work → Did → CallLog → Option CallLog → Type 
 WorkLastCalls (Copy c) did log after = LastTreeCalls (tree.part_of c.at.item) did log after
 WorkLastCalls (Delete d) did log after = LastCalls did log after
 WorkLastCalls (Make m) did log after = LastMakingCalls m did log after
+WorkLastCalls (Move m) did log after = LastMovingCalls m did log after
 WorkLastCalls (SetMode s) did log after = LastSettingCalls s did log after
 
 -- What a step of a job says of the tree's calls. The report of a skip makes none.

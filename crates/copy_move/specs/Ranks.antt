@@ -3,9 +3,11 @@ use Rattle.std.specs.Prelude.{ℕ, ◌+◌, ◌-◌, ◌*◌, List, length, Opti
 use Rattle.mc_text.specs.Routes.{Route}
 use Rattle.thing_making.specs.declared.making.MakingStage.{MakingStage}
 use Rattle.thing_making.specs.declared.making.MakingStage.TheVariants as making
+use Rattle.thing_moving.specs.declared.moving.MovingStage.{MovingStage}
+use Rattle.thing_moving.specs.declared.moving.MovingStage.TheVariants as moving
 use Rattle.copy_move.specs.Deletions.{Deleting, left_in}
 use Rattle.copy_move.specs.declared.work.Work.{Work}
-use Rattle.copy_move.specs.declared.work.Work.TheVariants.{Copy, Delete, Make, SetMode}
+use Rattle.copy_move.specs.declared.work.Work.TheVariants.{Copy, Delete, Make, Move, SetMode}
 use Rattle.copy_move.specs.declared.run.Course.{Course}
 use Rattle.copy_move.specs.declared.run.Course.TheVariants.{GoesOn, Asking, InTrouble, OwedSyncFailed, Skips, Ends}
 use Rattle.copy_move.specs.Jobs.{Running}
@@ -31,6 +33,22 @@ last_making_steps making.Sync = 2
 last_making_steps making.Finish = 1
 last_making_steps making.PassedOver = 1
 
+-- of a move that goes on: the renaming makes two folders dirty
+abbrev pub moving_rank : MovingStage → ℕ
+moving_rank moving.Take = 8
+moving_rank moving.SyncTarget = 6
+moving_rank moving.SyncSource = 5
+moving_rank moving.Finish = 4
+moving_rank moving.PassedOver = 4
+
+-- its last steps
+abbrev pub last_moving_steps : MovingStage → ℕ
+last_moving_steps moving.Take = 1
+last_moving_steps moving.SyncTarget = 3
+last_moving_steps moving.SyncSource = 2
+last_moving_steps moving.Finish = 1
+last_moving_steps moving.PassedOver = 1
+
 -- of the setting of a mode that goes on
 abbrev pub setting_rank : SettingStage → ℕ
 setting_rank setting.Give = 6
@@ -48,12 +66,14 @@ abbrev pub work_rank : Work → ℕ
 work_rank (Copy c) = tree.rank c.at + 2
 work_rank (Delete d) = deletion_rank d
 work_rank (Make m) = making_rank m.stage
+work_rank (Move m) = moving_rank m.stage
 work_rank (SetMode s) = setting_rank s.stage
 
 abbrev pub last_rank : Work → ℕ
 last_rank (Copy c) = tree.last_rank c.at + 1
 last_rank (Delete d) = 1
 last_rank (Make m) = last_making_steps m.stage
+last_rank (Move m) = last_moving_steps m.stage
 last_rank (SetMode s) = last_setting_steps s.stage
 
 -- where something is to be skipped
@@ -61,6 +81,7 @@ abbrev pub skip_rank : Work → ℕ
 skip_rank (Copy c) = tree.rank c.at + 1
 skip_rank (Delete d) = deletion_rank d + 1
 skip_rank (Make m) = 10
+skip_rank (Move m) = 10
 skip_rank (SetMode s) = 10
 
 -- a job that waits counts as one that is aborted
@@ -77,6 +98,7 @@ abbrev pub tries_left : Course → Work → List Route → ℕ
 tries_left (Ends ending) (Delete d) dirty = length dirty - d.tried
 tries_left (Ends ending) (Copy c) dirty = length dirty
 tries_left (Ends ending) (Make m) dirty = length dirty
+tries_left (Ends ending) (Move m) dirty = length dirty
 tries_left (Ends ending) (SetMode s) dirty = length dirty
 tries_left GoesOn work dirty = length dirty
 tries_left (InTrouble halt) work dirty = length dirty
@@ -84,7 +106,7 @@ tries_left (OwedSyncFailed cause) work dirty = length dirty
 tries_left Asking work dirty = length dirty
 tries_left (Skips cause) work dirty = length dirty
 
--- The same where folders are dirty: a job may have to sync each of them, and to try each in its last steps. A change adds one.
+-- The same where folders are dirty: a job may have to sync each of them, and to try each in its last steps. A change adds one, and a renaming two.
 abbrev pub rank_at : List Route → Course → Work → ℕ
 rank_at dirty course work = 3 * rank_on course work + (length dirty + tries_left course work dirty)
 

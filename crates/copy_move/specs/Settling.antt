@@ -1,6 +1,6 @@
 -- Folders in which jobs changed names, and things that were given a mode, which no sync has brought onto the disk yet: what jobs leave
 -- there, and how a later job syncs them before it changes anything on that mount.
-use Rattle.std.specs.Prelude.{◌≡◌, ◌⊎◌, ℕ, Bool, true, false, List, Option, Some}
+use Rattle.std.specs.Prelude.{◌≡◌, ◌⊎◌, ℕ, Bool, true, false, ◌||◌, List, Option, Some}
 use Rattle.mc_text.specs.Routes.{Route, is_prefix, same_path}
 use Rattle.tree_trait.specs.declared.file_system.FileSystem.{FileSystem}
 use Rattle.tree_trait.specs.declared.calls.TreeError.{TreeError}
@@ -13,7 +13,7 @@ use Rattle.tree_trait.specs.CrashImages.{Among}
 use Rattle.job_reports.specs.declared.report.Did.{Did}
 use Rattle.job_reports.specs.Paths.{folder_of}
 use Rattle.copy_move.specs.declared.work.Work.{Work}
-use Rattle.copy_move.specs.declared.work.Work.TheVariants.{Copy, Delete, Make, SetMode}
+use Rattle.copy_move.specs.declared.work.Work.TheVariants.{Copy, Delete, Make, Move, SetMode}
 use Rattle.subtree_copy.specs.LastCalls.{TellsTried as TellsTreeTried}
 use Rattle.subtree_copy.specs.Reporting.{ChangesOwn}
 use Rattle.subtree_copy.specs.Standing as tree
@@ -22,22 +22,25 @@ use Rattle.tree_deletion.specs.Folders as folders
 use Rattle.copy_move.specs.Deletions.{DeletionLeaves, TellsTried}
 use Rattle.thing_making.specs.Makings.{MakingLeaves}
 use Rattle.thing_making.specs.Makings as makings
+use Rattle.thing_moving.specs.Movings.{MovingLeaves, owed_folder, with_moves}
 use Rattle.copy_move.specs.ModeSettings.{SettingLeaves}
 use Rattle.mode_setting.specs.Settings as settings
 
--- the folder that holds what a job places, removes, or gives a mode
+-- the folder that holds what a job places, removes, or gives a mode; of a move that of the target, which lies on the mount of the other
 abbrev pub changed_folder : Work → Route
 changed_folder (Copy c) = folder_of c.top.target
 changed_folder (Delete d) = folder_of d.path
 changed_folder (Make m) = folder_of m.path
+changed_folder (Move m) = folder_of m.pair.target
 changed_folder (SetMode s) = folder_of s.path
 
--- a folder in which a job may change names: of a deletion also the thing itself, and what lies in it, and so of the target of a copy; or the thing to
--- which a job gives a mode
+-- a folder in which a job may change names: of a deletion also the thing itself, and what lies in it, and so of the target of a copy; of a move those of both its
+-- paths; or the thing to which a job gives a mode
 abbrev pub is_own : Work → Route → Bool
 is_own (Copy c) kept = tree.is_own c kept
 is_own (Delete d) kept = is_of (folder_of d.path) d.path kept
 is_own (Make m) kept = same_path kept (folder_of m.path)
+is_own (Move m) kept = same_path kept (folder_of m.pair.source) || same_path kept (folder_of m.pair.target)
 is_own (SetMode s) kept = same_path kept s.path
 
 -- What is dirty here is owed on whatever mount it lies: at the thing that is deleted, or in it; and before a mode is set all is, since the
@@ -46,6 +49,7 @@ abbrev pub is_owed_anywhere : Work → Route → Bool
 is_owed_anywhere (Copy c) kept = false
 is_owed_anywhere (Delete d) kept = is_prefix d.path kept
 is_owed_anywhere (Make m) kept = false
+is_owed_anywhere (Move m) kept = false
 is_owed_anywhere (SetMode s) kept = true
 
 -- the folder of a new thing, or a thing that is given a mode, joins the dirty ones with its first change, and leaves them with its sync
@@ -58,6 +62,7 @@ WorkLeaves (Copy c) did (Copy new) dirty dirty_after before after = ChangesOwn c
 WorkLeaves (Delete d) did (Delete new) dirty dirty_after before after = DeletionLeaves d did dirty dirty_after before after
 WorkLeaves (Make m) did (Make new) dirty dirty_after before after =
     dirty_after ≡ with_change (makings.is_dirty m.stage) (makings.is_dirty new.stage) (folder_of m.path) dirty
+WorkLeaves (Move m) did (Move new) dirty dirty_after before after = dirty_after ≡ with_moves m.stage new.stage m.pair dirty
 WorkLeaves (SetMode s) did (SetMode new) dirty dirty_after before after =
     dirty_after ≡ with_change (settings.is_dirty s.stage) (settings.is_dirty new.stage) s.path dirty
 WorkLeaves old did new dirty dirty_after before after = ⊥
@@ -67,6 +72,7 @@ abbrev pub TellsFolder : Work → Did → Option TreeError → Route → CallLog
 TellsFolder (Copy c) did left folder log after = TellsTreeTried (tree.part_of c.at.item) did left folder log after
 TellsFolder (Delete d) did left folder log after = TellsTried did left folder log after
 TellsFolder (Make m) did left folder log after = MakingLeaves m did left log after
+TellsFolder (Move m) did left folder log after = (folder ≡ owed_folder m) × MovingLeaves m did left log after
 TellsFolder (SetMode s) did left folder log after = SettingLeaves s did left log after
 
 -- the number of the mount on which a folder lies

@@ -17,7 +17,7 @@ use Rattle.job_reports.specs.Stops.{out_of_memory_at}
 use Rattle.job_answers.specs.declared.replies.Replies.{Replies}
 use Rattle.copy_move.specs.declared.work.Work.{Work}
 use Rattle.copy_move.specs.declared.run.Course.{Course}
-use Rattle.copy_move.specs.declared.work.Work.TheVariants.{Copy, Delete, Make, SetMode}
+use Rattle.copy_move.specs.declared.work.Work.TheVariants.{Copy, Delete, Make, Move, SetMode}
 use Rattle.copy_move.specs.declared.run.Course.TheVariants.{GoesOn, Asking, InTrouble, OwedSyncFailed, Skips, Ends}
 use Rattle.copy_move.specs.Faults.{MeetsFault}
 use Rattle.copy_move.specs.DeletionSteps.{Goes, Passes, TriesNext, after_try}
@@ -27,6 +27,7 @@ use Rattle.job_reports.specs.Paths.{without}
 use Rattle.copy_move.specs.Ranks.{last_rank, rank_at, rank_on, rank_with, work_rank}
 use Rattle.mode_setting.specs.SettingSteps.{SyncStops, sync_of}
 use Rattle.subtree_copy.specs.SubtreeSteps.{LastSubtreeStep, SubtreeSkips}
+use Rattle.thing_moving.specs.Movings as movings
 use Rattle.copy_move.specs.TreeCopies as trees
 
 -- A step of a job: what it reports is allowed, the job is then as it says, it made the calls of the tree that it says, at
@@ -80,6 +81,7 @@ step_made old new did calls dirty dirty_after before after faults faults_after =
 -- what the machine of a deletion or of a copy does in a step of the work
 abbrev pub Walks : (Route → Type 0) → Replies → Work → Work → Did → ℕ → List Route → List Route → Option CallLog → Option CallLog → ℕ → ℕ → Type 0
 Walks unclaimed replies (Make m) new did calls dirty dirty_after before after faults faults_after = ⊤
+Walks unclaimed replies (Move m) new did calls dirty dirty_after before after faults faults_after = ⊤
 Walks unclaimed replies (SetMode s) new did calls dirty dirty_after before after faults faults_after = ⊤
 Walks unclaimed replies (Copy c) (Copy new) did calls dirty dirty_after before after faults faults_after =
     trees.Goes unclaimed replies c new did calls dirty dirty_after before after faults faults_after
@@ -87,9 +89,10 @@ Walks unclaimed replies (Copy c) new did calls dirty dirty_after before after fa
 Walks unclaimed replies (Delete d) (Delete new) did calls dirty dirty_after before after faults faults_after = Goes d new did calls dirty dirty_after before after faults faults_after
 Walks unclaimed replies (Delete d) new did calls dirty dirty_after before after faults faults_after = ⊥
 
--- what it does where something is passed over
+-- what it does where something is passed over; what was moved is not
 abbrev pub SkipWalks : Cause → Work → Did → Work → Type 0
 SkipWalks cause (Make m) did new = ⊤
+SkipWalks cause (Move m) did new = movings.at_barrier m.stage ≡ false
 SkipWalks cause (SetMode s) did new = ⊤
 SkipWalks cause (Copy c) did (Copy new) = SubtreeSkips cause c did new
 SkipWalks cause (Copy c) did new = ⊥
@@ -105,6 +108,7 @@ LastWalks ending (Delete d) (Delete new) did calls left dirty dirty_after before
     TriesNext ending d new did calls left dirty dirty_after before after faults faults_after
 LastWalks ending (Delete d) new did calls left dirty dirty_after before after faults faults_after = ⊥
 LastWalks ending (Make m) new did calls left dirty dirty_after before after faults faults_after = ⊤
+LastWalks ending (Move m) new did calls left dirty dirty_after before after faults faults_after = ⊤
 LastWalks ending (SetMode s) new did calls left dirty dirty_after before after faults faults_after = ⊤
 
 -- what it does in a step of a job that goes so

@@ -8,7 +8,7 @@ use Rattle.job_reports.specs.declared.report.Trouble.{Trouble}
 use Rattle.job_reports.specs.Jobs.{is_workable}
 use Rattle.job_reports.specs.declared.report.Ending.TheVariants.{Finished, NoMemory}
 use Rattle.job_reports.specs.declared.report.Did.{Did}
-use Rattle.job_reports.specs.declared.report.Did.TheVariants.{Began, Chunk, Placed, Removed, Made, Set, Kept, Skipped, Cleaned, Barrier, Asked, Merges, Troubled, Ended}
+use Rattle.job_reports.specs.declared.report.Did.TheVariants.{Began, Chunk, Placed, Removed, Made, Set, Kept, Skipped, Cleaned, Barrier, Asked, Merges, Moved, Troubled, Ended}
 use Rattle.job_answers.specs.Decisions.{no_replies}
 use Rattle.subtree_walk.specs.Places.{unopened}
 use Rattle.tree_deletion.specs.declared.deletion.Depth.TheVariants.{Top}
@@ -16,10 +16,12 @@ use Rattle.tree_deletion.specs.declared.deletion.Stage.TheVariants.{Going}
 use Rattle.tree_deletion.specs.Standing.{after_item}
 use Rattle.thing_making.specs.declared.making.MakingStage.TheVariants as making
 use Rattle.copy_move.specs.declared.work.Work.{Work}
-use Rattle.copy_move.specs.declared.work.Work.TheVariants.{Copy, Delete, Make, SetMode}
+use Rattle.copy_move.specs.declared.work.Work.TheVariants.{Copy, Delete, Make, Move, SetMode}
 use Rattle.copy_move.specs.declared.run.Course.{Course}
 use Rattle.copy_move.specs.declared.run.Course.TheVariants.{GoesOn, Asking, InTrouble, OwedSyncFailed}
 use Rattle.thing_making.specs.Makings as makings
+use Rattle.thing_moving.specs.declared.moving.MovingStage.TheVariants as moving
+use Rattle.thing_moving.specs.Movings as movings
 use Rattle.copy_move.specs.ModeSettings as modes
 use Rattle.mode_setting.specs.declared.setting.Stage.TheVariants as setting
 use Rattle.mode_setting.specs.Settings as settings
@@ -32,6 +34,7 @@ abbrev pub work_told : ℕ → Work → Work
 work_told id (Copy c) = Copy (trees.as_told id c)
 work_told id (Delete d) = Delete (record d { depth = Top; place = unopened; tried = 0 })
 work_told id (Make m) = Make m
+work_told id (Move m) = Move m
 work_told id (SetMode s) = SetMode s
 
 -- a job as its history tells it
@@ -43,6 +46,7 @@ abbrev pub with_part : Route → Work → Work
 with_part part (Copy c) = Copy (trees.with_part (Some part) c)
 with_part part (Delete d) = Delete d
 with_part part (Make m) = Make m
+with_part part (Move m) = Move m
 with_part part (SetMode s) = SetMode s
 
 -- the work once something of what it copies was placed
@@ -50,6 +54,7 @@ abbrev pub placed : Work → Work
 placed (Copy c) = Copy (trees.with_part None c)
 placed (Delete d) = Delete d
 placed (Make m) = Make m
+placed (Move m) = Move m
 placed (SetMode s) = SetMode s
 
 -- the work once this was removed
@@ -57,6 +62,7 @@ abbrev pub removed : Route → Work → Work
 removed path (Copy c) = Copy c
 removed path (Delete d) = Delete (record d { stage = after_item d.path path Going })
 removed path (Make m) = Make m
+removed path (Move m) = Move m
 removed path (SetMode s) = SetMode s
 
 -- the work once its thing, or a folder of what it copies, was made
@@ -64,20 +70,31 @@ abbrev pub made : Work → Work
 made (Copy c) = Copy (trees.changed c)
 made (Delete d) = Delete d
 made (Make m) = Make (record m { stage = making.Sync })
+made (Move m) = Move m
 made (SetMode s) = SetMode s
+
+-- the work once its thing was moved
+abbrev pub moved : Work → Work
+moved (Copy c) = Copy c
+moved (Delete d) = Delete d
+moved (Make m) = Make m
+moved (Move m) = Move (record m { stage = moving.SyncTarget })
+moved (SetMode s) = SetMode s
 
 -- the work once its thing, or a folder of what it copies, was given the mode
 abbrev pub mode_given : Work → Work
 mode_given (Copy c) = Copy (trees.changed c)
 mode_given (Delete d) = Delete d
 mode_given (Make m) = Make m
+mode_given (Move m) = Move m
 mode_given (SetMode s) = SetMode (record s { stage = setting.Sync })
 
--- the work once this folder was kept, or what stands at the target of a copy
+-- the work once this folder was kept, or what stands at the target of a copy or a move
 abbrev pub spared : Route → Work → Work
 spared path (Copy c) = Copy c
 spared path (Delete d) = Delete (record d { stage = after_item d.path path d.stage })
 spared path (Make m) = Make m
+spared path (Move m) = Move (record m { stage = moving.PassedOver })
 spared path (SetMode s) = SetMode s
 
 -- the work once this was left as it is
@@ -85,6 +102,7 @@ abbrev pub skipped : Route → Work → Work
 skipped path (Copy c) = Copy c
 skipped path (Delete d) = Delete (record d { stage = after_item d.path path d.stage })
 skipped path (Make m) = Make (record m { stage = makings.skipped m.stage })
+skipped path (Move m) = Move (record m { stage = movings.skipped m.stage })
 skipped path (SetMode s) = SetMode (record s { stage = settings.skipped s.stage })
 
 -- a copy once its part was removed; in its last steps only the part is gone
@@ -96,6 +114,7 @@ abbrev pub cleaned : Course → Work → Work
 cleaned course (Copy c) = Copy (cleaned_tree course c)
 cleaned course (Delete d) = Delete d
 cleaned course (Make m) = Make m
+cleaned course (Move m) = Move m
 cleaned course (SetMode s) = SetMode s
 
 -- The work once a folder, or the thing itself, was synced, or that was tried. A deletion and a copy stand where they stood.
@@ -104,6 +123,7 @@ abbrev pub synced : Work → Work
 synced (Copy c) = Copy c
 synced (Delete d) = Delete d
 synced (Make m) = Make (record m { stage = makings.after_sync m.stage })
+synced (Move m) = Move (record m { stage = movings.after_sync m.pair m.stage })
 synced (SetMode s) = SetMode (record s { stage = modes.after_sync s.stage })
 
 -- a trouble at a barrier before the first change is that of what an ended job left dirty
@@ -124,6 +144,7 @@ after_step (Cleaned part) job = Some (record job { work = cleaned job.course job
 after_step Barrier job = Some (record job { work = synced job.work })
 after_step (Asked question) job = Some (record job { course = Asking })
 after_step (Merges pair names) job = Some job
+after_step (Moved pair) job = Some (record job { work = moved job.work })
 after_step (Troubled trouble) job = Some (record job { course = course_told job.work trouble })
 after_step (Ended ending part) job = None
 

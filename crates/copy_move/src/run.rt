@@ -31,7 +31,7 @@ pub struct Halt {
 #[derive(Clone, Copy, Debug, Drop, PartialEq, Eq)]
 pub enum Course {
     GoesOn,
-    /// Something stands at the target of the file or the link that it copies. The job waits for an answer.
+    /// Something stands at the target of what it copies or moves. The job waits for an answer.
     Asking,
     /// A call was refused, or there was no memory. The job waits for an answer.
     InTrouble(Halt),

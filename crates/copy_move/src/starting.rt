@@ -6,12 +6,13 @@ ghost use Rattle.copy_move.specs.Jobs.{IsGoing, first_work};
 
 use crate::deletion::TreeDeletion;
 use crate::work::Work;
-use job_reports::{Job, Pair, Pairs};
+use job_reports::{Job, Pairs};
 use mc_text::{NoMemory, Path, Paths, Text};
 use mode_setting::ModeSetting;
 use std::alloc::Global;
 use subtree_copy::SubtreeCopy;
 use thing_making::{NewThing, ThingMaking};
+use thing_moving::ThingMoving;
 
 /// The work of the plan of one source.
 pub(crate) fn begun_work(alloc: Global, source: &Job, id: u32) -> Result<Work, NoMemory>
@@ -20,6 +21,7 @@ pub(crate) fn begun_work(alloc: Global, source: &Job, id: u32) -> Result<Work, N
 {
     match source {
         Job::Copy(pairs) => copy_of(alloc, pairs, id),
+        Job::Move(pairs) => move_of(alloc, pairs),
         Job::Delete(paths) => deletion_of(alloc, paths),
         Job::MakeFolder(path) => folder_of(alloc, path),
         Job::MakeLink(path, text) => link_of(alloc, path, text),
@@ -35,11 +37,25 @@ fn copy_of(alloc: Global, pairs: &Pairs, id: u32) -> Result<Work, NoMemory>
     let [pair] = pairs.0.as_slice() else {
         unreachable!()
     };
-    let top = Pair {
-        source: pair.source.copy(alloc)?,
-        target: pair.target.copy(alloc)?,
-    };
+    let top = pair.copy(alloc)?;
     Ok(Work::Copy(SubtreeCopy::begin(alloc, id, top)?))
+}
+
+/// The move of one thing.
+fn move_of(alloc: Global, pairs: &Pairs) -> Result<Work, NoMemory>
+    requires { is_workable (plan.Move pairs.now) ≡ true }
+    ensures { IfOk result (λ work. (first_work 0 (plan.Move pairs.now) ≡ Some work) × IsGoing work) }
+{
+    let [pair] = pairs.0.as_slice() else {
+        unreachable!()
+    };
+    let Some(source_folder) = pair.source.parent(alloc)? else {
+        unreachable!()
+    };
+    let Some(folder) = pair.target.parent(alloc)? else {
+        unreachable!()
+    };
+    Ok(Work::Move(ThingMoving::new(pair.copy(alloc)?, source_folder, folder)))
 }
 
 /// The deletion of one thing.

@@ -1,5 +1,5 @@
-//! What a job does: it copies or deletes a thing with all that lies in it, makes a folder or a link, or sets a thing's mode. One machine
-//! for each.
+//! What a job does: it copies or deletes a thing with all that lies in it, moves a thing, makes a folder or a link, or sets a thing's mode.
+//! One machine for each.
 ghost use Rattle.std.specs.Prelude.{◌≡◌, false, option_map, true};
 ghost use Rattle.copy_move.specs.Jobs.{IsGoing, at_barrier, is_fresh, kind_of, part_of, passing_over, path_of, skipping_by, skips_of, taken_anew as anew, with_skips};
 ghost use Rattle.copy_move.specs.Settling.{changed_folder, is_owed_anywhere};
@@ -15,6 +15,7 @@ use mode_setting::ModeSetting;
 use std::alloc::Global;
 use subtree_copy::SubtreeCopy;
 use thing_making::{ThingMaking, step_making, wind_up_making};
+use thing_moving::{ThingMoving, step_moving, wind_up_moving};
 use tree_deletion::Dirty;
 use tree_trait::Tree;
 
@@ -24,6 +25,7 @@ pub enum Work {
     Copy(SubtreeCopy),
     Delete(TreeDeletion),
     Make(ThingMaking),
+    Move(ThingMoving),
     SetMode(ModeSetting),
 }
 
@@ -46,6 +48,7 @@ impl Work {
             Work::Copy(copy) => copy.step(alloc, tree, parts, dirty, replies),
             Work::Delete(deletion) => deletion.step(alloc, tree, dirty),
             Work::Make(making) => step_making(making, alloc, tree, dirty),
+            Work::Move(moving) => step_moving(moving, alloc, tree, dirty, replies),
             Work::SetMode(setting) => step_setting(setting, alloc, tree, dirty),
         }
     }
@@ -61,6 +64,7 @@ impl Work {
             Work::Copy(copy) => copy.skip(alloc, cause),
             Work::Delete(deletion) => deletion.skip(alloc, cause),
             Work::Make(making) => making.skip(alloc, cause),
+            Work::Move(moving) => moving.skip(alloc, cause),
             Work::SetMode(setting) => setting.skip(alloc, cause),
         }
     }
@@ -76,6 +80,7 @@ impl Work {
             Work::Copy(copy) => copy.skip_all(cause),
             Work::Delete(deletion) => deletion.skip_all(cause),
             Work::Make(_) => {}
+            Work::Move(moving) => moving.skip_all(cause),
             Work::SetMode(_) => {}
         }
     }
@@ -103,6 +108,7 @@ impl Work {
             Work::Copy(copy) => copy.skips(),
             Work::Delete(deletion) => deletion.skips(),
             Work::Make(_) => Skips::new(),
+            Work::Move(moving) => moving.skips(),
             Work::SetMode(_) => Skips::new(),
         }
     }
@@ -117,6 +123,7 @@ impl Work {
             Work::Copy(copy) => copy.pass_over(skips),
             Work::Delete(deletion) => deletion.pass_over(skips),
             Work::Make(_) => {}
+            Work::Move(moving) => moving.pass_over(skips),
             Work::SetMode(_) => {}
         }
     }
@@ -131,6 +138,7 @@ impl Work {
             Work::Copy(copy) => copy.retry(),
             Work::Delete(_) => {}
             Work::Make(_) => {}
+            Work::Move(_) => {}
             Work::SetMode(_) => {}
         }
     }
@@ -150,6 +158,7 @@ impl Work {
             Work::Copy(copy) => copy.wind_up(alloc, tree, ending, dirty),
             Work::Delete(deletion) => deletion.wind_up(alloc, tree, ending, dirty),
             Work::Make(making) => wind_up_making(making, alloc, tree, ending, dirty),
+            Work::Move(moving) => wind_up_moving(moving, alloc, tree, ending, dirty),
             Work::SetMode(setting) => wind_up_setting(setting, alloc, tree, ending, dirty),
         }
     }
@@ -162,11 +171,12 @@ impl Work {
             Work::Copy(_) => JobKind::Copy,
             Work::Delete(_) => JobKind::Delete,
             Work::Make(making) => making.thing().kind(),
+            Work::Move(_) => JobKind::Move,
             Work::SetMode(_) => JobKind::SetMode,
         }
     }
 
-    /// What is copied, deleted, made or given a mode.
+    /// What is copied, deleted, made, moved or given a mode.
     pub(crate) fn path(&self) -> &Path
         ensures { result.now ≡ path_of self.now }
     {
@@ -174,6 +184,7 @@ impl Work {
             Work::Copy(copy) => copy.source(),
             Work::Delete(deletion) => deletion.path(),
             Work::Make(making) => making.path(),
+            Work::Move(moving) => &moving.pair().source,
             Work::SetMode(setting) => setting.path(),
         }
     }
@@ -186,6 +197,7 @@ impl Work {
             Work::Copy(copy) => copy.part(),
             Work::Delete(_) => None,
             Work::Make(_) => None,
+            Work::Move(_) => None,
             Work::SetMode(_) => None,
         }
     }
@@ -198,6 +210,7 @@ impl Work {
             Work::Copy(copy) => copy.into_part(),
             Work::Delete(_) => None,
             Work::Make(_) => None,
+            Work::Move(_) => None,
             Work::SetMode(_) => None,
         }
     }
@@ -210,11 +223,12 @@ impl Work {
             Work::Copy(copy) => copy.is_at_barrier(),
             Work::Delete(deletion) => deletion.is_at_barrier(),
             Work::Make(making) => making.is_at_barrier(),
+            Work::Move(moving) => moving.is_at_barrier(),
             Work::SetMode(setting) => setting.is_at_barrier(),
         }
     }
 
-    /// The folder that holds what is placed, removed or given a mode.
+    /// The folder that holds what is placed, removed or given a mode; of a move that of its target, which lies on the mount of the other.
     pub(crate) fn folder(&self) -> &Path
         ensures { result.now ≡ changed_folder self.now }
     {
@@ -222,6 +236,7 @@ impl Work {
             Work::Copy(copy) => copy.folder(),
             Work::Delete(deletion) => deletion.folder(),
             Work::Make(making) => making.folder(),
+            Work::Move(moving) => moving.folder(),
             Work::SetMode(setting) => setting.folder(),
         }
     }
@@ -235,6 +250,7 @@ impl Work {
             Work::Copy(_) => false,
             Work::Delete(deletion) => deletion.path().is_prefix_of(dirty),
             Work::Make(_) => false,
+            Work::Move(_) => false,
             Work::SetMode(_) => true,
         }
     }
@@ -247,6 +263,7 @@ impl Work {
             Work::Copy(copy) => copy.is_fresh(),
             Work::Delete(deletion) => deletion.is_fresh(),
             Work::Make(making) => making.is_fresh(),
+            Work::Move(moving) => moving.is_fresh(),
             Work::SetMode(setting) => setting.is_fresh(),
         }
     }

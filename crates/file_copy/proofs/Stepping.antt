@@ -9,7 +9,7 @@ use Rattle.job_reports.specs.declared.report.Cause.TheVariants.{Tree}
 use Rattle.tree_trait.specs.declared.calls.TreeError.TheVariants as refused
 use Rattle.job_reports.specs.declared.report.Ending.TheVariants.{Finished, Aborted, Killed, NoMemory}
 use Rattle.job_reports.specs.declared.report.Did.{Did}
-use Rattle.job_reports.specs.declared.report.Did.TheVariants.{Began, Chunk, Placed, Removed, Made as MadeFolder, Set, Kept, Skipped, Cleaned, Barrier, Asked, Merges, Troubled, Ended}
+use Rattle.job_reports.specs.declared.report.Did.TheVariants.{Began, Chunk, Placed, Removed, Made as MadeFolder, Set, Kept, Skipped, Cleaned, Barrier, Asked, Merges, Moved, Troubled, Ended}
 use Rattle.job_reports.specs.declared.report.Trouble.{Trouble}
 use Rattle.file_copy.specs.declared.stage.SourceFacts.{SourceFacts}
 use Rattle.file_copy.specs.declared.stage.Next.{Next}
@@ -209,6 +209,7 @@ calls_any P Q c (MadeFolder made) new log after past tells h = h
 calls_any P Q c (Kept kept) new log after past tells h = h
 calls_any P Q c (Asked question) new log after past tells h = h
 calls_any P Q c (Merges pair names) new log after past tells h = h
+calls_any P Q c (Moved pair) new log after past tells h = h
 calls_any P Q c (Skipped path cause) new log after past tells h = h
 calls_any P Q c (Ended ending part) new log after past tells h = h
 
@@ -275,4 +276,5 @@ tells_ready c (MadeFolder made) new t ready = absurd t
 tells_ready c (Kept path) new t ready = absurd t
 tells_ready c (Asked question) new t ready = absurd t
 tells_ready c (Merges pair names) new t ready = absurd t
+tells_ready c (Moved pair) new t ready = absurd t
 tells_ready c (Skipped path cause) new t ready = absurd t

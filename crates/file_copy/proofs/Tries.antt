@@ -8,7 +8,7 @@ use Rattle.tree_trait.specs.Change.{CallLog}
 use Rattle.tree_trait.specs.Answers.{IfKnown, HasCause, HasRisen, Performs}
 use Rattle.job_reports.specs.declared.report.Ending.{Ending}
 use Rattle.job_reports.specs.declared.report.Did.{Did}
-use Rattle.job_reports.specs.declared.report.Did.TheVariants.{Began, Chunk, Placed, Removed, Made, Set, Kept, Skipped, Cleaned, Barrier, Asked, Merges, Troubled, Ended}
+use Rattle.job_reports.specs.declared.report.Did.TheVariants.{Began, Chunk, Placed, Removed, Made, Set, Kept, Skipped, Cleaned, Barrier, Asked, Merges, Moved, Troubled, Ended}
 use Rattle.file_copy.specs.declared.stage.Stage.{Stage}
 use Rattle.file_copy.specs.declared.stage.Stage.TheVariants.{Begin, Fill, Clean, Left, Decided}
 use Rattle.file_copy.specs.declared.stage.FolderState.{FolderState}
@@ -178,5 +178,6 @@ winds_sound ending c new (Made made) w = absurd w
 winds_sound ending c new (Kept kept) w = absurd w
 winds_sound ending c new (Asked question) w = absurd w
 winds_sound ending c new (Merges pair names) w = absurd w
+winds_sound ending c new (Moved pair) w = absurd w
 winds_sound ending c new (Skipped path cause) w = absurd w
 winds_sound ending c new (Troubled trouble) w = absurd w

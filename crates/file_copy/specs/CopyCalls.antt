@@ -7,7 +7,7 @@ use Rattle.tree_trait.specs.Change.{CallLog, current}
 use Rattle.job_reports.specs.declared.report.Cause.{Cause}
 use Rattle.job_reports.specs.declared.report.Cause.TheVariants.{Tree, TargetKind, SpecialSource, TooDeep, PartTaken, TooLong, Unnamed, Changed, Memory}
 use Rattle.job_reports.specs.declared.report.Did.{Did}
-use Rattle.job_reports.specs.declared.report.Did.TheVariants.{Began, Chunk, Placed, Removed, Made, Set, Kept, Skipped, Cleaned, Barrier, Asked, Merges, Troubled, Ended}
+use Rattle.job_reports.specs.declared.report.Did.TheVariants.{Began, Chunk, Placed, Removed, Made, Set, Kept, Skipped, Cleaned, Barrier, Asked, Merges, Moved, Troubled, Ended}
 use Rattle.file_copy.specs.declared.stage.SourceFacts.{SourceFacts}
 use Rattle.file_copy.specs.declared.stage.Stage.{Stage}
 use Rattle.file_copy.specs.declared.stage.Stage.TheVariants.{Begin, Fill, Clean, Left, Decided}
@@ -119,5 +119,6 @@ CopyCalls unclaimed c (Set path) new log after = ⊥
 CopyCalls unclaimed c (Kept path) new log after = ⊥
 CopyCalls unclaimed c (Asked question) new log after = ⊥
 CopyCalls unclaimed c (Merges pair names) new log after = ⊥
+CopyCalls unclaimed c (Moved pair) new log after = ⊥
 CopyCalls unclaimed c (Skipped path cause) new log after = after ≡ Some log
 CopyCalls unclaimed c (Ended ending part) new log after = after ≡ Some log

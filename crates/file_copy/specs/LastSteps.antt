@@ -8,7 +8,7 @@ use Rattle.tree_trait.specs.Change.{CallLog}
 use Rattle.tree_trait.specs.Answers.{IfKnown, HasRisen, Performs}
 use Rattle.job_reports.specs.declared.report.Ending.{Ending}
 use Rattle.job_reports.specs.declared.report.Did.{Did}
-use Rattle.job_reports.specs.declared.report.Did.TheVariants.{Began, Chunk, Placed, Removed, Made, Set, Kept, Skipped, Cleaned, Barrier, Asked, Merges, Troubled, Ended}
+use Rattle.job_reports.specs.declared.report.Did.TheVariants.{Began, Chunk, Placed, Removed, Made, Set, Kept, Skipped, Cleaned, Barrier, Asked, Merges, Moved, Troubled, Ended}
 use Rattle.job_reports.specs.Stops.{IsTried, refusal_in, sync_answer, calls_made_for}
 use Rattle.file_copy.specs.declared.stage.Stage.{Stage}
 use Rattle.file_copy.specs.declared.stage.Stage.TheVariants.{Begin, Fill, Clean, Left, Decided}
@@ -67,6 +67,7 @@ Winds ending c (Made made) new = ⊥
 Winds ending c (Kept kept) new = ⊥
 Winds ending c (Asked question) new = ⊥
 Winds ending c (Merges pair names) new = ⊥
+Winds ending c (Moved pair) new = ⊥
 Winds ending c (Skipped path cause) new = ⊥
 Winds ending c (Troubled trouble) new = ⊥
 
@@ -90,6 +91,7 @@ WindCalls c (Made made) log after = ⊥
 WindCalls c (Kept kept) log after = ⊥
 WindCalls c (Asked question) log after = ⊥
 WindCalls c (Merges pair names) log after = ⊥
+WindCalls c (Moved pair) log after = ⊥
 WindCalls c (Skipped path cause) log after = ⊥
 WindCalls c (Troubled trouble) log after = ⊥
 

@@ -7,7 +7,7 @@ use Rattle.mc_text.specs.Routes.{Route}
 use Rattle.tree_trait.specs.Calls.{Call, WriteAt}
 use Rattle.tree_trait.specs.Change.{CallLog}
 use Rattle.job_reports.specs.declared.report.Did.{Did}
-use Rattle.job_reports.specs.declared.report.Did.TheVariants.{Began, Chunk, Placed, Removed, Made, Set, Kept, Skipped, Cleaned, Barrier, Asked, Merges, Troubled, Ended}
+use Rattle.job_reports.specs.declared.report.Did.TheVariants.{Began, Chunk, Placed, Removed, Made, Set, Kept, Skipped, Cleaned, Barrier, Asked, Merges, Moved, Troubled, Ended}
 use Rattle.job_reports.specs.CallRuns.{AllDone, RunStops}
 use Rattle.file_copy.specs.declared.stage.SourceFacts.{SourceFacts}
 use Rattle.file_copy.specs.declared.stage.Stage.{Stage}
@@ -141,5 +141,6 @@ module _ (c : Copying) (bytes : List ℕ) (own : IsOwn (saving c bytes)) (done :
     writes_on (Kept path) new calls before after f0 f1 stays w = absurd w.tells
     writes_on (Asked question) new calls before after f0 f1 stays w = absurd w.tells
     writes_on (Merges pair names) new calls before after f0 f1 stays w = absurd w.tells
+    writes_on (Moved pair) new calls before after f0 f1 stays w = absurd w.tells
     writes_on (Skipped path cause) new calls before after f0 f1 stays w = absurd w.tells
     writes_on (Ended ending part) new calls before after f0 f1 stays w = absurd w.tells

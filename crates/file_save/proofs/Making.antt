@@ -4,7 +4,7 @@ use Rattle.mc_text.specs.Routes.{Route}
 use Rattle.tree_trait.specs.Change.{CallLog, current}
 use Rattle.tree_trait.specs.Answers.{IfKnown}
 use Rattle.job_reports.specs.declared.report.Did.{Did}
-use Rattle.job_reports.specs.declared.report.Did.TheVariants.{Began, Chunk, Placed, Removed, Made, Set, Kept, Skipped, Cleaned, Barrier, Asked, Merges, Troubled, Ended}
+use Rattle.job_reports.specs.declared.report.Did.TheVariants.{Began, Chunk, Placed, Removed, Made, Set, Kept, Skipped, Cleaned, Barrier, Asked, Merges, Moved, Troubled, Ended}
 use Rattle.job_reports.specs.declared.report.Trouble.{Trouble}
 use Rattle.job_reports.specs.Reading.{Peeks}
 use Rattle.job_reports.specs.CallRuns.{AllDone}
@@ -106,5 +106,6 @@ module _ (unclaimed : Route → Type 0) (c : Copying) (bytes : List ℕ) (own : 
     makes (Kept path) new calls before mid after f0 f1 f2 takes p m = absurd m.tells
     makes (Asked question) new calls before mid after f0 f1 f2 takes p m = absurd m.tells
     makes (Merges pair names) new calls before mid after f0 f1 f2 takes p m = absurd m.tells
+    makes (Moved pair) new calls before mid after f0 f1 f2 takes p m = absurd m.tells
     makes (Skipped path cause) new calls before mid after f0 f1 f2 takes p m = absurd m.tells
     makes (Ended ending part) new calls before mid after f0 f1 f2 takes p m = absurd m.tells

@@ -6,7 +6,7 @@ use Rattle.mc_text.specs.Routes.{Route}
 use Rattle.tree_trait.specs.Change.{CallLog}
 use Rattle.job_reports.specs.declared.report.Cause.{Cause}
 use Rattle.job_reports.specs.declared.report.Did.{Did}
-use Rattle.job_reports.specs.declared.report.Did.TheVariants.{Began, Chunk, Placed, Removed, Made, Set, Kept, Skipped, Cleaned, Barrier, Asked, Merges, Troubled, Ended}
+use Rattle.job_reports.specs.declared.report.Did.TheVariants.{Began, Chunk, Placed, Removed, Made, Set, Kept, Skipped, Cleaned, Barrier, Asked, Merges, Moved, Troubled, Ended}
 use Rattle.job_reports.specs.declared.report.Ending.{Ending}
 use Rattle.job_reports.specs.declared.report.Ending.TheVariants.{Finished, Aborted, Killed, NoMemory}
 use Rattle.file_copy.specs.declared.stage.SourceFacts.{SourceFacts}
@@ -64,6 +64,7 @@ module _ (unclaimed : Route → Type 0) (c : Copying) (bytes : List ℕ) (own : 
     settled_own (Kept path) new h = absurd h
     settled_own (Asked question) new h = absurd h
     settled_own (Merges pair names) new h = absurd h
+    settled_own (Moved pair) new h = absurd h
     settled_own (Skipped path cause) new h = absurd h
 
     settled_stops : (stage : Stage) (cause : Cause) (path : Option Route) (log : CallLog) (after : Option CallLog) → piece_at stage ≡ Settle
@@ -90,6 +91,7 @@ module _ (unclaimed : Route → Type 0) (c : Copying) (bytes : List ℕ) (own : 
     settled_calls (Kept path) new log after tells h = h
     settled_calls (Asked question) new log after tells h = h
     settled_calls (Merges pair names) new log after tells h = h
+    settled_calls (Moved pair) new log after tells h = h
     settled_calls (Skipped path cause) new log after tells h = h
 
     pub settled : (did : Did) (new : Copying) (calls : ℕ) (before after : Option CallLog) (f0 f1 : ℕ) → file.StepsOn unclaimed c new did calls before after f0 f1
@@ -155,6 +157,7 @@ module _ (unclaimed : Route → Type 0) (c : Copying) (bytes : List ℕ) (own : 
   wound_own ending (Kept path) new h = absurd h
   wound_own ending (Asked question) new h = absurd h
   wound_own ending (Merges pair names) new h = absurd h
+  wound_own ending (Moved pair) new h = absurd h
   wound_own ending (Skipped path cause) new h = absurd h
   wound_own ending (Troubled t) new h = absurd h
 

@@ -3,7 +3,7 @@ use Rattle.std.specs.Prelude.{ℕ, List, [], ◌∷◌, ◌++◌, codes}
 use Rattle.std.specs.Fmt.{decimal}
 use Rattle.mc_text.specs.Routes.{path_text}
 use Rattle.job_reports.specs.declared.row.JobKind.{JobKind}
-use Rattle.job_reports.specs.declared.row.JobKind.TheVariants.{Copy, Delete, MakeFolder, MakeLink, SetMode}
+use Rattle.job_reports.specs.declared.row.JobKind.TheVariants.{Copy, Move, Delete, MakeFolder, MakeLink, SetMode}
 use Rattle.job_reports.specs.declared.row.JobRow.{JobRow}
 use Rattle.job_reports.specs.declared.row.JobState.{JobState}
 use Rattle.job_reports.specs.declared.row.JobState.TheVariants.{Ready, Asking, Troubled, Stopped}
@@ -18,6 +18,7 @@ state_word Stopped = codes "stopped"
 -- what it does
 abbrev pub kind_word : JobKind → List ℕ
 kind_word Copy = codes "copy"
+kind_word Move = codes "move"
 kind_word Delete = codes "delete"
 kind_word MakeFolder = codes "mkdir"
 kind_word MakeLink = codes "symlink"

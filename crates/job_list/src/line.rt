@@ -50,6 +50,7 @@ fn kind_word(kind: JobKind) -> &'static str
 {
     match kind {
         JobKind::Copy => "copy",
+        JobKind::Move => "move",
         JobKind::Delete => "delete",
         JobKind::MakeFolder => "mkdir",
         JobKind::MakeLink => "symlink",

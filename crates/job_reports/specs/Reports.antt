@@ -5,7 +5,7 @@ use Rattle.job_reports.specs.declared.answer.Answer.{Answer}
 use Rattle.job_reports.specs.declared.answer.Answer.TheVariants.{Yes, No, All, Update, Nothing, SizeDiffers, Retry, Skip, SkipAll, Abort}
 use Rattle.job_reports.specs.declared.report.Cause.TheVariants.{Tree}
 use Rattle.job_reports.specs.declared.report.Did.{Did}
-use Rattle.job_reports.specs.declared.report.Did.TheVariants.{Began, Chunk, Placed, Removed, Made, Set, Kept, Skipped, Cleaned, Barrier, Asked, Merges, Troubled, Ended}
+use Rattle.job_reports.specs.declared.report.Did.TheVariants.{Began, Chunk, Placed, Removed, Made, Set, Kept, Skipped, Cleaned, Barrier, Asked, Merges, Moved, Troubled, Ended}
 
 -- the report is that of an end
 abbrev pub ends : Did → Bool
@@ -22,6 +22,7 @@ ends (Cleaned part) = false
 ends Barrier = false
 ends (Asked question) = false
 ends (Merges pair names) = false
+ends (Moved pair) = false
 ends (Troubled trouble) = false
 
 -- the report says that the device failed

@@ -1,12 +1,27 @@
 //! What a job is to do.
-use mc_text::{Path, Paths, Text};
+ghost use Rattle.std.specs.Prelude.{◌≡◌, IfOk};
+
+use mc_text::{NoMemory, Path, Paths, Text};
+use std::alloc::Global;
 use std::marker::Model;
 
-/// What is to be copied, and where to.
+/// What is to be copied or moved, and where to.
 #[derive(Debug, Drop)]
 pub struct Pair {
     pub source: Path,
     pub target: Path,
+}
+
+impl Pair {
+    /// The same pair once more.
+    pub fn copy(&self, alloc: Global) -> Result<Pair, NoMemory>
+        ensures { IfOk result (λ copy. copy ≡ self.now) }
+    {
+        Ok(Pair {
+            source: self.source.copy(alloc)?,
+            target: self.target.copy(alloc)?,
+        })
+    }
 }
 
 /// Some pairs.
@@ -27,6 +42,8 @@ impl Model for Pairs {
 pub enum Job {
     /// Copies each source, with all that lies in it, to its target.
     Copy(Pairs),
+    /// Moves each source, a file, a link or a special thing, to its target on the same mount.
+    Move(Pairs),
     /// Deletes these.
     Delete(Paths),
     /// Makes a new, empty folder at this path.

@@ -99,6 +99,8 @@ pub enum Did {
     Asked(Question),
     /// Both source and target are folders, and that at the target stays: what lies in the source, by these names, is copied into it next.
     Merges(Pair, Names),
+    /// The source was renamed to the target: what stood there stands here.
+    Moved(Pair),
     Troubled(Trouble),
     /// The job ended; `part` is a part file that it could not remove.
     Ended { ending: Ending, part: Option<Path> },

@@ -21,6 +21,7 @@ pub enum JobState {
 #[derive(Clone, Copy, Debug, Drop, PartialEq, Eq)]
 pub enum JobKind {
     Copy,
+    Move,
     Delete,
     MakeFolder,
     MakeLink,

@@ -2,18 +2,18 @@
 use Rattle.std.proofs.Common.{◌≡◌, ℕ, zero, suc, ◌+◌, ◌-◌, ◌*◌, ◌^◌, ◌≤◌, Bool, true, false, List, [], ◌∷◌, ◌++◌, length, refl, sym, ap, subst, inl, Some, None, arith, mul-le-mul_right}
 use Rattle.std.proofs.Math.Nat.{suc-mul}
 use Rattle.std.proofs.lemmas.List.{length-append}
-use Rattle.std.specs.Prelude.{if◌then◌else◌, is_some, ◌&&◌}
+use Rattle.std.specs.Prelude.{if◌then◌else◌, is_some, ◌&&◌, not}
 use Rattle.std.specs.Option.{option_map_or}
-use Rattle.mc_text.specs.Routes.{Route, parent_of, spelled}
+use Rattle.mc_text.specs.Routes.{Route, parent_of, same_path, spelled}
 use Rattle.job_reports.specs.declared.job.Job.{Job}
-use Rattle.job_reports.specs.declared.job.Job.TheVariants.{Copy, Delete, MakeFolder, MakeLink, SetMode}
+use Rattle.job_reports.specs.declared.job.Job.TheVariants.{Copy, Delete, MakeFolder, MakeLink, Move, SetMode}
 use Rattle.job_reports.specs.declared.job.Pair.{Pair}
 use Rattle.job_reports.specs.Jobs.{is_link_text}
 use Rattle.session_history.specs.Sources.{children_in}
 use Rattle.subtree_copy.specs.Standing.{started}
 use Rattle.tree_copy.specs.Taking.{AreShort}
 use Rattle.copy_move.specs.declared.work.Work.{Work}
-use Rattle.copy_move.specs.Jobs.{copies, deletes, first_work, makes, sets}
+use Rattle.copy_move.specs.Jobs.{copies, deletes, first_work, makes, moves, sets}
 use Rattle.thing_making.specs.declared.new_thing.NewThing.TheVariants as thing
 use Rattle.copy_move.specs.Ranks.{work_rank}
 use Rattle.job_sources.specs.Turning.{below_steps, children_left, is_over, merged_steps, room_below, source_rank, sources_rank, tree_steps}
@@ -84,6 +84,9 @@ pub cost_within : (id : ℕ) (source : Job) → option_map_or start_cost (first_
 cost_within id (Copy []) = omega arith
 cost_within id (Copy (pair ∷ [])) = if_workable (is_some (parent_of pair.source) && is_some (parent_of pair.target)) (copies id pair) _ (tree_cost id pair) (some_steps (room_below pair.source))
 cost_within id (Copy (pair ∷ more ∷ pairs)) = some_steps (room_below pair.source)
+cost_within id (Move []) = omega arith
+cost_within id (Move (pair ∷ [])) = if_alone ((is_some (parent_of pair.source) && is_some (parent_of pair.target)) && not (same_path pair.source pair.target)) (moves pair) refl
+cost_within id (Move (pair ∷ more ∷ pairs)) = omega arith
 cost_within id (Delete []) = omega arith
 cost_within id (Delete (path ∷ [])) = if_alone (is_some (parent_of path)) (deletes path) refl
 cost_within id (Delete (path ∷ more ∷ paths)) = omega arith

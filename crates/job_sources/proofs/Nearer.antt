@@ -8,7 +8,7 @@ use Rattle.tree_trait.specs.Change.{CallLog}
 use Rattle.job_reports.specs.declared.job.Job.{Job}
 use Rattle.job_reports.specs.declared.job.Pair.{Pair}
 use Rattle.job_reports.specs.declared.report.Did.{Did}
-use Rattle.job_reports.specs.declared.report.Did.TheVariants.{Began, Chunk, Placed, Removed, Made, Set, Kept, Skipped, Cleaned, Barrier, Asked, Merges, Troubled, Ended}
+use Rattle.job_reports.specs.declared.report.Did.TheVariants.{Began, Chunk, Placed, Removed, Made, Set, Kept, Skipped, Cleaned, Barrier, Asked, Merges, Moved, Troubled, Ended}
 use Rattle.job_reports.specs.declared.report.Ending.TheVariants.{Finished, Aborted, Killed, NoMemory}
 use Rattle.job_reports.specs.Reports.{ends}
 use Rattle.session_history.specs.Sources.{children_in, left_by}
@@ -20,7 +20,7 @@ use Rattle.copy_move.specs.Ranks.{rank_at, rank_with, work_rank}
 use Rattle.copy_move.specs.Steps.{RunStep, SyncsOwed, step_made}
 use Rattle.copy_move.specs.Told.{if_closed, with_next}
 use Rattle.job_answers.specs.declared.skips.Skips.{Skips as SkippedKinds}
-use Rattle.copy_move.specs.declared.work.Work.TheVariants.{Copy, Delete, Make, SetMode}
+use Rattle.copy_move.specs.declared.work.Work.TheVariants.{Copy, Delete, Make, Move, SetMode}
 use Rattle.copy_move.proofs.Finishing.{Finishes, finish_stays, passing_rank}
 use Rattle.copy_move.proofs.Merging.{merge_stays}
 use Rattle.job_sources.specs.declared.turning.Stepped.{Stepped}
@@ -39,6 +39,7 @@ finish_so (Began part) h = absurd (false≢true h)
 finish_so (Chunk count) h = absurd (false≢true h)
 finish_so (Asked question) h = absurd (false≢true h)
 finish_so (Merges pair names) h = absurd (false≢true h)
+finish_so (Moved pair) h = absurd (false≢true h)
 finish_so (Set path) h = absurd (false≢true h)
 finish_so (Placed path) h = absurd (false≢true h)
 finish_so (Removed path) h = absurd (false≢true h)
@@ -66,6 +67,7 @@ synced_number job new path did dirty dirty_after before after (inr h) = ap (λ (
 -- the report that a folder is merged
 pub merge_so : (did : Did) → merges did ≡ true → (pair : Pair) × (names : List (List ℕ)) × (did ≡ Merges pair names)
 merge_so (Merges pair names) h = (pair, names, refl)
+merge_so (Moved pair) h = absurd (false≢true h)
 merge_so (Ended ending part) h = absurd (false≢true h)
 merge_so (Began part) h = absurd (false≢true h)
 merge_so (Chunk count) h = absurd (false≢true h)
@@ -83,6 +85,7 @@ merge_so (Troubled trouble) h = absurd (false≢true h)
 -- all others leave the sources as they are, or none
 left_plain : (did : Did) (left : List Job) → merges did ≡ false → left_by did left ≡ (if ends did then [] else left)
 left_plain (Merges pair names) left h = absurd (true≢false h)
+left_plain (Moved pair) left h = refl
 left_plain (Ended ending part) left h = refl
 left_plain (Began part) left h = refl
 left_plain (Chunk count) left h = refl
@@ -127,6 +130,7 @@ passing_children : (skips : SkippedKinds) (work : Work) → children_left (passi
 passing_children skips (Copy c) = refl
 passing_children skips (Delete d) = refl
 passing_children skips (Make m) = refl
+passing_children skips (Move m) = refl
 passing_children skips (SetMode s) = refl
 
 -- the run of a next source

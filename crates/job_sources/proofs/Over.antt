@@ -21,7 +21,7 @@ use Rattle.tree_copy.specs.Standing.{Seen}
 use Rattle.copy_move.specs.declared.run.Course.{Course}
 use Rattle.copy_move.specs.declared.run.Course.TheVariants.{GoesOn, Asking, InTrouble, OwedSyncFailed, Skips, Ends}
 use Rattle.copy_move.specs.declared.work.Work.{Work}
-use Rattle.copy_move.specs.declared.work.Work.TheVariants.{Copy, Delete, Make, SetMode}
+use Rattle.copy_move.specs.declared.work.Work.TheVariants.{Copy, Delete, Make, Move, SetMode}
 use Rattle.copy_move.specs.Jobs.{PassesOver, Running, TellsOn, WorkTells, closed_course}
 use Rattle.copy_move.specs.Steps.{RunStep, SkipWalks, SyncsOwed, WalksOn, step_made}
 use Rattle.copy_move.proofs.Merging.{none_wound}
@@ -105,18 +105,27 @@ tells_less : (old new : Work) (did : Did) → WorkTells old did new → children
 tells_less (Copy c) (Copy new) did t = (let a = t.after in tree_less c new a.top (λ o. (t.over o).0))
 tells_less (Copy c) (Delete new) did t = absurd t
 tells_less (Copy c) (Make new) did t = absurd t
+tells_less (Copy c) (Move new) did t = absurd t
 tells_less (Copy c) (SetMode new) did t = absurd t
 tells_less (Delete d) (Copy new) did t = absurd t
 tells_less (Delete d) (Delete new) did t = omega arith
 tells_less (Delete d) (Make new) did t = absurd t
+tells_less (Delete d) (Move new) did t = absurd t
 tells_less (Delete d) (SetMode new) did t = absurd t
 tells_less (Make m) (Copy new) did t = absurd t
+tells_less (Move m) (Copy new) did t = absurd t
 tells_less (Make m) (Delete new) did t = absurd t
+tells_less (Move m) (Delete new) did t = absurd t
 tells_less (Make m) (Make new) did t = omega arith
+tells_less (Move m) (Move new) did t = omega arith
 tells_less (Make m) (SetMode new) did t = absurd t
+tells_less (Make m) (Move new) did t = absurd t
+tells_less (Move m) (SetMode new) did t = absurd t
 tells_less (SetMode s) (Copy new) did t = absurd t
 tells_less (SetMode s) (Delete new) did t = absurd t
 tells_less (SetMode s) (Make new) did t = absurd t
+tells_less (Move s) (Make new) did t = absurd t
+tells_less (SetMode s) (Move new) did t = absurd t
 tells_less (SetMode s) (SetMode new) did t = omega arith
 
 -- a skip of it
@@ -124,18 +133,27 @@ skips_less : (cause : Cause) (old new : Work) (did : Did) (path : Route) → Pas
 skips_less cause (Copy c) (Copy new) did path p s = tree_less c new (ap (λ (k : SubtreeCopying). k.top) s.stands) (λ o. merged_law.skip cause c new did s o)
 skips_less cause (Copy c) (Delete new) did path p s = absurd p
 skips_less cause (Copy c) (Make new) did path p s = absurd p
+skips_less cause (Copy c) (Move new) did path p s = absurd p
 skips_less cause (Copy c) (SetMode new) did path p s = absurd p
 skips_less cause (Delete d) (Copy new) did path p s = absurd p
 skips_less cause (Delete d) (Delete new) did path p s = omega arith
 skips_less cause (Delete d) (Make new) did path p s = absurd p
+skips_less cause (Delete d) (Move new) did path p s = absurd p
 skips_less cause (Delete d) (SetMode new) did path p s = absurd p
 skips_less cause (Make m) (Copy new) did path p s = absurd p
+skips_less cause (Move m) (Copy new) did path p s = absurd p
 skips_less cause (Make m) (Delete new) did path p s = absurd p
+skips_less cause (Move m) (Delete new) did path p s = absurd p
 skips_less cause (Make m) (Make new) did path p s = omega arith
+skips_less cause (Move m) (Move new) did path p s = omega arith
 skips_less cause (Make m) (SetMode new) did path p s = absurd p
+skips_less cause (Make m) (Move new) did path p s = absurd p
+skips_less cause (Move m) (SetMode new) did path p s = absurd p
 skips_less cause (SetMode m) (Copy new) did path p s = absurd p
 skips_less cause (SetMode m) (Delete new) did path p s = absurd p
 skips_less cause (SetMode m) (Make new) did path p s = absurd p
+skips_less cause (Move m) (Make new) did path p s = absurd p
+skips_less cause (SetMode m) (Move new) did path p s = absurd p
 skips_less cause (SetMode m) (SetMode new) did path p s = omega arith
 
 -- the children that come in are counted before
@@ -151,18 +169,27 @@ merges_less id (Copy c) (Copy new) pair names t =
     (subst (λ (p : Pair). sources_rank id (children_in pair names) ≤ below_steps tree_steps (room_below p.source)) m.top (children_within id pair names m.short m.few))
 merges_less id (Copy c) (Delete new) pair names t = absurd t
 merges_less id (Copy c) (Make new) pair names t = absurd t
+merges_less id (Copy c) (Move new) pair names t = absurd t
 merges_less id (Copy c) (SetMode new) pair names t = absurd t
 merges_less id (Delete d) (Copy new) pair names t = absurd t
 merges_less id (Delete d) (Delete new) pair names t = absurd t
 merges_less id (Delete d) (Make new) pair names t = absurd t
+merges_less id (Delete d) (Move new) pair names t = absurd t
 merges_less id (Delete d) (SetMode new) pair names t = absurd t
 merges_less id (Make m) (Copy new) pair names t = absurd t
+merges_less id (Move m) (Copy new) pair names t = absurd t
 merges_less id (Make m) (Delete new) pair names t = absurd t
+merges_less id (Move m) (Delete new) pair names t = absurd t
 merges_less id (Make m) (Make new) pair names t = absurd t
+merges_less id (Move m) (Move new) pair names t = absurd t
 merges_less id (Make m) (SetMode new) pair names t = absurd t
+merges_less id (Make m) (Move new) pair names t = absurd t
+merges_less id (Move m) (SetMode new) pair names t = absurd t
 merges_less id (SetMode s) (Copy new) pair names t = absurd t
 merges_less id (SetMode s) (Delete new) pair names t = absurd t
 merges_less id (SetMode s) (Make new) pair names t = absurd t
+merges_less id (Move s) (Make new) pair names t = absurd t
+merges_less id (SetMode s) (Move new) pair names t = absurd t
 merges_less id (SetMode s) (SetMode new) pair names t = absurd t
 
 module _ (unclaimed : Route → Type 0) (job new : Running) (calls : ℕ) (dirty dirty_after : List Route) (before after : Option CallLog) (f0 f1 : ℕ) where

@@ -27,13 +27,16 @@ use Rattle.copy_move.specs.Ranks.{rank_with, work_rank}
 use Rattle.copy_move.specs.Told.{turned}
 use Rattle.job_sources.specs.declared.turning.Stepped.{Stepped}
 
--- the plan of one source: of a path that is deleted, or given this mode; of a pair that is copied
+-- the plan of one source: of a path that is deleted, or given this mode; of a pair that is copied; of one that is moved
 abbrev pub path_source : Option ℕ → Route → Job
 path_source None path = plan.Delete (path ∷ [])
 path_source (Some mode) path = plan.SetMode (path ∷ []) mode
 
 abbrev pub pair_source : Pair → Job
 pair_source pair = plan.Copy (pair ∷ [])
+
+abbrev pub move_source : Pair → Job
+move_source pair = plan.Move (pair ∷ [])
 
 -- the first of these sources is taken, if there is one
 abbrev pub Takes : List Job → Option Job → List Job → Type 0
@@ -108,6 +111,7 @@ pair_steps (pair ∷ more) = merged_steps tree_steps (room_below pair.source)
 
 abbrev pub source_rank : ℕ → Job → ℕ
 source_rank id (plan.Copy pairs) = pair_steps pairs
+source_rank id (plan.Move pairs) = work_steps id (plan.Move pairs)
 source_rank id (plan.Delete paths) = work_steps id (plan.Delete paths)
 source_rank id (plan.MakeFolder path) = work_steps id (plan.MakeFolder path)
 source_rank id (plan.MakeLink path text) = work_steps id (plan.MakeLink path text)
@@ -132,6 +136,7 @@ abbrev pub children_left : Work → ℕ
 children_left (work.Copy c) = if is_over c.at then 0 else below_steps tree_steps (room_below c.top.source)
 children_left (work.Delete d) = 0
 children_left (work.Make m) = 0
+children_left (work.Move m) = 0
 children_left (work.SetMode s) = 0
 
 abbrev pub children_on : Course → Work → ℕ

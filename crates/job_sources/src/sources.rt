@@ -3,7 +3,7 @@ ghost use Rattle.std.specs.Prelude.{◌≡◌, ◌∷◌, [], IfOk, map, true};
 ghost use Rattle.std.specs.List.{list_all};
 ghost use Rattle.job_reports.specs.Jobs.{is_workable};
 ghost use Rattle.session_history.specs.Sources.{are_workable, sources_of};
-ghost use Rattle.job_sources.specs.Turning.{pair_source, path_source};
+ghost use Rattle.job_sources.specs.Turning.{move_source, pair_source, path_source};
 
 use crate::later::Later;
 use job_reports::{Job, Pair, Pairs};
@@ -17,6 +17,7 @@ pub fn sources_in(alloc: Global, plan: &Job) -> Result<Later, NoMemory>
 {
     match plan {
         Job::Copy(pairs) => of_pairs(alloc, pairs),
+        Job::Move(pairs) => of_moves(alloc, pairs),
         Job::Delete(paths) => of_paths(alloc, paths, None),
         Job::MakeFolder(path) => of_one(alloc, Job::MakeFolder(path.copy(alloc)?)),
         Job::MakeLink(path, text) => of_one(
@@ -35,7 +36,21 @@ fn of_pairs(alloc: Global, pairs: &Pairs) -> Result<Later, NoMemory>
     let mut sources = Later::new(alloc);
     let mut left = pairs.0.as_slice();
     while let Some((pair, before)) = left.split_last() {
-        sources.put_first(source_of_pair(alloc, pair)?)?;
+        sources.put_first(Job::Copy(of_pair(alloc, pair)?))?;
+        left = before;
+    }
+    Ok(sources)
+}
+
+/// The sources of a move.
+fn of_moves(alloc: Global, pairs: &Pairs) -> Result<Later, NoMemory>
+    requires { list_all is_workable (map move_source pairs.now) ≡ true }
+    ensures { IfOk result (λ sources. sources ≡ map move_source pairs.now) }
+{
+    let mut sources = Later::new(alloc);
+    let mut left = pairs.0.as_slice();
+    while let Some((pair, before)) = left.split_last() {
+        sources.put_first(Job::Move(of_pair(alloc, pair)?))?;
         left = before;
     }
     Ok(sources)
@@ -65,15 +80,13 @@ fn of_one(alloc: Global, plan: Job) -> Result<Later, NoMemory>
     Ok(sources)
 }
 
-fn source_of_pair(alloc: Global, pair: &Pair) -> Result<Job, NoMemory>
-    ensures { IfOk result (λ source. source ≡ pair_source pair.now) }
+/// A pair alone.
+fn of_pair(alloc: Global, pair: &Pair) -> Result<Pairs, NoMemory>
+    ensures { IfOk result (λ alone. alone ≡ pair.now ∷ []) }
 {
     let mut pairs = Vec::new(alloc);
-    pairs.push(Pair {
-        source: pair.source.copy(alloc)?,
-        target: pair.target.copy(alloc)?,
-    })?;
-    Ok(Job::Copy(Pairs(pairs)))
+    pairs.push(pair.copy(alloc)?)?;
+    Ok(Pairs(pairs))
 }
 
 fn source_of_path(alloc: Global, path: &Path, mode: Option<u16>) -> Result<Job, NoMemory>

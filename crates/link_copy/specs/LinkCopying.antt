@@ -2,7 +2,7 @@
 use Rattle.std.specs.Prelude.{◌≡◌, ℕ, Bool, true, false}
 use Rattle.mc_text.specs.Routes.{Route}
 use Rattle.job_reports.specs.declared.report.Did.{Did}
-use Rattle.job_reports.specs.declared.report.Did.TheVariants.{Began, Chunk, Placed, Removed, Made, Set, Kept, Skipped, Cleaned, Barrier, Asked, Merges, Troubled, Ended}
+use Rattle.job_reports.specs.declared.report.Did.TheVariants.{Began, Chunk, Placed, Removed, Made, Set, Kept, Skipped, Cleaned, Barrier, Asked, Merges, Moved, Troubled, Ended}
 use Rattle.file_copy.specs.declared.stage.FolderState.{FolderState}
 use Rattle.file_copy.specs.declared.stage.FolderState.TheVariants.{Synced, Dirty}
 use Rattle.link_copy.specs.declared.stage.Next.{Next}
@@ -92,6 +92,7 @@ Tells c (Made made) new = ⊥
 Tells c (Kept path) new = ⊥
 Tells c (Asked question) new = ⊥
 Tells c (Merges pair names) new = ⊥
+Tells c (Moved pair) new = ⊥
 Tells c (Skipped path cause) new = ⊥
 Tells c (Ended ending part) new = ⊥
 

@@ -11,7 +11,7 @@ use Rattle.tree_trait.specs.Answers.{IfKnown, HasRisen}
 use Rattle.job_reports.specs.declared.report.Cause.{Cause}
 use Rattle.job_reports.specs.declared.report.Cause.TheVariants.{Tree, TargetKind, SpecialSource, TooDeep, PartTaken, TooLong, Unnamed, Changed, Memory}
 use Rattle.job_reports.specs.declared.report.Did.{Did}
-use Rattle.job_reports.specs.declared.report.Did.TheVariants.{Began, Chunk, Placed, Removed, Made, Set, Kept, Skipped, Cleaned, Barrier, Asked, Merges, Troubled, Ended}
+use Rattle.job_reports.specs.declared.report.Did.TheVariants.{Began, Chunk, Placed, Removed, Made, Set, Kept, Skipped, Cleaned, Barrier, Asked, Merges, Moved, Troubled, Ended}
 use Rattle.job_reports.specs.declared.stop.Stop.{Stop}
 use Rattle.job_reports.specs.CallRuns.{AllDone, RunStops, HasMore}
 use Rattle.job_reports.specs.Paths.{folder_of}
@@ -83,6 +83,7 @@ LinkCalls c (Made made) log after = ⊥
 LinkCalls c (Kept path) log after = ⊥
 LinkCalls c (Asked question) log after = ⊥
 LinkCalls c (Merges pair names) log after = ⊥
+LinkCalls c (Moved pair) log after = ⊥
 LinkCalls c (Skipped path cause) log after = ⊥
 LinkCalls c (Ended ending part) log after = ⊥
 

@@ -35,6 +35,10 @@ pub fn tell_report(page: &mut Page, did: &Did) {
             tell_of(page, " onto", &pair.target);
             page.tell(format_args!(", names {}", names.as_slice().len()));
         }
+        Did::Moved(pair) => {
+            tell_of(page, "Moved", &pair.source);
+            tell_of(page, " to", &pair.target);
+        }
         Did::Troubled(trouble) => tell_trouble(page, trouble),
         Did::Ended { ending, part } => tell_end(page, *ending, part),
     }

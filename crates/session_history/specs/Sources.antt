@@ -2,7 +2,7 @@
 use Rattle.std.specs.Prelude.{◌≡◌, ℕ, ⊤, Bool, true, false, List, [], ◌∷◌, ◌++◌, map, Option, None, if◌then◌else◌}
 use Rattle.std.specs.List.{list_all}
 use Rattle.job_reports.specs.declared.job.Job.{Job}
-use Rattle.job_reports.specs.declared.job.Job.TheVariants.{Copy, Delete, MakeFolder, MakeLink, SetMode}
+use Rattle.job_reports.specs.declared.job.Job.TheVariants.{Copy, Move, Delete, MakeFolder, MakeLink, SetMode}
 use Rattle.job_reports.specs.declared.job.Pair.{Pair}
 use Rattle.job_reports.specs.declared.report.Did.{Did}
 use Rattle.job_reports.specs.declared.report.Did.TheVariants.{Ended, Merges}
@@ -17,6 +17,7 @@ use Rattle.session_history.specs.declared.history.Entry.{Entry}
 -- the plans of a job's sources, one by one; a job of one thing is its own
 abbrev pub sources_of : Job → List Job
 sources_of (Copy pairs) = map (λ pair. Copy (pair ∷ [])) pairs
+sources_of (Move pairs) = map (λ pair. Move (pair ∷ [])) pairs
 sources_of (Delete paths) = map (λ path. Delete (path ∷ [])) paths
 sources_of (MakeFolder path) = MakeFolder path ∷ []
 sources_of (MakeLink path text) = MakeLink path text ∷ []

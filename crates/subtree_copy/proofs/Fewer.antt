@@ -7,7 +7,7 @@ use Rattle.tree_trait.specs.Change.{CallLog}
 use Rattle.job_reports.specs.declared.job.Pair.{Pair}
 use Rattle.job_answers.specs.declared.replies.Replies.{Replies}
 use Rattle.job_reports.specs.declared.report.Did.{Did}
-use Rattle.job_reports.specs.declared.report.Did.TheVariants.{Began, Chunk, Placed, Removed, Made, Set, Kept, Skipped, Cleaned, Barrier, Asked, Merges, Troubled, Ended}
+use Rattle.job_reports.specs.declared.report.Did.TheVariants.{Began, Chunk, Placed, Removed, Made, Set, Kept, Skipped, Cleaned, Barrier, Asked, Merges, Moved, Troubled, Ended}
 use Rattle.file_copy.specs.Copying as file
 use Rattle.file_copy.specs.Copying.{Copying, IsSound}
 use Rattle.file_copy.specs.declared.stage.Next.{Next as FileNext}
@@ -147,6 +147,7 @@ file_fits most enough f m (Set path) t sound h = absurd t
 file_fits most enough f m (Kept path) t sound h = absurd t
 file_fits most enough f m (Asked question) t sound h = absurd t
 file_fits most enough f m (Merges pair names) t sound h = absurd t
+file_fits most enough f m (Moved pair) t sound h = absurd t
 file_fits most enough f m (Skipped path cause) t sound h = absurd t
 
 link_from : (most : ℕ) (from to : LinkStage) (l m : LinkCopying) → l.stage ≡ from → m.stage ≡ to → FitsLink most (link_rank most from) to → FitsLink most (link_rank most l.stage) m.stage
@@ -170,6 +171,7 @@ link_fits most l m (Set path) t h = absurd t
 link_fits most l m (Kept path) t h = absurd t
 link_fits most l m (Asked question) t h = absurd t
 link_fits most l m (Merges pair names) t h = absurd t
+link_fits most l m (Moved pair) t h = absurd t
 link_fits most l m (Skipped path cause) t h = absurd t
 
 -- what was left before

@@ -10,7 +10,7 @@ use Rattle.job_reports.specs.CallRuns.{AllDone}
 use Rattle.job_reports.specs.Paths.{folder_of}
 use Rattle.job_reports.specs.Stops.{refusal_in, sync_answer}
 use Rattle.job_reports.specs.declared.report.Did.{Did}
-use Rattle.job_reports.specs.declared.report.Did.TheVariants.{Began, Chunk, Placed, Removed, Made, Set, Kept, Skipped, Cleaned, Barrier, Asked, Merges, Troubled, Ended}
+use Rattle.job_reports.specs.declared.report.Did.TheVariants.{Began, Chunk, Placed, Removed, Made, Set, Kept, Skipped, Cleaned, Barrier, Asked, Merges, Moved, Troubled, Ended}
 use Rattle.job_reports.specs.declared.report.Ending.{Ending}
 use Rattle.job_reports.specs.declared.report.LastStepResult.{LastStepResult}
 use Rattle.file_copy.specs.Copying as file
@@ -104,6 +104,7 @@ file_told ending f m last (Set path) folder log after is w called synced can the
 file_told ending f m last (Kept path) folder log after is w called synced can there = absurd w
 file_told ending f m last (Asked question) folder log after is w called synced can there = absurd w
 file_told ending f m last (Merges pair names) folder log after is w called synced can there = absurd w
+file_told ending f m last (Moved pair) folder log after is w called synced can there = absurd w
 file_told ending f m last (Skipped path cause) folder log after is w called synced can there = absurd w
 file_told ending f m last (Troubled trouble) folder log after is w called synced can there = absurd w
 

@@ -11,7 +11,7 @@ use Rattle.job_answers.specs.declared.replies.Replies.{Replies}
 use Rattle.job_reports.specs.declared.job.Pair.{Pair}
 use Rattle.job_reports.specs.declared.report.Cause.{Cause}
 use Rattle.job_reports.specs.declared.report.Did.{Did}
-use Rattle.job_reports.specs.declared.report.Did.TheVariants.{Began, Chunk, Placed, Removed, Made, Set, Kept, Skipped, Cleaned, Barrier, Asked, Merges, Troubled, Ended}
+use Rattle.job_reports.specs.declared.report.Did.TheVariants.{Began, Chunk, Placed, Removed, Made, Set, Kept, Skipped, Cleaned, Barrier, Asked, Merges, Moved, Troubled, Ended}
 use Rattle.job_reports.specs.declared.report.Ending.{Ending}
 use Rattle.job_reports.specs.declared.report.Ending.TheVariants.{Finished, Aborted, Killed, NoMemory}
 use Rattle.job_reports.specs.declared.report.LastStepResult.{LastStepResult}
@@ -65,6 +65,7 @@ file_may f m (Removed path) t = t
 file_may f m (Kept path) t = tt
 file_may f m (Asked question) t = tt
 file_may f m (Merges pair names) t = tt
+file_may f m (Moved pair) t = t
 file_may f m (Began part) t = tt
 file_may f m (Chunk count) t = tt
 file_may f m (Placed path) t = tt
@@ -81,6 +82,7 @@ link_may l m (Removed path) t = t
 link_may l m (Kept path) t = tt
 link_may l m (Asked question) t = tt
 link_may l m (Merges pair names) t = tt
+link_may l m (Moved pair) t = absurd t
 link_may l m (Began part) t = tt
 link_may l m (Chunk count) t = tt
 link_may l m (Placed path) t = tt
@@ -159,6 +161,7 @@ file_not f m (Removed path) t = tt
 file_not f m (Kept path) t = tt
 file_not f m (Asked question) t = tt
 file_not f m (Merges pair names) t = tt
+file_not f m (Moved pair) t = tt
 file_not f m (Began part) t = tt
 file_not f m (Chunk count) t = tt
 file_not f m (Placed path) t = tt
@@ -175,6 +178,7 @@ link_not l m (Removed path) t = tt
 link_not l m (Kept path) t = tt
 link_not l m (Asked question) t = tt
 link_not l m (Merges pair names) t = tt
+link_not l m (Moved pair) t = tt
 link_not l m (Began part) t = tt
 link_not l m (Chunk count) t = tt
 link_not l m (Placed path) t = tt
@@ -311,6 +315,7 @@ file_wound ending f m old new (Set path) w can stage now = absurd w
 file_wound ending f m old new (Kept path) w can stage now = absurd w
 file_wound ending f m old new (Asked question) w can stage now = absurd w
 file_wound ending f m old new (Merges pair names) w can stage now = absurd w
+file_wound ending f m old new (Moved pair) w can stage now = absurd w
 file_wound ending f m old new (Skipped path cause) w can stage now = absurd w
 file_wound ending f m old new (Troubled trouble) w can stage now = absurd w
 

@@ -10,7 +10,7 @@ use Rattle.job_answers.specs.declared.replies.Replies.{Replies}
 use Rattle.job_reports.specs.declared.report.Cause.{Cause}
 use Rattle.job_reports.specs.declared.report.Cause.TheVariants.{Tree, TargetKind, SpecialSource, TooDeep, PartTaken, TooLong, Unnamed, Changed, Memory}
 use Rattle.job_reports.specs.declared.report.Did.{Did}
-use Rattle.job_reports.specs.declared.report.Did.TheVariants.{Began, Chunk, Placed, Removed, Made, Set, Kept, Skipped, Cleaned, Barrier, Asked, Merges, Troubled, Ended}
+use Rattle.job_reports.specs.declared.report.Did.TheVariants.{Began, Chunk, Placed, Removed, Made, Set, Kept, Skipped, Cleaned, Barrier, Asked, Merges, Moved, Troubled, Ended}
 use Rattle.job_reports.specs.CallRuns.{RunStops, StopsAt}
 use Rattle.job_reports.specs.Paths.{folder_of}
 use Rattle.job_reports.proofs.Runs.{all_some}
@@ -93,6 +93,7 @@ copy_tells unclaimed c (Made made) new log after h = absurd h
 copy_tells unclaimed c (Kept path) new log after h = absurd h
 copy_tells unclaimed c (Asked question) new log after h = absurd h
 copy_tells unclaimed c (Merges pair names) new log after h = absurd h
+copy_tells unclaimed c (Moved pair) new log after h = absurd h
 copy_tells unclaimed c (Skipped path cause) new log after h = (log, h)
 copy_tells unclaimed c (Ended ending part) new log after h = (log, h)
 
@@ -115,6 +116,7 @@ part_tells unclaimed facts c (Cleaned part) log after h = absurd h
 part_tells unclaimed facts c Barrier log after h = absurd h
 part_tells unclaimed facts c (Asked question) log after h = absurd h
 part_tells unclaimed facts c (Merges pair names) log after h = absurd h
+part_tells unclaimed facts c (Moved pair) log after h = absurd h
 part_tells unclaimed facts c (Ended ending part) log after h = absurd h
 
 -- a link
@@ -140,6 +142,7 @@ link_tells l (Made made) log after h = absurd h
 link_tells l (Kept path) log after h = absurd h
 link_tells l (Asked question) log after h = absurd h
 link_tells l (Merges pair names) log after h = absurd h
+link_tells l (Moved pair) log after h = absurd h
 link_tells l (Skipped path cause) log after h = absurd h
 link_tells l (Ended ending part) log after h = absurd h
 

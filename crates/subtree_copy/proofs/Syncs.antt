@@ -18,7 +18,7 @@ use Rattle.folder_copy.specs.declared.stage.Stage.{Stage}
 use Rattle.job_answers.specs.declared.skips.Skips.{Skips}
 use Rattle.job_reports.specs.declared.job.Pair.{Pair}
 use Rattle.job_reports.specs.declared.report.Did.{Did}
-use Rattle.job_reports.specs.declared.report.Did.TheVariants.{Began, Chunk, Placed, Removed, Made, Set, Kept, Skipped, Cleaned, Barrier, Asked, Merges, Troubled, Ended}
+use Rattle.job_reports.specs.declared.report.Did.TheVariants.{Began, Chunk, Placed, Removed, Made, Set, Kept, Skipped, Cleaned, Barrier, Asked, Merges, Moved, Troubled, Ended}
 use Rattle.job_reports.specs.declared.report.StepResult.{StepResult}
 use Rattle.subtree_walk.specs.Places.{opened}
 use Rattle.copy_levels.specs.Levels.{Levels, is_around_dirty, made_levels}
@@ -51,6 +51,7 @@ left_clean (Removed path) c h = h
 left_clean (Kept path) c h = h
 left_clean (Asked question) c h = h
 left_clean (Merges pair names) c h = h
+left_clean (Moved pair) c h = h
 left_clean (Skipped path cause) c h = h
 left_clean (Cleaned part) c h = h
 left_clean Barrier c h = h

@@ -6,7 +6,7 @@ use Rattle.tree_trait.specs.Change.{CallLog}
 use Rattle.job_answers.specs.declared.replies.Replies.{Replies}
 use Rattle.job_reports.specs.declared.report.Cause.{Cause}
 use Rattle.job_reports.specs.declared.report.Did.{Did}
-use Rattle.job_reports.specs.declared.report.Did.TheVariants.{Began, Chunk, Placed, Removed, Made, Set, Kept, Skipped, Cleaned, Barrier, Asked, Merges, Troubled, Ended}
+use Rattle.job_reports.specs.declared.report.Did.TheVariants.{Began, Chunk, Placed, Removed, Made, Set, Kept, Skipped, Cleaned, Barrier, Asked, Merges, Moved, Troubled, Ended}
 use Rattle.job_reports.specs.declared.report.Ending.TheVariants.{Finished, Aborted, Killed, NoMemory}
 use Rattle.job_reports.specs.declared.report.StepResult.{StepResult}
 use Rattle.job_reports.specs.declared.report.Trouble.{Trouble}
@@ -94,6 +94,7 @@ file_after f moved (Set path) t = absurd t
 file_after f moved (Kept path) t = absurd t
 file_after f moved (Asked question) t = absurd t
 file_after f moved (Merges pair names) t = absurd t
+file_after f moved (Moved pair) t = absurd t
 file_after f moved (Skipped path cause) t = absurd t
 
 cleaned_link : (next : LinkNext) (part : Route) → link_part (link.after_clean next) part ≡ None
@@ -117,6 +118,7 @@ link_after l moved (Set path) t = absurd t
 link_after l moved (Kept path) t = absurd t
 link_after l moved (Asked question) t = absurd t
 link_after l moved (Merges pair names) t = absurd t
+link_after l moved (Moved pair) t = absurd t
 link_after l moved (Skipped path cause) t = absurd t
 
 -- no part is begun or gone at a folder

@@ -8,7 +8,7 @@ use Rattle.job_answers.specs.declared.replies.Replies.{Replies}
 use Rattle.job_reports.specs.declared.job.Pair.{Pair}
 use Rattle.job_reports.specs.declared.report.Cause.{Cause}
 use Rattle.job_reports.specs.declared.report.Did.{Did}
-use Rattle.job_reports.specs.declared.report.Did.TheVariants.{Began, Chunk, Placed, Removed, Made, Set, Kept, Skipped, Cleaned, Barrier, Asked, Merges, Troubled, Ended}
+use Rattle.job_reports.specs.declared.report.Did.TheVariants.{Began, Chunk, Placed, Removed, Made, Set, Kept, Skipped, Cleaned, Barrier, Asked, Merges, Moved, Troubled, Ended}
 use Rattle.job_reports.specs.declared.report.Ending.TheVariants.{Finished, Aborted, Killed, NoMemory}
 use Rattle.job_reports.specs.declared.report.StepResult.{StepResult}
 use Rattle.job_reports.specs.declared.report.Trouble.{Trouble}
@@ -120,6 +120,7 @@ quiet_file f m (Ended NoMemory part) begin t quiet = absurd t
 quiet_file f m (Kept path) begin t quiet = absurd t
 quiet_file f m (Asked question) begin t quiet = absurd t
 quiet_file f m (Merges pair names) begin t quiet = absurd t
+quiet_file f m (Moved pair) begin t quiet = absurd t
 quiet_file f m (Skipped path cause) begin t quiet = absurd t
 quiet_file f m (Began part) begin t quiet = absurd (true≢false quiet)
 quiet_file f m (Chunk count) begin t quiet = absurd (true≢false quiet)
@@ -136,6 +137,7 @@ quiet_link l m (Ended ending part) t quiet = absurd t
 quiet_link l m (Kept path) t quiet = absurd t
 quiet_link l m (Asked question) t quiet = absurd t
 quiet_link l m (Merges pair names) t quiet = absurd t
+quiet_link l m (Moved pair) t quiet = absurd t
 quiet_link l m (Skipped path cause) t quiet = absurd t
 quiet_link l m (Began part) t quiet = absurd (true≢false quiet)
 quiet_link l m (Chunk count) t quiet = absurd (true≢false quiet)
@@ -162,6 +164,7 @@ begins_file f m (Set path) begin t = t
 begins_file f m (Kept path) begin t = tt
 begins_file f m (Asked question) begin t = tt
 begins_file f m (Merges pair names) begin t = tt
+begins_file f m (Moved pair) begin t = t
 
 begins_link : (l m : LinkCopying) (did : Did) → l.stage ≡ link_stage.Make → link.Tells l did m → MayBegin did
 begins_link l m (Began part) make t = tt
@@ -178,6 +181,7 @@ begins_link l m (Set path) make t = t
 begins_link l m (Kept path) make t = tt
 begins_link l m (Asked question) make t = tt
 begins_link l m (Merges pair names) make t = tt
+begins_link l m (Moved pair) make t = absurd t
 
 begins_folder : (pair : Pair) (mode : ℕ) (m : FolderCopying) (report : FolderDid) (did : Did) → IsToldAs report did → folder.Tells (folder.copying pair.source pair.target (Make mode) marks.Synced) report m → MayBegin did
 begins_folder pair mode m (folder_did.Made path) did told t = subst MayBegin (sym told) tt

@@ -6,7 +6,7 @@ use Rattle.job_answers.specs.Skipping.{holds, kind_in}
 use Rattle.job_answers.specs.declared.replies.Replies.{Replies}
 use Rattle.job_reports.specs.declared.report.Cause.{Cause}
 use Rattle.job_reports.specs.declared.report.Did.{Did}
-use Rattle.job_reports.specs.declared.report.Did.TheVariants.{Began, Chunk, Placed, Removed, Made, Set, Kept, Skipped, Cleaned, Barrier, Asked, Merges, Troubled, Ended}
+use Rattle.job_reports.specs.declared.report.Did.TheVariants.{Began, Chunk, Placed, Removed, Made, Set, Kept, Skipped, Cleaned, Barrier, Asked, Merges, Moved, Troubled, Ended}
 use Rattle.job_reports.specs.declared.report.Ending.{Ending}
 use Rattle.job_reports.specs.declared.report.Ending.TheVariants.{Finished, Aborted, Killed, NoMemory}
 use Rattle.job_reports.specs.declared.report.LastStepResult.{LastStepResult}
@@ -22,6 +22,7 @@ MayTell (Removed path) = ⊥
 MayTell (Kept path) = ⊤
 MayTell (Asked question) = ⊤
 MayTell (Merges pair names) = ⊤
+MayTell (Moved pair) = ⊥
 MayTell (Ended Finished part) = part ≡ None
 MayTell (Ended Aborted part) = ⊥
 MayTell (Ended Killed part) = ⊥
@@ -50,6 +51,7 @@ MayWind ending stands (Set path) = ⊥
 MayWind ending stands (Kept path) = ⊥
 MayWind ending stands (Asked question) = ⊥
 MayWind ending stands (Merges pair names) = ⊥
+MayWind ending stands (Moved pair) = ⊥
 MayWind ending stands (Skipped path cause) = ⊥
 MayWind ending stands (Troubled trouble) = ⊥
 

@@ -6,7 +6,7 @@ use Rattle.job_answers.specs.declared.replies.Replies.{Replies}
 use Rattle.job_reports.specs.declared.job.Pair.{Pair}
 use Rattle.job_reports.specs.declared.report.Cause.{Cause}
 use Rattle.job_reports.specs.declared.report.Did.{Did}
-use Rattle.job_reports.specs.declared.report.Did.TheVariants.{Began, Chunk, Placed, Removed, Made, Set, Kept, Skipped, Cleaned, Barrier, Asked, Merges, Troubled, Ended}
+use Rattle.job_reports.specs.declared.report.Did.TheVariants.{Began, Chunk, Placed, Removed, Made, Set, Kept, Skipped, Cleaned, Barrier, Asked, Merges, Moved, Troubled, Ended}
 use Rattle.job_reports.specs.declared.report.Trouble.{Trouble}
 use Rattle.folder_copy.specs.FolderCopying.{is_dirty}
 use Rattle.tree_copy.specs.declared.item.Item.TheVariants.{Next}
@@ -41,6 +41,7 @@ MayBegin (Set path) = ⊥
 MayBegin (Kept path) = ⊤
 MayBegin (Asked question) = ⊤
 MayBegin (Merges pair names) = ⊤
+MayBegin (Moved pair) = ⊥
 MayBegin (Cleaned part) = ⊥
 MayBegin Barrier = ⊥
 

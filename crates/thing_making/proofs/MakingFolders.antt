@@ -6,7 +6,7 @@ use Rattle.tree_trait.specs.Change.{CallLog}
 use Rattle.job_reports.specs.declared.report.Ending.{Ending}
 use Rattle.job_reports.specs.declared.report.Ending.TheVariants.{Finished, Aborted, Killed, NoMemory}
 use Rattle.job_reports.specs.declared.report.Did.{Did}
-use Rattle.job_reports.specs.declared.report.Did.TheVariants.{Began, Chunk, Placed, Removed, Made, Set, Kept, Skipped, Cleaned, Barrier, Asked, Merges, Troubled, Ended}
+use Rattle.job_reports.specs.declared.report.Did.TheVariants.{Began, Chunk, Placed, Removed, Made, Set, Kept, Skipped, Cleaned, Barrier, Asked, Merges, Moved, Troubled, Ended}
 use Rattle.job_reports.specs.Stops.{out_of_memory_at}
 use Rattle.thing_making.specs.declared.making.MakingStage.{MakingStage}
 use Rattle.thing_making.specs.declared.making.MakingStage.TheVariants as making
@@ -27,6 +27,7 @@ making_stays m new (Began part) t = absurd t
 making_stays m new (Chunk count) t = absurd t
 making_stays m new (Asked question) t = absurd t
 making_stays m new (Merges pair names) t = absurd t
+making_stays m new (Moved pair) t = absurd t
 making_stays m new (Set path) t = absurd t
 making_stays m new (Placed path) t = absurd t
 making_stays m new (Removed made) t = absurd t
@@ -41,6 +42,7 @@ making_winds_there ending m new (Began part) w = absurd w
 making_winds_there ending m new (Chunk count) w = absurd w
 making_winds_there ending m new (Asked question) w = absurd w
 making_winds_there ending m new (Merges pair names) w = absurd w
+making_winds_there ending m new (Moved pair) w = absurd w
 making_winds_there ending m new (Set path) w = absurd w
 making_winds_there ending m new (Placed path) w = absurd w
 making_winds_there ending m new (Made path) w = absurd w
@@ -63,6 +65,7 @@ clean_making m new (Began part) t changed clean = absurd t
 clean_making m new (Chunk count) t changed clean = absurd t
 clean_making m new (Asked question) t changed clean = absurd t
 clean_making m new (Merges pair names) t changed clean = absurd t
+clean_making m new (Moved pair) t changed clean = absurd t
 clean_making m new (Set path) t changed clean = absurd t
 clean_making m new (Placed path) t changed clean = absurd t
 clean_making m new (Removed made) t changed clean = absurd t

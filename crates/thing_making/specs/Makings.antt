@@ -10,7 +10,7 @@ use Rattle.job_reports.specs.declared.report.Trouble.{Trouble}
 use Rattle.job_reports.specs.declared.report.Ending.{Ending}
 use Rattle.job_reports.specs.declared.report.Ending.TheVariants.{Finished}
 use Rattle.job_reports.specs.declared.report.Did.{Did}
-use Rattle.job_reports.specs.declared.report.Did.TheVariants.{Began, Chunk, Placed, Removed, Made, Set, Kept, Skipped, Cleaned, Barrier, Asked, Merges, Troubled, Ended}
+use Rattle.job_reports.specs.declared.report.Did.TheVariants.{Began, Chunk, Placed, Removed, Made, Set, Kept, Skipped, Cleaned, Barrier, Asked, Merges, Moved, Troubled, Ended}
 use Rattle.job_reports.specs.Stops.{sync_answer, cause_of, trouble_at}
 use Rattle.thing_making.specs.declared.making.MakingStage.{MakingStage}
 use Rattle.thing_making.specs.declared.making.MakingStage.TheVariants.{Make, Sync, Finish, PassedOver}
@@ -100,6 +100,7 @@ Tells m (Removed path) new = ⊥
 Tells m (Kept kept) new = ⊥
 Tells m (Asked question) new = ⊥
 Tells m (Merges pair names) new = ⊥
+Tells m (Moved pair) new = ⊥
 Tells m (Skipped path cause) new = ⊥
 Tells m (Cleaned part) new = ⊥
 
@@ -116,6 +117,7 @@ Winds ending m (Made made) new = ⊥
 Winds ending m (Kept kept) new = ⊥
 Winds ending m (Asked question) new = ⊥
 Winds ending m (Merges pair names) new = ⊥
+Winds ending m (Moved pair) new = ⊥
 Winds ending m (Skipped path cause) new = ⊥
 Winds ending m (Cleaned part) new = ⊥
 Winds ending m (Troubled trouble) new = ⊥
@@ -140,6 +142,7 @@ MakingCalls m (Removed path) log after = ⊥
 MakingCalls m (Kept kept) log after = ⊥
 MakingCalls m (Asked question) log after = ⊥
 MakingCalls m (Merges pair names) log after = ⊥
+MakingCalls m (Moved pair) log after = ⊥
 MakingCalls m (Skipped path cause) log after = ⊥
 MakingCalls m (Cleaned part) log after = ⊥
 
@@ -156,6 +159,7 @@ LastMakingCalls m (Made made) log after = ⊥
 LastMakingCalls m (Kept kept) log after = ⊥
 LastMakingCalls m (Asked question) log after = ⊥
 LastMakingCalls m (Merges pair names) log after = ⊥
+LastMakingCalls m (Moved pair) log after = ⊥
 LastMakingCalls m (Skipped path cause) log after = ⊥
 LastMakingCalls m (Cleaned part) log after = ⊥
 LastMakingCalls m (Troubled trouble) log after = ⊥

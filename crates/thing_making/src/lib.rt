@@ -4,7 +4,6 @@
 mod dirty_making;
 mod making;
 mod new_thing;
-mod reports;
 
 pub use dirty_making::{step_making, wind_up_making};
 pub use making::{MakingStage, ThingMaking};

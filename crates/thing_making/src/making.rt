@@ -8,12 +8,11 @@ ghost use Rattle.thing_making.specs.MakingSteps.{LastMakingStep, MakingSkips, Ma
 ghost use Rattle.thing_making.specs.NewThings.{IsMakable};
 
 use crate::new_thing::NewThing;
-use crate::reports::{last, tried};
 use job_reports::{Cause, Did, Ending, LastStepResult, StepResult, out_of_memory};
 use mc_text::Path;
 use std::alloc::Global;
 use std::marker::Model;
-use tree_deletion::{ended, refused, with_call, without_call};
+use tree_deletion::{ended, last_report, refused, tried, with_call, without_call};
 use tree_trait::Tree;
 
 /// What is to be done next.
@@ -101,7 +100,7 @@ impl ThingMaking {
     {
         match self.stage {
             MakingStage::Sync => self.try_sync(alloc, tree, ending),
-            MakingStage::Make | MakingStage::Finish | MakingStage::PassedOver => last(
+            MakingStage::Make | MakingStage::Finish | MakingStage::PassedOver => last_report(
                 ended(ending),
                 None,
             ),

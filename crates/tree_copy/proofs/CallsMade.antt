@@ -11,7 +11,7 @@ use Rattle.tree_trait.specs.Answers.{IfKnown, Performs}
 use Rattle.job_reports.specs.declared.job.Pair.{Pair}
 use Rattle.job_reports.specs.declared.report.Cause.{Cause}
 use Rattle.job_reports.specs.declared.report.Did.{Did}
-use Rattle.job_reports.specs.declared.report.Did.TheVariants.{Began, Chunk, Placed, Removed, Made, Set, Kept, Skipped, Cleaned, Barrier, Asked, Merges, Troubled, Ended}
+use Rattle.job_reports.specs.declared.report.Did.TheVariants.{Began, Chunk, Placed, Removed, Made, Set, Kept, Skipped, Cleaned, Barrier, Asked, Merges, Moved, Troubled, Ended}
 use Rattle.job_reports.specs.declared.report.Ending.{Ending}
 use Rattle.job_reports.specs.declared.report.Ending.TheVariants.{Finished, Aborted, Killed, NoMemory}
 use Rattle.job_reports.specs.declared.report.LastStepResult.{LastStepResult}
@@ -134,6 +134,7 @@ module _ (top : Pair) (job : ℕ) where
   file_makes unclaimed f new (Kept path) log after by is beside t c = absurd t
   file_makes unclaimed f new (Asked question) log after by is beside t c = absurd t
   file_makes unclaimed f new (Merges pair names) log after by is beside t c = absurd t
+  file_makes unclaimed f new (Moved pair) log after by is beside t c = absurd t
   file_makes unclaimed f new (Skipped path cause) log after by is beside t c = absurd t
 
   -- what stops the making of a part
@@ -162,6 +163,7 @@ module _ (top : Pair) (job : ℕ) where
   part_makes unclaimed facts f new Barrier log after by is beside t c = absurd t
   part_makes unclaimed facts f new (Asked question) log after by is beside t c = absurd t
   part_makes unclaimed facts f new (Merges pair names) log after by is beside t c = absurd t
+  part_makes unclaimed facts f new (Moved pair) log after by is beside t c = absurd t
   part_makes unclaimed facts f new (Ended ending part) log after by is beside t c = absurd t
 
   -- a link's calls, by its stage
@@ -203,6 +205,7 @@ module _ (top : Pair) (job : ℕ) where
   link_makes l new (Kept path) log after is beside t c = absurd t
   link_makes l new (Asked question) log after is beside t c = absurd t
   link_makes l new (Merges pair names) log after is beside t c = absurd t
+  link_makes l new (Moved pair) log after is beside t c = absurd t
   link_makes l new (Skipped path cause) log after is beside t c = absurd t
   link_makes l new (Ended ending part) log after is beside t c = absurd t
 
@@ -270,5 +273,6 @@ module _ (top : Pair) (job : ℕ) where
   file_winds ending f new (Kept kept) log after is beside t c = absurd t
   file_winds ending f new (Asked question) log after is beside t c = absurd t
   file_winds ending f new (Merges pair names) log after is beside t c = absurd t
+  file_winds ending f new (Moved pair) log after is beside t c = absurd t
   file_winds ending f new (Skipped path cause) log after is beside t c = absurd t
   file_winds ending f new (Troubled trouble) log after is beside t c = absurd t

@@ -7,7 +7,7 @@ use Rattle.job_answers.specs.declared.replies.Replies.{Replies}
 use Rattle.tree_trait.specs.Change.{CallLog}
 use Rattle.job_reports.specs.declared.job.Pair.{Pair}
 use Rattle.job_reports.specs.declared.report.Did.{Did}
-use Rattle.job_reports.specs.declared.report.Did.TheVariants.{Began, Chunk, Placed, Removed, Made, Set, Kept, Skipped, Cleaned, Barrier, Asked, Merges, Troubled, Ended}
+use Rattle.job_reports.specs.declared.report.Did.TheVariants.{Began, Chunk, Placed, Removed, Made, Set, Kept, Skipped, Cleaned, Barrier, Asked, Merges, Moved, Troubled, Ended}
 use Rattle.file_copy.specs.Copying as file
 use Rattle.file_copy.specs.Copying.{Copying}
 use Rattle.link_copy.specs.LinkCopying as link
@@ -81,6 +81,7 @@ file_decided f new (Removed path) t h = absurd (false≢true h)
 file_decided f new (Kept path) t h = absurd (false≢true h)
 file_decided f new (Asked question) t h = absurd (false≢true h)
 file_decided f new (Merges pair names) t h = absurd (false≢true h)
+file_decided f new (Moved pair) t h = absurd (false≢true h)
 file_decided f new (Skipped path cause) t h = absurd (false≢true h)
 file_decided f new (Cleaned part) t h = absurd (false≢true h)
 file_decided f new Barrier t h = absurd (false≢true h)
@@ -97,6 +98,7 @@ link_decided l new (Removed path) t h = absurd (false≢true h)
 link_decided l new (Kept path) t h = absurd (false≢true h)
 link_decided l new (Asked question) t h = absurd (false≢true h)
 link_decided l new (Merges pair names) t h = absurd (false≢true h)
+link_decided l new (Moved pair) t h = absurd (false≢true h)
 link_decided l new (Skipped path cause) t h = absurd (false≢true h)
 link_decided l new (Cleaned part) t h = absurd (false≢true h)
 link_decided l new Barrier t h = absurd (false≢true h)

@@ -7,7 +7,7 @@ use Rattle.tree_trait.specs.Change.{CallLog}
 use Rattle.tree_trait.specs.CrashImages.{Among}
 use Rattle.job_reports.specs.declared.job.Pair.{Pair}
 use Rattle.job_reports.specs.declared.report.Did.{Did}
-use Rattle.job_reports.specs.declared.report.Did.TheVariants.{Began, Chunk, Placed, Removed, Made, Set, Kept, Skipped, Cleaned, Barrier, Asked, Merges, Troubled, Ended}
+use Rattle.job_reports.specs.declared.report.Did.TheVariants.{Began, Chunk, Placed, Removed, Made, Set, Kept, Skipped, Cleaned, Barrier, Asked, Merges, Moved, Troubled, Ended}
 use Rattle.job_reports.specs.declared.report.Ending.TheVariants.{Finished, Aborted, Killed, NoMemory}
 use Rattle.file_copy.specs.Copying as file
 use Rattle.file_copy.specs.Copying.{Copying}
@@ -56,6 +56,7 @@ file_paths f new (Made made) t = absurd t
 file_paths f new (Kept path) t = absurd t
 file_paths f new (Asked question) t = absurd t
 file_paths f new (Merges pair names) t = absurd t
+file_paths f new (Moved pair) t = absurd t
 file_paths f new (Skipped path cause) t = absurd t
 
 pub link_paths : (l new : LinkCopying) (did : Did) → link.Tells l did new → (new.source ≡ l.source) × (new.target ≡ l.target)
@@ -71,6 +72,7 @@ link_paths l new (Made made) t = absurd t
 link_paths l new (Kept path) t = absurd t
 link_paths l new (Asked question) t = absurd t
 link_paths l new (Merges pair names) t = absurd t
+link_paths l new (Moved pair) t = absurd t
 link_paths l new (Skipped path cause) t = absurd t
 link_paths l new (Ended ending part) t = absurd t
 
@@ -164,6 +166,7 @@ module _ (top : Pair) where
   names_file f new (Kept path) t m = tt
   names_file f new (Asked question) t m = tt
   names_file f new (Merges pair names) t m = tt
+  names_file f new (Moved pair) t m = tt
   names_file f new (Skipped path cause) t m = tt
   names_file f new (Cleaned part) t m = tt
   names_file f new Barrier t m = tt
@@ -180,6 +183,7 @@ module _ (top : Pair) where
   names_link l new (Kept path) t m = tt
   names_link l new (Asked question) t m = tt
   names_link l new (Merges pair names) t m = tt
+  names_link l new (Moved pair) t m = tt
   names_link l new (Skipped path cause) t m = tt
   names_link l new (Cleaned part) t m = tt
   names_link l new Barrier t m = tt

@@ -4,7 +4,7 @@ use Rattle.mc_text.specs.Routes.{Route}
 use Rattle.tree_trait.specs.Change.{CallLog}
 use Rattle.job_answers.specs.declared.replies.Replies.{Replies}
 use Rattle.job_reports.specs.declared.report.Did.{Did}
-use Rattle.job_reports.specs.declared.report.Did.TheVariants.{Began, Chunk, Placed, Removed, Made, Set, Kept, Skipped, Cleaned, Barrier, Asked, Merges, Troubled, Ended}
+use Rattle.job_reports.specs.declared.report.Did.TheVariants.{Began, Chunk, Placed, Removed, Made, Set, Kept, Skipped, Cleaned, Barrier, Asked, Merges, Moved, Troubled, Ended}
 use Rattle.file_copy.specs.Copying as file
 use Rattle.file_copy.specs.Copying.{Copying}
 use Rattle.file_copy.specs.CopySteps.{Falls}
@@ -28,6 +28,7 @@ tells_part facts f moved (Cleaned part) begin t = absurd t
 tells_part facts f moved Barrier begin t = absurd t
 tells_part facts f moved (Asked question) begin t = absurd t
 tells_part facts f moved (Merges pair names) begin t = absurd t
+tells_part facts f moved (Moved pair) begin t = absurd t
 tells_part facts f moved (Ended ending part) begin t = absurd t
 
 falls_part : (facts : SourceFacts) (f moved : Copying) (did : Did) → TellsMade facts f did moved → Falls did f moved
@@ -44,6 +45,7 @@ falls_part facts f moved (Cleaned part) t = absurd t
 falls_part facts f moved Barrier t = absurd t
 falls_part facts f moved (Asked question) t = absurd t
 falls_part facts f moved (Merges pair names) t = absurd t
+falls_part facts f moved (Moved pair) t = absurd t
 falls_part facts f moved (Ended ending part) t = absurd t
 
 pub file_taken : (unclaimed : Route → Type 0) (replies : Replies) (old new : Seen) (did : Did) (before after : Option CallLog) → (t : TakesFile unclaimed replies old new did before after)

@@ -10,7 +10,7 @@ use Rattle.link_copy.specs.declared.stage.Next.{Next as Follows}
 use Rattle.link_copy.specs.declared.stage.Next.TheVariants as follows
 use Rattle.file_copy.specs.declared.stage.FolderState.{FolderState}
 use Rattle.job_reports.specs.declared.report.Did.{Did}
-use Rattle.job_reports.specs.declared.report.Did.TheVariants.{Began, Chunk, Placed, Removed, Made, Set, Kept, Skipped, Cleaned, Barrier, Asked, Merges, Troubled, Ended}
+use Rattle.job_reports.specs.declared.report.Did.TheVariants.{Began, Chunk, Placed, Removed, Made, Set, Kept, Skipped, Cleaned, Barrier, Asked, Merges, Moved, Troubled, Ended}
 use Rattle.tree_copy.specs.declared.item.Item.{Item}
 use Rattle.tree_copy.specs.declared.item.Item.TheVariants.{Next, File, Link}
 use Rattle.tree_copy.specs.declared.progress.Progress.TheVariants.{UnderWay}
@@ -58,6 +58,7 @@ link_stays l new (Made made) ready t = absurd t
 link_stays l new (Kept path) ready t = absurd t
 link_stays l new (Asked question) ready t = absurd t
 link_stays l new (Merges pair names) ready t = absurd t
+link_stays l new (Moved pair) ready t = absurd t
 link_stays l new (Skipped path cause) ready t = absurd t
 link_stays l new (Ended ending part) ready t = absurd t
 

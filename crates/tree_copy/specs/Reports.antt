@@ -40,6 +40,7 @@ changes (common.Chunk count) = true
 changes (common.Placed path) = true
 changes (common.Removed path) = true
 changes (common.Made path) = true
+changes (common.Moved pair) = true
 changes (common.Set path) = true
 changes (common.Cleaned part) = true
 changes common.Barrier = true

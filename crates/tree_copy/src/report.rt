@@ -46,6 +46,7 @@ fn is_change(did: &Did) -> bool
         Did::Made(_) | Did::Set(_) | Did::Removed(_) | Did::Barrier => true,
         Did::Kept(_) | Did::Skipped(_, _) | Did::Asked(_) => false,
         Did::Merges(_, _) => false,
+        Did::Moved(_) => true,
         Did::Troubled(_) | Did::Ended { .. } => false,
     }
 }

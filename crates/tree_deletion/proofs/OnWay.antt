@@ -4,7 +4,7 @@ use Rattle.std.proofs.lemmas.Bool.{true≢false, false≢true}
 use Rattle.mc_text.specs.Routes.{Route}
 use Rattle.tree_trait.specs.Change.{CallLog}
 use Rattle.job_reports.specs.declared.report.Did.{Did}
-use Rattle.job_reports.specs.declared.report.Did.TheVariants.{Began, Chunk, Placed, Removed, Made, Set, Kept, Skipped, Cleaned, Barrier, Asked, Merges, Troubled, Ended}
+use Rattle.job_reports.specs.declared.report.Did.TheVariants.{Began, Chunk, Placed, Removed, Made, Set, Kept, Skipped, Cleaned, Barrier, Asked, Merges, Moved, Troubled, Ended}
 use Rattle.job_reports.proofs.Runs.{risen_before}
 use Rattle.subtree_walk.specs.Places.{Place}
 use Rattle.tree_deletion.specs.declared.deletion.Depth.{Depth}
@@ -78,6 +78,7 @@ progress_falls old new (Cleaned part) going w h = absurd (false≢true h)
 progress_falls old new Barrier going w h = absurd (false≢true h)
 progress_falls old new (Asked question) going w h = absurd (false≢true h)
 progress_falls old new (Merges pair names) going w h = absurd (false≢true h)
+progress_falls old new (Moved pair) going w h = absurd (false≢true h)
 progress_falls old new (Troubled trouble) going w h = absurd (false≢true h)
 progress_falls old new (Ended ending part) going w h = absurd (false≢true h)
 
@@ -110,6 +111,7 @@ works_no_more old new (Cleaned part) going w = absurd w
 works_no_more old new Barrier going w = absurd w
 works_no_more old new (Asked question) going w = absurd w
 works_no_more old new (Merges pair names) going w = absurd w
+works_no_more old new (Moved pair) going w = absurd w
 works_no_more old new (Ended ending part) going w = absurd w
 
 -- at the end of the way it works on what it found there

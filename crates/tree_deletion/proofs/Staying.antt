@@ -7,7 +7,7 @@ use Rattle.tree_trait.specs.Change.{CallLog}
 use Rattle.tree_trait.proofs.Visible.{same_path-self}
 use Rattle.job_reports.specs.declared.report.Cause.{Cause}
 use Rattle.job_reports.specs.declared.report.Did.{Did}
-use Rattle.job_reports.specs.declared.report.Did.TheVariants.{Began, Chunk, Placed, Removed, Made, Set, Kept, Skipped, Cleaned, Barrier, Asked, Merges, Troubled, Ended}
+use Rattle.job_reports.specs.declared.report.Did.TheVariants.{Began, Chunk, Placed, Removed, Made, Set, Kept, Skipped, Cleaned, Barrier, Asked, Merges, Moved, Troubled, Ended}
 use Rattle.subtree_walk.proofs.Falling.{leave_falls}
 use Rattle.subtree_walk.specs.Places.{IsLeft, OpenFolder, Place, is_empty, is_outermost, noted, opened, passed, without_next}
 use Rattle.tree_deletion.specs.declared.deletion.Depth.{Depth}
@@ -96,6 +96,7 @@ works_inside old new (Cleaned part) w h = absurd w
 works_inside old new Barrier w h = absurd w
 works_inside old new (Asked question) w h = absurd w
 works_inside old new (Merges pair names) w h = absurd w
+works_inside old new (Moved pair) w h = absurd w
 works_inside old new (Ended ending part) w h = absurd w
 
 pub work_inside : (old new : Deletion) (did : Did) (calls : ℕ) (folders folders_after : List Route) (before after : Option CallLog) (f0 f1 : ℕ) → WorkSteps old new did calls folders folders_after before after f0 f1 → IsInside old → IsInside new

@@ -1,14 +1,12 @@
 //! The syncs of what was changed.
-ghost use Rattle.std.specs.Prelude.{◌≡◌, Err, None, Some};
-ghost use Rattle.job_reports.specs.Stops.{calls_made_for};
 ghost use Rattle.tree_deletion.specs.Steps.{LastSteps, SyncSteps};
 
 use crate::deletion::Deletion;
 use crate::dirty::Dirty;
-use crate::reports::{ended, refused, with_call, without_call};
-use job_reports::{Did, Ending, LastStepResult, StepResult, calls_made, out_of_memory};
+use crate::reports::{ended, last_report, refused, tried, with_call, without_call};
+use job_reports::{Did, Ending, LastStepResult, StepResult, out_of_memory};
 use std::alloc::Global;
-use tree_trait::{Tree, TreeError};
+use tree_trait::Tree;
 
 impl Deletion {
     /// Syncs a folder that was changed, or where there is none the deletion is finished.
@@ -45,53 +43,18 @@ impl Deletion {
             (T.contents tree.old) (T.contents tree.new) (T.fault_count tree.old) (T.fault_count tree.new) }
     {
         let Some(at) = dirty.first_from(*from, &self.folder, &self.path) else {
-            return last(ended(ending));
+            return last_report(ended(ending), None);
         };
         match tree.sync_folder(alloc, dirty.get(at)) {
             Ok(()) => {
                 dirty.remove_at(at);
                 *from = at;
-                tried()
+                tried(Ok(()))
             }
             Err(error) => {
                 *from = at + 1;
-                tried_in_vain(error)
+                tried(Err(error))
             }
         }
-    }
-}
-
-/// A last step that made no call.
-fn last(did: Did) -> LastStepResult
-    ensures { result ≡ record { did = did; calls = 0; left = None } }
-{
-    LastStepResult {
-        did,
-        calls: 0,
-        left: None,
-    }
-}
-
-/// A sync that was done.
-fn tried() -> LastStepResult
-    ensures { result ≡ record { did = Did.Barrier; calls = 1; left = None } }
-{
-    LastStepResult {
-        did: Did::Barrier,
-        calls: 1,
-        left: None,
-    }
-}
-
-/// A sync that was refused. One that found no memory was not made.
-fn tried_in_vain(error: TreeError) -> LastStepResult
-    ensures did { result.did ≡ Did.Barrier }
-    ensures calls { result.calls ≡ calls_made_for (Err error) }
-    ensures left { result.left ≡ Some error }
-{
-    LastStepResult {
-        did: Did::Barrier,
-        calls: calls_made(Err(error)),
-        left: Some(error),
     }
 }

@@ -17,4 +17,4 @@ pub use deletion::{Deletion, Depth, Stage};
 pub use dirty::{Dirty, but_not};
 pub use looking::Found;
 pub use meeting::Met;
-pub use reports::{ended, refused, with_call, without_call};
+pub use reports::{ended, last_report, refused, tried, with_call, without_call};

@@ -4,6 +4,7 @@ use Rattle.copy_move.specs.Jobs.{IsGoing, at_barrier}
 use Rattle.copy_move.proofs.FolderSteps.{deletion_skips}
 use Rattle.copy_move.proofs.MakingWorks.{making_skips}
 use Rattle.copy_move.proofs.ModeSteps.{setting_skips}
+use Rattle.copy_move.proofs.MovingWorks.{moving_skips}
 use Rattle.copy_move.proofs.TreeSteps.{tree_skipped, tree_skips}
 use Rattle.copy_move.proofs.work.Work.skip.Goals as goal
 
@@ -22,3 +23,6 @@ returns-in-Make-clause-skips c = rw c.in-Make.is (making_skips c.args.cause _ _ 
 
 pub returns-in-SetMode-clause-skips : goal.returns-in-SetMode-clause-skips
 returns-in-SetMode-clause-skips c = rw c.in-SetMode.is (setting_skips c.args.cause _ _ _ c.skip-in-SetMode.ensures (subst (λ w. at_barrier w ≡ false) c.in-SetMode.is c.requires.apart))
+
+pub returns-in-Move-clause-skips : goal.returns-in-Move-clause-skips
+returns-in-Move-clause-skips c = rw c.in-Move.is (moving_skips c.args.cause _ _ _ c.skip-in-Move.ensures (subst (λ w. at_barrier w ≡ false) c.in-Move.is c.requires.apart))

@@ -4,6 +4,7 @@ use Rattle.copy_move.specs.Jobs.{IsGoing}
 use Rattle.copy_move.proofs.FolderSteps.{deletion_steps}
 use Rattle.copy_move.proofs.MakingWorks.{making_steps}
 use Rattle.copy_move.proofs.ModeSteps.{setting_steps}
+use Rattle.copy_move.proofs.MovingWorks.{moving_steps}
 use Rattle.copy_move.proofs.TreeSteps.{tree_goes_on, tree_steps}
 use Rattle.copy_move.proofs.work.Work.step.Goals as goal
 
@@ -26,3 +27,7 @@ returns-in-Make-clause-steps g c =
 pub returns-in-SetMode-clause-steps : goal.returns-in-SetMode-clause-steps
 returns-in-SetMode-clause-steps g c =
     rw c.in-SetMode.is (setting_steps (λ path. g.P.PartTest.is_free c.args.parts.now path ≡ true) c.args.replies _ _ _ _ _ _ _ _ _ _ c.step_setting.ensures.steps c.step_setting.ensures.leaves)
+
+pub returns-in-Move-clause-steps : goal.returns-in-Move-clause-steps
+returns-in-Move-clause-steps g c =
+    rw c.in-Move.is (moving_steps (λ path. g.P.PartTest.is_free c.args.parts.now path ≡ true) c.args.replies _ _ _ _ _ _ _ _ _ _ c.step_moving.ensures.steps c.step_moving.ensures.leaves)

@@ -2,6 +2,7 @@
 use Rattle.copy_move.proofs.FolderSteps.{deletion_winds_up}
 use Rattle.copy_move.proofs.MakingWorks.{making_winds_up}
 use Rattle.copy_move.proofs.ModeSteps.{setting_winds_up}
+use Rattle.copy_move.proofs.MovingWorks.{moving_winds_up}
 use Rattle.copy_move.proofs.TreeSteps.{tree_winds_up}
 use Rattle.copy_move.proofs.work.Work.wind_up.Goals as goal
 
@@ -17,3 +18,6 @@ returns-in-Make g c = rw c.in-Make.is (making_winds_up c.args.ending _ _ _ _ _ _
 
 pub returns-in-SetMode : goal.returns-in-SetMode
 returns-in-SetMode g c = rw c.in-SetMode.is (setting_winds_up c.args.ending _ _ _ _ _ _ _ _ _ c.wind_up_setting.ensures.winds c.wind_up_setting.ensures.tries)
+
+pub returns-in-Move : goal.returns-in-Move
+returns-in-Move g c = rw c.in-Move.is (moving_winds_up c.args.ending _ _ _ _ _ _ _ _ _ _ _ c.wind_up_moving.ensures.winds c.wind_up_moving.ensures.tries)

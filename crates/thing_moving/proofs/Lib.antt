@@ -1,0 +1,2 @@
+pub mod MovingRuns
+pub mod Taken

@@ -1,0 +1,111 @@
+-- What comes of a thing that is to be moved: the looks at it and at its target, and what the answers that stand decide.
+use Rattle.std.specs.Prelude.{◌≡◌, ◌⊎◌, false, Option, Some, None, Result, Ok, Err}
+use Rattle.mc_text.specs.Routes.{Route}
+use Rattle.mc_text.specs.declared.kind.Kind.{Kind}
+use Rattle.mc_text.specs.declared.kind.Kind.TheVariants.{Folder}
+use Rattle.tree_trait.specs.declared.file_system.FileSystem.{FileSystem}
+use Rattle.tree_trait.specs.declared.calls.Meta.{Meta}
+use Rattle.tree_trait.specs.declared.calls.TreeError.TheVariants as refused
+use Rattle.tree_trait.specs.Answers.{IsMeta}
+use Rattle.tree_trait.specs.Calls.{Stat}
+use Rattle.tree_trait.specs.Refusals.{folder_kind, refusal_of}
+use Rattle.job_reports.specs.declared.job.Pair.{Pair}
+use Rattle.job_reports.specs.declared.question.Question.{Question}
+use Rattle.job_reports.specs.declared.report.Cause.{Cause}
+use Rattle.job_reports.specs.declared.report.Cause.TheVariants as why
+use Rattle.job_reports.specs.declared.report.Trouble.{Trouble}
+use Rattle.job_reports.specs.Questions.{question_on}
+use Rattle.job_reports.specs.Reading.{StatStops, TargetStops}
+use Rattle.job_reports.specs.Stops.{IsTroubleWithPath, out_of_memory_at}
+use Rattle.job_answers.specs.declared.placing.Origin.TheVariants.{Moved}
+use Rattle.job_answers.specs.declared.placing.Placing.TheVariants.{Asks, TargetKind}
+use Rattle.job_answers.specs.declared.replies.Decision.{Decision}
+use Rattle.job_answers.specs.declared.replies.Decision.TheVariants.{Replace, Keep, Ask}
+use Rattle.job_answers.specs.declared.replies.Replies.{Replies}
+use Rattle.job_answers.specs.Decisions.{decided}
+use Rattle.job_answers.specs.Questions.{placing_at}
+use Rattle.thing_moving.specs.declared.taking.Taking.{Taking}
+use Rattle.thing_moving.specs.declared.taking.Taking.TheVariants as taking
+
+-- a thing stands there, of which a look tells this
+pub record Stands (s : FileSystem) (path : Route) (meta : Meta) : Type 0 where
+  pub there : refusal_of s (Stat path) ≡ None
+  pub is : IsMeta s path meta
+
+-- a file, a link or a special thing stands at the source
+pub record CanMove (s : FileSystem) (pair : Pair) : Type 0 where
+  pub source : Meta
+  pub stands : Stands s pair.source source
+  pub single : folder_kind source.kind ≡ false
+
+-- Such a thing comes onto a file or a link, this is the question whether it replaces that, and this is decided of it by the answers that stand.
+pub record IsDecided (s : FileSystem) (pair : Pair) (replies : Replies) (question : Question) (decision : Decision) : Type 0 where
+  pub source : Meta
+  pub target : Meta
+  pub of_source : Stands s pair.source source
+  pub of_target : Stands s pair.target target
+  pub single : folder_kind source.kind ≡ false
+  pub meets : placing_at (Moved source.kind) (Some target.kind) ≡ Asks
+  pub asks : question ≡ question_on pair.source source pair.target target
+  pub decides : decided replies question ≡ decision
+
+-- A thing may be renamed: nothing stands at its target, or what does is replaced by an answer that stands.
+pub record MayMove (s : FileSystem) (pair : Pair) (replies : Replies) : Type 0 where
+  pub can : CanMove s pair
+  pub free : (refusal_of s (Stat pair.target) ≡ Some refused.Missing) ⊎ ((question : Question) × IsDecided s pair replies question Replace)
+
+-- it is kept, by an answer that stands
+abbrev pub IsKept : FileSystem → Pair → Replies → Type 0
+IsKept s pair replies = (question : Question) × IsDecided s pair replies question Keep
+
+-- what comes of it
+abbrev pub Takes : FileSystem → Pair → Replies → Taking → Type 0
+Takes s pair replies taking.Moves = MayMove s pair replies
+Takes s pair replies taking.Keeps = IsKept s pair replies
+Takes s pair replies (taking.Asks question) = IsDecided s pair replies question Ask
+
+-- a folder stands at the source, and such are not moved yet
+pub record IsFolderSource (s : FileSystem) (pair : Pair) (cause : Cause) (path : Option Route) : Type 0 where
+  pub cause_is : cause ≡ why.Tree refused.IsFolder
+  pub path_is : path ≡ Some pair.source
+  pub source : Meta
+  pub stands : Stands s pair.source source
+  pub folder : source.kind ≡ Folder
+
+-- what stands at the target can't be replaced: a folder, or something special
+pub record StandsInTheWay (s : FileSystem) (pair : Pair) (cause : Cause) (path : Option Route) : Type 0 where
+  pub kind : Kind
+  pub cause_is : cause ≡ why.TargetKind kind
+  pub path_is : path ≡ Some pair.target
+  pub source : Meta
+  pub target : Meta
+  pub of_source : Stands s pair.source source
+  pub of_target : Stands s pair.target target
+  pub single : folder_kind source.kind ≡ false
+  pub meets : placing_at (Moved source.kind) (Some target.kind) ≡ TargetKind kind
+
+-- the trouble before a thing is renamed: a look was refused, a folder is to be moved, something stands in the way, or there was no memory
+abbrev pub LooksStop : FileSystem → Pair → Cause → Option Route → Type 0
+LooksStop s pair cause path =
+    (StatStops s pair.source cause path ⊎ TargetStops s pair.target cause path)
+    ⊎ ((IsFolderSource s pair cause path ⊎ StandsInTheWay s pair cause path) ⊎ ((cause ≡ why.Memory) × (path ≡ None)))
+
+-- what is decided of what comes onto something
+abbrev pub Decides : Pair → Replies → Meta → Meta → Result Taking Trouble → Type 0
+Decides pair replies source target (Ok taking.Moves) = decided replies (question_on pair.source source pair.target target) ≡ Replace
+Decides pair replies source target (Ok taking.Keeps) = decided replies (question_on pair.source source pair.target target) ≡ Keep
+Decides pair replies source target (Ok (taking.Asks question)) =
+    (question ≡ question_on pair.source source pair.target target) × (decided replies question ≡ Ask)
+Decides pair replies source target (Err trouble) = trouble ≡ out_of_memory_at false
+
+-- what is decided of what was seen
+abbrev pub Judges : Pair → Replies → Meta → Option Meta → Result Taking Trouble → Type 0
+Judges pair replies source None (Ok taking.Moves) = folder_kind source.kind ≡ false
+Judges pair replies source None (Ok taken) = ⊥
+Judges pair replies source None (Err trouble) = (source.kind ≡ Folder) × IsTroubleWithPath (why.Tree refused.IsFolder) pair.source trouble
+Judges pair replies source (Some target) (Ok taken) =
+    (folder_kind source.kind ≡ false) × (placing_at (Moved source.kind) (Some target.kind) ≡ Asks) × Decides pair replies source target (Ok taken)
+Judges pair replies source (Some target) (Err trouble) =
+    ((source.kind ≡ Folder) × IsTroubleWithPath (why.Tree refused.IsFolder) pair.source trouble)
+    ⊎ (((kind : Kind) × (folder_kind source.kind ≡ false) × (placing_at (Moved source.kind) (Some target.kind) ≡ TargetKind kind) × IsTroubleWithPath (why.TargetKind kind) pair.target trouble)
+    ⊎ (trouble ≡ out_of_memory_at false))

@@ -1,0 +1,9 @@
+//! The move of a file, a link or a special thing to another path on its mount, step by step, with the list of dirty folders.
+#![tactic(auto)]
+
+mod dirty_moving;
+mod moving;
+mod taking;
+
+pub use dirty_moving::{step_moving, wind_up_moving};
+pub use moving::{MovingStage, ThingMoving};
