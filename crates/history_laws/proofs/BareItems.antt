@@ -15,7 +15,7 @@ use Rattle.job_reports.specs.CallRuns.{AllDone}
 use Rattle.job_reports.specs.Paths.{folder_of}
 use Rattle.job_reports.specs.declared.report.Cause.{Cause}
 use Rattle.job_reports.specs.declared.report.Did.{Did}
-use Rattle.job_reports.specs.declared.report.Did.TheVariants.{Began, Chunk, Placed, Removed, Made, Set, Kept, Skipped, Cleaned, Barrier, Asked, Merges, Troubled, Ended}
+use Rattle.job_reports.specs.declared.report.Did.TheVariants.{Began, Chunk, Placed, Removed, Made, Set, Kept, Skipped, Cleaned, Barrier, Asked, Merges, Moved, Troubled, Ended}
 use Rattle.job_reports.specs.declared.report.Ending.TheVariants.{Finished, Aborted, Killed, NoMemory}
 use Rattle.job_reports.proofs.CallAnswers.{done_call, some_log}
 use Rattle.job_reports.proofs.PermittedCalls.{IsMaking, making_passes}
@@ -118,6 +118,7 @@ module _ (log now : CallLog) (name : List ℕ) (l : Levels) (p : Route) (h : Sta
     file_bare moved (Kept path) tells calls = absurd tells
     file_bare moved (Asked question) tells calls = absurd tells
     file_bare moved (Merges pair names) tells calls = absurd tells
+    file_bare moved (Moved pair) tells calls = absurd tells
     file_bare moved (Skipped path why) tells calls = absurd tells
 
   module _ (c : LinkCopying) (known : LinkKnown log name l c) (off : has_part c.stage ≡ true → c.part ≡ p → ⊥) where
@@ -175,4 +176,5 @@ module _ (log now : CallLog) (name : List ℕ) (l : Levels) (p : Route) (h : Sta
     link_bare moved (Kept path) tells calls = absurd tells
     link_bare moved (Asked question) tells calls = absurd tells
     link_bare moved (Merges pair names) tells calls = absurd tells
+    link_bare moved (Moved pair) tells calls = absurd tells
     link_bare moved (Skipped path why) tells calls = absurd tells

@@ -9,7 +9,7 @@ use Rattle.tree_trait.specs.FileSystem.{node}
 use Rattle.job_reports.specs.Paths.{folder_of}
 use Rattle.job_reports.specs.declared.report.Cause.{Cause}
 use Rattle.job_reports.specs.declared.report.Did.{Did}
-use Rattle.job_reports.specs.declared.report.Did.TheVariants.{Began, Chunk, Placed, Removed, Made, Set, Kept, Skipped, Cleaned, Barrier, Asked, Merges, Troubled, Ended}
+use Rattle.job_reports.specs.declared.report.Did.TheVariants.{Began, Chunk, Placed, Removed, Made, Set, Kept, Skipped, Cleaned, Barrier, Asked, Merges, Moved, Troubled, Ended}
 use Rattle.job_reports.specs.declared.report.Ending.TheVariants.{Finished, Aborted, Killed, NoMemory}
 use Rattle.job_reports.proofs.CallAnswers.{done_call, some_log}
 use Rattle.job_reports.proofs.PermittedCalls.{IsMaking, making_passes}
@@ -107,4 +107,5 @@ module _ (unclaimed : Route → Type 0) (log now : CallLog) (files : IsOfFiles l
   file_calm moved (Kept path) tells calls = absurd tells
   file_calm moved (Asked question) tells calls = absurd tells
   file_calm moved (Merges pair names) tells calls = absurd tells
+  file_calm moved (Moved pair) tells calls = absurd tells
   file_calm moved (Skipped path why) tells calls = absurd tells

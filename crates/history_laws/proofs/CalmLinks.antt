@@ -15,7 +15,7 @@ use Rattle.job_reports.specs.CallRuns.{AllDone}
 use Rattle.job_reports.specs.Paths.{folder_of}
 use Rattle.job_reports.specs.declared.report.Cause.{Cause}
 use Rattle.job_reports.specs.declared.report.Did.{Did}
-use Rattle.job_reports.specs.declared.report.Did.TheVariants.{Began, Chunk, Placed, Removed, Made, Set, Kept, Skipped, Cleaned, Barrier, Asked, Merges, Troubled, Ended}
+use Rattle.job_reports.specs.declared.report.Did.TheVariants.{Began, Chunk, Placed, Removed, Made, Set, Kept, Skipped, Cleaned, Barrier, Asked, Merges, Moved, Troubled, Ended}
 use Rattle.job_reports.proofs.CallAnswers.{done_call, some_log}
 use Rattle.job_reports.proofs.PermittedCalls.{IsMaking, making_passes}
 use Rattle.link_copy.specs.LinkCopying.{LinkCopying, Tells, after_clean, has_part}
@@ -106,6 +106,7 @@ module _ (log now : CallLog) (files : IsOfFiles log) (name : List ℕ) (l : Leve
   link_calm p S moved (Kept path) tells calls known_part calm = absurd tells
   link_calm p S moved (Asked question) tells calls known_part calm = absurd tells
   link_calm p S moved (Merges pair names) tells calls known_part calm = absurd tells
+  link_calm p S moved (Moved pair) tells calls known_part calm = absurd tells
   link_calm p S moved (Skipped path why) tells calls known_part calm = absurd tells
 
   as_moved : (moved : LinkCopying) (stage : Stage) → moved.part ≡ c.part → moved.stage ≡ stage → has_part moved.stage ≡ true → (has_part stage ≡ true → IsCalmOr c.part now ⊥) → IsCalmOr moved.part now ⊥
@@ -129,4 +130,5 @@ module _ (log now : CallLog) (files : IsOfFiles log) (name : List ℕ) (l : Leve
   part_calm moved (Kept path) tells calls known_part has = absurd tells
   part_calm moved (Asked question) tells calls known_part has = absurd tells
   part_calm moved (Merges pair names) tells calls known_part has = absurd tells
+  part_calm moved (Moved pair) tells calls known_part has = absurd tells
   part_calm moved (Skipped path why) tells calls known_part has = absurd tells

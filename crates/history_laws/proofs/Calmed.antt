@@ -7,7 +7,7 @@ use Rattle.tree_trait.specs.Change.{CallLog, current}
 use Rattle.tree_trait.specs.CrashImages.{Among, all_settled}
 use Rattle.crash_law.specs.Guarded.{Marks}
 use Rattle.job_reports.specs.declared.report.Did.{Did}
-use Rattle.job_reports.specs.declared.report.Did.TheVariants.{Began, Chunk, Placed, Removed, Made, Set, Kept, Skipped, Cleaned, Barrier, Asked, Merges, Troubled, Ended}
+use Rattle.job_reports.specs.declared.report.Did.TheVariants.{Began, Chunk, Placed, Removed, Made, Set, Kept, Skipped, Cleaned, Barrier, Asked, Merges, Moved, Troubled, Ended}
 use Rattle.job_reports.specs.Paths.{folder_of}
 use Rattle.session_history.specs.declared.history.Event.TheVariants.{Step}
 use Rattle.session_history.specs.declared.history.Entry.{Entry}
@@ -16,11 +16,12 @@ use Rattle.copy_move.specs.declared.run.Course.TheVariants.{GoesOn}
 use Rattle.tree_copy.specs.Standing.{is_fresh as is_fresh_tree}
 use Rattle.subtree_copy.specs.Standing.{SubtreeCopying}
 use Rattle.copy_move.specs.declared.work.Work.{Work}
-use Rattle.copy_move.specs.declared.work.Work.TheVariants.{Copy, Delete, Make, SetMode}
+use Rattle.copy_move.specs.declared.work.Work.TheVariants.{Copy, Delete, Make, Move, SetMode}
 use Rattle.tree_deletion.specs.declared.deletion.Stage.{Stage}
 use Rattle.tree_deletion.specs.declared.deletion.Stage.TheVariants.{Begin, Going, Sync}
 use Rattle.tree_deletion.specs.Standing.{at_barrier, is_fresh as is_fresh_stage}
 use Rattle.thing_making.specs.Makings as makings
+use Rattle.thing_moving.specs.Movings as movings
 use Rattle.mode_setting.specs.Settings as settings
 use Rattle.copy_move.specs.Jobs.{Running, WorkTells, is_fresh}
 use Rattle.copy_move.specs.Settling.{NoneOwed, changed_folder}
@@ -28,7 +29,7 @@ use Rattle.copy_move.specs.Steps.{SyncsOwed}
 use Rattle.history_laws.specs.Calmed.{CalmLaw, HasBegun}
 use Rattle.history_laws.specs.Doubt.{name_waits, node_waits}
 use Rattle.session_history.specs.LiveJobs.{live_jobs, live_item}
-use Rattle.history_laws.specs.Owed.{IsApart}
+use Rattle.history_laws.specs.Owed.{IsApart, IsOwed}
 use Rattle.session_history.specs.Named.{begins_change, has_changed, named_parts, names_path}
 use Rattle.history_laws.specs.Replayed.{log_prefix}
 use Rattle.session_history.specs.Entries.{IsMoment, calls_in}
@@ -45,7 +46,7 @@ use Rattle.history_laws.proofs.JobKnows.{WorkKnows}
 use Rattle.history_laws.proofs.Knowing.{Said}
 use Rattle.history_laws.proofs.Moments.{prefix_is, log_of, traced_count}
 use Rattle.history_laws.proofs.ModesStay.{event_still as mode_still}
-use Rattle.history_laws.proofs.Owing.{apart_from, owed_modes, owed_names}
+use Rattle.history_laws.proofs.Owing.{apart_from, owed_apart, owed_modes, owed_names}
 use Rattle.history_laws.proofs.Unchanged.{has_begun, is_going}
 use Rattle.history_laws.proofs.Reports.{HasLive, JobsKnow}
 use Rattle.history_laws.proofs.TreeKnown.{ItemHas, TreeKnown, is_over}
@@ -76,6 +77,7 @@ module _ (told : Said) (dirty : List Route) (marks : Marks) (log : CallLog) (cou
 
   fresh_then : (old new : Work) (did : Did) → WorkTells old did new → begins_change did ≡ true → has_begun old ≡ false → WorkKnows told dirty marks log course old → IsStart old
   fresh_then (Delete d) (Make new) did t h clean k = absurd t
+  fresh_then (Delete d) (Move new) did t h clean k = absurd t
   fresh_then (Delete d) (Delete new) (Removed path) t h clean (name, none, intact) = (fresh_stage d.stage t.0 clean, none)
   fresh_then (Delete d) (Delete new) (Began part) t h clean k = absurd t
   fresh_then (Delete d) (Delete new) (Chunk count) t h clean k = absurd (false≢true h)
@@ -85,6 +87,7 @@ module _ (told : Said) (dirty : List Route) (marks : Marks) (log : CallLog) (cou
   fresh_then (Delete d) (Delete new) (Kept kept) t h clean k = absurd (false≢true h)
   fresh_then (Delete d) (Delete new) (Asked question) t h clean k = absurd (false≢true h)
   fresh_then (Delete d) (Delete new) (Merges pair names) t h clean k = absurd (false≢true h)
+  fresh_then (Delete d) (Delete new) (Moved pair) t h clean k = absurd t
   fresh_then (Delete d) (Delete new) (Skipped path why) t h clean k = absurd (false≢true h)
   fresh_then (Delete d) (Delete new) (Cleaned part) t h clean k = absurd (false≢true h)
   fresh_then (Delete d) (Delete new) Barrier t h clean k = absurd (false≢true h)
@@ -94,28 +97,51 @@ module _ (told : Said) (dirty : List Route) (marks : Marks) (log : CallLog) (cou
   fresh_then (SetMode s) (Delete new) did t h clean k = absurd t
   fresh_then (Copy s) (Delete new) did t h clean k = absurd t
   fresh_then (SetMode s) (Make new) did t h clean k = absurd t
+  fresh_then (Move s) (Make new) did t h clean k = absurd t
+  fresh_then (SetMode s) (Move new) did t h clean k = absurd t
   fresh_then (Copy s) (Make new) did t h clean k = absurd t
+  fresh_then (Copy s) (Move new) did t h clean k = absurd t
   fresh_then (Copy c) (SetMode new) did t h clean k = absurd t
   fresh_then (Delete d) (SetMode new) did t h clean k = absurd t
   fresh_then (Delete d) (Copy new) did t h clean k = absurd t
   fresh_then (Make m) (SetMode new) did t h clean k = absurd t
+  fresh_then (Make m) (Move new) did t h clean k = absurd t
+  fresh_then (Move m) (SetMode new) did t h clean k = absurd t
   fresh_then (Make m) (Copy new) did t h clean k = absurd t
+  fresh_then (Move m) (Copy new) did t h clean k = absurd t
   fresh_then (Make m) (Delete new) did t h clean k = absurd t
+  fresh_then (Move m) (Delete new) did t h clean k = absurd t
   fresh_then (Copy c) (Copy new) did t h clean k = fresh_copy c clean k
   fresh_then (Make m) (Make new) (Made path) t h clean (name, none) = (ap makings.is_fresh t.0, none)
+  fresh_then (Move m) (Move new) (Made path) t h clean k = absurd t
   fresh_then (Make m) (Make new) (Began part) t h clean k = absurd t
+  fresh_then (Move m) (Move new) (Began part) t h clean k = absurd t
   fresh_then (Make m) (Make new) (Chunk count) t h clean k = absurd (false≢true h)
+  fresh_then (Move m) (Move new) (Chunk count) t h clean k = absurd (false≢true h)
   fresh_then (Make m) (Make new) (Set path) t h clean k = absurd t
+  fresh_then (Move m) (Move new) (Set path) t h clean k = absurd t
   fresh_then (Make m) (Make new) (Placed path) t h clean k = absurd (false≢true h)
+  fresh_then (Move m) (Move new) (Placed path) t h clean k = absurd (false≢true h)
   fresh_then (Make m) (Make new) (Removed made) t h clean k = absurd t
+  fresh_then (Move m) (Move new) (Removed made) t h clean k = absurd t
   fresh_then (Make m) (Make new) (Kept kept) t h clean k = absurd (false≢true h)
+  fresh_then (Move m) (Move new) (Kept kept) t h clean k = absurd (false≢true h)
   fresh_then (Make m) (Make new) (Asked question) t h clean k = absurd (false≢true h)
+  fresh_then (Move m) (Move new) (Asked question) t h clean k = absurd (false≢true h)
   fresh_then (Make m) (Make new) (Merges pair names) t h clean k = absurd (false≢true h)
+  fresh_then (Move m) (Move new) (Merges pair names) t h clean k = absurd (false≢true h)
+  fresh_then (Make m) (Make new) (Moved pair) t h clean k = absurd t
+  fresh_then (Move m) (Move new) (Moved pair) t h clean k = (ap movings.is_fresh t.0, k.none)
   fresh_then (Make m) (Make new) (Skipped path why) t h clean k = absurd (false≢true h)
+  fresh_then (Move m) (Move new) (Skipped path why) t h clean k = absurd (false≢true h)
   fresh_then (Make m) (Make new) (Cleaned part) t h clean k = absurd (false≢true h)
+  fresh_then (Move m) (Move new) (Cleaned part) t h clean k = absurd (false≢true h)
   fresh_then (Make m) (Make new) Barrier t h clean k = absurd (false≢true h)
+  fresh_then (Move m) (Move new) Barrier t h clean k = absurd (false≢true h)
   fresh_then (Make m) (Make new) (Troubled trouble) t h clean k = absurd (false≢true h)
+  fresh_then (Move m) (Move new) (Troubled trouble) t h clean k = absurd (false≢true h)
   fresh_then (Make m) (Make new) (Ended ending part) t h clean k = absurd (false≢true h)
+  fresh_then (Move m) (Move new) (Ended ending part) t h clean k = absurd (false≢true h)
   fresh_then (SetMode s) (SetMode new) (Set path) t h clean (name, none) = (ap settings.is_fresh t.0, none)
   fresh_then (SetMode s) (SetMode new) (Began part) t h clean k = absurd t
   fresh_then (SetMode s) (SetMode new) (Chunk count) t h clean k = absurd (false≢true h)
@@ -125,6 +151,7 @@ module _ (told : Said) (dirty : List Route) (marks : Marks) (log : CallLog) (cou
   fresh_then (SetMode s) (SetMode new) (Kept kept) t h clean k = absurd (false≢true h)
   fresh_then (SetMode s) (SetMode new) (Asked question) t h clean k = absurd (false≢true h)
   fresh_then (SetMode s) (SetMode new) (Merges pair names) t h clean k = absurd (false≢true h)
+  fresh_then (SetMode s) (SetMode new) (Moved pair) t h clean k = absurd t
   fresh_then (SetMode s) (SetMode new) (Skipped path why) t h clean k = absurd (false≢true h)
   fresh_then (SetMode s) (SetMode new) (Cleaned part) t h clean k = absurd (false≢true h)
   fresh_then (SetMode s) (SetMode new) Barrier t h clean k = absurd (false≢true h)
@@ -157,8 +184,8 @@ module _ (opening : CallLog) (tree : IsTree (current opening)) (settled : all_se
         h.within ∙ (ap folder_changed (sym same) ∙ item_folder job.work);
   }
     where
-      tidy : IsTidyJob opening older f.was.dirty job
-      tidy = subst (λ js. AreTidy opening older f.was.dirty js) jobs_is (traced_tidy opening tree settled older f.was f.before f.traced)
+      tidy : IsTidyJob opening older f.was.dirty f.before job
+      tidy = subst (λ js. AreTidy opening older f.was.dirty f.before js) jobs_is (traced_tidy opening tree settled older f.was f.before f.traced)
 
       goes : (job.course ≡ GoesOn) × ((work : Work) × WorkTells job.work h.did work)
       goes = goes_then job new h.did job.course refl works.tells h.begins
@@ -185,7 +212,11 @@ module _ (opening : CallLog) (tree : IsTree (current opening)) (settled : all_se
       by : EventLeads f.was (Step h.id h.did) f.after f.before f.now → Begins
       by s = of_step s.job s.new s.its s.leads
 
-  -- a dirty path lies apart
+  -- a folder that is owed lies apart
+  apart_folder : (q : Route) → IsOwed f.was.dirty f.before q → IsApart f.before folder q
+  apart_folder q owed = let b = begins in subst (λ (p : Route). IsApart f.before p q) (sym b.folder_is) (owed_apart (told_of opening f.before older r.part) f.was.dirty r.marks f.before b.job.work q r.kept.known b.none_owed owed)
+
+  -- and so does a dirty path
   apart : (q : Route) → Among f.was.dirty q → IsApart f.before folder q
   apart q among = let b = begins in subst (λ (p : Route). IsApart f.before p q) (sym b.folder_is) (apart_from (current f.before) b.job.work f.was.dirty q among b.none_owed)
 
@@ -194,7 +225,7 @@ module _ (opening : CallLog) (tree : IsTree (current opening)) (settled : all_se
     where
       by : (named waited : Bool) → names_path e.what path ≡ named → name_waits f.before path ≡ waited → (names_path e.what path ≡ true) ⊎ IsApart f.before folder (folder_of path)
       by true waited named_is waited_is = inl named_is
-      by false true named_is waited_is = inr (apart (folder_of path) (owed_names opening f.before older f.was path tree settled f.traced waited_is))
+      by false true named_is waited_is = inr (apart_folder (folder_of path) (owed_names opening f.before older f.was path tree settled f.traced waited_is))
       by false false named_is waited_is =
           let b = begins in
           let still = event_still opening older f.was f.before r path waited_is (no_route r.part path b.no_part) e.what f.after f.now f.leads named_is in

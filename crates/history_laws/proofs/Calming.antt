@@ -210,7 +210,6 @@ module _ (said : Said) (dirty : List Route) (marks : Marks) (log : CallLog) (kno
       | inr none ↦ inr none
     ];
     joint = k.joint;
-    lone = k.lone;
     doubts = k.doubts;
     stand = k.stand;
   }

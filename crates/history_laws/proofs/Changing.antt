@@ -20,12 +20,12 @@ use Rattle.crash_law.proofs.Leading.{current_more}
 use Rattle.crash_law.proofs.Removing.{removal_law}
 use Rattle.crash_law.proofs.Syncing.{unaltered_law}
 use Rattle.crash_law.proofs.Tops.{under_removed, none_below}
-use Rattle.history_laws.specs.Doubt.{is_pending, way_waits, name_waits}
-use Rattle.history_laws.proofs.Pending.{pending_less, within_more}
+use Rattle.history_laws.specs.Doubt.{is_pending, way_waits, name_waits, is_joint}
+use Rattle.history_laws.proofs.Pending.{pending_less}
 use Rattle.history_laws.proofs.Knowing.{HasMode, HasNoMode, IsCalmFolder, IsKnown, IsUnreached, Said, held, nowhere}
 use Rattle.history_laws.proofs.Quiet.{folder_same, held_same, kind_same, mount_same, shows_same, starts_same, unclean_before, was_bare}
 use Rattle.history_laws.proofs.Resting.{IsBeside, IsSureFolder, joint_still, mounted, stands_at, sure_still, unborn_more, unjoined_still}
-use Rattle.history_laws.proofs.Restless.{is_joint, is_restless, restless_less}
+use Rattle.history_laws.proofs.Restless.{is_restless, restless_less}
 use Rattle.history_laws.proofs.WaitsFor.{names_said}
 
 pub some_none : {A : Type 0} (x : ℕ) → (let o : Option ℕ = Some x in o) ≡ None → A
@@ -107,7 +107,6 @@ pub record SaysGone (said after : Said) (marks : Marks) (log : CallLog) (path : 
   pub gone : after.tree path ≡ nowhere
   pub was : marks.aside path ≡ false → held (current log) (marks.was path) ≡ (after.earlier path).value
   pub part : after.part ≡ None
-  pub lone : after.joins ≡ false → said.joins ≡ false
   pub doubts : (p : Route) → said.doubt p ≡ true → after.doubt p ≡ true
   pub doubted : after.doubt path ≡ true
   -- a folder that is said to be on the disk is another one, and it was said so before, or it is
@@ -393,7 +392,6 @@ module _ (told after : Said) (dirty dirty_after : List Route) (marks : Marks) (l
     part = λ p is. absurd (let e = says.part in let n : (let o : Option Route = None in o) ≡ Some p = sym e ∙ is in cc);
     tracked = tracked;
     joint = joint;
-    lone = λ none. within_more log.changes removes refl (known.lone (says.lone none));
     doubts = doubts;
     stand = stand;
   }

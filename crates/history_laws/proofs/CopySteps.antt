@@ -21,7 +21,7 @@ use Rattle.job_reports.specs.declared.report.Cause.{Cause}
 use Rattle.job_reports.specs.declared.report.Cause.TheVariants as cause
 use Rattle.job_reports.specs.declared.report.Ending.TheVariants.{Finished, Aborted, Killed, NoMemory}
 use Rattle.job_reports.specs.declared.report.Did.{Did}
-use Rattle.job_reports.specs.declared.report.Did.TheVariants.{Began, Chunk, Placed, Removed, Made, Set, Kept, Skipped, Cleaned, Barrier, Asked, Merges, Troubled, Ended}
+use Rattle.job_reports.specs.declared.report.Did.TheVariants.{Began, Chunk, Placed, Removed, Made, Set, Kept, Skipped, Cleaned, Barrier, Asked, Merges, Moved, Troubled, Ended}
 use Rattle.file_copy.specs.declared.stage.FolderState.TheVariants.{Dirty}
 use Rattle.file_copy.specs.declared.stage.Next.{Next}
 use Rattle.file_copy.specs.declared.stage.Next.TheVariants as next
@@ -106,7 +106,6 @@ part_cleaned told dirty marks log now work target part i kept has listed done = 
           gone = (kept.known.part part has.part_is).1;
           was = λ out. absurd (both_ways _ out aside);
           part = refl;
-          lone = λ none. none;
           doubts = λ p h. or_left _ _ h;
           folders = λ p there. (no_file p (kept.known.stand p there).stands, inl there);
           modes = λ p h. h;
@@ -263,4 +262,5 @@ module _ (told : Said) (dirty : List Route) (marks : Marks) (log now : CallLog) 
   copy_tells new (Kept path) going knows tells calls = absurd tells
   copy_tells new (Asked question) going knows tells calls = absurd tells
   copy_tells new (Merges pair names) going knows tells calls = absurd tells
+  copy_tells new (Moved pair) going knows tells calls = absurd tells
   copy_tells new (Skipped path why) going knows tells calls = absurd tells

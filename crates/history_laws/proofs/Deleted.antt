@@ -21,13 +21,14 @@ use Rattle.job_reports.proofs.CallAnswers.{done_call, IsDoneCall}
 use Rattle.copy_move.specs.declared.work.Work.{Work}
 use Rattle.copy_move.specs.declared.run.Course.{Course}
 use Rattle.history_laws.specs.Staying.{may_change}
+use Rattle.history_laws.specs.Doubt.{is_joint}
 use Rattle.history_laws.proofs.Calming.{nothing_known}
 use Rattle.history_laws.proofs.Changing.{IsHollow, hollow_file, removed_known}
 use Rattle.history_laws.proofs.Emptied.{IsEmptied, emptied}
 use Rattle.history_laws.proofs.Knowing.{IsCalmFolder, IsKept, IsKnown, Said, held, settled_marks}
 use Rattle.history_laws.proofs.JobKnows.{WorkKnows, work_settled, work_still}
 use Rattle.history_laws.proofs.Resting.{IsOfFiles, IsSureFolder, bare_unjoined, folder_at}
-use Rattle.history_laws.proofs.Restless.{IsUnjoined, is_joint}
+use Rattle.history_laws.proofs.Restless.{IsUnjoined}
 use Rattle.history_laws.proofs.Sources.{item_in}
 use Rattle.history_laws.proofs.Stepped.{Comes, comes_none, comes_one, folders_by, said_after}
 
@@ -143,7 +144,6 @@ removes_thing told dirty dirty_after marks log now path work knows kept none was
       gone = put_at told.tree path None ∙ ap (λ b. (let s : Spot = record { value = None; is_mount = b } in s)) mountless;
       was = λ out. ap (held (current log)) (was out) ∙ (sym (ap (λ (s : Spot). s.value) shown) ∙ sym (ap (λ (s : Spot). s.value) (put_at told.earlier path (told.tree path).value)));
       part = none;
-      lone = λ none. none;
       doubts = λ p h. or_left _ _ h;
       folders = folder_said;
       modes = λ p h. h;

@@ -15,7 +15,7 @@ use Rattle.crash_law.specs.Guarded.{Marks}
 use Rattle.job_reports.specs.declared.report.Ending.{Ending}
 use Rattle.job_reports.specs.declared.report.Ending.TheVariants.{Finished, Aborted, Killed, NoMemory}
 use Rattle.job_reports.specs.declared.report.Did.{Did}
-use Rattle.job_reports.specs.declared.report.Did.TheVariants.{Began, Chunk, Placed, Removed, Made, Set, Kept, Skipped, Cleaned, Barrier, Asked, Merges, Troubled, Ended}
+use Rattle.job_reports.specs.declared.report.Did.TheVariants.{Began, Chunk, Placed, Removed, Made, Set, Kept, Skipped, Cleaned, Barrier, Asked, Merges, Moved, Troubled, Ended}
 use Rattle.job_reports.specs.Paths.{folder_of, without}
 use Rattle.job_reports.specs.Stops.{sync_answer}
 use Rattle.job_reports.proofs.CallAnswers.{done_call, some_log}
@@ -221,6 +221,7 @@ module _ (told : Said) (dirty dirty_after : List Route) (marks : Marks) (log now
   deletion_tells d new (Kept path) knows (going, at) done settled leaves = stands GoesOn (Delete new) (stays GoesOn GoesOn d new _ knows at (still_going path d) dirty) leaves (some_log now log done)
   deletion_tells d new (Asked question) knows tells done settled leaves = absurd tells
   deletion_tells d new (Merges pair names) knows tells done settled leaves = absurd tells
+  deletion_tells d new (Moved pair) knows tells done settled leaves = absurd tells
   deletion_tells d new Barrier knows (stage, at) done settled (folder, own, left, called) = tried folder None GoesOn (Delete new) (stays GoesOn GoesOn d new d.stage knows at (λ is. is)) (called log refl) left
   deletion_tells d new (Troubled trouble) knows (barrier, at) done settled leaves =
       subst (λ routes. Comes told told routes log now (λ m. WorkKnows told routes m now (course_after (Troubled trouble)) (Delete new))) (sym leaves)
@@ -264,6 +265,7 @@ module _ (told : Said) (dirty dirty_after : List Route) (marks : Marks) (log now
   deletion_winds d new ending (Kept path) left folder knows tells answer calls leaves = absurd tells
   deletion_winds d new ending (Asked question) left folder knows tells answer calls leaves = absurd tells
   deletion_winds d new ending (Merges pair names) left folder knows tells answer calls leaves = absurd tells
+  deletion_winds d new ending (Moved pair) left folder knows tells answer calls leaves = absurd tells
   deletion_winds d new ending (Skipped path cause) left folder knows tells answer calls leaves = absurd tells
   deletion_winds d new ending (Cleaned part) left folder knows tells answer calls leaves = absurd tells
   deletion_winds d new ending (Troubled trouble) left folder knows tells answer calls leaves = absurd tells

@@ -7,7 +7,7 @@ use Rattle.tree_trait.specs.Change.{CallLog, current}
 use Rattle.crash_law.specs.Guarded.{Marks}
 use Rattle.job_reports.specs.Paths.{folder_of}
 use Rattle.job_reports.specs.declared.report.Did.{Did}
-use Rattle.job_reports.specs.declared.report.Did.TheVariants.{Began, Chunk, Placed, Removed, Made, Set, Kept, Skipped, Cleaned, Barrier, Asked, Merges, Troubled, Ended}
+use Rattle.job_reports.specs.declared.report.Did.TheVariants.{Began, Chunk, Placed, Removed, Made, Set, Kept, Skipped, Cleaned, Barrier, Asked, Merges, Moved, Troubled, Ended}
 use Rattle.file_copy.specs.Copying.{Copying, Tells, is_dirty}
 use Rattle.folder_copy.specs.FolderCopying as folder
 use Rattle.copy_levels.specs.Levels.{is_around_dirty, target_around}
@@ -80,6 +80,7 @@ module _ (told : Said) (dirty dirty_after : List Route) (marks : Marks) (log now
   calm_then (Kept path) t = absurd t
   calm_then (Asked question) t = absurd t
   calm_then (Merges pair names) t = absurd t
+  calm_then (Moved pair) t = absurd t
   calm_then (Skipped path cause) t = absurd t
 
   -- a step of the file at work

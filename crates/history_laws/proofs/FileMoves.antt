@@ -8,7 +8,7 @@ use Rattle.job_reports.specs.CallRuns.{AllDone, RunStops}
 use Rattle.job_reports.specs.declared.job.Pair.{Pair}
 use Rattle.job_reports.specs.declared.report.Cause.{Cause}
 use Rattle.job_reports.specs.declared.report.Did.{Did}
-use Rattle.job_reports.specs.declared.report.Did.TheVariants.{Began, Chunk, Placed, Removed, Made, Set, Kept, Skipped, Cleaned, Barrier, Asked, Merges, Troubled, Ended}
+use Rattle.job_reports.specs.declared.report.Did.TheVariants.{Began, Chunk, Placed, Removed, Made, Set, Kept, Skipped, Cleaned, Barrier, Asked, Merges, Moved, Troubled, Ended}
 use Rattle.file_copy.specs.CopyCalls.{BeganOf, CopyCalls, CopyStops, making, making_with}
 use Rattle.file_copy.specs.Copying as file
 use Rattle.file_copy.specs.Copying.{Copying, Places, Tells, places_of}
@@ -49,6 +49,7 @@ MoveCalls unclaimed c (Set path) new log after = CopyCalls unclaimed c (Set path
 MoveCalls unclaimed c (Kept path) new log after = CopyCalls unclaimed c (Kept path) new log after
 MoveCalls unclaimed c (Asked question) new log after = CopyCalls unclaimed c (Asked question) new log after
 MoveCalls unclaimed c (Merges pair names) new log after = CopyCalls unclaimed c (Merges pair names) new log after
+MoveCalls unclaimed c (Moved pair) new log after = CopyCalls unclaimed c (Moved pair) new log after
 MoveCalls unclaimed c (Skipped path cause) new log after = CopyCalls unclaimed c (Skipped path cause) new log after
 MoveCalls unclaimed c (Ended ending part) new log after = CopyCalls unclaimed c (Ended ending part) new log after
 
@@ -83,6 +84,7 @@ calls_moves unclaimed c new (Set path) log after calls = calls
 calls_moves unclaimed c new (Kept path) log after calls = calls
 calls_moves unclaimed c new (Asked question) log after calls = calls
 calls_moves unclaimed c new (Merges pair names) log after calls = calls
+calls_moves unclaimed c new (Moved pair) log after calls = calls
 calls_moves unclaimed c new (Skipped path cause) log after calls = calls
 calls_moves unclaimed c new (Ended ending part) log after calls = calls
 
@@ -109,6 +111,7 @@ tells_made facts f moved (Set path) begin is = absurd is
 tells_made facts f moved (Kept path) begin is = absurd is
 tells_made facts f moved (Asked question) begin is = absurd is
 tells_made facts f moved (Merges pair names) begin is = absurd is
+tells_made facts f moved (Moved pair) begin is = absurd is
 tells_made facts f moved (Skipped path cause) begin is = absurd is
 tells_made facts f moved (Ended ending part) begin is = absurd is
 
@@ -140,6 +143,7 @@ module _ (unclaimed : Route → Type 0) (replies : Replies) (facts : SourceFacts
   calls_made (Kept path) top is calls taken = absurd is
   calls_made (Asked question) top is calls taken = absurd is
   calls_made (Merges pair names) top is calls taken = absurd is
+  calls_made (Moved pair) top is calls taken = absurd is
   calls_made (Skipped path cause) top is calls taken = absurd is
   calls_made (Ended ending part) top is calls taken = absurd is
 

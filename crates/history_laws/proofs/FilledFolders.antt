@@ -19,13 +19,13 @@ use Rattle.crash_law.specs.Guarded.{Marks}
 use Rattle.crash_law.proofs.Guarding.{find_same, folder_kept, found_there, same_quiet}
 use Rattle.crash_law.proofs.Leading.{current_more}
 use Rattle.crash_law.proofs.Tops.{none_below, under_made, under_moved, under_removed}
-use Rattle.history_laws.specs.Doubt.{is_pending, name_waits}
+use Rattle.history_laws.specs.Doubt.{is_pending, name_waits, is_joint}
 use Rattle.history_laws.proofs.Changing.{none_below_file, said_one, said_two, some_is, some_none}
 use Rattle.history_laws.proofs.Untouched.{IsAsFound, IsBare, found_bare, IsUntouched, NoneOn, none_joint, none_waits, untouched_free, way_sure}
 use Rattle.history_laws.proofs.Knowing.{IsKept, Said}
 use Rattle.history_laws.proofs.Pending.{is_within, pending_less, quiet_within}
 use Rattle.history_laws.proofs.Resting.{IsOfFiles, IsSureFolder, bare_unjoined, folder_at, folder_at_of, stands_at, sure_path, sure_still, unjoined_at}
-use Rattle.history_laws.proofs.Restless.{IsUnjoined, is_joint, joint_before}
+use Rattle.history_laws.proofs.Restless.{IsUnjoined, joint_before}
 use Rattle.history_laws.proofs.WaitsFor.{pending_synced}
 
 -- no change of these names of the folder waits

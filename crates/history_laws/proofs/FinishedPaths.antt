@@ -5,7 +5,6 @@ use Rattle.std.specs.Option.{option_map_or}
 use Rattle.std.proofs.lemmas.Bool.{false≢true, true≢false, both_ways, false_from_ne_true, or_cases}
 use Rattle.mc_text.specs.Routes.{Route, is_prefix, same_path}
 use Rattle.tree_trait.specs.Shape.{IsTree}
-use Rattle.crash_law.proofs.Tops.{not_longer}
 use Rattle.tree_trait.specs.FileSystem.{find, visible_tree, node}
 use Rattle.tree_trait.specs.Change.{CallLog, current}
 use Rattle.tree_trait.specs.CrashImages.{Among, all_settled, is_clean}
@@ -23,9 +22,13 @@ use Rattle.copy_move.specs.Deletions.{started}
 use Rattle.copy_move.specs.declared.work.Work.{Work}
 use Rattle.thing_making.specs.declared.making.MakingStage.{MakingStage}
 use Rattle.thing_making.specs.declared.making.MakingStage.TheVariants as making
-use Rattle.copy_move.specs.declared.work.Work.TheVariants.{Copy, Delete, Make, SetMode}
+use Rattle.copy_move.specs.declared.work.Work.TheVariants.{Copy, Delete, Make, Move, SetMode}
 use Rattle.thing_making.specs.Makings.{Making}
 use Rattle.thing_making.specs.Makings as makings
+use Rattle.thing_moving.specs.declared.moving.MovingStage.{MovingStage}
+use Rattle.thing_moving.specs.declared.moving.MovingStage.TheVariants as moving
+use Rattle.thing_moving.specs.Movings.{Moving}
+use Rattle.thing_moving.specs.Movings as movings
 use Rattle.mode_setting.specs.Settings.{Setting}
 use Rattle.mode_setting.specs.Settings as settings
 use Rattle.copy_move.specs.Jobs.{Running, TellsOn, WorkTells}
@@ -42,15 +45,17 @@ use Rattle.history_laws.proofs.Histories.{IsReached, traced_reached}
 use Rattle.history_laws.proofs.Owing.{calm_at, calm_there, owed_modes, owed_names}
 use Rattle.history_laws.proofs.Intact.{own_folder, prefix_way}
 use Rattle.history_laws.proofs.JobKnows.{WorkKnows}
-use Rattle.history_laws.proofs.Knowing.{Said}
+use Rattle.history_laws.proofs.Knowing.{IsCalmIn, Said}
+use Rattle.history_laws.proofs.MoveKnown.{IsMovedIn, MoveKnown, is_moved, none_waits_from, none_waits_to}
 use Rattle.history_laws.proofs.Reports.{JobsKnow}
-use Rattle.history_laws.proofs.Resting.{sure_path}
+use Rattle.history_laws.proofs.Resting.{IsSureFolder, sure_path}
 use Rattle.history_laws.proofs.Sources.{item_in, making_changed, making_changes}
 use Rattle.history_laws.proofs.Prefixes.{calm_told, folders_told, told_of}
-use Rattle.history_laws.proofs.Tidy.{IsApartFrom, IsGoing, TidyFolder}
+use Rattle.history_laws.proofs.SureThings.{IsSureThing}
+use Rattle.history_laws.proofs.Tidy.{IsGoing, TidyFolder}
 use Rattle.history_laws.proofs.TreeDone.{TreeLeft, tree_done}
 use Rattle.history_laws.proofs.TreeKnown.{TreeKnown}
-use Rattle.history_laws.proofs.Unchanged.{is_tree}
+use Rattle.history_laws.proofs.Unchanged.{knows_calm}
 use Rattle.history_laws.proofs.Finished.{AreTidy, IsTidyJob, traced_tidy}
 
 -- a job whose step is that it is finished owes no sync
@@ -61,73 +66,89 @@ done_making making.Finish h = refl
 done_making making.PassedOver h = refl
 
 done_work : (old new next : Work) (part : Option Route) (dirty dirty_after : List Route) (before after : Option CallLog) → WorkTells old (Ended Finished part) new → WorkLeaves old (Ended Finished part) next dirty dirty_after before after
-    → is_tree old ≡ false → TidyFolder old dirty → (q : Route) → is_own old q ≡ true → Among dirty q → ⊥
+    → knows_calm old ≡ false → TidyFolder old dirty → (q : Route) → is_own old q ≡ true → Among dirty q → ⊥
 done_work (Delete d) (Make new) next part dirty dirty_after before after t leaves other tidy q own among = t
+done_work (Delete d) (Move new) next part dirty dirty_after before after t leaves other tidy q own among = t
 done_work (SetMode s) (Copy new) next part dirty dirty_after before after t leaves other tidy q own among = t
 done_work (SetMode s) (Delete new) next part dirty dirty_after before after t leaves other tidy q own among = t
 done_work (SetMode s) (Make new) next part dirty dirty_after before after t leaves other tidy q own among = t
+done_work (SetMode s) (Move new) next part dirty dirty_after before after t leaves other tidy q own among = t
 done_work (Copy c) new next part dirty dirty_after before after t leaves other tidy q own among = true≢false other
+done_work (Move m) new next part dirty dirty_after before after t leaves other tidy q own among = true≢false other
 done_work (Delete d) (SetMode new) next part dirty dirty_after before after t leaves other tidy q own among = t
 done_work (Delete d) (Copy new) next part dirty dirty_after before after t leaves other tidy q own among = t
 done_work (Make m) (SetMode new) next part dirty dirty_after before after t leaves other tidy q own among = t
+done_work (Make m) (Move new) next part dirty dirty_after before after t leaves other tidy q own among = t
 done_work (Make m) (Copy new) next part dirty dirty_after before after t leaves other tidy q own among = t
 done_work (Make m) (Delete new) next part dirty dirty_after before after t leaves other tidy q own among = t
 done_work (Make m) (Make new) next part dirty dirty_after before after (is_done, part_is, new_is) leaves other tidy q own among =
     tidy (done_making m.stage is_done) (subst (λ x. Among dirty x) (same_path-true q (folder_of m.path) own) among)
 done_work (SetMode s) (SetMode new) next part dirty dirty_after before after (stage, part_is, new_is) leaves other tidy q own among =
-    tidy.0 (ap settings.is_dirty stage) (subst (λ x. Among dirty x) (same_path-true q s.path own) among)
+    tidy (ap settings.is_dirty stage) (subst (λ x. Among dirty x) (same_path-true q s.path own) among)
 done_work (Delete d) (Delete new) (SetMode next) part dirty dirty_after before after t leaves other tidy q own among = leaves
 done_work (Delete d) (Delete new) (Copy next) part dirty dirty_after before after t leaves other tidy q own among = leaves
 done_work (Delete d) (Delete new) (Make next) part dirty dirty_after before after t leaves other tidy q own among = leaves
+done_work (Delete d) (Delete new) (Move next) part dirty dirty_after before after t leaves other tidy q own among = leaves
 done_work (Delete d) (Delete new) (Delete next) part dirty dirty_after before after t leaves other tidy q own among = both_ways _ (leaves.0 q among) own
 
 pub wound_up : (ending : Ending) (old new : Work) (part : Option Route) → Rattle.copy_move.specs.Jobs.WorkWinds ending old (Ended Finished part) new → Finished ≡ ending
 wound_up ending (Delete d) (Delete new) part (how_is, part_is, path_is, stage_is, skips_is) = how_is
 wound_up ending (Make m) (Make new) part (off, how_is, part_is, new_is) = how_is
+wound_up ending (Move m) (Move new) part (off, how_is, part_is, new_is) = how_is
 wound_up ending (SetMode s) (SetMode new) part (clean, how_is, part_is, new_is) = how_is
 wound_up ending (Copy c) (Copy new) part t = let m = t.may in m.0
 wound_up ending (Delete d) (Make new) part t = absurd t
+wound_up ending (Delete d) (Move new) part t = absurd t
 wound_up ending (SetMode s) (Copy new) part t = absurd t
 wound_up ending (SetMode s) (Delete new) part t = absurd t
 wound_up ending (Copy s) (Delete new) part t = absurd t
 wound_up ending (SetMode s) (Make new) part t = absurd t
+wound_up ending (Move s) (Make new) part t = absurd t
+wound_up ending (SetMode s) (Move new) part t = absurd t
 wound_up ending (Copy s) (Make new) part t = absurd t
+wound_up ending (Copy s) (Move new) part t = absurd t
 wound_up ending (Copy c) (SetMode new) part t = absurd t
 wound_up ending (Delete d) (SetMode new) part t = absurd t
 wound_up ending (Delete d) (Copy new) part t = absurd t
 wound_up ending (Make m) (SetMode new) part t = absurd t
+wound_up ending (Make m) (Move new) part t = absurd t
+wound_up ending (Move m) (SetMode new) part t = absurd t
 wound_up ending (Make m) (Copy new) part t = absurd t
+wound_up ending (Move m) (Copy new) part t = absurd t
 wound_up ending (Make m) (Delete new) part t = absurd t
+wound_up ending (Move m) (Delete new) part t = absurd t
 
-finished_tidy : (opening : CallLog) (g : List Entry) (dirty dirty_after : List Route) (job new : Running) (part : Option Route) (before after : Option CallLog) (course : Course) → job.course ≡ course → TellsOn course job (Ended Finished part) new
-    → LeavesDirty course job.work (Ended Finished part) new.work dirty dirty_after before after → IsTidyJob opening g dirty job → has_changed job.id g ≡ true
-    → (job.course ≡ GoesOn) × TidyFolder job.work dirty × (is_tree job.work ≡ false → (q : Route) → is_own job.work q ≡ true → Among dirty q → ⊥)
-finished_tidy opening g dirty dirty_after job new part before after GoesOn is (work, tells, new_is) leaves t changed =
+finished_tidy : (opening : CallLog) (g : List Entry) (dirty dirty_after : List Route) (log : CallLog) (job new : Running) (part : Option Route) (before after : Option CallLog) (course : Course) → job.course ≡ course → TellsOn course job (Ended Finished part) new
+    → LeavesDirty course job.work (Ended Finished part) new.work dirty dirty_after before after → IsTidyJob opening g dirty log job → has_changed job.id g ≡ true
+    → (job.course ≡ GoesOn) × TidyFolder job.work dirty × (knows_calm job.work ≡ false → (q : Route) → is_own job.work q ≡ true → Among dirty q → ⊥)
+finished_tidy opening g dirty dirty_after log job new part before after GoesOn is (work, tells, new_is) leaves t changed =
     let tidy = t.tidy changed (subst IsGoing (sym is) tt) in (is, tidy, λ other q own among. done_work job.work work new.work part dirty dirty_after before after tells leaves other tidy q own among)
-finished_tidy opening g dirty dirty_after job new part before after (InTrouble halt) is tells leaves t changed = absurd tells
-finished_tidy opening g dirty dirty_after job new part before after (OwedSyncFailed why) is tells leaves t changed = absurd tells
-finished_tidy opening g dirty dirty_after job new part before after Asking is tells leaves t changed = absurd tells
-finished_tidy opening g dirty dirty_after job new part before after (Skips why) is (inl (path, work, did_is, passes, new_is)) leaves t changed = absurd (let f : ⊥ = cc in f)
-finished_tidy opening g dirty dirty_after job new part before after (Skips why) is (inr (apart, did_is, new_is)) leaves t changed = absurd (let f : ⊥ = cc in f)
-finished_tidy opening g dirty dirty_after job new part before after (Ends ending) is (work, winds, new_is) leaves t changed =
+finished_tidy opening g dirty dirty_after log job new part before after (InTrouble halt) is tells leaves t changed = absurd tells
+finished_tidy opening g dirty dirty_after log job new part before after (OwedSyncFailed why) is tells leaves t changed = absurd tells
+finished_tidy opening g dirty dirty_after log job new part before after Asking is tells leaves t changed = absurd tells
+finished_tidy opening g dirty dirty_after log job new part before after (Skips why) is (inl (path, work, did_is, passes, new_is)) leaves t changed = absurd (let f : ⊥ = cc in f)
+finished_tidy opening g dirty dirty_after log job new part before after (Skips why) is (inr (apart, did_is, new_is)) leaves t changed = absurd (let f : ⊥ = cc in f)
+finished_tidy opening g dirty dirty_after log job new part before after (Ends ending) is (work, winds, new_is) leaves t changed =
     let e : Finished ≡ Aborted = wound_up ending job.work work part winds ∙ t.aborted ending is in absurd (let f : ⊥ = cc in f)
 
 -- so its folder is known to be on the disk
 pub finished_folder : (opening : CallLog) → IsTree (current opening) → all_settled opening.changes ≡ true → (newest : List Entry) (stand : Stand) (now : CallLog) (job : Running) → IsTraced opening newest stand now
     → stand.jobs ≡ job ∷ [] → has_changed job.id newest ≡ true → folders_told opening newest (changed_folder job.work) ≡ true
 finished_folder opening tree settled newest stand now job traced jobs_is changed =
-    let tidy : IsTidyJob opening newest stand.dirty job = subst (λ js. AreTidy opening newest stand.dirty js) jobs_is (traced_tidy opening tree settled newest stand now traced) in
+    let tidy : IsTidyJob opening newest stand.dirty now job = subst (λ js. AreTidy opening newest stand.dirty now js) jobs_is (traced_tidy opening tree settled newest stand now traced) in
     tidy.stands changed
 
--- work that changes names
+-- work that changes names in one folder, or at and below its target
 abbrev IsOfNames : Work → Type 0
 IsOfNames (SetMode s) = ⊥
+IsOfNames (Move m) = ⊥
 IsOfNames work = Unit {0}
 
 -- a folder in which it may change names is the one that holds what it changes, or lies in another one
 may_above : (work : Work) (up : Route) → IsOfNames work → may_change (item_in work) up ≡ true → (up ≡ changed_folder work) ⊎ (may_change (item_in work) (folder_of up) ≡ true)
 may_above (SetMode s) up names own = absurd names
 may_above (Make m) up names own = inl (same_path-true up (folder_of m.path) (making_changed m.thing m.path up own))
+may_above (Move m) up names own = absurd names
 may_above (Copy c) up names own = elim (or_cases (same_path up (folder_of c.top.target)) (is_prefix c.top.target up) own) [
   | inl here ↦ inl (same_path-true up (folder_of c.top.target) here)
   | inr within ↦ inr (own_folder (started c.top.target) up (folder_of up) within refl)
@@ -142,6 +163,7 @@ own_may : (work : Work) (path : Route) → IsOfNames work → is_own_path work p
 own_may (Copy c) path names own = own
 own_may (Delete d) path names own = own
 own_may (Make m) path names own = making_changes m.thing m.path (folder_of path) own
+own_may (Move m) path names own = absurd names
 own_may (SetMode s) path names own = absurd names
 
 -- so where that one isn't in doubt, and nothing waits in these, nothing there is
@@ -172,30 +194,56 @@ module _ (opening now : CallLog) (newest : List Entry) (stand : Stand) (path : R
       let sure = may_settled now work names firm none path may in
       (sure, λ unnamed no_mount. ap (λ b. b || node_waits now path) sure ∙ own_calm unnamed no_mount (calm (folder_of path) may))
 
-  -- what waits lies in a folder that is listed
-  unlisted : (own : Route → Bool) → ((q : Route) → own q ≡ true → Among stand.dirty q → ⊥) → (p : Route) → own (folder_of p) ≡ true → name_waits now p ≡ false
-  unlisted own off p within = false_from_ne_true (name_waits now p) (λ waits. off (folder_of p) within (owed_names opening now newest stand p tree settled traced waits))
-
-  making_none : (m : Making) → ((q : Route) → is_own (Make m) q ≡ true → Among stand.dirty q → ⊥) → (p : Route) → may_change (item_in (Make m)) (folder_of p) ≡ true → name_waits now p ≡ false
-  making_none m off p may = unlisted (is_own (Make m)) off p (making_changed m.thing m.path (folder_of p) may)
-
-  -- and of work that sets a mode: its thing isn't dirty, nor the folder around
-  mode_left : (s : Setting) → way_waits now (folder_of s.path) ≡ false → (Among stand.dirty s.path → ⊥) → IsApartFrom s.path stand.dirty → path ≡ s.path → IsLeft (SetMode s)
-  mode_left s firm off apart same =
-      let sure = sure_path now path (ap (λ q. way_waits now (folder_of q)) same ∙ firm) (false_from_ne_true _ (named path refl)) in
-      (sure, λ unnamed none. ap (λ b. b || node_waits now path) sure ∙ false_from_ne_true _ (λ waits. off (subst (λ q. Among stand.dirty q) same (owed_modes opening now newest stand path tree settled traced unnamed waits))))
-    where
-      named : (p : Route) → path ≡ p → name_waits now path ≡ true → ⊥
-      named [] is waits = false≢true (sym (ap (name_waits now) is) ∙ waits)
-      named (name ∷ up) is waits =
-          let among = subst (λ q. Among stand.dirty (folder_of q)) same (owed_names opening now newest stand path tree settled traced waits) in
-          let e : up ≡ name ∷ up = sym (ap folder_of (sym same ∙ is)) ∙ (apart among ∙ (sym same ∙ is)) in
-          not_longer [] name up e
-
-  -- and of a copy
   abbrev seen : IsReached opening newest stand now
   seen = traced_reached opening tree settled newest stand now traced
 
+  -- what waits lies in a folder that is listed, where no renaming waits for it and another one
+  unlisted : (own : Route → Bool) → ((q : Route) → own q ≡ true → Among stand.dirty q → ⊥) → ((q : Route) → own q ≡ true → calm_told newest q ≡ true) → (p : Route) → own (folder_of p) ≡ true → name_waits now p ≡ false
+  unlisted own off calm p within = false_from_ne_true (name_waits now p) (λ waits. elim (owed_names opening now newest stand p tree settled traced waits) [
+    | inl among ↦ off (folder_of p) within among
+    | inr other ↦ (let j = other.2 in let still = seen.kept.known.calm (folder_of p) (calm (folder_of p) within) in both_ways _ (still.apart j.f j.g j.at) j.joint)
+  ])
+
+  making_none : (m : Making) → ((q : Route) → is_own (Make m) q ≡ true → Among stand.dirty q → ⊥) → ((q : Route) → may_change (item_in (Make m)) q ≡ true → calm_told newest q ≡ true) → (p : Route) → may_change (item_in (Make m)) (folder_of p) ≡ true
+      → name_waits now p ≡ false
+  making_none m off calm p may = unlisted (is_own (Make m)) off (λ q own. calm q (making_changes m.thing m.path q own)) p (making_changed m.thing m.path (folder_of p) may)
+
+  -- and of work that sets a mode: its thing isn't dirty
+  mode_left : (s : Setting) → way_waits now (folder_of s.path) ≡ false → (Among stand.dirty s.path → ⊥) → name_waits now s.path ≡ false → path ≡ s.path → IsLeft (SetMode s)
+  mode_left s firm off named same =
+      let sure = sure_path now path (ap (λ q. way_waits now (folder_of q)) same ∙ firm) (ap (name_waits now) same ∙ named) in
+      (sure, λ unnamed none. ap (λ b. b || node_waits now path) sure ∙ false_from_ne_true _ (λ waits. off (subst (λ q. Among stand.dirty q) same (owed_modes opening now newest stand path tree settled traced unnamed waits))))
+
+  -- and of a move: both folders are at rest, and joined with each other alone
+  module _ (m : Moving) (stage : (movings.owes_target m.stage ≡ false) × (movings.is_dirty m.stage ≡ false)) (left : IsMovedIn (told_of opening now newest seen.part) seen.marks now m) where
+    abbrev told : Said
+    told = told_of opening now newest seen.part
+
+    -- a path in the folder at this one
+    in_folder : (up : Route) → ((name : List ℕ) → name_waits now (name ∷ up) ≡ false) → IsCalmIn seen.marks (current now) up → way_waits now up ≡ false → (p : Route) → path ≡ p → folder_of p ≡ up → IsLeft (Move m)
+    in_folder up names calm firm [] is within = (
+      ap (way_waits now) is,
+      λ unnamed no_mount. ap (λ b. b || node_waits now path) (ap (way_waits now) is) ∙ false_from_ne_true (node_waits now path) (λ waits. no_mount (record {
+        begins = ap (λ q. (visible_tree (current now) q).is_mount) is ∙ seen.kept.known.guarded.tree.mounted;
+        waits = waits;
+      })),
+    )
+    in_folder up names calm firm (name ∷ folder) is within =
+        let there : path ≡ name ∷ up = is ∙ ap (λ q. (let r : Route = name ∷ q in r)) within in
+        let sure : way_waits now path ≡ false =
+        ap (way_waits now) there ∙ sure_path now (name ∷ up) firm (names name) in (
+          sure,
+          λ unnamed no_mount. ap (λ b. b || node_waits now path) sure ∙ false_from_ne_true (node_waits now path) (λ waits.
+              both_ways _ (calm_at opening now newest stand path tree settled traced unnamed (λ i here. calm name i (ap (find (current now)) (sym there) ∙ here)) (false_from_ne_true _ (λ begins. no_mount (record { begins = begins; waits = waits })))) waits),
+        )
+
+    move_left : is_own (Move m) (folder_of path) ≡ true → IsLeft (Move m)
+    move_left own = elim (or_cases (same_path (folder_of path) (folder_of m.pair.source)) (same_path (folder_of path) (folder_of m.pair.target)) own) [
+      | inl from ↦ (let firm = seen.kept.known.stand (folder_of m.pair.source) left.told_from in in_folder (folder_of m.pair.source) (none_waits_from told seen.marks now m left stage.0 stage.1) left.calm_from firm.sure path refl (same_path-true _ _ from))
+      | inr to ↦ (let firm = seen.kept.known.stand (folder_of m.pair.target) left.told_to in in_folder (folder_of m.pair.target) (none_waits_to told seen.marks now m left stage.0 stage.1) left.calm_to firm.sure path refl (same_path-true _ _ to))
+    ]
+
+  -- and of a copy
   module _ (c : SubtreeCopying) (left : TreeLeft (told_of opening now newest seen.part) seen.marks now c) where
     -- no mode waits of anything else in the folder that holds the target
     beside_calm : (name : List ℕ) → path ≡ name ∷ folder_of c.top.target → ((i : ℕ) → find (current now) path ≡ Some i → name ∷ folder_of c.top.target ≡ c.top.target → is_folder (node (current now) i) ≡ false) → (Among (named_parts newest) path → ⊥) → (IsMountInDoubt now path → ⊥) → node_waits now path ≡ false
@@ -246,15 +294,21 @@ module _ (opening now : CallLog) (newest : List Entry) (stand : Stand) (path : R
         let sure = may_settled now (Copy c) tt firm names_none path own in
         (sure, λ unnamed no_mount. ap (λ b. b || node_waits now path) sure ∙ none_waits unnamed no_mount path refl own)
 
-  left_by : (work : Work) → way_waits now (changed_folder work) ≡ false → (is_tree work ≡ false → (q : Route) → is_own work q ≡ true → Among stand.dirty q → ⊥) → TidyFolder work stand.dirty
-      → (is_tree work ≡ false → (q : Route) → may_change (item_in work) q ≡ true → calm_told newest q ≡ true)
-      → ((c : SubtreeCopying) → work ≡ Copy c → TreeLeft (told_of opening now newest seen.part) seen.marks now c) → is_own_path work path ≡ true → IsLeft work
-  left_by (Copy c) firm off tidy calm whole own = tree_left c (whole c refl) firm own
-  left_by (Delete d) firm off tidy calm whole own = names_left (Delete d) tt firm (unlisted (is_own (Delete d)) (off refl)) (calm refl) own
-  left_by (Make m) firm off tidy calm whole own = names_left (Make m) tt firm (making_none m (off refl)) (calm refl) own
-  left_by (SetMode s) firm off tidy calm whole own = mode_left s firm (off refl s.path (same_path-self s.path)) tidy.1 (same_path-true path s.path own)
+  -- what is known of a copy or a move when it ends
+  abbrev IsWhole : Work → Type 0
+  IsWhole (Copy c) = TreeLeft (told_of opening now newest seen.part) seen.marks now c
+  IsWhole (Move m) = ((movings.owes_target m.stage ≡ false) × (movings.is_dirty m.stage ≡ false)) × IsMovedIn (told_of opening now newest seen.part) seen.marks now m
+  IsWhole work = Unit {0}
 
--- of a copy, where it tells its end
+  left_by : (work : Work) → way_waits now (changed_folder work) ≡ false → (knows_calm work ≡ false → (q : Route) → is_own work q ≡ true → Among stand.dirty q → ⊥) → IsSureThing (item_in work) now
+      → (knows_calm work ≡ false → (q : Route) → may_change (item_in work) q ≡ true → calm_told newest q ≡ true) → IsWhole work → is_own_path work path ≡ true → IsLeft work
+  left_by (Copy c) firm off named calm whole own = tree_left c whole firm own
+  left_by (Delete d) firm off named calm whole own = names_left (Delete d) tt firm (unlisted (is_own (Delete d)) (off refl) (calm refl)) (calm refl) own
+  left_by (Make m) firm off named calm whole own = names_left (Make m) tt firm (making_none m (off refl) (calm refl)) (calm refl) own
+  left_by (Move m) firm off named calm whole own = move_left m whole.0 whole.1 own
+  left_by (SetMode s) firm off named calm whole own = mode_left s firm (off refl s.path (same_path-self s.path)) named (same_path-true path s.path own)
+
+-- so it is of a copy, where it tells its end
 whole_left : (told : Said) (dirty dirty_after : List Route) (marks : Marks) (log now : CallLog) (job new : Running) (part : Option Route) (c : SubtreeCopying) → job.work ≡ Copy c → job.course ≡ GoesOn → WorkKnows told dirty marks log job.course job.work
     → TidyFolder job.work dirty → WorkLeads job (Ended Finished part) new dirty dirty_after log now → TreeLeft told marks log c
 whole_left told dirty dirty_after marks log now job new part c is on knows tidy works =
@@ -268,13 +322,54 @@ whole_left told dirty dirty_after marks log now job new part c is on knows tidy 
     by calls f0 f1 known begun (Copy x) goes = tree_done told dirty dirty_after marks log now c x part known begun goes.free job.replies calls goes.since f1 goes.steps
     by calls f0 f1 known begun (Delete x) goes = absurd goes
     by calls f0 f1 known begun (Make x) goes = absurd goes
+    by calls f0 f1 known begun (Move x) goes = absurd goes
     by calls f0 f1 known begun (SetMode x) goes = absurd goes
+
+-- and of a move that was renamed
+done_moving : (stage : MovingStage) → movings.is_done stage ≡ true → is_moved stage ≡ true → (movings.owes_target stage ≡ false) × (movings.is_dirty stage ≡ false)
+done_moving moving.Take done moved = absurd (false≢true done)
+done_moving moving.SyncTarget done moved = absurd (false≢true done)
+done_moving moving.SyncSource done moved = absurd (false≢true done)
+done_moving moving.Finish done moved = (refl, refl)
+done_moving moving.PassedOver done moved = absurd (false≢true moved)
+
+move_done : (m : Moving) (work : Work) (part : Option Route) → WorkTells (Move m) (Ended Finished part) work → movings.is_done m.stage ≡ true
+move_done m (Move new) part (is_done, part_is, new_is) = is_done
+move_done m (Copy new) part t = absurd t
+move_done m (Delete new) part t = absurd t
+move_done m (Make new) part t = absurd t
+move_done m (SetMode new) part t = absurd t
+
+moved_left : (told : Said) (dirty dirty_after : List Route) (marks : Marks) (log now : CallLog) (job new : Running) (part : Option Route) (m : Moving) → job.work ≡ Move m → job.course ≡ GoesOn → WorkKnows told dirty marks log job.course job.work
+    → TidyFolder job.work dirty → WorkLeads job (Ended Finished part) new dirty dirty_after log now → ((movings.owes_target m.stage ≡ false) × (movings.is_dirty m.stage ≡ false)) × IsMovedIn told marks log m
+moved_left told dirty dirty_after marks log now job new part m is on knows tidy works =
+    let known : MoveKnown told marks log GoesOn m = subst (λ x. WorkKnows told dirty marks log GoesOn x) is (subst (λ x. WorkKnows told dirty marks log x job.work) on knows) in
+    let renamed : is_moved m.stage ≡ true = subst (λ x. TidyFolder x dirty) is tidy in
+    let tells : TellsOn GoesOn job (Ended Finished part) new = subst (λ x. TellsOn x job (Ended Finished part) new) on works.tells in
+    (done_moving m.stage (move_done m tells.0 part (subst (λ x. WorkTells x (Ended Finished part) tells.0) is tells.1)) renamed, known.moved refl renamed)
 
 pub finished_law : FinishedLaw
 finished_law opening now after newest stand dirty job new part path tree settled traced jobs_is works changed own =
-    let r = traced_reached opening tree settled newest stand now traced in
-    let firm = r.kept.known.stand (changed_folder job.work) (finished_folder opening tree settled newest stand now job traced jobs_is changed) in
-    let tidy : IsTidyJob opening newest stand.dirty job = subst (λ js. AreTidy opening newest stand.dirty js) jobs_is (traced_tidy opening tree settled newest stand now traced) in
-    let left = finished_tidy opening newest stand.dirty dirty job new part (Some now) (Some after) job.course refl works.tells works.leaves tidy changed in
-    left_by opening now newest stand path tree settled traced job.work firm.sure left.2 left.1 (tidy.calm changed)
-    (λ c is. whole_left (told_of opening now newest r.part) stand.dirty dirty r.marks now after job new part c is left.0 (subst (λ js. JobsKnow (told_of opening now newest r.part) stand.dirty r.marks now js) jobs_is r.knows) left.1 works) own
+    left_by opening now newest stand path tree settled traced job.work firm.sure left.2 (tidy.sure changed) (tidy.calm changed) (whole job.work refl) own
+  where
+    r : IsReached opening newest stand now
+    r = traced_reached opening tree settled newest stand now traced
+
+    firm : IsSureFolder now (changed_folder job.work)
+    firm = r.kept.known.stand (changed_folder job.work) (finished_folder opening tree settled newest stand now job traced jobs_is changed)
+
+    tidy : IsTidyJob opening newest stand.dirty now job
+    tidy = subst (λ js. AreTidy opening newest stand.dirty now js) jobs_is (traced_tidy opening tree settled newest stand now traced)
+
+    left : (job.course ≡ GoesOn) × TidyFolder job.work stand.dirty × (knows_calm job.work ≡ false → (q : Route) → is_own job.work q ≡ true → Among stand.dirty q → ⊥)
+    left = finished_tidy opening newest stand.dirty dirty now job new part (Some now) (Some after) job.course refl works.tells works.leaves tidy changed
+
+    knows : WorkKnows (told_of opening now newest r.part) stand.dirty r.marks now job.course job.work
+    knows = subst (λ js. JobsKnow (told_of opening now newest r.part) stand.dirty r.marks now js) jobs_is r.knows
+
+    whole : (work : Work) → job.work ≡ work → IsWhole opening now newest stand path tree settled traced job.work
+    whole (Copy c) is = subst (λ w. IsWhole opening now newest stand path tree settled traced w) (sym is) (whole_left (told_of opening now newest r.part) stand.dirty dirty r.marks now after job new part c is left.0 knows left.1 works)
+    whole (Move m) is = subst (λ w. IsWhole opening now newest stand path tree settled traced w) (sym is) (moved_left (told_of opening now newest r.part) stand.dirty dirty r.marks now after job new part m is left.0 knows left.1 works)
+    whole (Delete d) is = subst (λ w. IsWhole opening now newest stand path tree settled traced w) (sym is) tt
+    whole (Make m) is = subst (λ w. IsWhole opening now newest stand path tree settled traced w) (sym is) tt
+    whole (SetMode s) is = subst (λ w. IsWhole opening now newest stand path tree settled traced w) (sym is) tt

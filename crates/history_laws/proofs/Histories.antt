@@ -31,7 +31,7 @@ use Rattle.history_laws.specs.Traces.{EventLeads, Follows, IsTraced, Stand, if_c
 use Rattle.history_laws.proofs.Prefixes.{AreWithin, calm_event, calm_told, earlier_more, folders_event, folders_told, replayed_more, said_by, told_more, told_of, told_with, within_more}
 use Rattle.history_laws.proofs.Going.{Goes, closed_know, closed_live, event_goes}
 use Rattle.history_laws.proofs.Knowing.{Said, IsKept, anywhere}
-use Rattle.history_laws.proofs.Pending.{pending_settled, within_settled}
+use Rattle.history_laws.proofs.Pending.{pending_settled}
 use Rattle.history_laws.proofs.WaitsFor.{joint_settled, restless_settled}
 use Rattle.history_laws.proofs.Reports.{HasLive, JobsKnow}
 use Rattle.history_laws.proofs.Sources.{item_in}
@@ -59,6 +59,7 @@ doubt_anywhere (reported.Made made) part = refl
 doubt_anywhere (reported.Kept kept) part = refl
 doubt_anywhere (reported.Asked question) part = refl
 doubt_anywhere (reported.Merges pair names) part = refl
+doubt_anywhere (reported.Moved pair) part = refl
 doubt_anywhere (reported.Skipped path cause) part = refl
 doubt_anywhere reported.Barrier part = refl
 doubt_anywhere (reported.Troubled trouble) part = refl
@@ -76,6 +77,7 @@ modes_anywhere (reported.Made made) = refl
 modes_anywhere (reported.Kept kept) = refl
 modes_anywhere (reported.Asked question) = refl
 modes_anywhere (reported.Merges pair names) = refl
+modes_anywhere (reported.Moved pair) = refl
 modes_anywhere (reported.Skipped path cause) = refl
 modes_anywhere reported.Barrier = refl
 modes_anywhere (reported.Troubled trouble) = refl
@@ -223,7 +225,6 @@ module _ (opening : CallLog) (tree : IsTree (current opening)) (settled : all_se
       part = λ p is. absurd (let f : ⊥ = cc in f);
       tracked = λ f restless. absurd (false≢true (sym (restless_settled f opening.changes settled) ∙ restless));
       joint = λ f g up joint at. absurd (false≢true (sym (joint_settled f g opening.changes settled) ∙ joint));
-      lone = λ none. within_settled opening.changes settled;
       doubts = λ p waits. refl;
       stand = λ p there. record { stands = there; sure = none_unsettled p };
     };

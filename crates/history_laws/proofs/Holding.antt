@@ -94,7 +94,6 @@ module _ (path : Route) (v : Option Value) (told : Said) where
       part = kept.known.part;
       tracked = kept.known.tracked;
       joint = kept.known.joint;
-      lone = kept.known.lone;
       doubts = kept.known.doubts;
       stand = kept.known.stand;
     };

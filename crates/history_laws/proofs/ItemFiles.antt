@@ -11,7 +11,7 @@ use Rattle.tree_trait.specs.Shape.{IsTree}
 use Rattle.job_reports.specs.Paths.{folder_of}
 use Rattle.job_reports.specs.declared.report.Cause.{Cause}
 use Rattle.job_reports.specs.declared.report.Did.{Did}
-use Rattle.job_reports.specs.declared.report.Did.TheVariants.{Began, Chunk, Placed, Removed, Made, Set, Kept, Skipped, Cleaned, Barrier, Asked, Merges, Troubled, Ended}
+use Rattle.job_reports.specs.declared.report.Did.TheVariants.{Began, Chunk, Placed, Removed, Made, Set, Kept, Skipped, Cleaned, Barrier, Asked, Merges, Moved, Troubled, Ended}
 use Rattle.job_reports.specs.declared.report.Ending.TheVariants.{Finished, Aborted, Killed, NoMemory}
 use Rattle.job_reports.proofs.CallAnswers.{done_call, some_log}
 use Rattle.job_reports.proofs.PermittedCalls.{IsMaking, making_passes}
@@ -93,4 +93,5 @@ module _ (unclaimed : Route → Type 0) (log now : CallLog) (name : List ℕ) (l
   file_item moved (Kept path) met short tells calls going p stands = absurd tells
   file_item moved (Asked question) met short tells calls going p stands = absurd tells
   file_item moved (Merges pair names) met short tells calls going p stands = absurd tells
+  file_item moved (Moved pair) met short tells calls going p stands = absurd tells
   file_item moved (Skipped path why) met short tells calls going p stands = absurd tells

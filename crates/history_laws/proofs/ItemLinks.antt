@@ -14,7 +14,7 @@ use Rattle.job_reports.specs.CallRuns.{AllDone, RunStops}
 use Rattle.job_reports.specs.declared.report.Cause.{Cause}
 use Rattle.job_reports.specs.declared.report.Cause.TheVariants as cause
 use Rattle.job_reports.specs.declared.report.Did.{Did}
-use Rattle.job_reports.specs.declared.report.Did.TheVariants.{Began, Chunk, Placed, Removed, Made, Set, Kept, Skipped, Cleaned, Barrier, Asked, Merges, Troubled, Ended}
+use Rattle.job_reports.specs.declared.report.Did.TheVariants.{Began, Chunk, Placed, Removed, Made, Set, Kept, Skipped, Cleaned, Barrier, Asked, Merges, Moved, Troubled, Ended}
 use Rattle.job_reports.proofs.CallAnswers.{done_call}
 use Rattle.job_reports.proofs.PermittedCalls.{making_passes}
 use Rattle.link_copy.specs.LinkCopying.{LinkCopying, Tells, after_clean, has_part}
@@ -104,4 +104,5 @@ module _ (log now : CallLog) (name : List ℕ) (l : Levels) (c : LinkCopying) (k
   link_item moved (Kept path) open_to tells calls going = absurd tells
   link_item moved (Asked question) open_to tells calls going = absurd tells
   link_item moved (Merges pair names) open_to tells calls going = absurd tells
+  link_item moved (Moved pair) open_to tells calls going = absurd tells
   link_item moved (Skipped path why) open_to tells calls going = absurd tells

@@ -16,12 +16,13 @@ use Rattle.job_reports.specs.declared.report.Did.TheVariants.{Ended}
 use Rattle.job_reports.proofs.PermittedCalls.{stat_missing}
 use Rattle.copy_move.specs.declared.run.Course.{Course}
 use Rattle.copy_move.specs.declared.work.Work.{Work}
-use Rattle.copy_move.specs.declared.work.Work.TheVariants.{Copy, Delete, Make, SetMode}
+use Rattle.copy_move.specs.declared.work.Work.TheVariants.{Copy, Delete, Make, Move, SetMode}
 use Rattle.tree_deletion.specs.declared.deletion.Stage.TheVariants.{Going}
 use Rattle.tree_deletion.specs.Folders.{is_of}
 use Rattle.crash_law.proofs.Unworked.{unworked_law}
 use Rattle.history_laws.specs.Doubt.{way_waits}
 use Rattle.history_laws.proofs.Knowing.{HasMode, IsCalmFolder, IsCalmIn, IsKept, Said, settled_marks}
+use Rattle.history_laws.proofs.MoveKnown.{MoveKnown, move_course, move_said, move_settled, move_still}
 use Rattle.job_reports.specs.Paths.{folder_of}
 use Rattle.tree_trait.specs.Shape.{IsTree}
 use Rattle.tree_trait.specs.Change.{Change, Nothing, Syncs, with_change}
@@ -43,6 +44,7 @@ WorkKnows told dirty marks log course (Copy c) = TreeKnown told dirty marks log 
 WorkKnows told dirty marks log course (Delete d) =
     HasName d.path × (told.part ≡ None) × (d.stage ≡ Going → KnowsWithin told marks (current log) d.path)
 WorkKnows told dirty marks log course (Make m) = HasName m.path × (told.part ≡ None)
+WorkKnows told dirty marks log course (Move m) = MoveKnown told marks log course m
 WorkKnows told dirty marks log course (SetMode s) = HasName s.path × (told.part ≡ None)
 
 -- a mode that waits is of a path at which something stands, which is listed
@@ -74,7 +76,7 @@ module _ (told : Said) (dirty : List Route) (marks : Marks) (log : CallLog) (kep
           absurd (both_ways _ (subst (λ q. marks.aside q ≡ false) (find-once (current log) kept.known.guarded.tree h.path part i h.leads at) h.out) aside)
 
   -- Where no dirty path lies on the mount of a folder, no mode waits of what stands in it but where another mount begins.
-  modes_in : (up : Route) → NoneOn (current log) up dirty → IsCalmIn marks (current log) up
+  pub modes_in : (up : Route) → NoneOn (current log) up dirty → IsCalmIn marks (current log) up
   modes_in up none name i at = by (starts_mount (current log) i) refl
     where
       by : (b : Bool) → starts_mount (current log) i ≡ b → (marks.modes i ≡ None) ⊎ (starts_mount (current log) i ≡ true)
@@ -110,6 +112,7 @@ module _ (log : CallLog) (marks : Marks) where
   work_settled told dirty course (Copy c) k = tree_settled log marks told dirty course c k
   work_settled told dirty course (Delete d) (name, none, intact) = (name, none, λ is. let k = intact is in (intact_settled d.path k.0, k.1, k.2))
   work_settled told dirty course (Make w) k = k
+  work_settled told dirty course (Move w) k = move_settled log marks told course w k
   work_settled told dirty course (SetMode s) k = k
 
 -- A job that goes on only where it went on, and isn't in its last steps where it wasn't, knows what it knew.
@@ -118,6 +121,7 @@ pub work_course : (told : Said) (dirty : List Route) (marks : Marks) (log : Call
 work_course told dirty marks log course other (Copy c) on over k = tree_course told dirty marks log course other c on over k
 work_course told dirty marks log course other (Delete d) on over k = k
 work_course told dirty marks log course other (Make w) on over k = k
+work_course told dirty marks log course other (Move w) on over k = move_course told marks log course other w over k
 work_course told dirty marks log course other (SetMode s) on over k = k
 
 -- a sync, and a call that was refused, leave the tree as it was
@@ -135,6 +139,7 @@ work_still told dirty marks log now course (Copy c) tree still k = tree_still to
 work_still told dirty marks log now course (Delete d) tree still (name, none, known) =
     (name, none, λ is. let k = known is in (subst (λ (s : FileSystem). IsIntact marks s d.path) (sym (still_same log now still)) k.0, k.1, k.2))
 work_still told dirty marks log now course (Make m) tree still k = k
+work_still told dirty marks log now course (Move m) tree still k = move_still told marks log now course m still k
 work_still told dirty marks log now course (SetMode s) tree still k = k
 
 -- What is known of a job hangs on the tree, the part, the folders on the disk and the calm folders of what a history says.
@@ -147,6 +152,7 @@ work_said told other tree part folders calm dirty marks log course (Delete d) (n
   λ is. let k = known is in (k.0, ap (λ b. b (folder_of d.path)) folders ∙ k.1, λ q own. ap (λ b. b q) calm ∙ k.2 q own),
 )
 work_said told other tree part folders calm dirty marks log course (Make m) (name, none) = (name, part ∙ none)
+work_said told other tree part folders calm dirty marks log course (Move m) k = move_said told other part folders marks log course m k
 work_said told other tree part folders calm dirty marks log course (SetMode s) (name, none) = (name, part ∙ none)
 
 -- what is known after a report: of a job that has ended no part stands

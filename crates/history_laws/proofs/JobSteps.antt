@@ -20,7 +20,7 @@ use Rattle.copy_levels.specs.declared.level.Level.{Level}
 use Rattle.tree_copy.specs.Standing.{is_fresh as tree_fresh}
 use Rattle.subtree_copy.specs.Standing.{SubtreeCopying, part_of as tree_part}
 use Rattle.copy_move.specs.declared.work.Work.{Work}
-use Rattle.copy_move.specs.declared.work.Work.TheVariants.{Copy, Delete, Make, SetMode}
+use Rattle.copy_move.specs.declared.work.Work.TheVariants.{Copy, Delete, Make, Move, SetMode}
 use Rattle.copy_move.specs.declared.run.Course.{Course}
 use Rattle.copy_move.specs.declared.run.Course.TheVariants.{Ends}
 use Rattle.copy_move.specs.Jobs.{part_of}
@@ -66,6 +66,7 @@ pub fresh_knows : (told : Said) (dirty other : List Route) (marks : Marks) (log 
 fresh_knows told dirty other marks log course (Copy c) going fresh k = fresh_tree told dirty other marks log course c going fresh k
 fresh_knows told dirty other marks log course (Delete d) going fresh k = k
 fresh_knows told dirty other marks log course (Make w) going fresh k = k
+fresh_knows told dirty other marks log course (Move w) going fresh k = k
 fresh_knows told dirty other marks log course (SetMode s) going fresh k = k
 
 module _ (told : Said) (dirty dirty_after : List Route) (marks : Marks) (log now : CallLog) (kept : IsKept told dirty marks log) where
@@ -90,7 +91,6 @@ module _ (told : Said) (dirty dirty_after : List Route) (marks : Marks) (log now
           part = λ p e. absurd (let f : ⊥ = cc in f);
           tracked = kept.known.tracked;
           joint = kept.known.joint;
-          lone = kept.known.lone;
           doubts = kept.known.doubts;
           stand = kept.known.stand;
         };
@@ -129,6 +129,8 @@ module _ (told : Said) (dirty dirty_after : List Route) (marks : Marks) (log now
       subst (λ x. Comes told (said_after now x (Delete d) told) dirty_after log now (λ m. (said_after now x (Delete d) told).part ≡ None)) (sym did_is) (ends told dirty dirty_after marks log now kept (Delete d) knows.1 same is)
   gives_up (Make w) course did knows did_is same is =
       subst (λ x. Comes told (said_after now x (Make w) told) dirty_after log now (λ m. (said_after now x (Make w) told).part ≡ None)) (sym did_is) (ends told dirty dirty_after marks log now kept (Make w) knows.1 same is)
+  gives_up (Move w) course did knows did_is same is =
+      subst (λ x. Comes told (said_after now x (Move w) told) dirty_after log now (λ m. (said_after now x (Move w) told).part ≡ None)) (sym did_is) (ends told dirty dirty_after marks log now kept (Move w) knows.none same is)
   gives_up (SetMode s) course did knows did_is same is =
       subst (λ x. Comes told (said_after now x (SetMode s) told) dirty_after log now (λ m. (said_after now x (SetMode s) told).part ≡ None)) (sym did_is) (ends told dirty dirty_after marks log now kept (SetMode s) knows.1 same is)
 

@@ -13,14 +13,13 @@ use Rattle.tree_trait.proofs.Finding.{find-once}
 use Rattle.crash_law.specs.Possible.{MayFind, IsImage}
 use Rattle.crash_law.specs.Guarded.{Marks, IsGuarded, IsOnDisk, Holds, Shows, with_mode}
 use Rattle.crash_law.proofs.Guarding.{settle_law, guard_law, found_at}
-use Rattle.history_laws.specs.Doubt.{is_unsettled, name_waits, node_waits, way_waits}
-use Rattle.history_laws.proofs.Pending.{all_within}
+use Rattle.history_laws.specs.Doubt.{is_unsettled, name_waits, node_waits, way_waits, is_joint}
 use Rattle.history_laws.proofs.Resting.{IsBeside, IsOfFiles, IsSureFolder, settled_unless}
-use Rattle.history_laws.proofs.Restless.{IsUnjoined, is_joint, is_restless}
+use Rattle.history_laws.proofs.Restless.{IsUnjoined, is_restless}
 
 -- what a history says: what each path shows, what it showed before its last change, the paths that were named as parts, the parts that
 -- ended jobs left, the part that stands, of which names a change may wait for a sync, and where folders are known to stand on the disk; of which paths a mode may
--- wait, and the folders in which none does; and whether a job has moved something to another folder
+-- wait, and the folders in which none does
 pub record Said : Type 0 where
   pub tree : View
   pub earlier : View
@@ -31,7 +30,6 @@ pub record Said : Type 0 where
   pub folders : Route → Bool
   pub modes : Route → Bool
   pub calm : Route → Bool
-  pub joins : Bool
 
 -- of any path
 abbrev pub anywhere : Route → Bool
@@ -90,8 +88,6 @@ pub record IsKnown (said : Said) (dirty : List Route) (marks : Marks) (log : Cal
   pub tracked : (f : ℕ) → is_restless f log.changes ≡ true → ((up : Route) × Among dirty up × (find (current log) up ≡ Some f)) ⊎ IsUnreached log f
   -- two folders for which a renaming waits lie on one mount
   pub joint : (f g : ℕ) (up : Route) → is_joint f g log.changes ≡ true → find (current log) up ≡ Some f → IsBeside log up g
-  -- where no job has moved a thing to another folder no renaming waits for two: only `OwedLaw` stands on this
-  pub lone : said.joins ≡ false → all_within log.changes ≡ true
   pub doubts : (p : Route) → name_waits log p ≡ true → said.doubt p ≡ true
   pub stand : (p : Route) → said.folders p ≡ true → IsSureFolder log p
 
@@ -235,7 +231,6 @@ module _ (said : Said) (dirty : List Route) (marks : Marks) (log : CallLog) (kno
       part = λ p is. let k = known.part p is in (still_aside p k.0 k.2, k.1, k.2);
       tracked = known.tracked;
       joint = known.joint;
-      lone = known.lone;
       doubts = known.doubts;
       stand = known.stand;
     };

@@ -37,6 +37,7 @@ pub mod FinishedExample
 pub mod FinishedPaths
 pub mod FolderExample
 pub mod FolderExampleSteps
+pub mod FirstChanges
 pub mod FoldersEnd
 pub mod FoldersLie
 pub mod FoldersMade
@@ -68,9 +69,12 @@ pub mod ModeSteps
 pub mod ModesStay
 pub mod Moments
 pub mod Mounts
+pub mod MoveKnown
 pub mod Moved
+pub mod MovesOn
 pub mod MovingExample
 pub mod MovingFiles
+pub mod MovingSteps
 pub mod NameChanges
 pub mod NameItems
 pub mod NameLaws
@@ -94,9 +98,11 @@ pub mod Quiet
 pub mod QuietRuns
 pub mod Refused
 pub mod Renaming
+pub mod Renamings
 pub mod Reports
 pub mod Restated
 pub mod Restless
+pub mod RoamingThings
 pub mod Resting
 pub mod SetFolders
 pub mod SettingModes
@@ -104,6 +110,7 @@ pub mod Sources
 pub mod Staying
 pub mod Stepped
 pub mod StepsKnown
+pub mod SureThings
 pub mod TextSteps
 pub mod Tidy
 pub mod TreeBefore
@@ -138,3 +145,7 @@ pub mod Unchanged
 pub mod Unnamed
 pub mod Untouched
 pub mod WaitsFor
+pub mod WholeExample
+pub mod WholeImages
+pub mod WholeMoments
+pub mod WholeSteps

@@ -20,7 +20,7 @@ use Rattle.crash_law.proofs.Tops.{none_below, under_made}
 use Rattle.job_reports.specs.CallRuns.{AllDone}
 use Rattle.job_reports.specs.declared.report.Cause.{Cause}
 use Rattle.job_reports.specs.declared.report.Did.{Did}
-use Rattle.job_reports.specs.declared.report.Did.TheVariants.{Began, Chunk, Placed, Removed, Made, Set, Kept, Skipped, Cleaned, Barrier, Asked, Merges, Troubled, Ended}
+use Rattle.job_reports.specs.declared.report.Did.TheVariants.{Began, Chunk, Placed, Removed, Made, Set, Kept, Skipped, Cleaned, Barrier, Asked, Merges, Moved, Troubled, Ended}
 use Rattle.job_reports.proofs.CallAnswers.{done_call}
 use Rattle.job_reports.proofs.PermittedCalls.{IsMaking, making_passes}
 use Rattle.link_copy.specs.LinkCopying.{LinkCopying, Tells, after_clean, has_part}
@@ -129,4 +129,5 @@ module _ (log now : CallLog) (tree : IsTree (current log)) (c : LinkCopying) whe
   text_after moved (Kept path) tells calls known has = absurd tells
   text_after moved (Asked question) tells calls known has = absurd tells
   text_after moved (Merges pair names) tells calls known has = absurd tells
+  text_after moved (Moved pair) tells calls known has = absurd tells
   text_after moved (Skipped path why) tells calls known has = absurd tells

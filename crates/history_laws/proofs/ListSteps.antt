@@ -9,7 +9,7 @@ use Rattle.job_answers.specs.declared.replies.Replies.{Replies}
 use Rattle.job_reports.specs.declared.job.Pair.{Pair}
 use Rattle.job_reports.specs.declared.report.Cause.{Cause}
 use Rattle.job_reports.specs.declared.report.Did.{Did}
-use Rattle.job_reports.specs.declared.report.Did.TheVariants.{Began, Chunk, Placed, Removed, Made, Set, Kept, Skipped, Cleaned, Barrier, Asked, Merges, Troubled, Ended}
+use Rattle.job_reports.specs.declared.report.Did.TheVariants.{Began, Chunk, Placed, Removed, Made, Set, Kept, Skipped, Cleaned, Barrier, Asked, Merges, Moved, Troubled, Ended}
 use Rattle.job_reports.specs.declared.report.StepResult.{StepResult}
 use Rattle.file_copy.specs.Copying as file
 use Rattle.file_copy.specs.Copying.{Copying}
@@ -84,6 +84,7 @@ left_marks (Set path) c marked = marked
 left_marks (Kept path) c marked = marked
 left_marks (Asked question) c marked = marked
 left_marks (Merges pair names) c marked = marked
+left_marks (Moved pair) c marked = marked
 left_marks (Skipped path cause) c marked = marked
 left_marks (Cleaned part) c marked = marked
 left_marks Barrier c marked = marked

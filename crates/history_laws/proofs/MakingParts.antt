@@ -104,7 +104,6 @@ module _ (told : Said) (dirty : List Route) (marks : Marks) (log : CallLog) (kno
     part = λ p is. let k = known.part p is in (or_right _ _ k.0, k.1, k.2);
     tracked = known.tracked;
     joint = known.joint;
-    lone = known.lone;
     doubts = known.doubts;
     stand = known.stand;
   }
@@ -213,7 +212,6 @@ module _ (told : Said) (dirty dirty_after : List Route) (marks : Marks) (log : C
     listed = listed;
     listed_beside = listed;
     more = more;
-    lone = λ none. (none, refl);
     doubts = λ p h. or_left _ _ h;
     folders = λ p h. elim (either _ _ h) [
       | inl here ↦ inr (elim (either _ _ here) [
@@ -229,7 +227,7 @@ module _ (told : Said) (dirty dirty_after : List Route) (marks : Marks) (log : C
     touched = λ p at. or_right _ _ (subst (λ q. same_path q part ≡ true) (sym (either_is p at)) (same_path-self part));
     named = marked.aside;
     left = λ p at is there. inl (ap (λ q. Some q) (sym (either_is p at)));
-    lefts = λ p among. among;
+    lefts = λ p first second among. among;
     off = λ p first second. (off_part p first, refl, refl, λ is. some_none_route p (sym m.none ∙ is));
     shown = λ p at other. absurd (other (ap (λ q. Some q) (sym (either_is p at))));
     was = λ p at out. absurd (both_ways _ out (subst (λ q. (same_path q part || marks.aside q) ≡ true) (sym (either_is p at)) (or_left _ _ (same_path-self part))));

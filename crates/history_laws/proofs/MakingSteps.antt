@@ -18,7 +18,7 @@ use Rattle.crash_law.specs.Guarded.{Marks}
 use Rattle.job_reports.specs.declared.report.Ending.{Ending}
 use Rattle.job_reports.specs.declared.report.Ending.TheVariants.{Finished, Aborted, Killed, NoMemory}
 use Rattle.job_reports.specs.declared.report.Did.{Did}
-use Rattle.job_reports.specs.declared.report.Did.TheVariants.{Began, Chunk, Placed, Removed, Made, Set, Kept, Skipped, Cleaned, Barrier, Asked, Merges, Troubled, Ended}
+use Rattle.job_reports.specs.declared.report.Did.TheVariants.{Began, Chunk, Placed, Removed, Made, Set, Kept, Skipped, Cleaned, Barrier, Asked, Merges, Moved, Troubled, Ended}
 use Rattle.job_reports.specs.Jobs.{folder_changed, new_folder_mode}
 use Rattle.job_reports.specs.Paths.{folder_of, without}
 use Rattle.job_reports.specs.Stops.{sync_answer}
@@ -135,7 +135,6 @@ module _ (told : Said) (dirty dirty_after : List Route) (marks : Marks) (log now
         ∙ ap (λ v. (let t : Spot = record { value = Some v; is_mount = false } in t)) said_made;
     earlier = ap (λ (s : Spot). s.value) (put_at told.earlier made_path (told.tree made_path).value) ∙ ap (λ (s : Spot). s.value) nothing_told;
     no_part = none;
-    lone = λ none. none;
     doubts = λ p h. or_left _ _ h;
     doubted = or_right _ _ (same_path-self made_path);
     modes = λ p h. h;
@@ -211,6 +210,7 @@ module _ (told : Said) (dirty dirty_after : List Route) (marks : Marks) (log now
   making_tells w new (Kept kept) knows tells done settled leaves = absurd tells
   making_tells w new (Asked question) knows tells done settled leaves = absurd tells
   making_tells w new (Merges pair names) knows tells done settled leaves = absurd tells
+  making_tells w new (Moved pair) knows tells done settled leaves = absurd tells
   making_tells w new (Skipped path cause) knows tells done settled leaves = absurd tells
   making_tells w new (Cleaned part) knows tells done settled leaves = absurd tells
 
@@ -231,6 +231,7 @@ module _ (told : Said) (dirty dirty_after : List Route) (marks : Marks) (log now
   making_winds w new ending (Kept kept) left knows tells answer calls leaves = absurd tells
   making_winds w new ending (Asked question) left knows tells answer calls leaves = absurd tells
   making_winds w new ending (Merges pair names) left knows tells answer calls leaves = absurd tells
+  making_winds w new ending (Moved pair) left knows tells answer calls leaves = absurd tells
   making_winds w new ending (Skipped path cause) left knows tells answer calls leaves = absurd tells
   making_winds w new ending (Cleaned part) left knows tells answer calls leaves = absurd tells
   making_winds w new ending (Troubled trouble) left knows tells answer calls leaves = absurd tells

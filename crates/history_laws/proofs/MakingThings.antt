@@ -22,12 +22,12 @@ use Rattle.crash_law.proofs.Leading.{current_more}
 use Rattle.crash_law.proofs.Making.{making_law}
 use Rattle.crash_law.proofs.Syncing.{unaltered_law}
 use Rattle.crash_law.proofs.Tops.{under_made, none_below}
-use Rattle.history_laws.specs.Doubt.{is_pending, way_waits, name_waits}
-use Rattle.history_laws.proofs.Pending.{pending_less, within_more}
+use Rattle.history_laws.specs.Doubt.{is_pending, way_waits, name_waits, is_joint}
+use Rattle.history_laws.proofs.Pending.{pending_less}
 use Rattle.history_laws.proofs.Knowing.{HasMode, HasNoMode, IsCalmFolder, IsCalmIn, IsKnown, IsUnreached, Said, held}
 use Rattle.history_laws.proofs.Quiet.{held_same, kind_same, mount_same, mounts_same, shows_same, starts_same, unclean_before, was_bare}
 use Rattle.history_laws.proofs.Resting.{IsBeside, IsSureFolder, folder_at_of, joint_still, mounted, restless_folder, stands_at, sure_still, unborn_more, unjoined_still}
-use Rattle.history_laws.proofs.Restless.{IsUnjoined, is_joint, is_restless, restless_less}
+use Rattle.history_laws.proofs.Restless.{IsUnjoined, is_restless, restless_less}
 use Rattle.history_laws.proofs.WaitsFor.{names_said}
 use Rattle.history_laws.proofs.Changing.{folder_anchored, off_itself, said_one, some_none, some_is}
 
@@ -74,7 +74,6 @@ module _ (told : Said) (dirty : List Route) (marks : Marks) (log : CallLog) (kno
     part = known.part;
     tracked = known.tracked;
     joint = known.joint;
-    lone = known.lone;
     doubts = known.doubts;
     stand = known.stand;
   }
@@ -93,7 +92,6 @@ pub record MakesThing (told after : Said) (marks : Marks) (log : CallLog) (name 
   pub shown : after.tree (name ∷ up) ≡ record { value = Some (value made); is_mount = false }
   pub earlier : (after.earlier (name ∷ up)).value ≡ None
   pub no_part : after.part ≡ None
-  pub lone : after.joins ≡ false → told.joins ≡ false
   pub doubts : (p : Route) → told.doubt p ≡ true → after.doubt p ≡ true
   pub doubted : after.doubt (name ∷ up) ≡ true
   pub folders : (p : Route) → after.folders p ≡ true → (told.folders p ≡ true) ⊎ (p ≡ up)
@@ -399,7 +397,6 @@ module _ (told after : Said) (dirty dirty_after : List Route) (marks : Marks) (l
     part = λ p is. absurd (let e = m.no_part in let x : (let o : Option Route = None in o) ≡ Some p = sym e ∙ is in cc);
     tracked = tracked;
     joint = joint;
-    lone = λ none. within_more log.changes makes refl (known.lone (m.lone none));
     doubts = doubts;
     stand = stand;
   }

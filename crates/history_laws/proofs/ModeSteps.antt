@@ -15,7 +15,7 @@ use Rattle.job_reports.specs.declared.report.Cause.{Cause}
 use Rattle.job_reports.specs.declared.report.Ending.{Ending}
 use Rattle.job_reports.specs.declared.report.Ending.TheVariants.{Finished, Aborted, Killed, NoMemory}
 use Rattle.job_reports.specs.declared.report.Did.{Did}
-use Rattle.job_reports.specs.declared.report.Did.TheVariants.{Began, Chunk, Placed, Removed, Made, Set, Kept, Skipped, Cleaned, Barrier, Asked, Merges, Troubled, Ended}
+use Rattle.job_reports.specs.declared.report.Did.TheVariants.{Began, Chunk, Placed, Removed, Made, Set, Kept, Skipped, Cleaned, Barrier, Asked, Merges, Moved, Troubled, Ended}
 use Rattle.job_reports.specs.CallRuns.{AllDone}
 use Rattle.job_reports.specs.Paths.{folder_of, without}
 use Rattle.job_reports.proofs.CallAnswers.{IsDoneCall, one_done, some_log}
@@ -101,7 +101,6 @@ module _ (told : Said) (dirty dirty_after : List Route) (marks : Marks) (log now
     shown = put_at told.tree s.path (option_map (moded_value s.mode) (told.tree s.path).value)
         ∙ ap (λ v. (let t : Spot = record (told.tree s.path) { value = option_map (moded_value s.mode) v } in t)) told_value;
     earlier = ap (λ (x : Spot). x.value) (put_at told.earlier s.path (told.tree s.path).value);
-    lone = λ none. none;
     doubts = λ p waits. or_left _ _ waits;
     folders = λ p there. elim (either (same_path p (folder_of s.path) || same_path p (folder_of s.path)) (told.folders p) there) [
       | inl here ↦ inr (subst (λ q. IsSureFolder log q) (sym (same_path-true p (folder_of s.path) (elim (either (same_path p (folder_of s.path)) (same_path p (folder_of s.path)) here) [ inl same ↦ same | inr same ↦ same ]))) firm)
@@ -179,6 +178,7 @@ module _ (told : Said) (dirty dirty_after : List Route) (marks : Marks) (log now
   setting_tells s new (Kept kept) knows tells done settled leaves = absurd tells
   setting_tells s new (Asked question) knows tells done settled leaves = absurd tells
   setting_tells s new (Merges pair names) knows tells done settled leaves = absurd tells
+  setting_tells s new (Moved pair) knows tells done settled leaves = absurd tells
   setting_tells s new (Skipped path cause) knows tells done settled leaves = absurd tells
   setting_tells s new (Cleaned part) knows tells done settled leaves = absurd tells
 
@@ -197,6 +197,7 @@ module _ (told : Said) (dirty dirty_after : List Route) (marks : Marks) (log now
   setting_winds s new ending (Kept kept) left knows tells tried calls leaves = absurd tells
   setting_winds s new ending (Asked question) left knows tells tried calls leaves = absurd tells
   setting_winds s new ending (Merges pair names) left knows tells tried calls leaves = absurd tells
+  setting_winds s new ending (Moved pair) left knows tells tried calls leaves = absurd tells
   setting_winds s new ending (Skipped path cause) left knows tells tried calls leaves = absurd tells
   setting_winds s new ending (Cleaned part) left knows tells tried calls leaves = absurd tells
   setting_winds s new ending (Troubled trouble) left knows tells tried calls leaves = absurd tells

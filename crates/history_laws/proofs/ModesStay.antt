@@ -7,7 +7,7 @@ use Rattle.tree_trait.specs.Change.{CallLog, current}
 use Rattle.tree_trait.specs.CrashImages.{Among, all_settled}
 use Rattle.crash_law.specs.Guarded.{Marks}
 use Rattle.job_reports.specs.declared.report.Did.{Did}
-use Rattle.job_reports.specs.declared.report.Did.TheVariants.{Began, Chunk, Placed, Removed, Made, Set, Kept, Skipped, Cleaned, Barrier, Asked, Merges, Troubled, Ended}
+use Rattle.job_reports.specs.declared.report.Did.TheVariants.{Began, Chunk, Placed, Removed, Made, Set, Kept, Skipped, Cleaned, Barrier, Asked, Merges, Moved, Troubled, Ended}
 use Rattle.job_reports.specs.declared.report.Ending.TheVariants.{Finished}
 use Rattle.session_history.specs.declared.history.Event.{Event}
 use Rattle.session_history.specs.declared.history.Event.TheVariants.{Key, Look, Sought, Order, Step, Next, Closed}
@@ -56,6 +56,7 @@ unset (Made folder) before path sure unnamed = sure
 unset (Kept kept) before path sure unnamed = sure
 unset (Asked question) before path sure unnamed = sure
 unset (Merges pair names) before path sure unnamed = sure
+unset (Moved pair) before path sure unnamed = sure
 unset (Skipped file cause) before path sure unnamed = sure
 unset (Cleaned gone) before path sure unnamed = sure
 unset Barrier before path sure unnamed = sure

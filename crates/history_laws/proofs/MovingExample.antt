@@ -7,8 +7,9 @@ use Rattle.history_laws.proofs.Changing.{off_itself, some_none}
 use Rattle.history_laws.proofs.FolderExampleSteps.{first, log, small_tree, top}
 use Rattle.history_laws.proofs.Histories.{at_opening}
 use Rattle.history_laws.proofs.Knowing.{IsKept, IsKnown, Said}
-use Rattle.history_laws.proofs.MovingFiles.{CanMoveFile, marks_roaming, moved_known, said_moved}
+use Rattle.history_laws.proofs.MovingFiles.{moved_known}
 use Rattle.history_laws.proofs.Prefixes.{told_of}
+use Rattle.history_laws.proofs.RoamingThings.{CanMoveFile, marks_roaming, said_moved}
 
 -- the root, and in it the folder with the two files
 abbrev root : Route
@@ -33,8 +34,6 @@ can_move = record {
   file = refl;
   other = λ same. off_itself first ((3 ∷ []) ∷ root) same refl;
   bare = λ j at. some_none j (sym at);
-  source_out = refl;
-  target_out = refl;
   source_sure = refl;
   target_sure = refl;
   no_mode = refl;
@@ -42,5 +41,5 @@ can_move = record {
   mount = refl;
 }
 
-pub moved : IsKnown (said_moved told (1 ∷ []) top (3 ∷ []) root) (top ∷ root ∷ []) (marks_roaming (as_it_stands opening) 2) (with_change opening (Moves 1 (1 ∷ []) 0 (3 ∷ []) 2 None))
+pub moved : IsKnown (said_moved told (1 ∷ []) top (3 ∷ []) root) (top ∷ root ∷ []) (marks_roaming (as_it_stands opening) 2 ((1 ∷ []) ∷ top) ((3 ∷ []) ∷ root)) (with_change opening (Moves 1 (1 ∷ []) 0 (3 ∷ []) 2 None))
 moved = moved_known told [] (as_it_stands opening) opening kept (1 ∷ []) top (3 ∷ []) root 1 0 2 None can_move (top ∷ root ∷ []) (inl refl) (inr (inl refl)) (λ q among. absurd among)

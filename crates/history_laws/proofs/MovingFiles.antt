@@ -1,14 +1,13 @@
--- A thing that is no folder is renamed to another folder, or within one: what is known then, and after the syncs of both folders.
--- No job moves yet; one that moves files is the next step (docs/SUBTREES.md).
+-- A thing that is no folder is renamed to another folder, or within one: what is known then.
 use Rattle.std.proofs.Common.{◌≡◌, ◌⊎◌, ℕ, ◌<◌, Bool, true, false, not, ◌&&◌, ◌||◌, List, [], ◌∷◌, ◌++◌, length, refl, sym, ◌∙◌, ap, subst, inl, inr, Option, Some, None, arith}
 use Rattle.std.specs.Prelude.{is_some, option_and_then, ◌==◌}
 use Rattle.std.specs.Option.{option_map, option_map_or}
-use Rattle.std.proofs.lemmas.Bool.{true≢false, false≢true, both_ways, false_from_ne_true, and_parts, eq-eqb, eqb-true, not-true, or_cases, or_left, or_right}
+use Rattle.std.proofs.lemmas.Bool.{false≢true, both_ways, false_from_ne_true, and_parts, eq-eqb, eqb-true, not-true, or_cases, or_left, or_right}
 use Rattle.mc_text.specs.Routes.{Route, same_path}
 use Rattle.tree_trait.specs.declared.file_system.FileSystem.{FileSystem}
 use Rattle.tree_trait.specs.FileSystem.{Spot, Value, lookup, find, node, put, value, visible_tree, starts_mount}
-use Rattle.tree_trait.specs.Refusals.{is_folder, mount_of}
-use Rattle.tree_trait.specs.Change.{Change, Moves, Syncs, CallLog, current, with_change}
+use Rattle.tree_trait.specs.Refusals.{is_folder}
+use Rattle.tree_trait.specs.Change.{Change, Moves, CallLog, current, with_change}
 use Rattle.tree_trait.specs.CrashImages.{says, same_name, Among}
 use Rattle.tree_trait.proofs.Kept.{folder_there}
 use Rattle.tree_trait.proofs.Finding.{find-once, same_name-true, same_name-self}
@@ -16,96 +15,24 @@ use Rattle.tree_trait.proofs.Visible.{same_path-self, same_path-true}
 use Rattle.crash_law.specs.Possible.{find_from}
 use Rattle.crash_law.specs.Guarded.{Marks, IsNaming, IsUnder}
 use Rattle.crash_law.specs.Steps.{IsUnworked}
-use Rattle.crash_law.proofs.Guarding.{settle_law, find_same, found_at, same_quiet}
+use Rattle.crash_law.proofs.Guarding.{find_same, found_at}
 use Rattle.crash_law.proofs.Leading.{current_more}
 use Rattle.crash_law.proofs.Moving.{moving_law}
 use Rattle.crash_law.proofs.Placing.{first, second}
 use Rattle.crash_law.proofs.Syncing.{unaltered_law}
 use Rattle.crash_law.proofs.Tops.{bare_below, find_below, goes_through, none_below, not_longer, some_of_two, top_is}
 use Rattle.job_reports.specs.Paths.{without}
-use Rattle.history_laws.specs.Doubt.{is_pending, name_waits, way_waits}
-use Rattle.history_laws.proofs.Calming.{cleared_known}
+use Rattle.session_history.specs.Named.{is_among, left_moved, named_moved}
+use Rattle.history_laws.specs.Doubt.{is_pending, joins, name_waits, way_waits}
+use Rattle.history_laws.proofs.AmongParts.{if_among_in, if_among_more}
+use Rattle.history_laws.proofs.Calming.{still_listed}
 use Rattle.history_laws.proofs.Changing.{folder_anchored, none_below_file, off_itself, said_two, seen_nowhere, some_is, some_none}
 use Rattle.history_laws.proofs.Deleted.{file_no_mount, put_at, put_off}
 use Rattle.history_laws.proofs.Knowing.{IsKept, IsKnown, Said, firm_now, held}
 use Rattle.history_laws.proofs.Renaming.{ChangesFiles, naming_known}
 use Rattle.history_laws.proofs.Resting.{IsSureFolder, bare_may, folder_at_of, no_folder_below}
-use Rattle.history_laws.proofs.Restless.{is_joint, is_restless, joins, joint_less, named_both, names_in, restless_less, restless_synced}
-use Rattle.history_laws.proofs.WaitsFor.{joint_pending, waits_for}
-
--- a node that a crash may leave under either of two names
-abbrev pub marks_roaming : Marks → ℕ → Marks
-marks_roaming marks i = record marks { roams = λ j. (j == i) || marks.roams j }
-
-neither : (a b : Bool) → (a || b) ≡ false → (a ≡ false) × (b ≡ false)
-neither true b h = absurd (true≢false h)
-neither false b h = (refl, h)
-
--- what is no folder may roam
-pub roaming_known : (told : Said) (dirty : List Route) (marks : Marks) (log : CallLog) (i : ℕ) → is_folder (node (current log) i) ≡ false → IsKnown told dirty marks log → IsKnown told dirty (marks_roaming marks i) log
-roaming_known told dirty marks log i bare known = record {
-  guarded = settle_law marks (marks_roaming marks i) log known.guarded (record {
-    paths = λ p out. inl (out, refl);
-    nodes = λ j firm. inl (firm, refl);
-    firm = λ p j out at. known.guarded.firm p j out at;
-    places = λ j stays. inl (neither _ _ stays).1;
-  });
-  files = known.files;
-  moded = λ j before is unclean. let h = known.moded j before is unclean in record { path = h.path; leads = h.leads; out = h.out; listed = h.listed; told = h.told; shown = h.shown };
-  calm = λ p there. let calm = known.calm p there in record { modes = calm.modes; apart = calm.apart };
-  folders = λ j is.
-      let k = known.folders j is in
-      (ap (λ b. b || marks.roams j) (false_from_ne_true _ (λ same. both_ways _ bare (subst (λ n. is_folder (node (current log) n) ≡ true) (eqb-true j i same) is))) ∙ k.0, k.1);
-  aside = known.aside;
-  left = known.left;
-  was_there = known.was_there;
-  was_shown = known.was_shown;
-  shows = known.shows;
-  part = known.part;
-  tracked = known.tracked;
-  joint = known.joint;
-  lone = known.lone;
-  doubts = known.doubts;
-  stand = known.stand;
-}
-
--- What a history says once a thing was moved: the target has what the source showed, and the source nothing; of both a change may wait.
-abbrev pub said_moved : Said → List ℕ → Route → List ℕ → Route → Said
-said_moved told old source_folder new target_folder = record {
-  tree = put (put told.tree (old ∷ source_folder) None) (new ∷ target_folder) (told.tree (old ∷ source_folder)).value;
-  earlier = put (put told.earlier (old ∷ source_folder) (told.tree (old ∷ source_folder)).value) (new ∷ target_folder) (told.tree (new ∷ target_folder)).value;
-  named = told.named;
-  left = told.left;
-  part = told.part;
-  doubt = λ p. told.doubt p || (same_path p (old ∷ source_folder) || same_path p (new ∷ target_folder));
-  folders = λ p. told.folders p || (same_path p source_folder || same_path p target_folder);
-  modes = told.modes;
-  calm = λ p. told.calm p && not (same_path p source_folder || same_path p target_folder);
-  joins = true;
-}
-
--- A thing that is no folder may be moved.
-pub record CanMoveFile (told : Said) (marks : Marks) (log : CallLog) (old : List ℕ) (source_folder : Route) (new : List ℕ) (target_folder : Route) (f g i : ℕ) : Type 0 where
-  -- no part stands
-  pub none : told.part ≡ None
-  pub from : find (current log) source_folder ≡ Some f
-  pub to : find (current log) target_folder ≡ Some g
-  pub folder : is_folder (node (current log) g) ≡ true
-  pub leads : find (current log) (old ∷ source_folder) ≡ Some i
-  pub file : is_folder (node (current log) i) ≡ false
-  pub other : (old ∷ source_folder) ≡ (new ∷ target_folder) → ⊥
-  -- what is replaced is no folder
-  pub bare : (j : ℕ) → find (current log) (new ∷ target_folder) ≡ Some j → is_folder (node (current log) j) ≡ false
-  -- neither path is a part's
-  pub source_out : marks.aside (old ∷ source_folder) ≡ false
-  pub target_out : marks.aside (new ∷ target_folder) ≡ false
-  -- nothing waits on the way to either
-  pub source_sure : way_waits log (old ∷ source_folder) ≡ false
-  pub target_sure : way_waits log (new ∷ target_folder) ≡ false
-  -- no mode of it waits, nor of what is replaced
-  pub no_mode : marks.modes i ≡ None
-  pub no_mode_there : (j : ℕ) → find (current log) (new ∷ target_folder) ≡ Some j → marks.modes j ≡ None
-  pub mount : mount_of (current log) target_folder ≡ mount_of (current log) source_folder
+use Rattle.history_laws.proofs.Restless.{named_both}
+use Rattle.history_laws.proofs.RoamingThings.{CanMoveFile, aside_before, is_among_of, marks_roaming, neither, out_before, pair_of, roaming_known, said_aside, said_moved}
 
 module _ (told : Said) (dirty : List Route) (marks : Marks) (log : CallLog) (kept : IsKept told dirty marks log) (old : List ℕ) (source_folder : Route) (new : List ℕ) (target_folder : Route)
     (f g i : ℕ) (r : Option ℕ) (h : CanMoveFile told marks log old source_folder new target_folder f g i) where
@@ -122,13 +49,19 @@ module _ (told : Said) (dirty : List Route) (marks : Marks) (log : CallLog) (kep
   target = new ∷ target_folder
 
   abbrev roaming : Marks
-  roaming = marks_roaming marks i
+  roaming = marks_roaming marks i source target
 
   abbrev after : Said
   after = said_moved told old source_folder new target_folder
 
-  known : IsKnown told dirty roaming log
-  known = roaming_known told dirty marks log i h.file kept.known
+  abbrev mid : Said
+  mid = said_aside told target
+
+  known : IsKnown mid dirty roaming log
+  known = roaming_known told dirty marks log i source target h.file h.no_mode_there kept.known
+
+  out_was : (p : Route) → roaming.aside p ≡ false → marks.aside p ≡ false
+  out_was p out = out_before told dirty marks log i source target h.file h.no_mode_there kept.known p out
 
   source_name : lookup (current log).names f old ≡ Some i
   source_name = sym (ap (option_and_then (λ k. lookup (current log).names k old)) h.from) ∙ h.leads
@@ -168,12 +101,16 @@ module _ (told : Said) (dirty : List Route) (marks : Marks) (log : CallLog) (kep
           ∙ known.files.bare j name (false_from_ne_true _ (λ folder. no_folder_below log known.guarded.tree known.files target h.bare rest j is folder))
 
   unworked : IsUnworked roaming log source
-  unworked [] out = inl (sym (kept.was source out h.source_sure))
+  unworked [] out = inl (sym (kept.was source (out_was source out) h.source_sure))
   unworked (more ∷ rest) out = inr (no_below source source_bare more rest)
 
-  solid : (rest : Route) (j : ℕ) → find_from (current log) i rest ≡ Some j → (marks.loose j ≡ false) ⊎ (is_folder (node (current log) j) ≡ true)
-  solid [] j from = inl (firm_now told dirty marks log kept.known source h.source_out j (h.leads ∙ from))
-  solid (more ∷ rest) j from = some_none j (sym (find_below (current log) source i (more ∷ rest) h.leads ∙ from) ∙ no_below source source_bare more rest)
+  -- what isn't aside where it goes wasn't where it comes from
+  source_out : roaming.aside target ≡ false → marks.aside source ≡ false
+  source_out out = sym (ap (λ b. b && marks.aside source) (same_path-self target)) ∙ (neither (marks.aside target) (same_path target target && marks.aside source) out).1
+
+  solid : (rest : Route) (j : ℕ) → roaming.aside (rest ++ target) ≡ false → find_from (current log) i rest ≡ Some j → (marks.loose j ≡ false) ⊎ (is_folder (node (current log) j) ≡ true)
+  solid [] j out from = inl (firm_now told dirty marks log kept.known source (source_out out) j (h.leads ∙ from))
+  solid (more ∷ rest) j out from = some_none j (sym (find_below (current log) source i (more ∷ rest) h.leads ∙ from) ∙ no_below source source_bare more rest)
 
   other_name : same_name g new f old ≡ false
   other_name = false_from_ne_true _ (λ same.
@@ -183,8 +120,8 @@ module _ (told : Said) (dirty : List Route) (marks : Marks) (log : CallLog) (kep
 
   naming : IsNaming roaming log moves
   naming = moving_law roaming log source_folder target_folder old new f g i r known.guarded (record {
-    from = record { at = h.from; anchored = folder_anchored told dirty roaming log known source_folder f h.from source_holds };
-    to = record { at = h.to; anchored = folder_anchored told dirty roaming log known target_folder g h.to h.folder };
+    from = record { at = h.from; anchored = folder_anchored mid dirty roaming log known source_folder f h.from source_holds };
+    to = record { at = h.to; anchored = folder_anchored mid dirty roaming log known target_folder g h.to h.folder };
     folder = h.folder;
     leads = source_name;
     other = other_name;
@@ -192,8 +129,8 @@ module _ (told : Said) (dirty : List Route) (marks : Marks) (log : CallLog) (kep
     not_into_itself = not_into_itself;
     below = bare_below log i (λ m y lead. bare_may log known.guarded.tree known.files i m y h.file lead);
     moves = or_left (i == i) (marks.roams i) (eq-eqb i i refl);
-    solid = λ rest j out from. solid rest j from;
-    found = λ rest out. sym (kept.was (rest ++ target) out (below_sure rest));
+    solid = solid;
+    found = λ rest out. sym (kept.was (rest ++ target) (out_was (rest ++ target) out) (below_sure rest));
     source = unworked;
   })
 
@@ -206,13 +143,13 @@ module _ (told : Said) (dirty : List Route) (marks : Marks) (log : CallLog) (kep
         | inr e ↦ inr (t.rest, t.is ∙ ap (λ q. t.rest ++ q) (top_is log known.guarded.tree source_folder f h.from old t.name t.folder t.g t.at e))
       ]
 
-  source_stands : find (current now) source_folder ≡ Some f
+  pub source_stands : find (current now) source_folder ≡ Some f
   source_stands = elim (find_same log moves source_folder) [
     | inl same ↦ same ∙ h.from
     | inr u ↦ elim (under source_folder u) [ inl t ↦ absurd (not_under_target t.0 t.1) | inr t ↦ absurd (not_longer t.0 old source_folder t.1) ]
   ]
 
-  target_stands : find (current now) target_folder ≡ Some g
+  pub target_stands : find (current now) target_folder ≡ Some g
   target_stands = elim (find_same log moves target_folder) [
     | inl same ↦ same ∙ h.to
     | inr u ↦ elim (under target_folder u) [ inl t ↦ absurd (not_longer t.0 new target_folder t.1) | inr t ↦ absurd (not_into_itself t.0 t.1) ]
@@ -239,7 +176,7 @@ module _ (told : Said) (dirty : List Route) (marks : Marks) (log : CallLog) (kep
   file_now : is_folder (node (current now) i) ≡ false
   file_now = ap is_folder node_same ∙ h.file
 
-  off_both : (p : Route) → same_path p source ≡ false → same_path p target ≡ false → find (current now) p ≡ find (current log) p
+  pub off_both : (p : Route) → same_path p source ≡ false → same_path p target ≡ false → find (current now) p ≡ find (current log) p
   off_both p not_source not_target = elim (find_same log moves p) [
     | inl same ↦ same
     | inr u ↦ elim (under p u) [ inl t ↦ below_target t.0 t.1 | inr t ↦ below_source t.0 t.1 ]
@@ -352,16 +289,57 @@ module _ (told : Said) (dirty : List Route) (marks : Marks) (log : CallLog) (kep
         | inr e ↦ off_itself p target_folder (find-once (current now) naming.tree p target_folder k at (target_stands ∙ ap (λ x. Some x) (eqb-true g k e))) off.1
       ]
 
+  -- A part that stands at either path an ended job left.
+  among_left : (p : Route) → marks.aside p ≡ true → way_waits log p ≡ false → Among told.left p
+  among_left p is sure = elim (kept.aside p is) [
+    | inl waits ↦ absurd (both_ways _ sure waits)
+    | inr stands ↦ elim (kept.known.left p is stands) [ inl part ↦ absurd (no_part p part) | inr among ↦ among ]
+  ]
+
+  -- where the moved thing is none only the target may be
+  target_aside : is_among source told.left ≡ false → (p : Route) → roaming.aside p ≡ true → marks.aside p ≡ true
+  target_aside none p is = elim (or_cases (marks.aside p) (same_path p target && marks.aside source) is) [
+    | inl before ↦ before
+    | inr here ↦ absurd (both_ways _ none (is_among_of source told.left (among_left source (and_parts (same_path p target) (marks.aside source) here).1 h.source_sure)))
+  ]
+
+  left_by_then : (b : Bool) → is_among source told.left ≡ b → roaming.aside target ≡ true → Among (left_moved b (pair_of source target) told.left) target
+  left_by_then true part is = inl refl
+  left_by_then false none is = among_left target (target_aside none target is) h.target_sure
+
+  left_then : (p : Route) → (p ≡ source) ⊎ (p ≡ target) → roaming.aside p ≡ true → is_some (find (current now) p) ≡ true → Among after.left p
+  left_then p (inl e) is stands = absurd (false≢true (sym (ap is_some (ap (find (current now)) e ∙ source_gone)) ∙ stands))
+  left_then p (inr e) is stands = subst (λ q. Among after.left q) (sym e) (left_by_then (is_among source told.left) refl (ap roaming.aside (sym e) ∙ is))
+
+  lefts_by : (b : Bool) (p : Route) → same_path p source ≡ false → same_path p target ≡ false → Among (target ∷ told.left) p → Among (left_moved b (pair_of source target) told.left) p
+  lefts_by b p not_source not_target (inl e) = absurd (off_itself p target e not_target)
+  lefts_by true p not_source not_target (inr among) = inr (still_listed source p told.left among not_source)
+  lefts_by false p not_source not_target (inr among) = among
+
+  lefts : (p : Route) → same_path p source ≡ false → same_path p target ≡ false → Among mid.left p → Among after.left p
+  lefts p not_source not_target among = lefts_by (is_among source told.left) p not_source not_target among
+
+  named_if : (b : Bool) → is_among source told.left ≡ b → (p : Route) → roaming.aside p ≡ true → (c : Bool) → same_path p target ≡ c → Among (named_moved b (pair_of source target) told.left told.named) p
+  named_if true part p is true same = inl (same_path-true p target same)
+  named_if true part p is false off = elim (aside_before told dirty marks log i source target h.file h.no_mode_there kept.known p is) [ inl before ↦ inr (kept.known.aside p before) | inr here ↦ inl here ]
+  named_if false none p is true same =
+      let e = same_path-true p target same in
+      subst (λ q. Among (named_moved false (pair_of source target) told.left told.named) q) (sym e)
+      (if_among_in target told.left (without target told.named) (among_left target (target_aside none target (ap roaming.aside (sym e) ∙ is)) h.target_sure))
+  named_if false none p is false off = if_among_more target p told.left (without target told.named) (still_listed target p told.named (kept.known.aside p (target_aside none p is)) off)
+
+  named : (p : Route) → roaming.aside p ≡ true → Among after.named p
+  named p is = named_if (is_among source told.left) refl p is (same_path p target) refl
+
   -- What is known once it was moved. Both folders are dirty then.
   pub moved_known : (dirty_after : List Route) → Among dirty_after source_folder → Among dirty_after target_folder → ((q : Route) → Among dirty q → Among dirty_after q) → IsKnown after dirty_after roaming now
-  moved_known dirty_after listed listed_beside more = naming_known told after dirty dirty_after roaming log moves source_folder target_folder source target f g known (record {
+  moved_known dirty_after listed listed_beside more = naming_known mid after dirty dirty_after roaming log moves source_folder target_folder source target f g known (record {
     naming = naming;
     names = names;
     made = λ j past. false_from_ne_true _ (λ is. let t = folder_there (current now).nodes j is in let n = ap (λ (s : FileSystem). length s.nodes) (current_more log moves) in absurd (omega (arith, past, t, n)));
     listed = listed;
     listed_beside = listed_beside;
     more = more;
-    lone = λ none. absurd (true≢false none);
     doubts = λ p doubt. or_left _ _ doubt;
     folders = λ p there. elim (or_cases (told.folders p) (same_path p source_folder || same_path p target_folder) there) [
       | inl before ↦ inl before
@@ -378,9 +356,9 @@ module _ (told : Said) (dirty : List Route) (marks : Marks) (log : CallLog) (kep
       | inl e ↦ or_left _ (same_path p target) (subst (λ q. same_path q source ≡ true) (sym e) (same_path-self source))
       | inr e ↦ or_right (same_path p source) _ (subst (λ q. same_path q target ≡ true) (sym e) (same_path-self target))
     ]);
-    named = known.aside;
-    left = λ p at is there. absurd (both_ways _ (out p at) is);
-    lefts = λ p among. among;
+    named = named;
+    left = λ p at is there. inr (left_then p at is there);
+    lefts = lefts;
     off = λ p not_source not_target. (
       off_both p not_source not_target,
       put_off (put told.tree source None) target (told.tree source).value p not_target ∙ put_off told.tree source None p not_source,
@@ -392,15 +370,14 @@ module _ (told : Said) (dirty : List Route) (marks : Marks) (log : CallLog) (kep
       | inr e ↦ subst (λ q. visible_tree (current now) q ≡ after.tree q) (sym e) target_shown
     ];
     was = λ p at is. elim at [
-      | inl e ↦ inr (was_held p source e (kept.was source h.source_out h.source_sure) source_before, λ j stood. moved_mode j (was_at p source e (kept.was source h.source_out h.source_sure) j stood))
-      | inr e ↦ inr (was_held p target e (kept.was target h.target_out h.target_sure) target_before, λ j stood. h.no_mode_there j (was_at p target e (kept.was target h.target_out h.target_sure) j stood))
+      | inl e ↦ (let stood = stood_at p source e is h.source_sure in inr (was_held p source e stood source_before, λ j there. moved_mode j (was_at p source e stood j there)))
+      | inr e ↦ (let stood = stood_at p target e is h.target_sure in inr (was_held p target e stood target_before, λ j there. h.no_mode_there j (was_at p target e stood j there)))
     ];
     part = λ p is. absurd (no_part p is);
   })
     where
-      out : (p : Route) → (p ≡ source) ⊎ (p ≡ target) → marks.aside p ≡ false
-      out p (inl e) = ap marks.aside e ∙ h.source_out
-      out p (inr e) = ap marks.aside e ∙ h.target_out
+      stood_at : (p q : Route) → p ≡ q → roaming.aside p ≡ false → way_waits log q ≡ false → marks.was q ≡ find (current log) q
+      stood_at p q e out sure = kept.was q (out_was q (ap roaming.aside (sym e) ∙ out)) sure
 
       moved_mode : (j : ℕ) → find (current log) source ≡ Some j → marks.modes j ≡ None
       moved_mode j at = subst (λ k. marks.modes k ≡ None) (sym (some_is i j (sym h.leads ∙ at))) h.no_mode
@@ -416,94 +393,3 @@ module _ (told : Said) (dirty : List Route) (marks : Marks) (log : CallLog) (kep
 
       was_at : (p q : Route) → p ≡ q → marks.was q ≡ find (current log) q → (j : ℕ) → marks.was p ≡ Some j → find (current log) q ≡ Some j
       was_at p q e stood j is = sym stood ∙ (sym (ap marks.was e) ∙ is)
-
-unlisted : (up first : Route) (routes : List Route) (b : Bool) → same_path first up ≡ b → (Among (without up routes) up → ⊥) → Among (without up (first ∷ routes)) up → ⊥
-unlisted up first routes true is rest among = rest (rw is at among)
-unlisted up first routes false is rest among = elim (rw is at among) [ inl same ↦ off_itself first up (sym same) is | inr later ↦ rest later ]
-
-not_listed : (up : Route) (routes : List Route) → Among (without up routes) up → ⊥
-not_listed up [] among = among
-not_listed up (first ∷ routes) among = unlisted up first routes (same_path first up) refl (not_listed up routes) among
-
--- The sync of one of the two folders, the target's first: it is dirty no more.
-module _ (said : Said) (dirty : List Route) (marks : Marks) (log : CallLog) (known : IsKnown said dirty marks log) where
-  pub target_leaves : (target_folder : Route) (g : ℕ) → find (current log) target_folder ≡ Some g
-      → IsKnown said (without target_folder dirty) marks (with_change log (Syncs g)) × (Among (without target_folder dirty) target_folder → ⊥)
-  target_leaves target_folder g at = (cleared_known said dirty marks log known target_folder g at, not_listed target_folder dirty)
-
-  -- and then so is the other
-  pub source_leaves : (source_folder target_folder : Route) (f g : ℕ) → find (current log) source_folder ≡ Some f → find (current log) target_folder ≡ Some g
-      → IsKnown said (without source_folder (without target_folder dirty)) marks (with_change (with_change log (Syncs g)) (Syncs f)) × (Among (without source_folder (without target_folder dirty)) source_folder → ⊥)
-  source_leaves source_folder target_folder f g at there = (
-    cleared_known said (without target_folder dirty) marks (with_change log (Syncs g)) (target_leaves target_folder g there).0 source_folder f (same_quiet log (Syncs g) (λ k m. refl) source_folder ∙ at),
-    not_listed source_folder (without target_folder dirty),
-  )
-
--- After both syncs no name of either folder waits, where nothing did before the renaming.
-module _ (log : CallLog) (old : List ℕ) (new : List ℕ) (f g i : ℕ) (r : Option ℕ) where
-  abbrev renamed : CallLog
-  renamed = with_change log (Moves f old g new i r)
-
-  abbrev halfway : CallLog
-  halfway = with_change renamed (Syncs g)
-
-  abbrev synced : CallLog
-  synced = with_change halfway (Syncs f)
-
-  abbrev IsEither : ℕ → Type 0
-  IsEither h = (h ≡ f) ⊎ (h ≡ g)
-
-  at_rest : (h : ℕ) → IsEither h → is_restless h synced.changes ≡ true → ⊥
-  at_rest h (inl e) restless = both_ways _ (restless_synced f halfway.changes) (subst (λ k. is_restless k synced.changes ≡ true) e restless)
-  at_rest h (inr e) restless = elim (restless_less h halfway.changes (Syncs f) restless) [
-    | inl before ↦ both_ways _ (restless_synced g renamed.changes) (subst (λ k. is_restless k halfway.changes ≡ true) e before)
-    | inr named ↦ false≢true named
-  ]
-
-  joined_of : (h k : ℕ) → is_joint h k synced.changes ≡ true → (is_joint h k log.changes ≡ true) ⊎ (joins h k (Moves f old g new i r) ≡ true)
-  joined_of h k joint = elim (joint_less h k halfway.changes (Syncs f) joint) [
-    | inl mid ↦ elim (joint_less h k renamed.changes (Syncs g) mid) [
-      | inl first ↦ joint_less h k log.changes (Moves f old g new i r) first
-      | inr none ↦ absurd (false≢true none)
-    ]
-    | inr none ↦ absurd (false≢true none)
-  ]
-
-  of_named : (k : ℕ) → names_in k (Moves f old g new i r) ≡ true → IsEither k
-  of_named k named = elim (or_cases (f == k) (g == k) named) [ inl e ↦ inl (sym (eqb-true f k e)) | inr e ↦ inr (sym (eqb-true g k e)) ]
-
-  pub none_pending : (h : ℕ) → IsEither h → ((m : List ℕ) → is_pending h m log.changes ≡ false) → (m : List ℕ) → is_pending h m synced.changes ≡ false
-  none_pending h here calm m = false_from_ne_true _ (λ waits. elim (waits_for h m synced.changes waits) [
-    | inl own ↦ at_rest h here own
-    | inr other ↦ elim (joined_of h other.0 other.1) [
-      | inl before ↦ (let p = joint_pending h other.0 log.changes before in both_ways _ (calm p.0) p.1)
-      | inr joined ↦ at_rest other.0 (of_named other.0 (named_both h other.0 (Moves f old g new i r) joined).1) other.2
-    ]
-  ])
-
-  -- so none waits at the path of such a folder
-  pub none_waits_then : (h : ℕ) (up : Route) (m : List ℕ) → IsEither h → ((n : List ℕ) → is_pending h n log.changes ≡ false) → find (current synced) up ≡ Some h → name_waits synced (m ∷ up) ≡ false
-  none_waits_then h up m here calm at = ap (λ o. option_map_or (λ k. is_pending k m synced.changes) o false) at ∙ none_pending h here calm m
-
-module _ (told : Said) (dirty : List Route) (marks : Marks) (log : CallLog) (kept : IsKept told dirty marks log) (old : List ℕ) (source_folder : Route) (new : List ℕ) (target_folder : Route)
-    (f g i : ℕ) (r : Option ℕ) (h : CanMoveFile told marks log old source_folder new target_folder f g i) where
-  abbrev Stands : Route → ℕ → Type 0
-  Stands up k = find (current (synced log old new f g i r)) up ≡ Some k
-
-  stands_then : (up : Route) (k : ℕ) → find (current (renamed log old new f g i r)) up ≡ Some k → Stands up k
-  stands_then up k at = same_quiet (halfway log old new f g i r) (Syncs f) (λ n m. refl) up ∙ (same_quiet (renamed log old new f g i r) (Syncs g) (λ n m. refl) up ∙ at)
-
-  calm_in : (up : Route) (k : ℕ) → find (current log) up ≡ Some k → ((m : List ℕ) → name_waits log (m ∷ up) ≡ false) → (m : List ℕ) → is_pending k m log.changes ≡ false
-  calm_in up k at calm m = sym (ap (λ o. option_map_or (λ n. is_pending n m log.changes) o false) at) ∙ calm m
-
-  -- no name of the source's folder waits after both syncs, where none did before the renaming
-  pub source_settled : ((m : List ℕ) → name_waits log (m ∷ source_folder) ≡ false) → (m : List ℕ) → name_waits (synced log old new f g i r) (m ∷ source_folder) ≡ false
-  source_settled calm m =
-      none_waits_then log old new f g i r f source_folder m (inl refl) (calm_in source_folder f h.from calm)
-      (stands_then source_folder f (source_stands told dirty marks log kept old source_folder new target_folder f g i r h))
-
-  -- nor of the target's
-  pub target_settled : ((m : List ℕ) → name_waits log (m ∷ target_folder) ≡ false) → (m : List ℕ) → name_waits (synced log old new f g i r) (m ∷ target_folder) ≡ false
-  target_settled calm m =
-      none_waits_then log old new f g i r g target_folder m (inr refl) (calm_in target_folder g h.to calm)
-      (stands_then target_folder g (target_stands told dirty marks log kept old source_folder new target_folder f g i r h))

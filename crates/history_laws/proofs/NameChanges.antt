@@ -15,11 +15,11 @@ use Rattle.tree_trait.proofs.Kept.{folder_there}
 use Rattle.crash_law.proofs.Guarding.{find_same, same_quiet}
 use Rattle.crash_law.proofs.Tops.{none_below, under_made, under_moved, under_removed}
 use Rattle.job_reports.proofs.PermittedCalls.{IsMaking}
-use Rattle.history_laws.specs.Doubt.{is_pending, name_waits}
+use Rattle.history_laws.specs.Doubt.{is_pending, name_waits, is_joint}
 use Rattle.history_laws.proofs.Changing.{said_one, said_two}
 use Rattle.history_laws.proofs.Pending.{is_within, pending_less, quiet_within}
 use Rattle.history_laws.proofs.Resting.{IsOfFiles, bare_unjoined}
-use Rattle.history_laws.proofs.Restless.{IsUnjoined, is_joint, joint_before}
+use Rattle.history_laws.proofs.Restless.{IsUnjoined, joint_before}
 use Rattle.history_laws.proofs.WaitsFor.{pending_synced}
 use Rattle.history_laws.proofs.CalmChanges.{below_made, below_target, gone_moved, gone_removed, leads, none_some, other_folder, some_same, target_leads}
 

@@ -9,12 +9,12 @@ use Rattle.tree_trait.specs.Change.{Makes, CallLog, change_of, current, found, w
 use Rattle.tree_trait.specs.FileSystem.{node}
 use Rattle.tree_trait.specs.Refusals.{refusal_of}
 use Rattle.tree_trait.specs.Shape.{IsTree}
-use Rattle.history_laws.specs.Doubt.{is_pending}
+use Rattle.history_laws.specs.Doubt.{is_pending, is_joint}
 use Rattle.job_reports.specs.CallRuns.{AllDone}
 use Rattle.job_reports.specs.Paths.{folder_of}
 use Rattle.job_reports.specs.declared.report.Cause.{Cause}
 use Rattle.job_reports.specs.declared.report.Did.{Did}
-use Rattle.job_reports.specs.declared.report.Did.TheVariants.{Began, Chunk, Placed, Removed, Made, Set, Kept, Skipped, Cleaned, Barrier, Asked, Merges, Troubled, Ended}
+use Rattle.job_reports.specs.declared.report.Did.TheVariants.{Began, Chunk, Placed, Removed, Made, Set, Kept, Skipped, Cleaned, Barrier, Asked, Merges, Moved, Troubled, Ended}
 use Rattle.job_reports.specs.declared.report.Ending.TheVariants.{Finished, Aborted, Killed, NoMemory}
 use Rattle.job_reports.proofs.CallAnswers.{done_call, some_log}
 use Rattle.job_reports.proofs.PermittedCalls.{IsMaking, making_passes}
@@ -33,7 +33,6 @@ use Rattle.folder_copy.specs.FolderCopying.{is_dirty}
 use Rattle.copy_levels.specs.Levels.{Levels, dirtied}
 use Rattle.history_laws.proofs.FileMoves.{MoveCalls, MoveStops}
 use Rattle.history_laws.proofs.Resting.{IsOfFiles, bare_unjoined}
-use Rattle.history_laws.proofs.Restless.{is_joint}
 use Rattle.history_laws.proofs.AtWork.{HasItem}
 use Rattle.history_laws.proofs.CalmChanges.{some_same}
 use Rattle.history_laws.proofs.ItemLinks.{no_row}
@@ -119,6 +118,7 @@ module _ (name : List ℕ) (up : Route) (log now : CallLog) (files : IsOfFiles l
     file_names moved (Kept path) tells calls = absurd tells
     file_names moved (Asked question) tells calls = absurd tells
     file_names moved (Merges pair names) tells calls = absurd tells
+    file_names moved (Moved pair) tells calls = absurd tells
     file_names moved (Skipped path why) tells calls = absurd tells
 
   -- a link
@@ -179,4 +179,5 @@ module _ (name : List ℕ) (up : Route) (log now : CallLog) (files : IsOfFiles l
     link_names moved (Kept path) tells calls = absurd tells
     link_names moved (Asked question) tells calls = absurd tells
     link_names moved (Merges pair names) tells calls = absurd tells
+    link_names moved (Moved pair) tells calls = absurd tells
     link_names moved (Skipped path why) tells calls = absurd tells

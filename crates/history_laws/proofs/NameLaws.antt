@@ -4,7 +4,7 @@ use Rattle.mc_text.specs.Routes.{Route}
 use Rattle.tree_trait.specs.Change.{CallLog}
 use Rattle.job_reports.specs.declared.report.Cause.{Cause}
 use Rattle.job_reports.specs.declared.report.Did.{Did}
-use Rattle.job_reports.specs.declared.report.Did.TheVariants.{Began, Chunk, Placed, Removed, Made, Set, Kept, Skipped, Cleaned, Barrier, Asked, Merges, Troubled, Ended}
+use Rattle.job_reports.specs.declared.report.Did.TheVariants.{Began, Chunk, Placed, Removed, Made, Set, Kept, Skipped, Cleaned, Barrier, Asked, Merges, Moved, Troubled, Ended}
 use Rattle.job_reports.specs.declared.report.Ending.TheVariants.{Finished, Aborted, Killed, NoMemory}
 use Rattle.file_copy.specs.Copying as file
 use Rattle.file_copy.specs.Copying.{Copying}
@@ -76,6 +76,7 @@ file_under f moved (Set path) tells going = absurd tells
 file_under f moved (Kept path) tells going = absurd tells
 file_under f moved (Asked question) tells going = absurd tells
 file_under f moved (Merges pair names) tells going = absurd tells
+file_under f moved (Moved pair) tells going = absurd tells
 file_under f moved (Skipped path why) tells going = absurd tells
 
 link_under : (l moved : LinkCopying) (did : Did) → link.Tells l did moved → link_progress moved.stage ≡ UnderWay → (link.is_dirty moved.folder ≡ true) ⊎ (link_progress l.stage ≡ UnderWay)
@@ -92,6 +93,7 @@ link_under l moved (Set path) tells going = absurd tells
 link_under l moved (Kept path) tells going = absurd tells
 link_under l moved (Asked question) tells going = absurd tells
 link_under l moved (Merges pair names) tells going = absurd tells
+link_under l moved (Moved pair) tells going = absurd tells
 link_under l moved (Skipped path why) tells going = absurd tells
 
 module _ (unclaimed : Route → Type 0) (replies : Replies) (old new : Seen) (did : Did) (before after : Option CallLog) where

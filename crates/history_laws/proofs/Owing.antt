@@ -1,8 +1,8 @@
--- What waits for a sync lies in a dirty folder.
+-- What waits for a sync lies in a dirty folder, or in one for which and such a folder a renaming waits.
 use Rattle.std.proofs.Common.{◌≡◌, ◌⊎◌, ℕ, Bool, true, false, List, [], ◌∷◌, ◌++◌, refl, sym, ◌∙◌, ap, subst, inl, inr, Option, Some, None}
 use Rattle.std.specs.Prelude.{filter, if◌then◌else◌, not}
 use Rattle.std.specs.Option.{option_map_or}
-use Rattle.std.proofs.lemmas.Bool.{both_ways, false≢true}
+use Rattle.std.proofs.lemmas.Bool.{both_ways, false≢true, or_left, or_right}
 use Rattle.mc_text.specs.Routes.{Route, same_path}
 use Rattle.tree_trait.specs.FileSystem.{find, starts_mount, visible_tree}
 use Rattle.tree_trait.specs.Change.{CallLog, current}
@@ -11,58 +11,63 @@ use Rattle.tree_trait.specs.Shape.{IsTree}
 use Rattle.tree_trait.proofs.Finding.{find-once}
 use Rattle.crash_law.specs.Guarded.{Marks}
 use Rattle.job_reports.specs.Paths.{folder_of}
-use Rattle.copy_move.specs.declared.run.Course.{Course}
-use Rattle.copy_move.specs.declared.run.Course.TheVariants.{GoesOn}
+use Rattle.job_reports.proofs.PermittedCalls.{stat_missing}
 use Rattle.copy_move.specs.declared.work.Work.{Work}
-use Rattle.copy_move.specs.declared.work.Work.TheVariants.{Copy, Delete, Make, SetMode}
+use Rattle.copy_move.specs.declared.work.Work.TheVariants.{Copy, Delete, Make, Move, SetMode}
 use Rattle.copy_move.specs.Deletions.{DeletionLeaves, Tells}
 use Rattle.thing_making.specs.Makings as makings
+use Rattle.thing_moving.specs.Movings as movings
 use Rattle.mode_setting.specs.Settings as settings
-use Rattle.copy_move.specs.Jobs.{Running, TellsOn, WorkTells, is_fresh}
+use Rattle.copy_move.specs.Jobs.{WorkTells}
 use Rattle.copy_move.specs.Settling.{LiesApart, NoneOwed, WorkLeaves, changed_folder, is_own, with_change}
 use Rattle.job_reports.specs.declared.report.Did.{Did}
-use Rattle.job_reports.specs.declared.report.Did.TheVariants.{Began, Chunk, Placed, Removed, Made, Set, Kept, Skipped, Cleaned, Barrier, Asked, Merges, Troubled, Ended}
+use Rattle.job_reports.specs.declared.report.Did.TheVariants.{Began, Chunk, Placed, Removed, Made, Set, Kept, Skipped, Cleaned, Barrier, Asked, Merges, Moved, Troubled, Ended}
 use Rattle.tree_deletion.specs.Folders.{is_one_of, joined}
 use Rattle.tree_trait.specs.declared.file_system.FileSystem.{FileSystem}
 use Rattle.tree_trait.specs.declared.calls.TreeError.TheVariants.{Missing}
 use Rattle.tree_trait.specs.Calls.{Stat}
-use Rattle.tree_trait.specs.Refusals.{refusal_of}
+use Rattle.tree_trait.specs.Answers.{mount_number}
+use Rattle.tree_trait.specs.Refusals.{mount_of, refusal_of}
 use Rattle.tree_trait.proofs.Visible.{same_path-self}
-use Rattle.copy_move.specs.Steps.{LeavesDirty}
 use Rattle.history_laws.specs.Doubt.{is_pending, name_waits, node_waits}
-use Rattle.history_laws.specs.Owed.{FirstChangeLaw, IsApart, OwedLaw, StepLaw}
-use Rattle.history_laws.specs.Traces.{IsTraced, Stand, WorkLeads}
+use Rattle.history_laws.specs.Owed.{IsApart, IsOwed, OwedLaw, StepLaw}
+use Rattle.history_laws.specs.Traces.{IsTraced, Stand}
 use Rattle.session_history.specs.Named.{named_parts}
 use Rattle.session_history.specs.declared.history.Entry.{Entry}
 use Rattle.history_laws.proofs.Histories.{IsReached, traced_reached}
 use Rattle.history_laws.proofs.Intact.{own_folder}
 use Rattle.history_laws.proofs.Knowing.{IsKnown, Said, clean_now, mode_waits}
 use Rattle.history_laws.proofs.Prefixes.{calm_told}
-use Rattle.history_laws.proofs.Restless.{within_joint}
+use Rattle.history_laws.proofs.Resting.{IsBeside}
 use Rattle.history_laws.proofs.WaitsFor.{waits_for}
 
--- a path of which a change waits lies in a dirty folder, where no job has moved a thing to another one
-listed : (told : Said) (dirty : List Route) (marks : Marks) (log : CallLog) (path : Route) → IsKnown told dirty marks log → told.joins ≡ false → name_waits log path ≡ true → Among dirty (folder_of path)
-listed told dirty marks log [] known unjoined waits = absurd (false≢true waits)
-listed told dirty marks log (name ∷ up) known unjoined waits = by (find (current log) up) refl waits
+-- a path of which a change waits lies in a folder that is owed
+listed : (told : Said) (dirty : List Route) (marks : Marks) (log : CallLog) (path : Route) → IsKnown told dirty marks log → name_waits log path ≡ true → IsOwed dirty log (folder_of path)
+listed told dirty marks log [] known waits = absurd (false≢true waits)
+listed told dirty marks log (name ∷ up) known waits = by (find (current log) up) refl waits
   where
-    by : (o : Option ℕ) → find (current log) up ≡ o → option_map_or (λ f. is_pending f name log.changes) (find (current log) up) false ≡ true → Among dirty up
+    by : (o : Option ℕ) → find (current log) up ≡ o → option_map_or (λ f. is_pending f name log.changes) (find (current log) up) false ≡ true → IsOwed dirty log up
     by None is h = absurd (false≢true (sym (ap (λ x. option_map_or (λ f. is_pending f name log.changes) x false) is) ∙ h))
     by (Some f) is h =
         elim (waits_for f name log.changes (sym (ap (λ x. option_map_or (λ g. is_pending g name log.changes) x false) is) ∙ h)) [
           | inl own ↦ elim (known.tracked f own) [
-            | inl t ↦ subst (λ q. Among dirty q) (find-once (current log) known.guarded.tree t.0 up f t.2 is) t.1
+            | inl t ↦ inl (subst (λ q. Among dirty q) (find-once (current log) known.guarded.tree t.0 up f t.2 is) t.1)
             | inr none ↦ absurd (none up is)
           ]
-          | inr other ↦ absurd (both_ways _ (within_joint f other.0 log.changes (known.lone unjoined)) other.1)
+          | inr other ↦
+              let beside = known.joint f other.0 up other.1 is in
+              elim (known.tracked other.0 other.2) [
+                | inl t ↦ inr (t.0, t.1, record { f = f; g = other.0; at = is; beside = t.2; joint = other.1 })
+                | inr none ↦ absurd (none beside.path beside.at)
+              ]
         ]
 
 module _ (opening now : CallLog) (newest : List Entry) (stand : Stand) (path : Route) (tree : IsTree (current opening)) (settled : all_settled opening.changes ≡ true) (traced : IsTraced opening newest stand now) where
   abbrev reached : IsReached opening newest stand now
   reached = traced_reached opening tree settled newest stand now traced
 
-  pub owed_names : name_waits now path ≡ true → Among stand.dirty (folder_of path)
-  owed_names waits = listed _ stand.dirty reached.marks now path reached.kept.known refl waits
+  pub owed_names : name_waits now path ≡ true → IsOwed stand.dirty now (folder_of path)
+  owed_names waits = listed _ stand.dirty reached.marks now path reached.kept.known waits
 
   -- a path that was named as no part isn't aside
   not_aside : (Among (named_parts newest) path → ⊥) → (b : Bool) → reached.marks.aside path ≡ b → reached.marks.aside path ≡ false
@@ -103,6 +108,21 @@ owed_law = record {
 pub apart_from : (s : FileSystem) (work : Work) (dirty : List Route) (q : Route) → Among dirty q → NoneOwed s work dirty → (refusal_of s (Stat q) ≡ Some Missing) ⊎ LiesApart s (changed_folder work) q
 apart_from s work dirty q among none = elim (none q among) [ inl gone ↦ inl gone | inr apart ↦ inr apart.1 ]
 
+-- and so does each folder that is owed, since those for which a renaming waits lie on one mount
+pub owed_apart : (told : Said) (dirty : List Route) (marks : Marks) (log : CallLog) (work : Work) (up : Route) → IsKnown told dirty marks log → NoneOwed (current log) work dirty → IsOwed dirty log up → IsApart log (changed_folder work) up
+owed_apart told dirty marks log work up known none (inl among) = apart_from (current log) work dirty up among none
+owed_apart told dirty marks log work up known none (inr (other, among, joined)) = elim (apart_from (current log) work dirty other among none) [
+  | inl gone ↦ absurd (let e : (let o : Option ℕ = None in o) ≡ Some joined.g = sym (stat_missing (current log) other gone) ∙ joined.beside in let x : ⊥ = cc in x)
+  | inr apart ↦ inr (
+    apart.0,
+    apart.1,
+    λ here. apart.2 (here ∙ ap (mount_number (current log).mounts) (sym beside.mount ∙ ap (mount_of (current log)) (find-once (current log) known.guarded.tree beside.path other joined.g beside.at joined.beside))),
+  )
+]
+  where
+    beside : IsBeside log up joined.g
+    beside = known.joint joined.f joined.g up joined.joint joined.at
+
 pub in_filter : (keeps : Route → Bool) (q : Route) (routes : List Route) → Among (filter keeps routes) q → Among routes q
 in_filter keeps q [] among = absurd among
 in_filter keeps q (first ∷ routes) among = by (keeps first) refl among (in_filter keeps q routes)
@@ -131,24 +151,30 @@ changed_or_before false false up q dirty among = inr among
 changed_or_before true true up q dirty among = inr among
 
 -- what is dirty after a step was dirty, or it is the job's own folder
-own_or_before : (old next new : Work) (did : Did) (q : Route) (dirty dirty_after : List Route) (before after : Option CallLog) → WorkTells old did next → WorkLeaves old did new dirty dirty_after before after → Among dirty_after q
+pub own_or_before : (old next new : Work) (did : Did) (q : Route) (dirty dirty_after : List Route) (before after : Option CallLog) → WorkTells old did next → WorkLeaves old did new dirty dirty_after before after → Among dirty_after q
     → (is_own old q ≡ true) ⊎ Among dirty q
 own_or_before (Make m) next (SetMode new) did q dirty dirty_after before after t leaves among = absurd leaves
+own_or_before (Make m) next (Move new) did q dirty dirty_after before after t leaves among = absurd leaves
+own_or_before (Move m) next (SetMode new) did q dirty dirty_after before after t leaves among = absurd leaves
 own_or_before (Delete d) (SetMode next) new did q dirty dirty_after before after t leaves among = absurd t
 own_or_before (Delete d) (Copy next) new did q dirty dirty_after before after t leaves among = absurd t
 own_or_before (Delete d) (Delete next) (SetMode new) did q dirty dirty_after before after t leaves among = absurd leaves
 own_or_before (Delete d) (Delete next) (Copy new) did q dirty dirty_after before after t leaves among = absurd leaves
 own_or_before (SetMode s) next (Delete new) did q dirty dirty_after before after t leaves among = absurd leaves
 own_or_before (SetMode s) next (Make new) did q dirty dirty_after before after t leaves among = absurd leaves
+own_or_before (Move s) next (Make new) did q dirty dirty_after before after t leaves among = absurd leaves
+own_or_before (SetMode s) next (Move new) did q dirty dirty_after before after t leaves among = absurd leaves
 own_or_before (SetMode s) next (SetMode new) did q dirty dirty_after before after t leaves among =
     elim (changed_or_before (settings.is_dirty s.stage) (settings.is_dirty new.stage) s.path q dirty (subst (λ xs. Among xs q) leaves among)) [
       | inl same ↦ inl (subst (λ p. same_path p s.path ≡ true) (sym same) (same_path-self s.path))
       | inr old ↦ inr old
     ]
 own_or_before (Make m) next (Copy new) did q dirty dirty_after before after t leaves among = absurd leaves
+own_or_before (Move m) next (Copy new) did q dirty dirty_after before after t leaves among = absurd leaves
 own_or_before (SetMode s) next (Copy new) did q dirty dirty_after before after t leaves among = absurd leaves
 own_or_before (Copy c) next (Delete new) did q dirty dirty_after before after t leaves among = absurd leaves
 own_or_before (Copy c) next (Make new) did q dirty dirty_after before after t leaves among = absurd leaves
+own_or_before (Copy c) next (Move new) did q dirty dirty_after before after t leaves among = absurd leaves
 own_or_before (Copy c) next (SetMode new) did q dirty dirty_after before after t leaves among = absurd leaves
 own_or_before (Copy c) next (Copy new) did q dirty dirty_after before after t leaves among =
     elim (changed_or_before leaves.was leaves.now leaves.folder q dirty (subst (λ xs. Among xs q) leaves.list among)) [
@@ -156,13 +182,27 @@ own_or_before (Copy c) next (Copy new) did q dirty dirty_after before after t le
       | inr old ↦ inr old
     ]
 own_or_before (Make m) next (Delete new) did q dirty dirty_after before after t leaves among = absurd leaves
+own_or_before (Move m) next (Delete new) did q dirty dirty_after before after t leaves among = absurd leaves
 own_or_before (Make m) next (Make new) did q dirty dirty_after before after t leaves among =
     elim (changed_or_before (makings.is_dirty m.stage) (makings.is_dirty new.stage) (folder_of m.path) q dirty (subst (λ xs. Among xs q) leaves among)) [
       | inl same ↦ inl (subst (λ p. same_path p (folder_of m.path) ≡ true) (sym same) (same_path-self (folder_of m.path)))
       | inr old ↦ inr old
     ]
+own_or_before (Move m) next (Move new) did q dirty dirty_after before after t leaves among =
+    elim (changed_or_before (movings.is_dirty m.stage) (movings.is_dirty new.stage) (folder_of m.pair.source) q with_target (subst (λ xs. Among xs q) leaves among)) [
+      | inl same ↦ inl (or_left _ _ (subst (λ p. same_path p (folder_of m.pair.source) ≡ true) (sym same) (same_path-self (folder_of m.pair.source))))
+      | inr old ↦ elim (changed_or_before (movings.owes_target m.stage) (movings.owes_target new.stage) (folder_of m.pair.target) q dirty old) [
+        | inl same ↦ inl (or_right _ _ (subst (λ p. same_path p (folder_of m.pair.target) ≡ true) (sym same) (same_path-self (folder_of m.pair.target))))
+        | inr older ↦ inr older
+      ]
+    ]
+  where
+    with_target : List Route
+    with_target = with_change (movings.owes_target m.stage) (movings.owes_target new.stage) (folder_of m.pair.target) dirty
 own_or_before (Delete d) (Make next) new did q dirty dirty_after before after t leaves among = absurd t
+own_or_before (Delete d) (Move next) new did q dirty dirty_after before after t leaves among = absurd t
 own_or_before (Delete d) (Delete next) (Make new) did q dirty dirty_after before after t leaves among = absurd leaves
+own_or_before (Delete d) (Delete next) (Move new) did q dirty dirty_after before after t leaves among = absurd leaves
 own_or_before (Delete d) (Delete next) (Delete new) did q dirty dirty_after before after t leaves among = by did t leaves
   where
     by : (did : Did) → Tells d did next → DeletionLeaves d did dirty dirty_after before after → (is_own (Delete d) q ≡ true) ⊎ Among dirty q
@@ -176,6 +216,7 @@ own_or_before (Delete d) (Delete next) (Delete new) did q dirty dirty_after befo
     by (Kept path) t h = inr (subst (λ xs. Among xs q) h among)
     by (Asked question) t h = inr (subst (λ xs. Among xs q) h among)
     by (Merges pair names) t h = inr (subst (λ xs. Among xs q) h among)
+    by (Moved pair) t h = inr (subst (λ xs. Among xs q) h among)
     by (Troubled trouble) t h = inr (subst (λ xs. Among xs q) h among)
     by (Ended ending part) t h = inr (subst (λ xs. Among xs q) h.1 among)
     by (Began part) t h = absurd t
@@ -185,27 +226,6 @@ own_or_before (Delete d) (Delete next) (Delete new) did q dirty dirty_after befo
     by (Made path) t h = absurd t
     by (Skipped path why) t h = inr (subst (λ xs. Among xs q) h among)
     by (Cleaned part) t h = absurd t
-
-module _ (opening log now : CallLog) (older newest : List Entry) (was stand : Stand) (job new : Running) (did : Did) (tree : IsTree (current opening)) (settled : all_settled opening.changes ≡ true)
-    (works : WorkLeads job did new was.dirty stand.dirty log now) (goes : job.course ≡ GoesOn) (fresh : is_fresh job.work ≡ true) where
-  -- a path that is dirty then is the job's own, or lies apart
-  own_or_apart : (q : Route) → Among stand.dirty q → (is_own job.work q ≡ true) ⊎ IsApart log (changed_folder job.work) q
-  own_or_apart q among =
-      let tells : TellsOn GoesOn job did new = subst (λ (course : Course). TellsOn course job did new) goes works.tells in
-      let leaves : WorkLeaves job.work did new.work was.dirty stand.dirty (Some log) (Some now) =
-      subst (λ (course : Course). LeavesDirty course job.work did new.work was.dirty stand.dirty (Some log) (Some now)) goes works.leaves in
-      elim (own_or_before job.work tells.0 new.work did q was.dirty stand.dirty (Some log) (Some now) tells.1 leaves among) [
-        | inl own ↦ inl own
-        | inr old ↦ inr (apart_from (current log) job.work was.dirty q old (works.settled goes fresh))
-      ]
-
-pub first_change_law : FirstChangeLaw
-first_change_law = record {
-  names = λ opening log now older newest was stand job new did path tree settled before traced works goes fresh waits.
-      own_or_apart opening log now older newest was stand job new did tree settled works goes fresh (folder_of path) (owed_names opening now newest stand path tree settled traced waits);
-  modes = λ opening log now older newest was stand job new did path tree settled before traced works goes fresh unnamed waits.
-      own_or_apart opening log now older newest was stand job new did tree settled works goes fresh path (owed_modes opening now newest stand path tree settled traced unnamed waits);
-}
 
 pub step_law : StepLaw
 step_law job new did calls dirty dirty_after log now faults faults_after (inl own) = inl (

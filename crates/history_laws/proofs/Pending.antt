@@ -1,7 +1,7 @@
 -- Which names wait for a sync after one call more, and where a name leads of which none does.
 use Rattle.std.proofs.Common.{◌≡◌, ◌⊎◌, ℕ, Bool, true, false, not, ◌&&◌, ◌||◌, List, [], ◌∷◌, ◌++◌, length, refl, sym, ◌∙◌, ap, inl, inr, Option, Some, None, cond}
 use Rattle.std.specs.Prelude.{is_some, is_none, ◌==◌}
-use Rattle.std.proofs.lemmas.Bool.{false≢true, true≢false, and_parts, and_from, not-true, or_left, or_right}
+use Rattle.std.proofs.lemmas.Bool.{false≢true, true≢false, and_parts, not-true, or_right}
 use Rattle.tree_trait.specs.declared.file_system.FileSystem.{FileSystem}
 use Rattle.tree_trait.specs.FileSystem.{lookup}
 use Rattle.tree_trait.specs.Change.{Change, Nothing, Makes, Moves, Removes, Sets, Writes, Syncs, after_change, after_changes, CallLog, current}
@@ -95,27 +95,6 @@ quiet_within (Removes f name i) none = refl
 quiet_within (Sets i mode) none = refl
 quiet_within (Writes i bytes mtime) none = refl
 quiet_within (Syncs i) none = refl
-
--- each of these renamings does, or it waits for nothing any more
-abbrev pub all_within : List Change → Bool
-all_within [] = true
-all_within (c ∷ cs) = (is_within c || not (is_unsynced c cs)) && all_within cs
-
-still_within : (a u v : Bool) → (u ≡ false → v ≡ false) → (a || not u) ≡ true → (a || not v) ≡ true
-still_within true u v f h = refl
-still_within false true v f h = absurd (false≢true h)
-still_within false false v f h = ap not (f refl)
-
-pub within_more : (cs : List Change) (c : Change) → is_within c ≡ true → all_within cs ≡ true → all_within (cs ++ c ∷ []) ≡ true
-within_more [] c one all = and_from _ _ (or_left _ _ one) refl
-within_more (d ∷ cs) c one all =
-    and_from _ _ (still_within (is_within d) (is_unsynced d cs) (is_unsynced d (cs ++ c ∷ [])) (is_unsynced-more d cs (c ∷ [])) (and_parts _ _ all).0) (within_more cs c one (and_parts _ _ all).1)
-
-pub within_settled : (cs : List Change) → all_settled cs ≡ true → all_within cs ≡ true
-within_settled [] h = refl
-within_settled (c ∷ cs) h =
-    let parts = and_parts (not (is_unsynced c cs)) (all_settled cs) h in
-    and_from (is_within c || not (is_unsynced c cs)) (all_within cs) (or_right (is_within c) (not (is_unsynced c cs)) parts.0) (within_settled cs parts.1)
 
 pub unless : (s u p : Bool) → (s ≡ true → u ≡ false) → p ≡ false → ((s && u) || p) ≡ false
 unless true u p f h = ap (λ b. b || p) (f refl) ∙ h

@@ -60,7 +60,6 @@ firm_known told dirty marks log i clean no_mode known = record {
   part = known.part;
   tracked = known.tracked;
   joint = known.joint;
-  lone = known.lone;
   doubts = known.doubts;
   stand = known.stand;
 }
@@ -87,7 +86,6 @@ pub record PlacesPart (told after : Said) (marks : Marks) (log : CallLog) (part 
   pub placed : after.tree (target ∷ up) ≡ record { value = Some (value (node (current log) i)); is_mount = false }
   pub earlier : (after.earlier (target ∷ up)).value ≡ held (current log) (find (current log) (target ∷ up))
   pub none : after.part ≡ None
-  pub lone : after.joins ≡ false → told.joins ≡ false
   pub doubts : (p : Route) → told.doubt p ≡ true → after.doubt p ≡ true
   pub folders : (p : Route) → after.folders p ≡ true → told.folders p ≡ true
   pub modes : (p : Route) → told.modes p ≡ true → after.modes p ≡ true
@@ -218,7 +216,6 @@ module _ (told after : Said) (dirty dirty_after : List Route) (marks : Marks) (l
     listed = listed;
     listed_beside = listed;
     more = more;
-    lone = λ none. (h.lone none, ap_same);
     doubts = h.doubts;
     folders = λ p there. inl (h.folders p there);
     modes = h.modes;
@@ -234,7 +231,7 @@ module _ (told after : Said) (dirty dirty_after : List Route) (marks : Marks) (l
       | inl e ↦ inr (subst (λ q. Among after.left q) (sym e) (h.left (subst (λ q. marks.aside q ≡ true) e is)))
       | inr e ↦ absurd (true≢false (sym there ∙ ap is_some (ap (find (current now)) e ∙ part_at)))
     ];
-    lefts = h.lefts;
+    lefts = λ p first second among. h.lefts p among;
     off = λ p first second. let o = h.off p first in (off_both p first second, o.0, o.1, other_part p second);
     shown = λ p at _. elim at [
       | inl e ↦ subst (λ q. visible_tree (current now) q ≡ after.tree q) (sym e) placed_shown

@@ -194,7 +194,6 @@ said_placed told source to target = record {
   folders = told.folders;
   modes = told.modes;
   calm = told.calm;
-  joins = told.joins;
 }
 
 -- it is renamed to a path that lies at or below that target, and holds what stands where this comes from
@@ -322,7 +321,6 @@ module _ (told : Said) (dirty : List Route) (source to target : Route) (tname : 
     earlier = subst (λ q. (after.earlier q).value ≡ held (current mid) (find (current mid) q)) target_is
         (ap (λ (s : Spot). s.value) (put_at told.earlier target (told.tree target).value) ∙ ap (λ (s : Spot). s.value) target_seen);
     none = refl;
-    lone = λ none. none;
     doubts = λ p h. or_left _ _ (or_left _ _ h);
     folders = λ p there. there;
     modes = λ p there. there;

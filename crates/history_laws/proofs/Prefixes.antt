@@ -1,11 +1,11 @@
 -- What a history says of its first calls doesn't hang on those that come later.
 use Rattle.std.proofs.Common.{◌≡◌, ℕ, ◌+◌, ◌≤◌, ◌||◌, not, Bool, true, false, List, [], ◌∷◌, length, length-append, refl, ◌∙◌, ap, subst, inl, inr, Option, Some, None, arith}
-use Rattle.std.proofs.lemmas.Bool.{and_from, or_right}
+use Rattle.std.proofs.lemmas.Bool.{and_from, or_left, or_right}
 use Rattle.std.proofs.lemmas.List.{take-append-le}
 use Rattle.std.specs.Option.{option_map_or}
 use Rattle.mc_text.specs.Routes.{Route, same_path}
 use Rattle.job_reports.specs.declared.report.Did.{Did}
-use Rattle.job_reports.specs.declared.report.Did.TheVariants.{Began, Chunk, Placed, Removed, Made, Set, Kept, Skipped, Cleaned, Barrier, Asked, Merges, Troubled, Ended}
+use Rattle.job_reports.specs.declared.report.Did.TheVariants.{Began, Chunk, Placed, Removed, Made, Set, Kept, Skipped, Cleaned, Barrier, Asked, Merges, Moved, Troubled, Ended}
 use Rattle.job_reports.specs.Jobs.{Item, folder_changed}
 use Rattle.tree_trait.specs.FileSystem.{View}
 use Rattle.tree_trait.specs.Change.{Change, CallLog, current}
@@ -65,7 +65,6 @@ told_of opening end g part = record {
   folders = folders_told opening g;
   modes = anywhere;
   calm = calm_told g;
-  joins = false;
 }
 
 -- the same after one event more, by which so many calls were made
@@ -80,7 +79,6 @@ told_with opening end older calls what part = record {
   folders = folders_event what (live_jobs older) (folders_told opening older);
   modes = anywhere;
   calm = calm_event what (live_jobs older) (calm_told older);
-  joins = false;
 }
 
 -- the calls of these entries were made
@@ -109,7 +107,7 @@ earlier_more opening now cs (e ∷ older) (few, w) =
 
 abbrev pub said_by : (Route → Bool) → (Route → Bool) → View → View → List Route → List Route → Option Route → Said
 said_by folders calm tree earlier named left part =
-    record { tree = tree; earlier = earlier; named = named; left = left; part = part; doubt = anywhere; folders = folders; modes = anywhere; calm = calm; joins = false }
+    record { tree = tree; earlier = earlier; named = named; left = left; part = part; doubt = anywhere; folders = folders; modes = anywhere; calm = calm }
 
 pub told_more : (opening now : CallLog) (cs : List Change) (g : List Entry) (part : Option Route) → AreWithin opening g now → told_of opening (more now cs) g part ≡ told_of opening now g part
 told_more opening now cs g part w =
@@ -127,6 +125,7 @@ known_by (Placed path) folder before p unnamed h = h
 known_by (Kept kept) folder before p unnamed h = h
 known_by (Asked question) folder before p unnamed h = h
 known_by (Merges pair names) folder before p unnamed h = h
+known_by (Moved pair) folder before p unnamed h = or_left _ _ h
 known_by (Skipped path cause) folder before p unnamed h = h
 known_by (Cleaned part) folder before p unnamed h = h
 known_by Barrier folder before p unnamed h = h

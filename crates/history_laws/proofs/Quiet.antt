@@ -17,11 +17,11 @@ use Rattle.crash_law.specs.Guarded.{Marks, IsQuiet, with_mode}
 use Rattle.crash_law.proofs.Guarding.{quiet_law, same_quiet, folder_kept, found_at}
 use Rattle.crash_law.proofs.Leading.{clean_more, current_more}
 use Rattle.crash_law.proofs.Syncing.{unaltered_law}
-use Rattle.history_laws.specs.Doubt.{is_pending, way_waits, name_waits}
-use Rattle.history_laws.proofs.Pending.{all_within, is_within, within_more, pending_less, says_at}
+use Rattle.history_laws.specs.Doubt.{is_pending, way_waits, name_waits, is_joint}
+use Rattle.history_laws.proofs.Pending.{is_within, pending_less, says_at}
 use Rattle.history_laws.proofs.Knowing.{Said, HasMode, IsCalmFolder, IsKnown, IsUnreached, held}
 use Rattle.history_laws.proofs.Resting.{IsBeside, IsOfFiles, IsSureFolder, folder_at, joint_still, mounted, stands_at, sure_still, unborn_more, unjoined_still}
-use Rattle.history_laws.proofs.Restless.{IsUnjoined, is_joint, is_restless, restless_less}
+use Rattle.history_laws.proofs.Restless.{IsUnjoined, is_restless, restless_less}
 use Rattle.history_laws.proofs.WaitsFor.{names_said}
 
 mounts_after : (s : FileSystem) (c : Change) → (after_change s c).mounts ≡ s.mounts
@@ -181,9 +181,6 @@ module _ (said : Said) (dirty : List Route) (marks : Marks) (log : CallLog) (c :
   pub calm_apart : (p : Route) → IsUnjoined log p → IsUnjoined now p
   calm_apart p apart = unjoined_still log c known.guarded.tree known.files n.within (starts_same log c) as_before was_at p apart
 
-  pub calm_lone : said.joins ≡ false → all_within now.changes ≡ true
-  calm_lone none = within_more log.changes c n.within (known.lone none)
-
 -- a quiet call, and what it alters is nothing that can be seen but the part that stands
 pub record IsCalm (said : Said) (marks : Marks) (log : CallLog) (c : Change) : Type 0 where
   pub quiet : IsQuiet marks log c
@@ -246,7 +243,6 @@ module _ (said : Said) (dirty : List Route) (marks : Marks) (log : CallLog) (c :
     part = λ p is. let k = known.part p is in (k.0, k.1, ap is_some (same_quiet log c quiet_of.names p) ∙ k.2);
     tracked = calm_tracked said dirty marks log c known nameless;
     joint = calm_joint said dirty marks log c known nameless;
-    lone = calm_lone said dirty marks log c known nameless;
     doubts = λ p waits. known.doubts p (waits_before said dirty marks log c known nameless p waits);
     stand = λ p there. calm_firm said dirty marks log c known nameless p (known.stand p there);
   }

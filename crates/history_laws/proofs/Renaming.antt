@@ -14,12 +14,12 @@ use Rattle.tree_trait.proofs.Visible.{same_path-true}
 use Rattle.crash_law.specs.Guarded.{Marks, IsNaming, IsUnder, Touches, with_mode}
 use Rattle.crash_law.proofs.Guarding.{naming_law, find_same, found_at}
 use Rattle.crash_law.proofs.Syncing.{unaltered_law}
-use Rattle.history_laws.specs.Doubt.{is_pending, way_waits, name_waits}
-use Rattle.history_laws.proofs.Pending.{is_within, within_more, pending_less, says_at}
+use Rattle.history_laws.specs.Doubt.{is_pending, way_waits, name_waits, is_joint, joins}
+use Rattle.history_laws.proofs.Pending.{pending_less, says_at}
 use Rattle.history_laws.proofs.Knowing.{HasMode, HasNoMode, IsCalmFolder, IsKnown, IsUnreached, Said, held, nowhere}
 use Rattle.history_laws.proofs.Quiet.{held_same, kind_same, mount_same, shows_same, starts_same, unclean_before, was_bare}
 use Rattle.history_laws.proofs.Resting.{IsBeside, IsSureFolder, folder_at_of, joint_after, joint_folder, mount_still, mounted, restless_folder, stands_at, sure_still, unborn_more, unjoined_after}
-use Rattle.history_laws.proofs.Restless.{is_joint, is_restless, joins, named_both, names_in, restless_less}
+use Rattle.history_laws.proofs.Restless.{is_restless, named_both, names_in, restless_less}
 use Rattle.history_laws.proofs.WaitsFor.{names_said}
 
 -- Where a call changes names of files: at these two paths alone, each in its folder, which may be the same one; and both folders lie on one mount.
@@ -67,7 +67,6 @@ pub record IsFileNaming (said after : Said) (dirty dirty_after : List Route) (ma
   pub listed : Among dirty_after up
   pub listed_beside : Among dirty_after beside
   pub more : (q : Route) → Among dirty q → Among dirty_after q
-  pub lone : after.joins ≡ false → (said.joins ≡ false) × (is_within c ≡ true)
   pub doubts : (p : Route) → said.doubt p ≡ true → after.doubt p ≡ true
   -- where a folder is said to be on the disk it was said so before, or it is
   pub folders : (p : Route) → after.folders p ≡ true → (said.folders p ≡ true) ⊎ IsSureFolder log p
@@ -82,7 +81,7 @@ pub record IsFileNaming (said after : Said) (dirty dirty_after : List Route) (ma
   pub named : (p : Route) → marks.aside p ≡ true → Among after.named p
   -- a part that stands is the live job's then, or an ended one left it
   pub left : (p : Route) → (p ≡ first) ⊎ (p ≡ second) → marks.aside p ≡ true → is_some (find (current (with_change log c)) p) ≡ true → (after.part ≡ Some p) ⊎ Among after.left p
-  pub lefts : (p : Route) → Among said.left p → Among after.left p
+  pub lefts : (p : Route) → same_path p first ≡ false → same_path p second ≡ false → Among said.left p → Among after.left p
   -- elsewhere all is as it was
   pub off : (p : Route) → same_path p first ≡ false → same_path p second ≡ false
       → (find (current (with_change log c)) p ≡ find (current log) p) × (after.tree p ≡ said.tree p) × (after.earlier p ≡ said.earlier p) × (said.part ≡ Some p → ⊥)
@@ -337,7 +336,7 @@ module _ (said after : Said) (dirty dirty_after : List Route) (marks : Marks) (l
     | inl at ↦ n.left p at is there
     | inr off ↦
         let o = n.off p off.0 off.1 in
-        elim (known.left p is (sym (ap is_some o.0) ∙ there)) [ inl part ↦ absurd (o.3 part) | inr among ↦ inr (n.lefts p among) ]
+        elim (known.left p is (sym (ap is_some o.0) ∙ there)) [ inl part ↦ absurd (o.3 part) | inr among ↦ inr (n.lefts p off.0 off.1 among) ]
   ]
 
   pub naming_known : IsKnown after dirty_after marks now
@@ -359,7 +358,6 @@ module _ (said after : Said) (dirty dirty_after : List Route) (marks : Marks) (l
     part = n.part;
     tracked = tracked;
     joint = joint;
-    lone = λ none. let j = n.lone none in within_more log.changes c j.1 (known.lone j.0);
     doubts = doubts;
     stand = λ p there. elim (n.folders p there) [ inl before ↦ firm_still p (known.stand p before) | inr firm ↦ firm_still p firm ];
   }

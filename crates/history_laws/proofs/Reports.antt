@@ -1,12 +1,12 @@
 -- What a report makes of the live jobs, and of what is known of them.
 use Rattle.std.proofs.Common.{◌≡◌, ℕ, Bool, true, false, List, [], ◌∷◌, refl, sym, ◌∙◌, ap, subst, Option, Some, None}
-use Rattle.std.specs.Prelude.{◌==◌, if◌then◌else◌, is_some, nat_le, ◌&&◌}
-use Rattle.std.proofs.lemmas.Bool.{false≢true, and_parts, eq-eqb}
-use Rattle.mc_text.specs.Routes.{Route, parent_of}
+use Rattle.std.specs.Prelude.{◌==◌, if◌then◌else◌, is_some, nat_le, not, ◌&&◌}
+use Rattle.std.proofs.lemmas.Bool.{false≢true, and_parts, eq-eqb, not-true}
+use Rattle.mc_text.specs.Routes.{Route, parent_of, same_path}
 use Rattle.tree_trait.specs.Change.{CallLog}
 use Rattle.crash_law.specs.Guarded.{Marks}
 use Rattle.job_reports.specs.declared.report.Did.{Did}
-use Rattle.job_reports.specs.declared.report.Did.TheVariants.{Began, Chunk, Placed, Removed, Made, Set, Kept, Skipped, Cleaned, Barrier, Asked, Merges, Troubled, Ended}
+use Rattle.job_reports.specs.declared.report.Did.TheVariants.{Began, Chunk, Placed, Removed, Made, Set, Kept, Skipped, Cleaned, Barrier, Asked, Merges, Moved, Troubled, Ended}
 use Rattle.job_reports.specs.declared.job.Pair.{Pair}
 use Rattle.job_reports.specs.declared.job.Job.{Job}
 use Rattle.job_reports.specs.declared.job.Job.TheVariants as plan
@@ -55,6 +55,7 @@ module _ (told : Said) (dirty : List Route) (marks : Marks) (log : CallLog) (new
   knows_after (Kept kept) k = k
   knows_after (Asked question) k = k
   knows_after (Merges pair names) k = k
+  knows_after (Moved pair) k = k
   knows_after (Skipped path why) k = k
   knows_after (Cleaned part) k = k
   knows_after Barrier k = k
@@ -84,6 +85,7 @@ module _ (id : ℕ) (item : Item) (part : Option Route) (new : Running) (same : 
   live_after (Kept kept) = stays part _ (kept_if (id == id) _ _ (same_id id))
   live_after (Asked question) = stays part _ (kept_if (id == id) _ _ (same_id id))
   live_after (Merges pair names) = stays part _ (kept_if (id == id) _ _ (same_id id))
+  live_after (Moved pair) = stays part _ (kept_if (id == id) _ _ (same_id id))
   live_after (Skipped path why) = stays part _ (kept_if (id == id) _ _ (same_id id))
   live_after (Cleaned p) = stays None _ (kept_if (id == id) _ _ (same_id id))
   live_after Barrier = stays part _ (kept_if (id == id) _ _ (same_id id))
@@ -107,6 +109,15 @@ module _ (told : Said) (dirty : List Route) (marks : Marks) (log : CallLog) (non
   sets path mode w true has is = subst (λ x. WorkKnows told dirty marks log GoesOn x) (let e : Rattle.copy_move.specs.Jobs.sets path mode ≡ w = cc in e) (has_name path (has refl), none)
   sets path mode w false has is = absurd (let f : ⊥ = cc in f)
 
+  moves : (pair : Pair) (w : Work) (b : Bool) → ((is_some (parent_of pair.source) && is_some (parent_of pair.target)) && not (same_path pair.source pair.target)) ≡ b
+      → (let o : Option Work = if◌then◌else◌ b (Some (Rattle.copy_move.specs.Jobs.moves pair)) None in o) ≡ Some w → WorkKnows told dirty marks log GoesOn w
+  moves pair w true has is =
+      let both = and_parts (is_some (parent_of pair.source) && is_some (parent_of pair.target)) (not (same_path pair.source pair.target)) has in
+      let named = and_parts (is_some (parent_of pair.source)) (is_some (parent_of pair.target)) both.0 in
+      subst (λ x. WorkKnows told dirty marks log GoesOn x) (let e : Rattle.copy_move.specs.Jobs.moves pair ≡ w = cc in e)
+      (record { source = has_name pair.source named.0; target = has_name pair.target named.1; none = none; other = not-true (same_path pair.source pair.target) both.1; moved = λ on is. absurd (false≢true is) })
+  moves pair w false has is = absurd (let f : ⊥ = cc in f)
+
   copies : (id : ℕ) (pair : Pair) (w : Work) (b : Bool) → (is_some (parent_of pair.source) && is_some (parent_of pair.target)) ≡ b
       → (let o : Option Work = if◌then◌else◌ b (Some (Rattle.copy_move.specs.Jobs.copies id pair)) None in o) ≡ Some w → WorkKnows told dirty marks log GoesOn w
   copies id pair w true has is =
@@ -122,6 +133,9 @@ module _ (told : Said) (dirty : List Route) (marks : Marks) (log : CallLog) (non
   first_knows id (plan.Copy []) w is = absurd (let f : ⊥ = cc in f)
   first_knows id (plan.Copy (pair ∷ [])) w is = copies id pair w (is_some (parent_of pair.source) && is_some (parent_of pair.target)) refl is
   first_knows id (plan.Copy (pair ∷ more ∷ pairs)) w is = absurd (let f : ⊥ = cc in f)
+  first_knows id (plan.Move []) w is = absurd (let f : ⊥ = cc in f)
+  first_knows id (plan.Move (pair ∷ [])) w is = moves pair w ((is_some (parent_of pair.source) && is_some (parent_of pair.target)) && not (same_path pair.source pair.target)) refl is
+  first_knows id (plan.Move (pair ∷ more ∷ pairs)) w is = absurd (let f : ⊥ = cc in f)
   first_knows id (plan.MakeFolder path) w is = makes thing.Folder path w (is_some (parent_of path)) (λ has. has) is
   first_knows id (plan.MakeLink path text) w is = makes (thing.Link text) path w (is_some (parent_of path) && is_link_text text) (λ has. (and_parts _ _ has).0) is
   first_knows id (plan.SetMode [] mode) w is = absurd (let f : ⊥ = cc in f)

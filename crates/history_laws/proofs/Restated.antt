@@ -34,7 +34,6 @@ module _ (told : Said) (folders calm : Route → Bool) where
           part = k.part;
           tracked = k.tracked;
           joint = k.joint;
-          lone = k.lone;
           doubts = k.doubts;
           stand = firm;
         };

@@ -16,9 +16,9 @@ use Rattle.crash_law.specs.Possible.{MayLead, Leads}
 use Rattle.crash_law.specs.Guarded.{IsSettledAt}
 use Rattle.crash_law.proofs.Leading.{clean_more}
 use Rattle.job_reports.specs.Paths.{folder_of}
-use Rattle.history_laws.specs.Doubt.{is_pending, way_waits, name_waits}
+use Rattle.history_laws.specs.Doubt.{is_pending, way_waits, name_waits, is_joint, joins}
 use Rattle.history_laws.proofs.Pending.{is_within, leads_only, pending_less}
-use Rattle.history_laws.proofs.Restless.{IsUnjoined, is_joint, is_restless, joins, joint_before, joint_less, joint_swap, unjoined_within}
+use Rattle.history_laws.proofs.Restless.{IsUnjoined, is_restless, joint_before, joint_less, joint_swap, unjoined_within}
 use Rattle.history_laws.proofs.WaitsFor.{joint_pending, restless_pending}
 
 -- a folder stands at this path

@@ -8,7 +8,8 @@ use Rattle.tree_trait.specs.Change.{Change, Nothing, Makes, Moves, Removes, Sets
 use Rattle.tree_trait.specs.CrashImages.{is_settled, is_unsynced}
 use Rattle.tree_trait.proofs.Settled.{is_settled-more, is_unsynced-more, not_follows}
 use Rattle.tree_trait.proofs.Synced.{is_settled-end}
-use Rattle.history_laws.proofs.Pending.{all_within, is_within, unless}
+use Rattle.history_laws.specs.Doubt.{is_joint, joins}
+use Rattle.history_laws.proofs.Pending.{is_within, unless}
 
 -- the change is of a name of this folder
 abbrev pub names_in : ℕ → Change → Bool
@@ -24,21 +25,6 @@ names_in f (Syncs i) = false
 abbrev pub is_restless : ℕ → List Change → Bool
 is_restless f [] = false
 is_restless f (c ∷ later) = (names_in f c && not (is_settled f later)) || is_restless f later
-
--- the change is a renaming between these two folders
-abbrev pub joins : ℕ → ℕ → Change → Bool
-joins f g Nothing = false
-joins f g (Makes h name made) = false
-joins f g (Moves a old b new i r) = not (f == g) && (((a == f) && (b == g)) || ((a == g) && (b == f)))
-joins f g (Removes h name i) = false
-joins f g (Sets i mode) = false
-joins f g (Writes i bytes time) = false
-joins f g (Syncs i) = false
-
--- a renaming between these two folders waits
-abbrev pub is_joint : ℕ → ℕ → List Change → Bool
-is_joint f g [] = false
-is_joint f g (c ∷ later) = (joins f g c && is_unsynced c later) || is_joint f g later
 
 -- no renaming waits for the folder at this path and another one
 abbrev pub IsUnjoined : CallLog → Route → Type 0
@@ -173,12 +159,3 @@ unjoined_within f g c one = false_from_ne_true _ (λ joined. not_joined f g c on
 -- so after it none waits for two folders that didn't before
 pub joint_before : (f g : ℕ) (cs : List Change) (c : Change) → is_within c ≡ true → is_joint f g (cs ++ c ∷ []) ≡ true → is_joint f g cs ≡ true
 joint_before f g cs c one h = elim (joint_less f g cs c h) [ inl old ↦ old | inr new ↦ absurd (not_joined f g c one new) ]
-
--- nor does any where each stays in its folder
-pub within_joint : (f g : ℕ) (cs : List Change) → all_within cs ≡ true → is_joint f g cs ≡ false
-within_joint f g [] all = refl
-within_joint f g (c ∷ cs) all =
-    let both = and_parts (is_within c || not (is_unsynced c cs)) (all_within cs) all in
-    unless (joins f g c) (is_unsynced c cs) (is_joint f g cs)
-    (λ joined. elim (or_cases (is_within c) (not (is_unsynced c cs)) both.0) [ inl one ↦ absurd (not_joined f g c one joined) | inr none ↦ not-true (is_unsynced c cs) none ])
-    (within_joint f g cs both.1)

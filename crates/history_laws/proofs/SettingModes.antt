@@ -28,7 +28,7 @@ use Rattle.history_laws.proofs.Changing.{folder_anchored}
 use Rattle.history_laws.proofs.JobKnows.{none_unlisted}
 use Rattle.history_laws.proofs.Knowing.{HasMode, IsCalmFolder, IsCalmIn, IsKept, IsKnown, Said, firm_now, held}
 use Rattle.history_laws.proofs.PartNodes.{moded_node}
-use Rattle.history_laws.proofs.Quiet.{IsNameless, calm_apart, calm_files, calm_firm, calm_joint, calm_lone, calm_tracked, held_same, shows_same, starts_same, unclean_before, waits_before, was_folder}
+use Rattle.history_laws.proofs.Quiet.{IsNameless, calm_apart, calm_files, calm_firm, calm_joint, calm_tracked, held_same, shows_same, starts_same, unclean_before, waits_before, was_folder}
 use Rattle.history_laws.proofs.Resting.{IsSureFolder, settled_unless}
 use Rattle.history_laws.proofs.Restless.{is_restless}
 use Rattle.history_laws.proofs.WaitsFor.{waits_for}
@@ -49,7 +49,6 @@ pub record SetsMode (told after : Said) (dirty dirty_after : List Route) (marks 
   pub off : (p : Route) → same_path p path ≡ false → (after.tree p ≡ told.tree p) × (after.earlier p ≡ told.earlier p)
   pub shown : after.tree path ≡ record (told.tree path) { value = Some (value (with_mode mode (node (current log) i))) }
   pub earlier : (after.earlier path).value ≡ (told.tree path).value
-  pub lone : after.joins ≡ false → told.joins ≡ false
   pub doubts : (p : Route) → told.doubt p ≡ true → after.doubt p ≡ true
   pub folders : (p : Route) → after.folders p ≡ true → (told.folders p ≡ true) ⊎ IsSureFolder log p
   pub modes : after.modes path ≡ true
@@ -402,7 +401,6 @@ module _ (told after : Said) (dirty dirty_after : List Route) (marks : Marks) (l
       part = λ p is. absurd (let e : (let o : Option Route = None in o) ≡ Some p = sym s.none ∙ is in let x : ⊥ = cc in x);
       tracked = λ f restless. elim (calm_tracked told dirty marks log sets kept.known nameless f restless) [ inl t ↦ inl (t.0, s.more t.0 t.1, t.2) | inr none ↦ inr none ];
       joint = calm_joint told dirty marks log sets kept.known nameless;
-      lone = λ none. calm_lone told dirty marks log sets kept.known nameless (s.lone none);
       doubts = λ p waits. s.doubts p (kept.known.doubts p (waits_before told dirty marks log sets kept.known nameless p waits));
       stand = λ p there_stands. calm_firm told dirty marks log sets kept.known nameless p (elim (s.folders p there_stands) [ inl before ↦ kept.known.stand p before | inr firm ↦ firm ]);
     }

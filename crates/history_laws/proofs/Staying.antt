@@ -11,7 +11,7 @@ use Rattle.tree_trait.proofs.Visible.{same_path-self, same_path-true}
 use Rattle.job_reports.specs.Jobs.{Item, item_of}
 use Rattle.crash_law.specs.Guarded.{Marks}
 use Rattle.job_reports.specs.declared.report.Did.{Did}
-use Rattle.job_reports.specs.declared.report.Did.TheVariants.{Began, Chunk, Placed, Removed, Made, Set, Kept, Skipped, Cleaned, Barrier, Asked, Merges, Troubled, Ended}
+use Rattle.job_reports.specs.declared.report.Did.TheVariants.{Began, Chunk, Placed, Removed, Made, Set, Kept, Skipped, Cleaned, Barrier, Asked, Merges, Moved, Troubled, Ended}
 use Rattle.job_reports.specs.declared.report.Ending.TheVariants.{Finished}
 use Rattle.session_history.specs.declared.history.Event.{Event}
 use Rattle.session_history.specs.declared.history.Event.TheVariants.{Key, Look, Sought, Order, Step, Next, Closed}
@@ -64,7 +64,6 @@ module _ (told : Said) (log : CallLog) where
       part = kept.known.part;
       tracked = kept.known.tracked;
       joint = kept.known.joint;
-      lone = kept.known.lone;
       doubts = λ p waits. waits;
       stand = kept.known.stand;
     };
@@ -97,6 +96,7 @@ unnamed_sure (Made folder) part before path sure unnamed other = untold_facts (b
 unnamed_sure (Kept kept) part before path sure unnamed other = sure
 unnamed_sure (Asked question) part before path sure unnamed other = sure
 unnamed_sure (Merges pair names) part before path sure unnamed other = sure
+unnamed_sure (Moved pair) part before path sure unnamed other = untold_facts (before path) (same_path path pair.source || same_path path pair.target) sure unnamed
 unnamed_sure (Skipped file cause) part before path sure unnamed other = sure
 unnamed_sure Barrier part before path sure unnamed other = sure
 unnamed_sure (Troubled trouble) part before path sure unnamed other = sure
@@ -187,6 +187,7 @@ part_before (Made made) part path unnamed is = is
 part_before (Kept kept) part path unnamed is = is
 part_before (Asked question) part path unnamed is = is
 part_before (Merges pair names) part path unnamed is = is
+part_before (Moved pair) part path unnamed is = is
 part_before (Skipped file cause) part path unnamed is = is
 part_before Barrier part path unnamed is = is
 part_before (Troubled trouble) part path unnamed is = is
@@ -218,6 +219,8 @@ module _ (path : Route) where
   report_part id (Asked question) (job ∷ jobs) unnamed h = stepped_part (job.id == id) job (Asked question) jobs (after_report id (Asked question) jobs) unnamed (report_part id (Asked question) jobs unnamed) h
   report_part id (Merges pair within) (job ∷ jobs) unnamed h =
       stepped_part (job.id == id) job (Merges pair within) jobs (after_report id (Merges pair within) jobs) unnamed (report_part id (Merges pair within) jobs unnamed) h
+  report_part id (Moved pair) (job ∷ jobs) unnamed h =
+      stepped_part (job.id == id) job (Moved pair) jobs (after_report id (Moved pair) jobs) unnamed (report_part id (Moved pair) jobs unnamed) h
   report_part id (Skipped file cause) (job ∷ jobs) unnamed h =
       stepped_part (job.id == id) job (Skipped file cause) jobs (after_report id (Skipped file cause) jobs) unnamed (report_part id (Skipped file cause) jobs unnamed) h
   report_part id (Cleaned gone) (job ∷ jobs) unnamed h = stepped_part (job.id == id) job (Cleaned gone) jobs (after_report id (Cleaned gone) jobs) unnamed (report_part id (Cleaned gone) jobs unnamed) h

@@ -9,7 +9,7 @@ use Rattle.crash_law.specs.Guarded.{Marks}
 use Rattle.job_reports.specs.Jobs.{Item, folder_changed}
 use Rattle.job_reports.specs.Paths.{folder_of}
 use Rattle.job_reports.specs.declared.report.Did.{Did}
-use Rattle.job_reports.specs.declared.report.Did.TheVariants.{Began, Chunk, Placed, Removed, Made, Set, Kept, Skipped, Cleaned, Barrier, Asked, Merges, Troubled, Ended}
+use Rattle.job_reports.specs.declared.report.Did.TheVariants.{Began, Chunk, Placed, Removed, Made, Set, Kept, Skipped, Cleaned, Barrier, Asked, Merges, Moved, Troubled, Ended}
 use Rattle.copy_move.specs.declared.work.Work.{Work}
 use Rattle.history_laws.specs.Replayed.{replayed_step, keeping}
 use Rattle.history_laws.specs.Staying.{may_change}
@@ -72,6 +72,7 @@ part_after (Made made) before = before
 part_after (Kept kept) before = before
 part_after (Asked question) before = before
 part_after (Merges pair names) before = before
+part_after (Moved pair) before = before
 part_after (Skipped path cause) before = before
 part_after Barrier before = before
 part_after (Troubled trouble) before = before
@@ -88,12 +89,13 @@ doubt_by (Made path) part before = λ p. before p || same_path p path
 doubt_by (Kept kept) part before = before
 doubt_by (Asked question) part before = before
 doubt_by (Merges pair names) part before = before
+doubt_by (Moved pair) part before = λ p. before p || (same_path p pair.source || same_path p pair.target)
 doubt_by (Skipped path cause) part before = before
 doubt_by Barrier part before = before
 doubt_by (Troubled trouble) part before = before
 doubt_by (Ended ending left) part before = before
 
--- the folder of a job's item is on the disk from its first change on, until it is removed, and so is that of each part or thing which a report names
+-- the folder of a job's item is on the disk from its first change on, until it is removed, and so is that of each part or thing which a report names; of a move both
 abbrev pub folders_by : Did → Route → (Route → Bool) → Route → Bool
 folders_by (Began made) folder before = λ p. (same_path p folder || same_path p (folder_of made)) || before p
 folders_by (Removed path) folder before = λ p. (same_path p folder || before p) && not (same_path p path)
@@ -105,6 +107,7 @@ folders_by (Set path) folder before = λ p. (same_path p folder || same_path p (
 folders_by (Kept kept) folder before = before
 folders_by (Asked question) folder before = before
 folders_by (Merges pair names) folder before = before
+folders_by (Moved pair) folder before = λ p. before p || (same_path p (folder_of pair.source) || same_path p (folder_of pair.target))
 folders_by (Skipped path cause) folder before = before
 folders_by Barrier folder before = before
 folders_by (Troubled trouble) folder before = before
@@ -121,13 +124,14 @@ modes_by (Made path) before = before
 modes_by (Kept kept) before = before
 modes_by (Asked question) before = before
 modes_by (Merges pair names) before = before
+modes_by (Moved pair) before = before
 modes_by (Skipped path cause) before = before
 modes_by (Cleaned gone) before = before
 modes_by Barrier before = before
 modes_by (Troubled trouble) before = before
 modes_by (Ended ending left) before = before
 
--- in the folders of a job's first change no mode waits from then on, until one is set there
+-- in the folders of a job's first change no mode waits from then on, until one is set there, and no renaming for them and others, until something is moved from or to them
 abbrev pub calm_by : Did → Item → (Route → Bool) → Route → Bool
 calm_by (Began made) item before = λ p. may_change item p || before p
 calm_by (Removed path) item before = λ p. may_change item p || before p
@@ -139,6 +143,7 @@ calm_by (Chunk count) item before = before
 calm_by (Kept kept) item before = before
 calm_by (Asked question) item before = before
 calm_by (Merges pair names) item before = before
+calm_by (Moved pair) item before = λ p. before p && not (same_path p (folder_of pair.source) || same_path p (folder_of pair.target))
 calm_by (Skipped path cause) item before = before
 calm_by Barrier item before = before
 calm_by (Troubled trouble) item before = before
@@ -155,7 +160,6 @@ said_after now did work told = record {
   folders = folders_by did (folder_changed (item_in work)) told.folders;
   modes = modes_by did told.modes;
   calm = calm_by did (item_in work) told.calm;
-  joins = told.joins;
 }
 
 -- What a step comes to.

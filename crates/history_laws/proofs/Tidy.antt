@@ -1,44 +1,42 @@
 -- Which dirty paths a step of a job leaves: a job that has changed something, and owes no sync, has none of its own.
-use Rattle.std.proofs.Common.{◌≡◌, ◌⊎◌, ℕ, Bool, true, false, List, [], ◌∷◌, refl, sym, ◌∙◌, ap, subst, inl, inr, Option, Some, None}
+use Rattle.std.proofs.Common.{◌≡◌, ◌⊎◌, Bool, true, false, List, [], ◌∷◌, refl, sym, ◌∙◌, ap, subst, inl, inr, Option, Some}
 use Rattle.std.specs.Prelude.{◌||◌, if◌then◌else◌}
 use Rattle.std.proofs.lemmas.Bool.{true≢false, false≢true, both_ways}
 use Rattle.mc_text.specs.Routes.{Route, same_path}
-use Rattle.tree_trait.specs.FileSystem.{find, lookup}
-use Rattle.tree_trait.specs.Calls.{SetMode as Sets_mode}
-use Rattle.tree_trait.proofs.Finding.{and_then-some}
-use Rattle.tree_trait.specs.Change.{CallLog, current, found}
+use Rattle.tree_trait.specs.Change.{CallLog}
 use Rattle.tree_trait.specs.CrashImages.{Among}
 use Rattle.tree_trait.proofs.Visible.{same_path-self}
+use Rattle.job_reports.specs.declared.job.Pair.{Pair}
+use Rattle.job_reports.specs.declared.report.Ending.TheVariants.{Finished, Aborted, Killed, NoMemory}
 use Rattle.job_reports.specs.declared.report.Did.{Did}
-use Rattle.job_reports.specs.declared.report.Did.TheVariants.{Began, Chunk, Placed, Removed, Made, Set, Kept, Skipped, Cleaned, Barrier, Asked, Merges, Troubled, Ended}
-use Rattle.job_reports.proofs.CallAnswers.{IsDoneCall, one_done}
-use Rattle.job_answers.specs.declared.replies.Replies.{Replies}
+use Rattle.job_reports.specs.declared.report.Did.TheVariants.{Began, Chunk, Placed, Removed, Made, Set, Kept, Skipped, Cleaned, Barrier, Asked, Merges, Moved, Troubled, Ended}
 use Rattle.copy_move.specs.declared.run.Course.{Course}
 use Rattle.copy_move.specs.declared.run.Course.TheVariants.{GoesOn, Asking, InTrouble, OwedSyncFailed, Skips, Ends}
 use Rattle.copy_move.specs.declared.work.Work.{Work}
 use Rattle.thing_making.specs.declared.making.MakingStage.{MakingStage}
 use Rattle.thing_making.specs.declared.making.MakingStage.TheVariants as making
-use Rattle.copy_move.specs.declared.work.Work.TheVariants.{Copy, Delete, Make, SetMode}
+use Rattle.copy_move.specs.declared.work.Work.TheVariants.{Copy, Delete, Make, Move, SetMode}
 use Rattle.thing_making.specs.Makings.{Making}
 use Rattle.thing_making.specs.Makings as makings
+use Rattle.thing_moving.specs.declared.moving.MovingStage.{MovingStage}
+use Rattle.thing_moving.specs.declared.moving.MovingStage.TheVariants as moving
+use Rattle.thing_moving.specs.Movings.{Moving}
+use Rattle.thing_moving.specs.Movings as movings
 use Rattle.mode_setting.specs.Settings.{Setting}
 use Rattle.mode_setting.specs.Settings as settings
-use Rattle.mode_setting.specs.SettingSteps.{SettingCalls}
 use Rattle.tree_copy.specs.Reports.{changes}
 use Rattle.tree_copy.specs.Standing.{after_report, is_fresh as is_fresh_tree}
 use Rattle.tree_copy.specs.declared.copy.Stage.{Stage as TreeStage}
 use Rattle.tree_copy.specs.declared.copy.Stage.TheVariants.{Going as TreeGoing}
-use Rattle.copy_move.specs.Jobs.{CallsOn, PassesOver, Running, TellsOn, WorkCalls, WorkTells, is_fresh}
-use Rattle.copy_move.specs.Settling.{NoneOwed, WorkLeaves, with_change}
+use Rattle.copy_move.specs.Jobs.{PassesOver, Running, TellsOn, WorkTells}
+use Rattle.copy_move.specs.Settling.{WorkLeaves, with_change}
 use Rattle.copy_move.proofs.ModeSteps.{setting_stays}
 use Rattle.thing_making.proofs.MakingFolders.{making_stays}
 use Rattle.job_reports.specs.Paths.{folder_of, without}
 use Rattle.copy_move.specs.Steps.{LeavesDirty}
 use Rattle.session_history.specs.Named.{begins_change}
-use Rattle.history_laws.specs.Traces.{IsUnclaimed, WorkLeads}
-use Rattle.history_laws.proofs.Calming.{mode_finds}
-use Rattle.history_laws.proofs.ModeSteps.{none_stands}
-use Rattle.history_laws.proofs.Owing.{changed_or_before}
+use Rattle.history_laws.specs.Traces.{WorkLeads}
+use Rattle.history_laws.proofs.MoveKnown.{is_moved}
 use Rattle.history_laws.proofs.Unchanged.{skip_setting}
 
 -- the making of a thing that begins a change is dirty then
@@ -52,6 +50,7 @@ making_dirty m new (Placed path) t h = absurd (false≢true h)
 making_dirty m new (Kept kept) t h = absurd (false≢true h)
 making_dirty m new (Asked question) t h = absurd (false≢true h)
 making_dirty m new (Merges pair names) t h = absurd (false≢true h)
+making_dirty m new (Moved pair) t h = absurd t
 making_dirty m new (Skipped path why) t h = absurd (false≢true h)
 making_dirty m new (Cleaned part) t h = absurd (false≢true h)
 making_dirty m new Barrier t h = absurd (false≢true h)
@@ -69,11 +68,51 @@ setting_dirty s new (Placed path) t h = absurd (false≢true h)
 setting_dirty s new (Kept kept) t h = absurd (false≢true h)
 setting_dirty s new (Asked question) t h = absurd (false≢true h)
 setting_dirty s new (Merges pair names) t h = absurd (false≢true h)
+setting_dirty s new (Moved pair) t h = absurd t
 setting_dirty s new (Skipped path why) t h = absurd (false≢true h)
 setting_dirty s new (Cleaned part) t h = absurd (false≢true h)
 setting_dirty s new Barrier t h = absurd (false≢true h)
 setting_dirty s new (Troubled trouble) t h = absurd (false≢true h)
 setting_dirty s new (Ended ending part) t h = absurd (false≢true h)
+
+skipped_moved : (stage : MovingStage) → is_moved (movings.skipped stage) ≡ is_moved stage
+skipped_moved moving.Take = refl
+skipped_moved moving.SyncTarget = refl
+skipped_moved moving.SyncSource = refl
+skipped_moved moving.Finish = refl
+skipped_moved moving.PassedOver = refl
+
+synced_moved : (pair : Pair) (stage : MovingStage) → is_moved stage ≡ true → is_moved (movings.after_sync pair stage) ≡ true
+synced_moved pair moving.Take h = h
+synced_moved pair moving.SyncTarget h = by (same_path (folder_of pair.target) (folder_of pair.source))
+  where
+    by : (b : Bool) → is_moved (if◌then◌else◌ b moving.Finish moving.SyncSource) ≡ true
+    by true = refl
+    by false = refl
+synced_moved pair moving.SyncSource h = refl
+synced_moved pair moving.Finish h = refl
+synced_moved pair moving.PassedOver h = h
+
+-- a thing that was renamed, or is so now
+moving_moved : (m new : Moving) (did : Did) → movings.Tells m did new → ((begins_change did ≡ true → ⊥) → is_moved m.stage ≡ true) → is_moved new.stage ≡ true
+moving_moved m new (Moved pair) (stage, pair_is, new_is) old = ap (λ (x : Moving). is_moved x.stage) new_is
+moving_moved m new Barrier (dirty, new_is) old = ap (λ (x : Moving). is_moved x.stage) new_is ∙ synced_moved m.pair m.stage (old (λ h. false≢true h))
+moving_moved m new (Kept path) (stage, path_is, new_is) old = absurd (both_ways _ (ap is_moved stage) (old (λ h. false≢true h)))
+moving_moved m new (Skipped path why) (stage, path_is, passes, new_is) old = absurd (both_ways _ (ap is_moved stage) (old (λ h. false≢true h)))
+moving_moved m new (Asked question) (stage, new_is) old = ap (λ (x : Moving). is_moved x.stage) new_is ∙ old (λ h. false≢true h)
+moving_moved m new (Troubled trouble) (barrier, off, told, new_is) old = ap (λ (x : Moving). is_moved x.stage) new_is ∙ old (λ h. false≢true h)
+moving_moved m new (Ended Finished part) (is_done, part_is, new_is) old = ap (λ (x : Moving). is_moved x.stage) new_is ∙ old (λ h. false≢true h)
+moving_moved m new (Ended Aborted part) t old = absurd t
+moving_moved m new (Ended Killed part) t old = absurd t
+moving_moved m new (Ended NoMemory part) t old = absurd t
+moving_moved m new (Began part) t old = absurd t
+moving_moved m new (Chunk count) t old = absurd t
+moving_moved m new (Set path) t old = absurd t
+moving_moved m new (Placed path) t old = absurd t
+moving_moved m new (Removed made) t old = absurd t
+moving_moved m new (Made path) t old = absurd t
+moving_moved m new (Merges pair names) t old = absurd t
+moving_moved m new (Cleaned part) t old = absurd t
 
 -- a folder that was synced is no longer listed
 pub not_listed : (up : Route) (routes : List Route) → Among (without up routes) up → ⊥
@@ -97,16 +136,13 @@ IsGoing (OwedSyncFailed why) = Unit {0}
 IsGoing Asking = Unit {0}
 IsGoing (Skips why) = Unit {0}
 
--- the folder around isn't listed
-abbrev pub IsApartFrom : Route → List Route → Type 0
-IsApartFrom path dirty = Among dirty (folder_of path) → folder_of path ≡ path
-
--- where the folder of a new thing isn't dirty, it isn't listed; nor a thing that was given a mode, nor ever the folder around; a copy has begun
+-- where the folder of a new thing isn't dirty, it isn't listed; nor a thing that was given a mode; a copy has begun, and a moved thing was renamed
 abbrev pub TidyFolder : Work → List Route → Type 0
 TidyFolder (Copy c) dirty = is_fresh_tree c.at.stage ≡ false
 TidyFolder (Delete d) dirty = Unit {0}
 TidyFolder (Make m) dirty = makings.is_dirty m.stage ≡ false → Among dirty (folder_of m.path) → ⊥
-TidyFolder (SetMode s) dirty = (settings.is_dirty s.stage ≡ false → Among dirty s.path → ⊥) × IsApartFrom s.path dirty
+TidyFolder (Move m) dirty = is_moved m.stage ≡ true
+TidyFolder (SetMode s) dirty = settings.is_dirty s.stage ≡ false → Among dirty s.path → ⊥
 
 -- what is known of a job that has changed something
 abbrev pub IsTidy : Bool → List Route → Running → Type 0
@@ -115,56 +151,6 @@ IsTidy changed dirty job = changed ≡ true → IsGoing job.course → TidyFolde
 pub changed_by : (before begins : Bool) → (before || begins) ≡ true → (before ≡ true) ⊎ (begins ≡ true)
 changed_by true begins h = inl refl
 changed_by false begins h = inr h
-
--- before a mode is given nothing that stands is dirty
-abbrev BeginsApart : Work → List Route → Type 0
-BeginsApart (SetMode s) dirty = IsApartFrom s.path dirty
-BeginsApart work dirty = Unit {0}
-
-set_apart : (s : Setting) (dirty : List Route) (log now : CallLog) → NoneOwed (current log) (SetMode s) dirty → IsDoneCall log (Sets_mode s.path s.mode) now → IsApartFrom s.path dirty
-set_apart s dirty log now owed d among = by s.path refl
-  where
-    at : find (current log) s.path ≡ Some (found (current log) s.path)
-    at = mode_finds (current log) s.path s.mode d.permits
-
-    by : (path : Route) → s.path ≡ path → folder_of s.path ≡ s.path
-    by [] is = ap folder_of is ∙ sym is
-    by (name ∷ up) is =
-        let h = and_then-some (find (current log) up) (λ g. lookup (current log).names g name) (found (current log) s.path) (sym (ap (find (current log)) is) ∙ at) in
-        let gone = none_stands log s dirty owed (folder_of s.path) among in
-        absurd (let e : (let o : Option ℕ = None in o) ≡ Some h.0 = sym gone ∙ (ap (λ q. find (current log) (folder_of q)) is ∙ h.1) in let x : ⊥ = cc in x)
-
-begins_set : (s : Setting) (work : Work) (did : Did) (dirty : List Route) (log now : CallLog) → WorkTells (SetMode s) did work → SettingCalls s did log (Some now) → (settings.is_fresh s.stage ≡ true → NoneOwed (current log) (SetMode s) dirty)
-    → begins_change did ≡ true → IsApartFrom s.path dirty
-begins_set s (Copy new) did dirty log now t calls owed h = absurd t
-begins_set s (Delete new) did dirty log now t calls owed h = absurd t
-begins_set s (Make new) did dirty log now t calls owed h = absurd t
-begins_set s (SetMode new) (Set path) dirty log now t calls owed h = set_apart s dirty log now (owed (ap settings.is_fresh t.0)) (one_done log (Sets_mode s.path s.mode) now calls)
-begins_set s (SetMode new) (Began part) dirty log now t calls owed h = absurd t
-begins_set s (SetMode new) (Removed path) dirty log now t calls owed h = absurd t
-begins_set s (SetMode new) (Made path) dirty log now t calls owed h = absurd t
-begins_set s (SetMode new) (Chunk count) dirty log now t calls owed h = absurd (false≢true h)
-begins_set s (SetMode new) (Placed path) dirty log now t calls owed h = absurd (false≢true h)
-begins_set s (SetMode new) (Kept kept) dirty log now t calls owed h = absurd (false≢true h)
-begins_set s (SetMode new) (Asked question) dirty log now t calls owed h = absurd (false≢true h)
-begins_set s (SetMode new) (Merges pair names) dirty log now t calls owed h = absurd (false≢true h)
-begins_set s (SetMode new) (Skipped path why) dirty log now t calls owed h = absurd (false≢true h)
-begins_set s (SetMode new) (Cleaned part) dirty log now t calls owed h = absurd (false≢true h)
-begins_set s (SetMode new) Barrier dirty log now t calls owed h = absurd (false≢true h)
-begins_set s (SetMode new) (Troubled trouble) dirty log now t calls owed h = absurd (false≢true h)
-begins_set s (SetMode new) (Ended ending part) dirty log now t calls owed h = absurd (false≢true h)
-
-begins_apart : (replies : Replies) (old work new : Work) (did : Did) (dirty : List Route) (log now : CallLog) → WorkTells old did work → WorkCalls IsUnclaimed replies old did new log (Some now) → (is_fresh old ≡ true → NoneOwed (current log) old dirty)
-    → begins_change did ≡ true → BeginsApart old dirty
-begins_apart replies (Copy c) work new did dirty log now t calls owed h = tt
-begins_apart replies (Delete d) work new did dirty log now t calls owed h = tt
-begins_apart replies (Make m) work new did dirty log now t calls owed h = tt
-begins_apart replies (SetMode s) work new did dirty log now t calls owed h = begins_set s work did dirty log now t calls owed h
-
--- it stays so, but for the thing itself
-apart_by : (was now : Bool) (path q : Route) (dirty dirty_after : List Route) → dirty_after ≡ with_change was now path dirty → q ≡ path → IsApartFrom path dirty → IsApartFrom q dirty_after
-apart_by was now path q dirty dirty_after leaves same apart =
-    subst (λ p. IsApartFrom p dirty_after) (sym same) (λ among. elim (changed_or_before was now path (folder_of path) dirty (subst (λ xs. Among xs (folder_of path)) leaves among)) [ inl here ↦ here | inr before ↦ apart before ])
 
 -- by whether the folder was dirty before
 tidy_by : (was now : Bool) (folder up : Route) (dirty dirty_after : List Route) → dirty_after ≡ with_change was now folder dirty → up ≡ folder → (was ≡ false → Among dirty folder → ⊥) → now ≡ false → Among dirty_after up → ⊥
@@ -184,6 +170,7 @@ going_then (Placed path) stage h = absurd (false≢true h)
 going_then (Kept kept) stage h = absurd (false≢true h)
 going_then (Asked question) stage h = absurd (false≢true h)
 going_then (Merges pair names) stage h = absurd (false≢true h)
+going_then (Moved pair) stage h = refl
 going_then (Skipped path why) stage h = absurd (false≢true h)
 going_then (Cleaned part) stage h = absurd (false≢true h)
 going_then Barrier stage h = absurd (false≢true h)
@@ -205,33 +192,34 @@ tree_begun did stage new is old = ap is_fresh_tree is ∙ by (begins_change did)
     by false h = going_still did stage (old (λ begins. both_ways _ h begins))
 
 tidy_work : (old new : Work) (did : Did) (dirty dirty_after : List Route) (before after : Option CallLog) → WorkTells old did new → WorkLeaves old did new dirty dirty_after before after
-    → ((begins_change did ≡ true → ⊥) → TidyFolder old dirty) → (begins_change did ≡ true → BeginsApart old dirty) → TidyFolder new dirty_after
-tidy_work (Copy c) (Copy new) did dirty dirty_after before after tells leaves old begins = let a = tells.after in tree_begun did c.at.stage new.at.stage a.stage old
-tidy_work (Delete d) (Delete new) did dirty dirty_after before after tells leaves old begins = tt
-tidy_work (SetMode s) (SetMode new) did dirty dirty_after before after tells leaves old begins = (
-  λ clean among.
-      tidy_by (settings.is_dirty s.stage) (settings.is_dirty new.stage) s.path new.path dirty dirty_after leaves (setting_stays s new did tells)
-      (λ was listed. (old (λ h. both_ways _ clean (setting_dirty s new did tells h))).0 was listed) clean among,
-  apart_by (settings.is_dirty s.stage) (settings.is_dirty new.stage) s.path new.path dirty dirty_after leaves (setting_stays s new did tells) (by (begins_change did) refl),
-)
-  where
-    by : (b : Bool) → begins_change did ≡ b → IsApartFrom s.path dirty
-    by true h = begins h
-    by false h = (old (λ begun. both_ways _ h begun)).1
-tidy_work (Make m) (Make new) did dirty dirty_after before after tells leaves old begins = λ clean among.
+    → ((begins_change did ≡ true → ⊥) → TidyFolder old dirty) → TidyFolder new dirty_after
+tidy_work (Copy c) (Copy new) did dirty dirty_after before after tells leaves old = let a = tells.after in tree_begun did c.at.stage new.at.stage a.stage old
+tidy_work (Delete d) (Delete new) did dirty dirty_after before after tells leaves old = tt
+tidy_work (SetMode s) (SetMode new) did dirty dirty_after before after tells leaves old = λ clean among.
+    tidy_by (settings.is_dirty s.stage) (settings.is_dirty new.stage) s.path new.path dirty dirty_after leaves (setting_stays s new did tells) (old (λ h. both_ways _ clean (setting_dirty s new did tells h))) clean among
+tidy_work (Make m) (Make new) did dirty dirty_after before after tells leaves old = λ clean among.
     tidy_by (makings.is_dirty m.stage) (makings.is_dirty new.stage) (folder_of m.path) (folder_of new.path) dirty dirty_after leaves (ap folder_of (making_stays m new did tells)) (old (λ h. both_ways _ clean (making_dirty m new did tells h))) clean among
-tidy_work (Delete d) (Make new) did dirty dirty_after before after tells leaves old begins = absurd tells
-tidy_work (SetMode s) (Copy new) did dirty dirty_after before after tells leaves old begins = absurd tells
-tidy_work (SetMode s) (Delete new) did dirty dirty_after before after tells leaves old begins = absurd tells
-tidy_work (Copy s) (Delete new) did dirty dirty_after before after tells leaves old begins = absurd tells
-tidy_work (SetMode s) (Make new) did dirty dirty_after before after tells leaves old begins = absurd tells
-tidy_work (Copy s) (Make new) did dirty dirty_after before after tells leaves old begins = absurd tells
-tidy_work (Copy c) (SetMode new) did dirty dirty_after before after tells leaves old begins = absurd tells
-tidy_work (Delete d) (SetMode new) did dirty dirty_after before after tells leaves old begins = absurd tells
-tidy_work (Delete d) (Copy new) did dirty dirty_after before after tells leaves old begins = absurd tells
-tidy_work (Make m) (SetMode new) did dirty dirty_after before after tells leaves old begins = absurd tells
-tidy_work (Make m) (Copy new) did dirty dirty_after before after tells leaves old begins = absurd tells
-tidy_work (Make m) (Delete new) did dirty dirty_after before after tells leaves old begins = absurd tells
+tidy_work (Move m) (Move new) did dirty dirty_after before after tells leaves old = moving_moved m new did tells old
+tidy_work (Delete d) (Make new) did dirty dirty_after before after tells leaves old = absurd tells
+tidy_work (Delete d) (Move new) did dirty dirty_after before after tells leaves old = absurd tells
+tidy_work (SetMode s) (Copy new) did dirty dirty_after before after tells leaves old = absurd tells
+tidy_work (SetMode s) (Delete new) did dirty dirty_after before after tells leaves old = absurd tells
+tidy_work (Copy s) (Delete new) did dirty dirty_after before after tells leaves old = absurd tells
+tidy_work (SetMode s) (Make new) did dirty dirty_after before after tells leaves old = absurd tells
+tidy_work (Move s) (Make new) did dirty dirty_after before after tells leaves old = absurd tells
+tidy_work (SetMode s) (Move new) did dirty dirty_after before after tells leaves old = absurd tells
+tidy_work (Copy s) (Make new) did dirty dirty_after before after tells leaves old = absurd tells
+tidy_work (Copy s) (Move new) did dirty dirty_after before after tells leaves old = absurd tells
+tidy_work (Copy c) (SetMode new) did dirty dirty_after before after tells leaves old = absurd tells
+tidy_work (Delete d) (SetMode new) did dirty dirty_after before after tells leaves old = absurd tells
+tidy_work (Delete d) (Copy new) did dirty dirty_after before after tells leaves old = absurd tells
+tidy_work (Make m) (SetMode new) did dirty dirty_after before after tells leaves old = absurd tells
+tidy_work (Make m) (Move new) did dirty dirty_after before after tells leaves old = absurd tells
+tidy_work (Move m) (SetMode new) did dirty dirty_after before after tells leaves old = absurd tells
+tidy_work (Make m) (Copy new) did dirty dirty_after before after tells leaves old = absurd tells
+tidy_work (Move m) (Copy new) did dirty dirty_after before after tells leaves old = absurd tells
+tidy_work (Make m) (Delete new) did dirty dirty_after before after tells leaves old = absurd tells
+tidy_work (Move m) (Delete new) did dirty dirty_after before after tells leaves old = absurd tells
 
 skipped_clean : (stage : MakingStage) → makings.is_dirty (makings.skipped stage) ≡ makings.is_dirty stage
 skipped_clean making.Make = refl
@@ -243,40 +231,46 @@ tidy_passes : (old new : Work) (path : Route) (dirty : List Route) → PassesOve
 tidy_passes (Copy c) (Copy new) path dirty (cause, after) old = ap is_fresh_tree after.stage ∙ old
 tidy_passes (Delete d) (Delete new) path dirty h old = tt
 tidy_passes (Make m) (Make new) path dirty (path_is, new_is) old = subst (λ (n : Making). TidyFolder (Make n) dirty) (sym new_is) (λ clean among. old (sym (skipped_clean m.stage) ∙ clean) among)
+tidy_passes (Move m) (Move new) path dirty (path_is, new_is) old = ap (λ (x : Moving). is_moved x.stage) new_is ∙ (skipped_moved m.stage ∙ old)
 tidy_passes (SetMode s) (SetMode new) path dirty (path_is, new_is) old =
-    subst (λ (n : Setting). TidyFolder (SetMode n) dirty) (sym new_is) (λ clean among. old.0 (sym (skip_setting s.stage) ∙ clean) among, old.1)
+    subst (λ (n : Setting). TidyFolder (SetMode n) dirty) (sym new_is) (λ clean among. old (sym (skip_setting s.stage) ∙ clean) among)
 tidy_passes (Delete d) (Make new) path dirty h old = absurd h
+tidy_passes (Delete d) (Move new) path dirty h old = absurd h
 tidy_passes (SetMode s) (Copy new) path dirty h old = absurd h
 tidy_passes (SetMode s) (Delete new) path dirty h old = absurd h
 tidy_passes (Copy s) (Delete new) path dirty h old = absurd h
 tidy_passes (SetMode s) (Make new) path dirty h old = absurd h
+tidy_passes (Move s) (Make new) path dirty h old = absurd h
+tidy_passes (SetMode s) (Move new) path dirty h old = absurd h
 tidy_passes (Copy s) (Make new) path dirty h old = absurd h
+tidy_passes (Copy s) (Move new) path dirty h old = absurd h
 tidy_passes (Copy c) (SetMode new) path dirty h old = absurd h
 tidy_passes (Delete d) (SetMode new) path dirty h old = absurd h
 tidy_passes (Delete d) (Copy new) path dirty h old = absurd h
 tidy_passes (Make m) (SetMode new) path dirty h old = absurd h
+tidy_passes (Make m) (Move new) path dirty h old = absurd h
+tidy_passes (Move m) (SetMode new) path dirty h old = absurd h
 tidy_passes (Make m) (Copy new) path dirty h old = absurd h
+tidy_passes (Move m) (Copy new) path dirty h old = absurd h
 tidy_passes (Make m) (Delete new) path dirty h old = absurd h
+tidy_passes (Move m) (Delete new) path dirty h old = absurd h
 
 module _ (job new : Running) (did : Did) (dirty dirty_after : List Route) (log now : CallLog) (before : Bool) where
-  tidy_on : (course : Course) → job.course ≡ course → TellsOn course job did new → LeavesDirty course job.work did new.work dirty dirty_after (Some log) (Some now) → IsTidy before dirty job
-      → ((work : Work) → course ≡ GoesOn → WorkTells job.work did work → begins_change did ≡ true → BeginsApart job.work dirty) → IsTidy (before || begins_change did) dirty_after new
-  tidy_on GoesOn is (work, tells, new_is) leaves old apart changed going =
+  tidy_on : (course : Course) → job.course ≡ course → TellsOn course job did new → LeavesDirty course job.work did new.work dirty dirty_after (Some log) (Some now) → IsTidy before dirty job → IsTidy (before || begins_change did) dirty_after new
+  tidy_on GoesOn is (work, tells, new_is) leaves old changed going =
       subst (λ (x : Running). TidyFolder x.work dirty_after) (sym new_is)
       (tidy_work job.work work did dirty dirty_after (Some log) (Some now) tells (subst (λ (x : Running). WorkLeaves job.work did x.work dirty dirty_after (Some log) (Some now)) new_is leaves)
-      (λ none. elim (changed_by before (begins_change did) changed) [ inl b ↦ old b (subst IsGoing (sym is) tt) | inr h ↦ absurd (none h) ])
-      (λ h. apart work refl tells h))
-  tidy_on (InTrouble halt) is t leaves old apart changed going = absurd t
-  tidy_on (OwedSyncFailed why) is t leaves old apart changed going = absurd t
-  tidy_on Asking is t leaves old apart changed going = absurd t
-  tidy_on (Skips why) is (inl (path, work, did_is, passes, new_is)) leaves old apart changed going =
+      (λ none. elim (changed_by before (begins_change did) changed) [ inl b ↦ old b (subst IsGoing (sym is) tt) | inr h ↦ absurd (none h) ]))
+  tidy_on (InTrouble halt) is t leaves old changed going = absurd t
+  tidy_on (OwedSyncFailed why) is t leaves old changed going = absurd t
+  tidy_on Asking is t leaves old changed going = absurd t
+  tidy_on (Skips why) is (inl (path, work, did_is, passes, new_is)) leaves old changed going =
       subst (λ (x : Running). TidyFolder x.work dirty_after) (sym new_is) (subst (λ xs. TidyFolder work xs) (sym leaves) (tidy_passes job.work work path dirty passes
       (elim (changed_by before (begins_change did) changed) [ inl b ↦ old b (subst IsGoing (sym is) tt) | inr h ↦ absurd (false≢true (sym (ap begins_change did_is) ∙ h)) ])))
-  tidy_on (Skips why) is (inr (off, did_is, new_is)) leaves old apart changed going =
+  tidy_on (Skips why) is (inr (off, did_is, new_is)) leaves old changed going =
       subst (λ (x : Running). TidyFolder x.work dirty_after) (sym new_is) (subst (λ xs. TidyFolder job.work xs) (sym leaves)
       (elim (changed_by before (begins_change did) changed) [ inl b ↦ old b (subst IsGoing (sym is) tt) | inr h ↦ absurd (false≢true (sym (ap begins_change did_is) ∙ h)) ]))
-  tidy_on (Ends ending) is (work, winds, new_is) leaves old apart changed going = absurd (subst IsGoing (ap (λ (x : Running). x.course) new_is ∙ is) going)
+  tidy_on (Ends ending) is (work, winds, new_is) leaves old changed going = absurd (subst IsGoing (ap (λ (x : Running). x.course) new_is ∙ is) going)
 
   pub tidy_works : WorkLeads job did new dirty dirty_after log now → IsTidy before dirty job → IsTidy (before || begins_change did) dirty_after new
-  tidy_works w old = tidy_on job.course refl w.tells w.leaves old (λ work goes tells h.
-      begins_apart job.replies job.work work new.work did dirty log now tells (subst (λ c. CallsOn IsUnclaimed c job did new log (Some now)) goes w.called) (λ fresh. w.settled goes fresh) h)
+  tidy_works w old = tidy_on job.course refl w.tells w.leaves old

@@ -9,7 +9,7 @@ use Rattle.job_reports.specs.CallRuns.{AllDone, RunStops}
 use Rattle.job_reports.specs.Paths.{folder_of}
 use Rattle.job_reports.specs.declared.report.Cause.{Cause}
 use Rattle.job_reports.specs.declared.report.Did.{Did}
-use Rattle.job_reports.specs.declared.report.Did.TheVariants.{Began, Chunk, Placed, Removed, Made, Set, Kept, Skipped, Cleaned, Barrier, Asked, Merges, Troubled, Ended}
+use Rattle.job_reports.specs.declared.report.Did.TheVariants.{Began, Chunk, Placed, Removed, Made, Set, Kept, Skipped, Cleaned, Barrier, Asked, Merges, Moved, Troubled, Ended}
 use Rattle.job_reports.proofs.CallAnswers.{some_log}
 use Rattle.file_copy.specs.CopyCalls.{making, writing}
 use Rattle.file_copy.specs.Copying as file
@@ -144,4 +144,5 @@ module _ (unclaimed : Route → Type 0) (log now : CallLog) (name : List ℕ) (l
   file_step moved (Kept path) old new levels_are short tells calls stands = absurd tells
   file_step moved (Asked question) old new levels_are short tells calls stands = absurd tells
   file_step moved (Merges pair names) old new levels_are short tells calls stands = absurd tells
+  file_step moved (Moved pair) old new levels_are short tells calls stands = absurd tells
   file_step moved (Skipped path why) old new levels_are short tells calls stands = absurd tells

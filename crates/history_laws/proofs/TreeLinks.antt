@@ -10,7 +10,7 @@ use Rattle.job_reports.specs.Paths.{folder_of}
 use Rattle.job_reports.specs.declared.report.Cause.{Cause}
 use Rattle.job_reports.specs.declared.report.Cause.TheVariants as cause
 use Rattle.job_reports.specs.declared.report.Did.{Did}
-use Rattle.job_reports.specs.declared.report.Did.TheVariants.{Began, Chunk, Placed, Removed, Made, Set, Kept, Skipped, Cleaned, Barrier, Asked, Merges, Troubled, Ended}
+use Rattle.job_reports.specs.declared.report.Did.TheVariants.{Began, Chunk, Placed, Removed, Made, Set, Kept, Skipped, Cleaned, Barrier, Asked, Merges, Moved, Troubled, Ended}
 use Rattle.job_reports.proofs.CallAnswers.{some_log}
 use Rattle.link_copy.specs.LinkCopying as link
 use Rattle.link_copy.specs.LinkCopying.{LinkCopying, Tells, after_clean, has_part}
@@ -123,4 +123,5 @@ module _ (log now : CallLog) (name : List ℕ) (l : Levels) (c : LinkCopying) (k
   link_step moved (Kept path) old new levels_are tells calls stands = absurd tells
   link_step moved (Asked question) old new levels_are tells calls stands = absurd tells
   link_step moved (Merges pair names) old new levels_are tells calls stands = absurd tells
+  link_step moved (Moved pair) old new levels_are tells calls stands = absurd tells
   link_step moved (Skipped path why) old new levels_are tells calls stands = absurd tells

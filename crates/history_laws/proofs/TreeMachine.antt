@@ -10,7 +10,7 @@ use Rattle.job_answers.specs.declared.replies.Replies.{Replies}
 use Rattle.job_reports.specs.CallRuns.{AllDone}
 use Rattle.job_reports.specs.declared.report.Cause.{Cause}
 use Rattle.job_reports.specs.declared.report.Did.{Did}
-use Rattle.job_reports.specs.declared.report.Did.TheVariants.{Began, Chunk, Placed, Removed, Made, Set, Kept, Skipped, Cleaned, Barrier, Asked, Merges, Troubled, Ended}
+use Rattle.job_reports.specs.declared.report.Did.TheVariants.{Began, Chunk, Placed, Removed, Made, Set, Kept, Skipped, Cleaned, Barrier, Asked, Merges, Moved, Troubled, Ended}
 use Rattle.job_reports.specs.declared.report.Trouble.{Trouble}
 use Rattle.job_reports.proofs.CallAnswers.{some_log}
 use Rattle.folder_copy.specs.FolderCopying as folder
@@ -61,6 +61,7 @@ passed_trouble skips (Set path) why is = absurd (let f : ⊥ = cc in f)
 passed_trouble skips (Kept path) why is = absurd (let f : ⊥ = cc in f)
 passed_trouble skips (Asked question) why is = absurd (let f : ⊥ = cc in f)
 passed_trouble skips (Merges pair names) why is = absurd (let f : ⊥ = cc in f)
+passed_trouble skips (Moved pair) why is = absurd (let f : ⊥ = cc in f)
 passed_trouble skips (Skipped path cause) why is = absurd (let f : ⊥ = cc in f)
 passed_trouble skips (Cleaned part) why is = absurd (let f : ⊥ = cc in f)
 passed_trouble skips Barrier why is = absurd (let f : ⊥ = cc in f)

@@ -214,7 +214,6 @@ module _ (told : Said) (dirty dirty_after : List Route) (marks : Marks) (log now
             ∙ ap (λ v. (let x : Spot = record { value = Some v; is_mount = false } in x)) said_so;
         earlier = ap (λ (s : Spot). s.value) (put_at told.earlier made_path (told.tree made_path).value) ∙ ap (λ (s : Spot). s.value) nothing_told;
         no_part = part_none;
-        lone = λ none. none;
         doubts = λ p h. or_left _ _ h;
         doubted = or_right _ _ (same_path-self made_path);
         modes = λ p h. h;

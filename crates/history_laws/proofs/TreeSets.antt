@@ -193,7 +193,6 @@ module _ (told : Said) (dirty dirty_after : List Route) (marks : Marks) (log now
       off = λ p off. (put_off told.tree up given p off, put_off told.earlier up (told.tree up).value p off);
       shown = put_at told.tree up given ∙ ap (λ x. (let s : Spot = record (told.tree up) { value = x } in s)) given_is;
       earlier = ap (λ (s : Spot). s.value) (put_at told.earlier up (told.tree up).value);
-      lone = λ none. none;
       doubts = λ p h. or_left _ _ h;
       folders = λ p there. elim (or_cases (same_path p (folder_of top.target) || same_path p (folder_of up)) (told.folders p) there) [
         | inl first ↦ elim (or_cases (same_path p (folder_of top.target)) (same_path p (folder_of up)) first) [

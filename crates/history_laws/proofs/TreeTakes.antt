@@ -11,7 +11,7 @@ use Rattle.job_answers.specs.declared.replies.Replies.{Replies}
 use Rattle.job_reports.specs.Jobs.{Copies}
 use Rattle.job_reports.specs.Paths.{folder_of}
 use Rattle.job_reports.specs.declared.report.Did.{Did}
-use Rattle.job_reports.specs.declared.report.Did.TheVariants.{Began, Chunk, Placed, Removed, Made, Set, Kept, Skipped, Cleaned, Barrier, Asked, Merges, Troubled, Ended}
+use Rattle.job_reports.specs.declared.report.Did.TheVariants.{Began, Chunk, Placed, Removed, Made, Set, Kept, Skipped, Cleaned, Barrier, Asked, Merges, Moved, Troubled, Ended}
 use Rattle.job_reports.specs.declared.report.Ending.TheVariants.{Finished, Aborted, Killed, NoMemory}
 use Rattle.job_reports.specs.declared.report.Trouble.{Trouble}
 use Rattle.job_reports.proofs.CallAnswers.{one_done, some_log}
@@ -178,4 +178,5 @@ module _ (told : Said) (dirty dirty_after : List Route) (marks : Marks) (log now
   takes_file (Kept path) new t list = (let w = taken_moves (IsPartPlace free mid) replies mid new (Kept path) (Some log) (Some now) t in absurd w.tells)
   takes_file (Asked question) new t list = (let w = taken_moves (IsPartPlace free mid) replies mid new (Asked question) (Some log) (Some now) t in absurd w.tells)
   takes_file (Merges pair names) new t list = (let w = taken_moves (IsPartPlace free mid) replies mid new (Merges pair names) (Some log) (Some now) t in absurd w.tells)
+  takes_file (Moved pair) new t list = (let w = taken_moves (IsPartPlace free mid) replies mid new (Moved pair) (Some log) (Some now) t in absurd w.tells)
   takes_file (Skipped path cause) new t list = (let w = taken_moves (IsPartPlace free mid) replies mid new (Skipped path cause) (Some log) (Some now) t in absurd w.tells)

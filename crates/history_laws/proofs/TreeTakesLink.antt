@@ -18,7 +18,7 @@ use Rattle.job_answers.specs.declared.replies.Replies.{Replies}
 use Rattle.job_reports.specs.Jobs.{Copies}
 use Rattle.job_reports.specs.Paths.{folder_of}
 use Rattle.job_reports.specs.declared.report.Did.{Did}
-use Rattle.job_reports.specs.declared.report.Did.TheVariants.{Began, Chunk, Placed, Removed, Made, Set, Kept, Skipped, Cleaned, Barrier, Asked, Merges, Troubled, Ended}
+use Rattle.job_reports.specs.declared.report.Did.TheVariants.{Began, Chunk, Placed, Removed, Made, Set, Kept, Skipped, Cleaned, Barrier, Asked, Merges, Moved, Troubled, Ended}
 use Rattle.job_reports.specs.declared.report.Trouble.{Trouble}
 use Rattle.job_reports.proofs.CallAnswers.{IsDoneCall, one_done, some_log}
 use Rattle.job_reports.proofs.PermittedCalls.{IsMaking, making_passes}
@@ -303,4 +303,5 @@ module _ (told : Said) (dirty dirty_after : List Route) (marks : Marks) (log now
   takes_link (Kept path) new t list = (let w = t.works in absurd w.tells)
   takes_link (Asked question) new t list = (let w = t.works in absurd w.tells)
   takes_link (Merges pair names) new t list = (let w = t.works in absurd w.tells)
+  takes_link (Moved pair) new t list = (let w = t.works in absurd w.tells)
   takes_link (Skipped path cause) new t list = (let w = t.works in absurd w.tells)

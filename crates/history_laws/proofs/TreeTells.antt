@@ -10,7 +10,7 @@ use Rattle.job_reports.specs.Paths.{folder_of}
 use Rattle.job_reports.specs.Stops.{out_of_memory_at}
 use Rattle.job_reports.specs.declared.report.Cause.{Cause}
 use Rattle.job_reports.specs.declared.report.Did.{Did}
-use Rattle.job_reports.specs.declared.report.Did.TheVariants.{Began, Chunk, Placed, Removed, Made, Set, Kept, Skipped, Cleaned, Barrier, Asked, Merges, Troubled, Ended}
+use Rattle.job_reports.specs.declared.report.Did.TheVariants.{Began, Chunk, Placed, Removed, Made, Set, Kept, Skipped, Cleaned, Barrier, Asked, Merges, Moved, Troubled, Ended}
 use Rattle.job_reports.specs.declared.report.StepResult.{StepResult}
 use Rattle.job_reports.specs.declared.report.Trouble.{Trouble}
 use Rattle.job_reports.proofs.CallAnswers.{some_log}
@@ -188,6 +188,7 @@ module _ (told : Said) (dirty dirty_after : List Route) (marks : Marks) (log now
   folder_then (Asked question) is some = still_so some
   folder_then (Removed path) is some = absurd (subst MayTell is tells.may)
   folder_then (Merges pair names) is some = still_so some
+  folder_then (Moved pair) is some = absurd (subst MayTell is tells.may)
   folder_then (Skipped path cause) is some = still_so some
   folder_then (Troubled trouble) is some = still_so some
   folder_then (Ended ending part) is some = still_so some
@@ -217,6 +218,7 @@ module _ (told : Said) (dirty dirty_after : List Route) (marks : Marks) (log now
   knows_after (Kept path) m known = known
   knows_after (Asked question) m known = known
   knows_after (Merges pair names) m known = known
+  knows_after (Moved pair) m known = known
   knows_after (Skipped path cause) m known = known
   knows_after (Cleaned part) m known = known
   knows_after Barrier m known = known

@@ -17,7 +17,7 @@ use Rattle.job_reports.specs.Paths.{folder_of}
 use Rattle.job_reports.specs.declared.job.Pair.{Pair}
 use Rattle.job_reports.specs.declared.report.Ending.{Ending}
 use Rattle.job_reports.specs.declared.report.Did.{Did}
-use Rattle.job_reports.specs.declared.report.Did.TheVariants.{Began, Chunk, Placed, Removed, Made, Set, Kept, Skipped, Cleaned, Barrier, Asked, Merges, Troubled, Ended}
+use Rattle.job_reports.specs.declared.report.Did.TheVariants.{Began, Chunk, Placed, Removed, Made, Set, Kept, Skipped, Cleaned, Barrier, Asked, Merges, Moved, Troubled, Ended}
 use Rattle.job_reports.specs.declared.report.LastStepResult.{LastStepResult}
 use Rattle.job_reports.proofs.CallAnswers.{some_log}
 use Rattle.file_copy.specs.Copying as file
@@ -125,7 +125,6 @@ module _ (told : Said) (dirty dirty_after : List Route) (marks : Marks) (log now
             gone = (kept.known.part part left.part_is).1;
             was = λ out. absurd (both_ways _ out aside);
             part = refl;
-            lone = λ none. none;
             doubts = λ p h. or_left _ _ h;
             folders = λ p there. (no_file p (let firm = kept.known.stand p there in firm.stands), inl there);
             modes = λ p h. h;
@@ -218,5 +217,6 @@ module _ (told : Said) (dirty dirty_after : List Route) (marks : Marks) (log now
     tree_winds (Kept path) count tells f0 f1 wound s rows leaves = absurd wound.may
     tree_winds (Asked question) count tells f0 f1 wound s rows leaves = absurd wound.may
     tree_winds (Merges pair names) count tells f0 f1 wound s rows leaves = absurd wound.may
+    tree_winds (Moved pair) count tells f0 f1 wound s rows leaves = absurd wound.may
     tree_winds (Skipped path cause) count tells f0 f1 wound s rows leaves = absurd wound.may
     tree_winds (Troubled trouble) count tells f0 f1 wound s rows leaves = absurd wound.may

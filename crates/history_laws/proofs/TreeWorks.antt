@@ -13,7 +13,7 @@ use Rattle.job_reports.specs.CallRuns.{AllDone}
 use Rattle.job_reports.specs.Paths.{folder_of}
 use Rattle.job_reports.specs.declared.report.Cause.{Cause}
 use Rattle.job_reports.specs.declared.report.Did.{Did}
-use Rattle.job_reports.specs.declared.report.Did.TheVariants.{Began, Chunk, Placed, Removed, Made, Set, Kept, Skipped, Cleaned, Barrier, Asked, Merges, Troubled, Ended}
+use Rattle.job_reports.specs.declared.report.Did.TheVariants.{Began, Chunk, Placed, Removed, Made, Set, Kept, Skipped, Cleaned, Barrier, Asked, Merges, Moved, Troubled, Ended}
 use Rattle.job_reports.specs.declared.report.Trouble.{Trouble}
 use Rattle.file_copy.specs.Copying.{part_at, Copying, Tells}
 use Rattle.folder_copy.specs.FolderCopying as folder
@@ -180,6 +180,7 @@ module _ (told : Said) (dirty dirty_after : List Route) (marks : Marks) (log now
     file_modes (Kept path) moved t new stands h = absurd t
     file_modes (Asked question) moved t new stands h = absurd t
     file_modes (Merges pair names) moved t new stands h = absurd t
+    file_modes (Moved pair) moved t new stands h = absurd t
     file_modes (Skipped path cause) moved t new stands h = absurd t
 
     pub works_file : (did : Did) (new : Seen) → FileWorks unclaimed f mid new did (Some log) (Some now) → Listed did new → Comes_to did new
@@ -356,4 +357,5 @@ module _ (told : Said) (dirty dirty_after : List Route) (marks : Marks) (log now
     works_link (Kept path) w list = absurd w.tells
     works_link (Asked question) w list = absurd w.tells
     works_link (Merges pair names) w list = absurd w.tells
+    works_link (Moved pair) w list = absurd w.tells
     works_link (Skipped path cause) w list = absurd w.tells

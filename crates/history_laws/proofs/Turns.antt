@@ -9,18 +9,19 @@ use Rattle.job_answers.specs.declared.skips.Skips.{Skips}
 use Rattle.job_reports.specs.declared.job.Job.{Job}
 use Rattle.job_reports.specs.Jobs.{Item, item_of}
 use Rattle.job_reports.specs.declared.report.Ending.TheVariants.{Finished, Aborted, Killed, NoMemory}
-use Rattle.job_reports.specs.declared.report.Did.TheVariants.{Began, Chunk, Placed, Removed, Made, Set, Kept, Skipped, Cleaned, Barrier, Asked, Merges, Troubled, Ended}
+use Rattle.job_reports.specs.declared.report.Did.TheVariants.{Began, Chunk, Placed, Removed, Made, Set, Kept, Skipped, Cleaned, Barrier, Asked, Merges, Moved, Troubled, Ended}
 use Rattle.session_history.specs.declared.history.Event.{Event}
 use Rattle.session_history.specs.declared.history.Event.TheVariants.{Key, Look, Sought, Order, Step, Next, Closed}
 use Rattle.session_history.specs.declared.history.Event.TheVariants as event
 use Rattle.session_history.specs.Sources.{IsDoneWith, item_in as item_first}
 use Rattle.copy_move.specs.declared.run.Course.TheVariants.{GoesOn}
 use Rattle.copy_move.specs.declared.work.Work.{Work}
-use Rattle.copy_move.specs.declared.work.Work.TheVariants.{Copy, Delete, Make, SetMode}
+use Rattle.copy_move.specs.declared.work.Work.TheVariants.{Copy, Delete, Make, Move, SetMode}
 use Rattle.copy_move.specs.Jobs.{Running, begun_work, first_work, passing_over, skips_of}
 use Rattle.copy_move.specs.Told.{turned, with_next}
 use Rattle.history_laws.proofs.JobKnows.{WorkKnows}
 use Rattle.history_laws.proofs.Knowing.{Said}
+use Rattle.history_laws.proofs.MoveKnown.{move_skips}
 use Rattle.history_laws.specs.Traces.{with_job}
 use Rattle.history_laws.proofs.Reports.{first_knows, with_one}
 use Rattle.history_laws.proofs.Sources.{first_item, item_in}
@@ -32,12 +33,14 @@ pub passing_item : (skips : Skips) (work : Work) → item_in (passing_over skips
 passing_item skips (Copy c) = refl
 passing_item skips (Delete d) = refl
 passing_item skips (Make m) = refl
+passing_item skips (Move m) = refl
 passing_item skips (SetMode s) = refl
 
 passing_begun : (skips : Skips) (work : Work) → has_begun (passing_over skips work) ≡ has_begun work
 passing_begun skips (Copy c) = refl
 passing_begun skips (Delete d) = refl
 passing_begun skips (Make m) = refl
+passing_begun skips (Move m) = refl
 passing_begun skips (SetMode s) = refl
 
 -- the work with which a job goes on
@@ -76,6 +79,7 @@ done_with id (Step number (Made made)) is = absurd is
 done_with id (Step number (Kept kept)) is = absurd is
 done_with id (Step number (Asked question)) is = absurd is
 done_with id (Step number (Merges pair names)) is = absurd is
+done_with id (Step number (Moved pair)) is = absurd is
 done_with id (Step number (Skipped path why)) is = absurd is
 done_with id (Step number (Cleaned part)) is = absurd is
 done_with id (Step number Barrier) is = absurd is
@@ -100,6 +104,7 @@ module _ (told : Said) (dirty : List Route) (marks : Marks) (log : CallLog) wher
   passing_knows skips (Copy c) k = skips_kind told dirty marks log GoesOn c skips k
   passing_knows skips (Delete d) k = k
   passing_knows skips (Make m) k = k
+  passing_knows skips (Move m) k = move_skips told marks log GoesOn m (record m { skips = skips }) refl refl k
   passing_knows skips (SetMode s) k = k
 
   -- what is known of the next source, where no part stands

@@ -4,7 +4,7 @@ use Rattle.std.specs.Prelude.{if◌then◌else◌, is_some, nat_le, not, ◌&&�
 use Rattle.std.proofs.lemmas.Bool.{true≢false}
 use Rattle.mc_text.specs.Routes.{Route, parent_of, same_path}
 use Rattle.job_reports.specs.declared.report.Did.{Did}
-use Rattle.job_reports.specs.declared.report.Did.TheVariants.{Began, Chunk, Placed, Removed, Made, Set, Kept, Skipped, Cleaned, Barrier, Asked, Merges, Troubled, Ended}
+use Rattle.job_reports.specs.declared.report.Did.TheVariants.{Began, Chunk, Placed, Removed, Made, Set, Kept, Skipped, Cleaned, Barrier, Asked, Merges, Moved, Troubled, Ended}
 use Rattle.thing_making.specs.declared.making.MakingStage.{MakingStage}
 use Rattle.thing_making.specs.declared.making.MakingStage.TheVariants as making
 use Rattle.job_reports.specs.declared.job.Job.{Job}
@@ -18,13 +18,16 @@ use Rattle.tree_deletion.specs.Standing.{after_item}
 use Rattle.thing_making.specs.declared.new_thing.NewThing.{NewThing}
 use Rattle.thing_making.specs.declared.new_thing.NewThing.TheVariants as thing
 use Rattle.copy_move.specs.declared.work.Work.{Work}
-use Rattle.copy_move.specs.declared.work.Work.TheVariants.{Copy, Delete, Make, SetMode}
+use Rattle.copy_move.specs.declared.work.Work.TheVariants.{Copy, Delete, Make, Move, SetMode}
 use Rattle.thing_making.specs.Makings as makings
+use Rattle.thing_moving.specs.declared.moving.MovingStage.{MovingStage}
+use Rattle.thing_moving.specs.declared.moving.MovingStage.TheVariants as moving
+use Rattle.thing_moving.specs.Movings as movings
 use Rattle.copy_move.specs.ModeSettings as modes
 use Rattle.mode_setting.specs.declared.setting.Stage.{Stage as SettingStage}
 use Rattle.mode_setting.specs.declared.setting.Stage.TheVariants as setting
 use Rattle.mode_setting.specs.Settings as settings
-use Rattle.copy_move.specs.Jobs.{JobTells, PassesOver, Running, TellsOn, WorkTells, WorkWinds, copies, deletes, first_work, makes, sets}
+use Rattle.copy_move.specs.Jobs.{JobTells, PassesOver, Running, TellsOn, WorkTells, WorkWinds, copies, deletes, first_work, makes, moves, sets}
 use Rattle.job_reports.specs.Reports.{ends}
 use Rattle.copy_move.specs.Told.{after_step, cleaned, placed, skipped, spared, synced, told, work_told}
 use Rattle.copy_move.specs.declared.run.Course.{Course}
@@ -42,17 +45,19 @@ is_going Begin = false
 is_going Going = true
 is_going Sync = false
 
--- a change was begun: a copy or a deletion goes on, or what a making or the setting of a mode changed is dirty
+-- a change was begun: a copy or a deletion goes on, or what a making, a move or the setting of a mode changed is dirty
 abbrev pub has_begun : Work → Bool
 has_begun (Copy c) = not (is_fresh c.at.stage)
 has_begun (Delete d) = is_going d.stage
 has_begun (Make m) = makings.is_dirty m.stage
+has_begun (Move m) = movings.is_dirty m.stage
 has_begun (SetMode s) = settings.is_dirty s.stage
 
 told_begun : (id : ℕ) (work : Work) → has_begun (work_told id work) ≡ has_begun work
 told_begun id (Copy c) = refl
 told_begun id (Delete d) = refl
 told_begun id (Make m) = refl
+told_begun id (Move m) = refl
 told_begun id (SetMode s) = refl
 
 item_begun : (top path : Route) (stage : Stage) → is_going stage ≡ false → is_going (after_item top path stage) ≡ false
@@ -74,6 +79,21 @@ synced_making making.Sync = refl
 synced_making making.Finish = refl
 synced_making making.PassedOver = refl
 
+skip_moving : (stage : MovingStage) → movings.is_dirty (movings.skipped stage) ≡ movings.is_dirty stage
+skip_moving moving.Take = refl
+skip_moving moving.SyncTarget = refl
+skip_moving moving.SyncSource = refl
+skip_moving moving.Finish = refl
+skip_moving moving.PassedOver = refl
+
+-- a move that owes no sync owes none after one
+synced_moving : (pair : Pair) (stage : MovingStage) → movings.is_dirty stage ≡ false → movings.is_dirty (movings.after_sync pair stage) ≡ false
+synced_moving pair moving.Take clean = refl
+synced_moving pair moving.SyncTarget clean = absurd (true≢false clean)
+synced_moving pair moving.SyncSource clean = absurd (true≢false clean)
+synced_moving pair moving.Finish clean = refl
+synced_moving pair moving.PassedOver clean = refl
+
 pub skip_setting : (stage : SettingStage) → settings.is_dirty (settings.skipped stage) ≡ settings.is_dirty stage
 skip_setting setting.Give = refl
 skip_setting setting.Sync = refl
@@ -88,83 +108,116 @@ skipped_begun : (path : Route) (work : Work) → has_begun work ≡ false → ha
 skipped_begun path (Copy c) clean = clean
 skipped_begun path (Delete d) clean = item_begun d.path path d.stage clean
 skipped_begun path (Make m) clean = skip_making m.stage ∙ clean
+skipped_begun path (Move m) clean = skip_moving m.stage ∙ clean
 skipped_begun path (SetMode s) clean = skip_setting s.stage ∙ clean
 
 spared_begun : (path : Route) (work : Work) → has_begun work ≡ false → has_begun (spared path work) ≡ false
 spared_begun path (Copy c) clean = clean
 spared_begun path (Delete d) clean = item_begun d.path path d.stage clean
 spared_begun path (Make m) clean = clean
+spared_begun path (Move m) clean = refl
 spared_begun path (SetMode s) clean = clean
 
 -- it is a copy
-abbrev pub is_tree : Work → Bool
+abbrev is_tree : Work → Bool
 is_tree (Copy c) = true
 is_tree (Delete d) = false
 is_tree (Make m) = false
+is_tree (Move m) = false
 is_tree (SetMode s) = false
 
+-- a copy or a move: which names and modes wait in its folders is known of the work itself
+abbrev pub knows_calm : Work → Bool
+knows_calm (Copy c) = true
+knows_calm (Delete d) = false
+knows_calm (Make m) = false
+knows_calm (Move m) = true
+knows_calm (SetMode s) = false
+
 -- a step leaves it so
-tells_tree : (old new : Work) (did : Did) → WorkTells old did new → is_tree new ≡ false → is_tree old ≡ false
-tells_tree (Delete d) new did t other = refl
-tells_tree (Make m) new did t other = refl
-tells_tree (SetMode s) new did t other = refl
-tells_tree (Copy c) (Copy new) did t other = other
-tells_tree (Copy c) (Delete new) did t other = absurd t
-tells_tree (Copy c) (Make new) did t other = absurd t
-tells_tree (Copy c) (SetMode new) did t other = absurd t
+tells_calm : (old new : Work) (did : Did) → WorkTells old did new → knows_calm new ≡ false → knows_calm old ≡ false
+tells_calm (Delete d) new did t other = refl
+tells_calm (Make m) new did t other = refl
+tells_calm (SetMode s) new did t other = refl
+tells_calm (Copy c) (Copy new) did t other = other
+tells_calm (Copy c) (Delete new) did t other = absurd t
+tells_calm (Copy c) (Make new) did t other = absurd t
+tells_calm (Copy c) (Move new) did t other = absurd t
+tells_calm (Copy c) (SetMode new) did t other = absurd t
+tells_calm (Move m) (Move new) did t other = other
+tells_calm (Move m) (Copy new) did t other = absurd t
+tells_calm (Move m) (Delete new) did t other = absurd t
+tells_calm (Move m) (Make new) did t other = absurd t
+tells_calm (Move m) (SetMode new) did t other = absurd t
 
-winds_tree : (ending : Ending) (old new : Work) (did : Did) → WorkWinds ending old did new → is_tree new ≡ false → is_tree old ≡ false
-winds_tree ending (Delete d) new did t other = refl
-winds_tree ending (Make m) new did t other = refl
-winds_tree ending (SetMode s) new did t other = refl
-winds_tree ending (Copy c) (Copy new) did t other = other
-winds_tree ending (Copy c) (Delete new) did t other = absurd t
-winds_tree ending (Copy c) (Make new) did t other = absurd t
-winds_tree ending (Copy c) (SetMode new) did t other = absurd t
+winds_calm : (ending : Ending) (old new : Work) (did : Did) → WorkWinds ending old did new → knows_calm new ≡ false → knows_calm old ≡ false
+winds_calm ending (Delete d) new did t other = refl
+winds_calm ending (Make m) new did t other = refl
+winds_calm ending (SetMode s) new did t other = refl
+winds_calm ending (Copy c) (Copy new) did t other = other
+winds_calm ending (Copy c) (Delete new) did t other = absurd t
+winds_calm ending (Copy c) (Make new) did t other = absurd t
+winds_calm ending (Copy c) (Move new) did t other = absurd t
+winds_calm ending (Copy c) (SetMode new) did t other = absurd t
+winds_calm ending (Move m) (Move new) did t other = other
+winds_calm ending (Move m) (Copy new) did t other = absurd t
+winds_calm ending (Move m) (Delete new) did t other = absurd t
+winds_calm ending (Move m) (Make new) did t other = absurd t
+winds_calm ending (Move m) (SetMode new) did t other = absurd t
 
-passes_tree : (old new : Work) (path : Route) → PassesOver old path new → is_tree new ≡ false → is_tree old ≡ false
-passes_tree (Delete d) new path h other = refl
-passes_tree (Make m) new path h other = refl
-passes_tree (SetMode s) new path h other = refl
-passes_tree (Copy c) (Copy new) path h other = other
-passes_tree (Copy c) (Delete new) path h other = absurd h
-passes_tree (Copy c) (Make new) path h other = absurd h
-passes_tree (Copy c) (SetMode new) path h other = absurd h
+passes_calm : (old new : Work) (path : Route) → PassesOver old path new → knows_calm new ≡ false → knows_calm old ≡ false
+passes_calm (Delete d) new path h other = refl
+passes_calm (Make m) new path h other = refl
+passes_calm (SetMode s) new path h other = refl
+passes_calm (Copy c) (Copy new) path h other = other
+passes_calm (Copy c) (Delete new) path h other = absurd h
+passes_calm (Copy c) (Make new) path h other = absurd h
+passes_calm (Copy c) (Move new) path h other = absurd h
+passes_calm (Copy c) (SetMode new) path h other = absurd h
+passes_calm (Move m) (Move new) path h other = other
+passes_calm (Move m) (Copy new) path h other = absurd h
+passes_calm (Move m) (Delete new) path h other = absurd h
+passes_calm (Move m) (Make new) path h other = absurd h
+passes_calm (Move m) (SetMode new) path h other = absurd h
 
-on_tree : (old new : Running) (did : Did) (course : Course) → TellsOn course old did new → is_tree new.work ≡ false → is_tree old.work ≡ false
-on_tree old new did GoesOn (work, tells, new_is) other = tells_tree old.work work did tells (sym (ap (λ (x : Running). is_tree x.work) new_is) ∙ other)
-on_tree old new did (InTrouble halt) t other = absurd t
-on_tree old new did (OwedSyncFailed why) t other = absurd t
-on_tree old new did Asking t other = absurd t
-on_tree old new did (Skips why) (inl (path, work, did_is, passes, new_is)) other = passes_tree old.work work path passes (sym (ap (λ (x : Running). is_tree x.work) new_is) ∙ other)
-on_tree old new did (Skips why) (inr (apart, did_is, new_is)) other = sym (ap (λ (x : Running). is_tree x.work) new_is) ∙ other
-on_tree old new did (Ends ending) (work, winds, new_is) other = winds_tree ending old.work work did winds (sym (ap (λ (x : Running). is_tree x.work) new_is) ∙ other)
+on_calm : (old new : Running) (did : Did) (course : Course) → TellsOn course old did new → knows_calm new.work ≡ false → knows_calm old.work ≡ false
+on_calm old new did GoesOn (work, tells, new_is) other = tells_calm old.work work did tells (sym (ap (λ (x : Running). knows_calm x.work) new_is) ∙ other)
+on_calm old new did (InTrouble halt) t other = absurd t
+on_calm old new did (OwedSyncFailed why) t other = absurd t
+on_calm old new did Asking t other = absurd t
+on_calm old new did (Skips why) (inl (path, work, did_is, passes, new_is)) other = passes_calm old.work work path passes (sym (ap (λ (x : Running). knows_calm x.work) new_is) ∙ other)
+on_calm old new did (Skips why) (inr (apart, did_is, new_is)) other = sym (ap (λ (x : Running). knows_calm x.work) new_is) ∙ other
+on_calm old new did (Ends ending) (work, winds, new_is) other = winds_calm ending old.work work did winds (sym (ap (λ (x : Running). knows_calm x.work) new_is) ∙ other)
 
-pub step_tree : (old new : Running) (did : Did) → JobTells old did new → is_tree new.work ≡ false → is_tree old.work ≡ false
-step_tree old new did t other = on_tree old new did old.course t other
+pub step_calm : (old new : Running) (did : Did) → JobTells old did new → knows_calm new.work ≡ false → knows_calm old.work ≡ false
+step_calm old new did t other = on_calm old new did old.course t other
 
 told_tree : (id : ℕ) (work : Work) → is_tree (work_told id work) ≡ is_tree work
 told_tree id (Copy c) = refl
 told_tree id (Delete d) = refl
 told_tree id (Make m) = refl
+told_tree id (Move m) = refl
 told_tree id (SetMode s) = refl
 
 placed_begun : (work : Work) → is_tree work ≡ false → has_begun (placed work) ≡ has_begun work
 placed_begun (Copy c) other = absurd (true≢false other)
 placed_begun (Delete d) other = refl
 placed_begun (Make m) other = refl
+placed_begun (Move m) other = refl
 placed_begun (SetMode s) other = refl
 
 cleaned_begun : (course : Course) (work : Work) → is_tree work ≡ false → has_begun (cleaned course work) ≡ has_begun work
 cleaned_begun course (Copy c) other = absurd (true≢false other)
 cleaned_begun course (Delete d) other = refl
 cleaned_begun course (Make m) other = refl
+cleaned_begun course (Move m) other = refl
 cleaned_begun course (SetMode s) other = refl
 
 synced_begun : (work : Work) → has_begun work ≡ false → has_begun (synced work) ≡ false
 synced_begun (Copy c) clean = clean
 synced_begun (Delete d) clean = clean
 synced_begun (Make m) clean = synced_making m.stage
+synced_begun (Move m) clean = synced_moving m.pair m.stage clean
 synced_begun (SetMode s) clean = synced_setting s.stage
 
 some_job : (a b : Running) → (let o : Option Running = Some a in o) ≡ Some b → has_begun b.work ≡ has_begun a.work
@@ -181,6 +234,7 @@ clean_after (Made path) job new other none h clean = absurd (true≢false none)
 clean_after (Kept path) job new other none h clean = some_job (record job { work = spared path job.work }) new h ∙ spared_begun path job.work clean
 clean_after (Asked question) job new other none h clean = some_job (record job { course = Rattle.copy_move.specs.declared.run.Course.TheVariants.Asking }) new h ∙ clean
 clean_after (Merges pair names) job new other none h clean = some_job job new h ∙ clean
+clean_after (Moved pair) job new other none h clean = absurd (true≢false none)
 clean_after (Skipped path why) job new other none h clean = some_job (record job { work = skipped path job.work; course = Rattle.copy_move.specs.declared.run.Course.TheVariants.GoesOn }) new h ∙ skipped_begun path job.work clean
 clean_after (Cleaned part) job new other none h clean = some_job (record job { work = cleaned job.course job.work }) new h ∙ (cleaned_begun job.course job.work other ∙ clean)
 clean_after Barrier job new other none h clean = some_job (record job { work = synced job.work }) new h ∙ synced_begun job.work clean
@@ -201,6 +255,7 @@ stage_stays (Set path) stage may none = absurd may
 stage_stays (Kept path) stage may none = refl
 stage_stays (Asked question) stage may none = refl
 stage_stays (Merges pair names) stage may none = refl
+stage_stays (Moved pair) stage may none = absurd (true≢false none)
 stage_stays (Cleaned part) stage may none = absurd may
 stage_stays Barrier stage may none = absurd may
 
@@ -216,18 +271,21 @@ tree_tells c (Copy new) did t none clean =
     let after = t.after in as_stage c.at.stage new.at.stage (after.stage ∙ stage_stays did c.at.stage (t.first (not_true (is_fresh c.at.stage) clean)) none) clean
 tree_tells c (Delete new) did t none clean = absurd t
 tree_tells c (Make new) did t none clean = absurd t
+tree_tells c (Move new) did t none clean = absurd t
 tree_tells c (SetMode new) did t none clean = absurd t
 
 tree_passes : (c : SubtreeCopying) (work : Work) (path : Route) → PassesOver (Copy c) path work → has_begun (Copy c) ≡ false → has_begun work ≡ false
 tree_passes c (Copy new) path (cause, after) clean = as_stage c.at.stage new.at.stage after.stage clean
 tree_passes c (Delete new) path h clean = absurd h
 tree_passes c (Make new) path h clean = absurd h
+tree_passes c (Move new) path h clean = absurd h
 tree_passes c (SetMode new) path h clean = absurd h
 
 tree_winds : (ending : Ending) (c : SubtreeCopying) (work : Work) (did : Did) → WorkWinds ending (Copy c) did work → has_begun (Copy c) ≡ false → has_begun work ≡ false
 tree_winds ending c (Copy new) did t clean = as_stage c.at.stage new.at.stage t.stage clean
 tree_winds ending c (Delete new) did t clean = absurd t
 tree_winds ending c (Make new) did t clean = absurd t
+tree_winds ending c (Move new) did t clean = absurd t
 tree_winds ending c (SetMode new) did t clean = absurd t
 
 tree_clean : (job new : Running) (did : Did) (c : SubtreeCopying) (course : Course) → job.work ≡ Copy c → TellsOn course job did new → begins_change did ≡ false → has_begun job.work ≡ false → has_begun new.work ≡ false
@@ -252,6 +310,7 @@ step_clean job new did tells on none clean = by job.work refl
     by (Copy c) is = tree_clean job new did c job.course is tells none clean
     by (Delete d) is = other (ap is_tree is)
     by (Make m) is = other (ap is_tree is)
+    by (Move m) is = other (ap is_tree is)
     by (SetMode s) is = other (ap is_tree is)
 
 -- a job begins so
@@ -267,6 +326,10 @@ trees_clean : (id : ℕ) (pair : Pair) (w : Work) (b : Bool) → (let o : Option
 trees_clean id pair w true is = let e : copies id pair ≡ w = cc in ap has_begun (sym e)
 trees_clean id pair w false is = absurd (let f : ⊥ = cc in f)
 
+moves_clean : (pair : Pair) (w : Work) (b : Bool) → (let o : Option Work = if◌then◌else◌ b (Some (moves pair)) None in o) ≡ Some w → has_begun w ≡ false
+moves_clean pair w true is = let e : moves pair ≡ w = cc in ap has_begun (sym e)
+moves_clean pair w false is = absurd (let f : ⊥ = cc in f)
+
 sets_clean : (path : Route) (mode : ℕ) (w : Work) (b : Bool) → (let o : Option Work = if◌then◌else◌ b (Some (sets path mode)) None in o) ≡ Some w → has_begun w ≡ false
 sets_clean path mode w true is = let e : sets path mode ≡ w = cc in ap has_begun (sym e)
 sets_clean path mode w false is = absurd (let f : ⊥ = cc in f)
@@ -278,6 +341,9 @@ first_clean id (plan.Delete (path ∷ more ∷ paths)) w is = absurd (let f : �
 first_clean id (plan.Copy []) w is = absurd (let f : ⊥ = cc in f)
 first_clean id (plan.Copy (pair ∷ [])) w is = trees_clean id pair w (is_some (parent_of pair.source) && is_some (parent_of pair.target)) is
 first_clean id (plan.Copy (pair ∷ more ∷ pairs)) w is = absurd (let f : ⊥ = cc in f)
+first_clean id (plan.Move []) w is = absurd (let f : ⊥ = cc in f)
+first_clean id (plan.Move (pair ∷ [])) w is = moves_clean pair w ((is_some (parent_of pair.source) && is_some (parent_of pair.target)) && not (same_path pair.source pair.target)) is
+first_clean id (plan.Move (pair ∷ more ∷ pairs)) w is = absurd (let f : ⊥ = cc in f)
 first_clean id (plan.MakeFolder path) w is = makes_clean thing.Folder path w (is_some (parent_of path)) is
 first_clean id (plan.MakeLink path text) w is = makes_clean (thing.Link text) path w (is_some (parent_of path) && is_link_text text) is
 first_clean id (plan.SetMode [] mode) w is = absurd (let f : ⊥ = cc in f)

@@ -1,29 +1,35 @@
 -- What the entries of a history say of a path that they don't name: what it shows, what it showed before, and whether it was a part.
 use Rattle.job_reports.specs.Paths.{without}
-use Rattle.std.proofs.Common.{◌≡◌, true, false, not, List, [], ◌∷◌, refl, sym, ◌∙◌, ap, subst, inl, inr, Option, Some, None}
-use Rattle.std.proofs.lemmas.Bool.{both_ways}
+use Rattle.std.proofs.Common.{◌≡◌, Bool, true, false, not, ◌||◌, List, [], ◌∷◌, refl, sym, ◌∙◌, ap, subst, inl, inr, Option, Some, None}
+use Rattle.std.proofs.lemmas.Bool.{both_ways, true≢false}
 use Rattle.mc_text.specs.Routes.{Route, same_path}
-use Rattle.tree_trait.specs.FileSystem.{View, value_at}
+use Rattle.tree_trait.specs.FileSystem.{View, put, value_at}
 use Rattle.tree_trait.specs.Change.{CallLog, current}
 use Rattle.tree_trait.specs.CrashImages.{Among}
 use Rattle.tree_trait.proofs.Visible.{same_path-self}
+use Rattle.job_reports.specs.declared.job.Pair.{Pair}
 use Rattle.job_reports.specs.declared.report.Did.{Did}
-use Rattle.job_reports.specs.declared.report.Did.TheVariants.{Began, Chunk, Placed, Removed, Made, Set, Kept, Skipped, Cleaned, Barrier, Asked, Merges, Troubled, Ended}
-use Rattle.job_reports.specs.Jobs.{Item, Copies, Removes, Makes, MakesLink, Sets}
+use Rattle.job_reports.specs.declared.report.Did.TheVariants.{Began, Chunk, Placed, Removed, Made, Set, Kept, Skipped, Cleaned, Barrier, Asked, Merges, Moved, Troubled, Ended}
+use Rattle.job_reports.specs.Jobs.{Item, Copies, Moves, Removes, Makes, MakesLink, Sets}
 use Rattle.session_history.specs.declared.history.Event.{Event}
 use Rattle.session_history.specs.declared.history.Event.TheVariants.{Key, Look, Sought, Order, Step, Next, Closed}
 use Rattle.session_history.specs.declared.history.Event.TheVariants as event
 use Rattle.session_history.specs.declared.history.Entry.{Entry}
 use Rattle.session_history.specs.LiveJobs.{LiveJob, live_jobs, live_item}
-use Rattle.session_history.specs.Named.{IsUnnamedSince, changed_by, named_by, names, names_path}
+use Rattle.session_history.specs.Named.{IsUnnamedSince, changed_by, is_among, named_by, named_moved, names, names_path}
 use Rattle.history_laws.specs.Replayed.{keeping, log_prefix, made_by, moved_from, placed_by, placed_copy, replayed_event, replayed_step, replayed_tree, set_by, with_mode, with_mode_of}
 use Rattle.history_laws.proofs.AmongParts.{if_among_other}
 use Rattle.history_laws.proofs.Deleted.{put_off}
 use Rattle.history_laws.proofs.Owing.{in_filter}
 
+neither : (a b : Bool) → (a || b) ≡ false → (a ≡ false) × (b ≡ false)
+neither true b h = absurd (true≢false h)
+neither false b h = (refl, h)
+
 -- a path that an entry doesn't name has what it had
 placed_unnamed : (item : Option Item) (target : Route) (v : View) (path : Route) → same_path path target ≡ false → placed_by item target v path ≡ v path
 placed_unnamed (Some (Copies source to)) target v path unnamed = put_off v target (Rattle.std.specs.Option.option_map placed_copy (v (moved_from source to target)).value) path unnamed
+placed_unnamed (Some (Moves source to)) target v path unnamed = refl
 placed_unnamed (Some (Removes file)) target v path unnamed = refl
 placed_unnamed (Some (Makes folder)) target v path unnamed = refl
 placed_unnamed (Some (MakesLink link text)) target v path unnamed = refl
@@ -32,6 +38,7 @@ placed_unnamed None target v path unnamed = refl
 
 set_unnamed : (item : Option Item) (changed : Route) (v : View) (path : Route) → same_path path changed ≡ false → set_by item changed v path ≡ v path
 set_unnamed (Some (Copies source target)) changed v path unnamed = put_off v changed (Rattle.std.specs.Option.option_map (with_mode_of (v (moved_from source target changed)).value) (v changed).value) path unnamed
+set_unnamed (Some (Moves source target)) changed v path unnamed = refl
 set_unnamed (Some (Removes file)) changed v path unnamed = refl
 set_unnamed (Some (Makes folder)) changed v path unnamed = refl
 set_unnamed (Some (MakesLink link text)) changed v path unnamed = refl
@@ -50,6 +57,9 @@ step_unnamed log (Made folder) item v path unnamed = put_off v folder (Some (mad
 step_unnamed log (Kept kept) item v path unnamed = refl
 step_unnamed log (Asked question) item v path unnamed = refl
 step_unnamed log (Merges pair names) item v path unnamed = refl
+step_unnamed log (Moved pair) item v path unnamed =
+    let off = neither (same_path path pair.source) (same_path path pair.target) unnamed in
+    put_off (put v pair.source None) pair.target (v pair.source).value path off.1 ∙ put_off v pair.source None path off.0
 step_unnamed log (Skipped file cause) item v path unnamed = refl
 step_unnamed log (Cleaned part) item v path unnamed = refl
 step_unnamed log Barrier item v path unnamed = refl
@@ -71,6 +81,12 @@ replayed_since opening end older (e ∷ g) path (inl same) = ap (λ x. replayed_
 replayed_since opening end older (e ∷ g) path (inr (unnamed, since)) =
     event_unnamed (log_prefix opening e.calls end) e.what (live_jobs g) (replayed_tree opening end g) path unnamed ∙ replayed_since opening end older g path since
 
+-- where something is moved, another path is a named part only if it was one
+moved_named : (b : Bool) (pair : Pair) (left parts : List Route) (path : Route) → same_path path pair.target ≡ false → Among (named_moved b pair left parts) path → Among parts path
+moved_named true pair left parts path off (inl same) = absurd (both_ways _ off (subst (λ q. same_path path q ≡ true) same (same_path-self path)))
+moved_named true pair left parts path off (inr among) = among
+moved_named false pair left parts path off among = in_filter (λ kept. Rattle.std.specs.Prelude.not (same_path kept pair.target)) path parts (if_among_other pair.target path left (without pair.target parts) off among)
+
 -- a path that no entry names is a named part only if it was one
 pub named_step : (did : Did) (left parts : List Route) (path : Route) → names did path ≡ false → Among (named_by did left parts) path → Among parts path
 named_step (Began part) left parts path unnamed (inl same) = absurd (both_ways _ unnamed (subst (λ q. same_path path q ≡ true) same (same_path-self path)))
@@ -83,6 +99,7 @@ named_step (Made folder) left parts path unnamed among = in_filter (λ kept. Rat
 named_step (Kept kept) left parts path unnamed among = among
 named_step (Asked question) left parts path unnamed among = among
 named_step (Merges pair names) left parts path unnamed among = among
+named_step (Moved pair) left parts path unnamed among = moved_named (is_among pair.source left) pair left parts path (neither (same_path path pair.source) (same_path path pair.target) unnamed).1 among
 named_step (Skipped file cause) left parts path unnamed among = among
 named_step (Cleaned part) left parts path unnamed among = among
 named_step Barrier left parts path unnamed among = among
@@ -100,6 +117,9 @@ earlier_unnamed (Set changed) v before path unnamed = put_off before changed (v 
 earlier_unnamed (Kept kept) v before path unnamed = refl
 earlier_unnamed (Asked question) v before path unnamed = refl
 earlier_unnamed (Merges pair names) v before path unnamed = refl
+earlier_unnamed (Moved pair) v before path unnamed =
+    let off = neither (same_path path pair.source) (same_path path pair.target) unnamed in
+    put_off (put before pair.source (v pair.source).value) pair.target (v pair.target).value path off.1 ∙ put_off before pair.source (v pair.source).value path off.0
 earlier_unnamed (Skipped file cause) v before path unnamed = refl
 earlier_unnamed (Cleaned part) v before path unnamed = refl
 earlier_unnamed Barrier v before path unnamed = refl

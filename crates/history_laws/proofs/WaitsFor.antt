@@ -5,9 +5,9 @@ use Rattle.std.proofs.lemmas.Bool.{false≢true, true≢false, and_parts, and_fr
 use Rattle.tree_trait.specs.Change.{Change, Nothing, Makes, Moves, Removes, Sets, Writes, Syncs}
 use Rattle.tree_trait.specs.CrashImages.{all_settled, is_settled, is_unsynced, same_name, says}
 use Rattle.tree_trait.proofs.Finding.{same_name-self}
-use Rattle.history_laws.specs.Doubt.{is_pending}
+use Rattle.history_laws.specs.Doubt.{is_pending, is_joint, joins}
 use Rattle.history_laws.proofs.Pending.{one_said, some_first, two_said, unless}
-use Rattle.history_laws.proofs.Restless.{is_joint, is_restless, joins, joint_before, named_both, names_in, not_both, others, restless_synced, settles}
+use Rattle.history_laws.proofs.Restless.{is_restless, joint_before, named_both, names_in, not_both, others, restless_synced, settles}
 
 both_so : (x y : Bool) → not (x && y) ≡ false → (not x ≡ false) × (not y ≡ false)
 both_so true true h = (refl, refl)

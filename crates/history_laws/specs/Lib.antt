@@ -6,3 +6,4 @@ pub mod Safe
 pub mod Staying
 pub mod Traces
 pub mod ToldJob
+pub mod Whole

@@ -20,13 +20,17 @@ use Rattle.copy_move.specs.Jobs.{Running, is_fresh}
 use Rattle.copy_move.specs.Settling.{IsMountOf, changed_folder, is_own}
 use Rattle.copy_move.specs.Steps.{RunStep, step_made}
 use Rattle.history_laws.specs.Traces.{IsUnclaimed, IsTraced, Stand, StepLeads, WorkLeads, unless_ended}
-use Rattle.history_laws.specs.Doubt.{IsMountInDoubt, is_unsettled, name_waits, node_waits, way_waits}
+use Rattle.history_laws.specs.Doubt.{IsJoined, IsMountInDoubt, is_unsettled, name_waits, node_waits, way_waits}
 
--- Where each entry ends, a path of whose name a change isn't on the disk yet lies in a dirty folder, and one of which a mode isn't, a part's
--- aside, is itself dirty.
+-- this folder is dirty, or one is for which and this one a renaming waits
+abbrev pub IsOwed : List Route → CallLog → Route → Type 0
+IsOwed dirty log folder = Among dirty folder ⊎ ((other : Route) × Among dirty other × IsJoined log folder other)
+
+-- Where each entry ends, a path of whose name a change isn't on the disk yet lies in a dirty folder, or in one from which, or to which, something was moved that
+-- waits for a dirty one; and one of which a mode isn't, a part's aside, is itself dirty.
 pub record OwedLaw : Type 0 where
   pub names : (opening now : CallLog) (newest : List Entry) (stand : Stand) (path : Route)
-      → IsTree (current opening) → all_settled opening.changes ≡ true → IsTraced opening newest stand now → name_waits now path ≡ true → Among stand.dirty (folder_of path)
+      → IsTree (current opening) → all_settled opening.changes ≡ true → IsTraced opening newest stand now → name_waits now path ≡ true → IsOwed stand.dirty now (folder_of path)
   pub modes : (opening now : CallLog) (newest : List Entry) (stand : Stand) (path : Route)
       → IsTree (current opening) → all_settled opening.changes ≡ true → IsTraced opening newest stand now → (Among (named_parts newest) path → ⊥) → node_waits now path ≡ true → Among stand.dirty path
 
@@ -35,11 +39,11 @@ abbrev pub IsApart : CallLog → Route → Route → Type 0
 IsApart log folder other =
     (refusal_of (current log) (Stat other) ≡ Some Missing) ⊎ ((number : ℕ) × IsMountOf (current log) folder number × (IsMountOf (current log) other number → ⊥))
 
--- Once a job has made its first change, each change of a name that isn't on the disk yet is in a folder of its own, on another mount, or in a
+-- Once the live job has made its first change, each change of a name that isn't on the disk yet is in a folder of its own, on another mount, or in a
 -- folder that was removed; and each mode that isn't, parts aside, is of such a path itself.
 abbrev pub FirstChange : (Running → Route → CallLog → List Entry → CallLog → Type 0) → Type 0
 FirstChange Holds = (opening log now : CallLog) (older newest : List Entry) (was stand : Stand) (job new : Running) (did : Did) (path : Route)
-    → IsTree (current opening) → all_settled opening.changes ≡ true → IsTraced opening older was log → IsTraced opening newest stand now
+    → IsTree (current opening) → all_settled opening.changes ≡ true → IsTraced opening older was log → IsTraced opening newest stand now → was.jobs ≡ job ∷ []
     → WorkLeads job did new was.dirty stand.dirty log now → job.course ≡ GoesOn → is_fresh job.work ≡ true → Holds job path log newest now
 
 pub record FirstChangeLaw : Type 0 where

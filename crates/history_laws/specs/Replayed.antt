@@ -6,15 +6,16 @@ use Rattle.mc_text.specs.declared.kind.Kind.{Kind}
 use Rattle.mc_text.specs.declared.kind.Kind.TheVariants.{File, Folder, Link, Other}
 use Rattle.tree_trait.specs.FileSystem.{Value, View, put, value_at, visible_tree}
 use Rattle.tree_trait.specs.Change.{CallLog, current}
+use Rattle.job_reports.specs.declared.job.Pair.{Pair}
 use Rattle.job_reports.specs.declared.report.Did.{Did}
-use Rattle.job_reports.specs.declared.report.Did.TheVariants.{Began, Chunk, Placed, Removed, Made, Set, Kept, Skipped, Cleaned, Barrier, Asked, Merges, Troubled, Ended}
+use Rattle.job_reports.specs.declared.report.Did.TheVariants.{Began, Chunk, Placed, Removed, Made, Set, Kept, Skipped, Cleaned, Barrier, Asked, Merges, Moved, Troubled, Ended}
 use Rattle.session_history.specs.Named.{changed_by}
 use Rattle.file_copy.specs.Copied.{copied}
 use Rattle.session_history.specs.declared.history.Event.{Event}
 use Rattle.session_history.specs.declared.history.Event.TheVariants.{Key, Look, Sought, Order, Step, Next, Closed}
 use Rattle.session_history.specs.declared.history.Event.TheVariants as event
 use Rattle.session_history.specs.declared.history.Entry.{Entry}
-use Rattle.job_reports.specs.Jobs.{Item, Copies, Removes, Makes, MakesLink, Sets, new_folder_mode}
+use Rattle.job_reports.specs.Jobs.{Item, Copies, Moves, Removes, Makes, MakesLink, Sets, new_folder_mode}
 use Rattle.session_history.specs.LiveJobs.{LiveJob, live_jobs, live_item}
 
 -- the log as it was when so many calls had been made since the opening
@@ -40,6 +41,7 @@ placed_copy v = record (copied v) { mode = mode_placed v.kind v.mode }
 -- what is placed is a copy of what stands where it comes from
 abbrev pub placed_by : Option Item → Route → View → View
 placed_by (Some (Copies source target)) path v = put v path (option_map placed_copy (v (moved_from source target path)).value)
+placed_by (Some (Moves source target)) path v = v
 placed_by (Some (Removes file)) path v = v
 placed_by (Some (Makes folder)) path v = v
 placed_by (Some (MakesLink link text)) path v = v
@@ -58,6 +60,7 @@ with_mode mode x = record x { mode = mode }
 -- a folder that was copied is given its source's mode, and a thing whose mode is set that one
 abbrev pub set_by : Option Item → Route → View → View
 set_by (Some (Copies source target)) path v = put v path (option_map (with_mode_of (v (moved_from source target path)).value) (v path).value)
+set_by (Some (Moves source target)) path v = v
 set_by (Some (Removes file)) path v = v
 set_by (Some (Makes folder)) path v = v
 set_by (Some (MakesLink link text)) path v = v
@@ -82,9 +85,14 @@ abbrev pub made_by : Option Item → Route → View → Value
 made_by (Some (MakesLink link text)) path v = new_link text
 made_by (Some (Makes folder)) path v = new_folder
 made_by (Some (Copies source target)) path v = copied_folder (v (moved_from source target path)).value
+made_by (Some (Moves source target)) path v = new_folder
 made_by (Some (Removes file)) path v = new_folder
 made_by (Some (Sets thing mode)) path v = new_folder
 made_by None path v = new_folder
+
+-- where a thing was that was moved nothing stands any more, and where it went stands what it was
+abbrev pub moved_by : Pair → View → View
+moved_by pair v = put (put v pair.source None) pair.target (v pair.source).value
 
 -- What a step makes of the tree, which has this log then: a removed path has nothing any more, one that was made an empty
 -- folder or a link, one that was given a mode has that, and a part that an end names is from then on what it then is.
@@ -100,6 +108,7 @@ replayed_step log (Made path) item v = put v path (Some (made_by item path v))
 replayed_step log (Kept kept) item v = v
 replayed_step log (Asked question) item v = v
 replayed_step log (Merges pair names) item v = v
+replayed_step log (Moved pair) item v = moved_by pair v
 replayed_step log (Skipped path cause) item v = v
 replayed_step log (Cleaned part) item v = v
 replayed_step log Barrier item v = v
@@ -120,9 +129,10 @@ abbrev pub replayed_tree : CallLog → CallLog → List Entry → View
 replayed_tree opening now [] = visible_tree (current opening)
 replayed_tree opening now (e ∷ older) = replayed_event (log_prefix opening e.calls now) e.what (live_jobs older) (replayed_tree opening now older)
 
-abbrev pub keeping : Option Route → View → View → View
-keeping None v before = before
-keeping (Some path) v before = put before path (v path).value
+-- these paths as they are shown, and all others as before
+abbrev pub keeping : List Route → View → View → View
+keeping [] v before = before
+keeping (path ∷ more) v before = keeping more v (put before path (v path).value)
 
 abbrev pub earlier_event : Event → View → View → View
 earlier_event (Step id did) v before = keeping (changed_by did) v before
@@ -134,7 +144,7 @@ earlier_event (Order id order) v before = before
 earlier_event (Next id plan) v before = before
 earlier_event Closed v before = before
 
--- what each path showed before it was placed, removed, made or given a mode last; what none was stays as at the opening
+-- what each path showed before it was placed, removed, made, moved or given a mode last, or something was moved there; what none was stays as at the opening
 abbrev pub earlier_tree : CallLog → CallLog → List Entry → View
 earlier_tree opening now [] = visible_tree (current opening)
 earlier_tree opening now (e ∷ older) = earlier_event e.what (replayed_tree opening now older) (earlier_tree opening now older)

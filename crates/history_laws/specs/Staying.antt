@@ -11,7 +11,7 @@ use Rattle.job_reports.specs.declared.report.Did.TheVariants.{Ended}
 use Rattle.job_reports.specs.declared.report.Ending.TheVariants.{Finished}
 use Rattle.job_reports.specs.Paths.{folder_of}
 use Rattle.session_history.specs.declared.history.Entry.{Entry}
-use Rattle.job_reports.specs.Jobs.{Item, Copies, Removes, Makes, MakesLink, Sets}
+use Rattle.job_reports.specs.Jobs.{Item, Copies, Moves, Removes, Makes, MakesLink, Sets}
 use Rattle.copy_move.specs.Jobs.{Running}
 use Rattle.history_laws.specs.Owed.{IsNoMatter, is_own_path}
 use Rattle.history_laws.specs.Doubt.{IsMountInDoubt, name_waits, node_waits}
@@ -48,9 +48,10 @@ FinishedStaysLaw = (opening now after : CallLog) (newest older standing coming :
     → value_at image path ≡ (replayed_tree opening now older path).value
 
 -- a folder in which a job may change names: the one that holds what it places, makes or removes; where it copies or deletes, also the
--- thing itself and what lies in it
+-- thing itself and what lies in it; where it moves, those of both its paths
 abbrev pub may_change : Item → Route → Bool
 may_change (Copies source target) folder = same_path folder (folder_of target) || is_prefix target folder
+may_change (Moves source target) folder = same_path folder (folder_of source) || same_path folder (folder_of target)
 may_change (Removes path) folder = same_path folder (folder_of path) || is_prefix path folder
 may_change (Makes path) folder = same_path folder (folder_of path)
 may_change (MakesLink path text) folder = same_path folder (folder_of path)

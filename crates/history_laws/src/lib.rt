@@ -6,6 +6,7 @@ ghost use Rattle.history_laws.specs.Calmed.{CalmLaw};
 ghost use Rattle.history_laws.specs.Owed.{FinishedLaw, FirstChangeLaw, OwedLaw, StepLaw};
 ghost use Rattle.history_laws.specs.Safe.{ReplayLaw, SessionLaw};
 ghost use Rattle.history_laws.specs.Staying.{DoneLaw, FinishedStaysLaw, StaysLaw};
+ghost use Rattle.history_laws.specs.Whole.{WholeLaw};
 
 /// At each moment of a session, inside a call too, each path holds after a crash what the history says, or what it held
 /// before its last change, as long as that isn't on the disk; parts may be missing or hold anything.
@@ -54,6 +55,12 @@ pub fn what_a_finished_job_did_stays()
 /// The same in the words of the history alone, once the job is done with a source: it goes on with the next one, or has reported that it is finished.
 pub fn what_was_finished_stays()
     ensures { DoneLaw }
+{}
+
+/// In one and the same crash image a file that is moved is whole at its source or at its target, until its job takes up another source or the next job begins;
+/// what stays then, the law before this one says.
+pub fn what_a_crash_leaves_of_a_moved_file()
+    ensures { WholeLaw }
 {}
 
 /// The machine's own step is one of which such a history tells.

@@ -9,7 +9,7 @@ use Rattle.tree_trait.specs.Change.{CallLog}
 use Rattle.tree_trait.specs.Answers.{IfKnown, HasRisen}
 use Rattle.job_reports.specs.CallRuns.{HasMore}
 use Rattle.job_reports.specs.declared.report.Did.{Did}
-use Rattle.job_reports.specs.declared.report.Did.TheVariants.{Began as BeganPart, Chunk, Placed, Removed, Made, Set, Kept, Skipped, Cleaned, Barrier, Asked, Merges, Troubled, Ended}
+use Rattle.job_reports.specs.declared.report.Did.TheVariants.{Began as BeganPart, Chunk, Placed, Removed, Made, Set, Kept, Skipped, Cleaned, Barrier, Asked, Merges, Moved, Troubled, Ended}
 use Rattle.job_reports.specs.declared.report.Trouble.{Trouble}
 use Rattle.job_reports.specs.declared.report.Ending.TheVariants.{Finished, Aborted, Killed, NoMemory}
 use Rattle.session_history.specs.declared.history.Entry.{Entry}
@@ -131,6 +131,7 @@ in_turn id (BeganPart part) left h = tt
 in_turn id (Chunk bytes) left h = tt
 in_turn id (Asked question) left h = tt
 in_turn id (Merges pair names) left h = tt
+in_turn id (Moved pair) left h = tt
 in_turn id (Set path) left h = tt
 in_turn id (Placed path) left h = tt
 in_turn id (Removed path) left h = tt
@@ -361,6 +362,7 @@ module _ (contents contents_after : Option CallLog) (faults : ℕ) (old new : Se
   unseen_step id (Chunk bytes) b = refl
   unseen_step id (Asked question) b = refl
   unseen_step id (Merges pair names) b = refl
+  unseen_step id (Moved pair) b = refl
   unseen_step id (Set path) b = refl
   unseen_step id (Placed path) b = refl
   unseen_step id (Removed path) b = refl

@@ -3,7 +3,7 @@ use Rattle.std.proofs.Common.{◌≡◌, ℕ, false, [], ◌∷◌, refl, ◌∙
 use Rattle.std.specs.Prelude.{if◌then◌else◌}
 use Rattle.std.specs.Option.{option_map}
 use Rattle.copy_move.specs.declared.work.Work.{Work}
-use Rattle.copy_move.specs.declared.work.Work.TheVariants.{Copy, Delete, Make, SetMode}
+use Rattle.copy_move.specs.declared.work.Work.TheVariants.{Copy, Delete, Make, Move, SetMode}
 use Rattle.mc_text.specs.Routes.{Route}
 use Rattle.job_reports.specs.declared.waits.Waits.{Waits}
 use Rattle.job_reports.specs.declared.row.JobKind.{JobKind}
@@ -24,6 +24,7 @@ work_part : (id : ℕ) (work : Work) → part_of (work_told id work) ≡ part_of
 work_part id (Copy c) = staying_part (tree.part_of c.at.item)
 work_part id (Delete d) = refl
 work_part id (Make m) = refl
+work_part id (Move m) = refl
 work_part id (SetMode s) = refl
 
 pub part_told : (job : Running) → part_of (told job).work ≡ part_of job.work
@@ -41,12 +42,14 @@ kind_told : (id : ℕ) (work : Work) → kind_of (work_told id work) ≡ kind_of
 kind_told id (Copy c) = refl
 kind_told id (Delete d) = refl
 kind_told id (Make m) = refl
+kind_told id (Move m) = refl
 kind_told id (SetMode s) = refl
 
 path_told : (id : ℕ) (work : Work) → path_of (work_told id work) ≡ path_of work
 path_told id (Copy c) = refl
 path_told id (Delete d) = refl
 path_told id (Make m) = refl
+path_told id (Move m) = refl
 path_told id (SetMode s) = refl
 
 abbrev row_with : Running → Option Waits → JobKind → Route → JobRow

@@ -4,14 +4,15 @@ use Rattle.std.proofs.lemmas.Bool.{true≢false, false≢true}
 use Rattle.mc_text.specs.Routes.{Route}
 use Rattle.tree_trait.specs.declared.calls.TreeError.{TreeError}
 use Rattle.tree_trait.specs.Change.{CallLog}
+use Rattle.job_reports.specs.declared.job.Pair.{Pair}
 use Rattle.job_reports.specs.declared.report.Did.{Did}
-use Rattle.job_reports.specs.declared.report.Did.TheVariants.{Began, Chunk, Placed, Removed, Made, Set, Kept, Skipped, Cleaned, Barrier, Asked, Merges, Troubled, Ended}
+use Rattle.job_reports.specs.declared.report.Did.TheVariants.{Began, Chunk, Placed, Removed, Made, Set, Kept, Skipped, Cleaned, Barrier, Asked, Merges, Moved, Troubled, Ended}
 use Rattle.job_reports.specs.declared.report.Ending.{Ending}
 use Rattle.job_reports.specs.declared.report.Ending.TheVariants.{Finished, Aborted, Killed, NoMemory}
 use Rattle.session_history.specs.declared.history.Event.TheVariants.{Step}
 use Rattle.session_history.specs.declared.history.Entry.{Entry}
 use Rattle.copy_move.specs.declared.work.Work.{Work}
-use Rattle.copy_move.specs.declared.work.Work.TheVariants.{Copy, Delete, Make, SetMode}
+use Rattle.copy_move.specs.declared.work.Work.TheVariants.{Copy, Delete, Make, Move, SetMode}
 use Rattle.copy_move.specs.declared.run.Course.{Course}
 use Rattle.copy_move.specs.declared.run.Course.TheVariants.{GoesOn, Asking, InTrouble, OwedSyncFailed, Skips, Ends}
 use Rattle.copy_move.specs.Deletions.{Deleting, DeletionLeaves}
@@ -20,6 +21,7 @@ use Rattle.copy_move.specs.DeletionSteps.{after_try}
 use Rattle.thing_making.specs.declared.making.MakingStage.{MakingStage}
 use Rattle.thing_making.specs.declared.making.MakingStage.TheVariants as making
 use Rattle.thing_making.specs.Makings as makings
+use Rattle.thing_moving.specs.Movings.{Moving, with_moves}
 use Rattle.mode_setting.specs.Settings as settings
 use Rattle.copy_move.specs.Jobs.{Running, TellsOn, WorkTells}
 use Rattle.copy_move.specs.Settling.{WorkLeaves, is_own, with_change}
@@ -28,8 +30,9 @@ use Rattle.tree_trait.proofs.Visible.{same_path-self}
 use Rattle.job_reports.specs.Paths.{folder_of, without}
 use Rattle.copy_move.specs.Steps.{LeavesDirty, RunStep, step_made}
 use Rattle.history_laws.proofs.Intact.{own_folder}
-use Rattle.mc_desk.specs.Desks.{HasRemoved, HasSynced, JoinsDirty, MovesDirty, RemovesDirty}
+use Rattle.mc_desk.specs.Desks.{HasMoved, HasRemoved, HasSynced, JoinsBoth, JoinsDirty, MovesDirty, RemovesDirty}
 use Rattle.mc_desk.proofs.Adding.{entry}
+use Rattle.mc_desk.proofs.MovedFolders.{FoldersMove, folders_move}
 
 -- a job that is finished has synced its folder
 making_clean : (stage : MakingStage) → makings.is_done stage ≡ true → makings.is_dirty stage ≡ false
@@ -60,6 +63,7 @@ making_synced m new (Began part) t was now = absurd t
 making_synced m new (Chunk count) t was now = absurd t
 making_synced m new (Asked question) t was now = absurd t
 making_synced m new (Merges pair names) t was now = absurd t
+making_synced m new (Moved pair) t was now = absurd t
 making_synced m new (Set path) t was now = absurd t
 making_synced m new (Placed path) t was now = absurd t
 making_synced m new (Removed made) t was now = absurd t
@@ -77,6 +81,7 @@ setting_synced s new (Began part) t was now = absurd t
 setting_synced s new (Chunk count) t was now = absurd t
 setting_synced s new (Asked question) t was now = absurd t
 setting_synced s new (Merges pair names) t was now = absurd t
+setting_synced s new (Moved pair) t was now = absurd t
 setting_synced s new (Placed path) t was now = absurd t
 setting_synced s new (Removed path) t was now = absurd t
 setting_synced s new (Made path) t was now = absurd t
@@ -89,13 +94,19 @@ module _ (job : Option Running) (newest older : List Entry) (dirty dirty_after :
   Moves = MovesDirty job newest dirty dirty_after
 
   synced : (folder : Route) → did ≡ Barrier → dirty_after ≡ without folder dirty → Moves
-  synced folder is left = inr (inr (inr (folder, left, subst HasSynced (sym more) (number, ap (Step number) is))))
+  synced folder is left = inr (inr (inr (inr (folder, left, subst HasSynced (sym more) (number, ap (Step number) is)))))
 
   joins : (live : Running) (folder : Route) → job ≡ Some live → is_own live.work folder ≡ true → dirty_after ≡ joined folder dirty → Moves
   joins live folder is own left = inr (inl (record { live = live; job_is = is; folder = folder; own = own; joins = left }))
 
   removes : (path : Route) → did ≡ Removed path → dirty_after ≡ without path (joined (folder_of path) dirty) → Moves
   removes path is left = inr (inr (inl (record { path = path; removed = subst (λ es. HasRemoved es path) (sym more) (number, ap (Step number) is); leaves = left })))
+
+  -- of a move both folders join with the renaming, and each leaves with its sync
+  moving_moves : {pair : Pair} → FoldersMove did pair dirty dirty_after → Moves
+  moving_moves {pair} (inl still) = inl still
+  moving_moves {pair} (inr (inl (is, left))) = inr (inr (inr (inl (record { pair = pair; moved = subst (λ es. HasMoved es pair) (sym more) (number, ap (Step number) is); join = left }))))
+  moving_moves {pair} (inr (inr (folder, is, left))) = synced folder is left
 
   -- the one folder in which a step of a copy or a making changes names, or the thing that is given a mode
   folder_moves : (live : Running) (folder : Route) → job ≡ Some live → is_own live.work folder ≡ true → (was now : Bool) → (was ≡ true → now ≡ false → did ≡ Barrier) → dirty_after ≡ with_change was now folder dirty → Moves
@@ -116,6 +127,7 @@ module _ (job : Option Running) (newest older : List Entry) (dirty dirty_after :
   deletion_moves live d new before after is work (Chunk bytes) did_is t h = absurd t
   deletion_moves live d new before after is work (Asked question) did_is t h = absurd t
   deletion_moves live d new before after is work (Merges pair names) did_is t h = absurd t
+  deletion_moves live d new before after is work (Moved pair) did_is t h = absurd t
   deletion_moves live d new before after is work (Set path) did_is t h = absurd t
   deletion_moves live d new before after is work (Placed path) did_is t h = absurd t
   deletion_moves live d new before after is work (Made made) did_is t h = absurd t
@@ -131,7 +143,13 @@ module _ (job : Option Running) (newest older : List Entry) (dirty dirty_after :
       begun (Copy c) = false
       begun (Delete d) = false
       begun (Make x) = makings.is_dirty x.stage
+      begun (Move m) = false
       begun (SetMode s) = false
+  work_moves live (Move m) (Move w) (Move new) before after is work same t h =
+      moving_moves (folders_move m w dirty dirty_after did t (h ∙ ap (λ s. with_moves m.stage s m.pair dirty) (sym (stage_of same))))
+    where
+      stage_of : Move w ≡ Move new → w.stage ≡ new.stage
+      stage_of e = let all : w ≡ new = cc in ap (λ (k : Moving). k.stage) all
   work_moves live (SetMode s) (SetMode w) (SetMode new) before after is work same t h =
       folder_moves live s.path is (subst (λ x. is_own x s.path ≡ true) (sym work) (same_path-self s.path)) (settings.is_dirty s.stage) (settings.is_dirty new.stage)
       (λ was now. setting_synced s w did t was (ap begun same ∙ now)) h
@@ -140,33 +158,50 @@ module _ (job : Option Running) (newest older : List Entry) (dirty dirty_after :
       begun (Copy c) = false
       begun (Delete d) = false
       begun (Make m) = false
+      begun (Move m) = false
       begun (SetMode x) = settings.is_dirty x.stage
   work_moves live (Copy c) (Copy w) (Copy new) before after is work same t h =
       folder_moves live h.folder is (subst (λ x. is_own x h.folder ≡ true) (sym work) h.own) h.was h.now h.synced h.list
   work_moves live (Copy c) (Delete w) new before after is work same t h = absurd t
   work_moves live (Copy c) (Make w) new before after is work same t h = absurd t
+  work_moves live (Copy c) (Move w) new before after is work same t h = absurd t
   work_moves live (Copy c) (SetMode w) new before after is work same t h = absurd t
   work_moves live (Copy c) (Copy w) (Delete new) before after is work same t h = absurd h
   work_moves live (Copy c) (Copy w) (Make new) before after is work same t h = absurd h
+  work_moves live (Copy c) (Copy w) (Move new) before after is work same t h = absurd h
   work_moves live (Copy c) (Copy w) (SetMode new) before after is work same t h = absurd h
   work_moves live (Delete d) (Copy w) new before after is work same t h = absurd t
   work_moves live (Make m) (Copy w) new before after is work same t h = absurd t
+  work_moves live (Move m) (Copy w) new before after is work same t h = absurd t
   work_moves live (SetMode s) (Copy w) new before after is work same t h = absurd t
   work_moves live (Delete d) (Delete w) (Copy new) before after is work same t h = absurd h
   work_moves live (Make m) (Make w) (Copy new) before after is work same t h = absurd h
+  work_moves live (Move m) (Move w) (Copy new) before after is work same t h = absurd h
   work_moves live (SetMode s) (SetMode w) (Copy new) before after is work same t h = absurd h
   work_moves live (SetMode s) (Delete w) new before after is work same t h = absurd t
   work_moves live (SetMode s) (Make w) new before after is work same t h = absurd t
+  work_moves live (Move s) (Make w) new before after is work same t h = absurd t
+  work_moves live (SetMode s) (Move w) new before after is work same t h = absurd t
   work_moves live (SetMode s) (SetMode w) (Delete new) before after is work same t h = absurd h
   work_moves live (SetMode s) (SetMode w) (Make new) before after is work same t h = absurd h
+  work_moves live (Move s) (Move w) (Make new) before after is work same t h = absurd h
+  work_moves live (SetMode s) (SetMode w) (Move new) before after is work same t h = absurd h
   work_moves live (Delete d) (SetMode w) new before after is work same t h = absurd t
   work_moves live (Delete d) (Delete w) (SetMode new) before after is work same t h = absurd h
   work_moves live (Make m) (SetMode w) new before after is work same t h = absurd t
+  work_moves live (Make m) (Move w) new before after is work same t h = absurd t
+  work_moves live (Move m) (SetMode w) new before after is work same t h = absurd t
   work_moves live (Make m) (Make w) (SetMode new) before after is work same t h = absurd h
+  work_moves live (Make m) (Make w) (Move new) before after is work same t h = absurd h
+  work_moves live (Move m) (Move w) (SetMode new) before after is work same t h = absurd h
   work_moves live (Delete d) (Make w) new before after is work same t h = absurd t
+  work_moves live (Delete d) (Move w) new before after is work same t h = absurd t
   work_moves live (Delete d) (Delete w) (Make new) before after is work same t h = absurd h
+  work_moves live (Delete d) (Delete w) (Move new) before after is work same t h = absurd h
   work_moves live (Make m) (Delete w) new before after is work same t h = absurd t
+  work_moves live (Move m) (Delete w) new before after is work same t h = absurd t
   work_moves live (Make m) (Make w) (Delete new) before after is work same t h = absurd h
+  work_moves live (Move m) (Move w) (Delete new) before after is work same t h = absurd h
   work_moves live (Delete d) (Delete w) (Delete new) before after is work same t h = deletion_moves live d w before after is work did refl t h
 
   tries : (folder : Route) (refusal : Option TreeError) (d : Did) → did ≡ d → dirty_after ≡ after_try d refusal folder dirty → Moves
@@ -176,6 +211,7 @@ module _ (job : Option Running) (newest older : List Entry) (dirty dirty_after :
   tries folder refusal (Chunk bytes) is left = inl left
   tries folder refusal (Asked question) is left = inl left
   tries folder refusal (Merges pair names) is left = inl left
+  tries folder refusal (Moved pair) is left = inl left
   tries folder refusal (Set path) is left = inl left
   tries folder refusal (Placed path) is left = inl left
   tries folder refusal (Removed path) is left = inl left

@@ -3,7 +3,7 @@ use Rattle.std.proofs.Common.{◌≡◌, ℕ, Bool, true, false, List, [], ◌�
 use Rattle.std.specs.Prelude.{option_and_then, if◌then◌else◌}
 use Rattle.std.specs.Option.{option_map}
 use Rattle.job_reports.specs.declared.report.Did.{Did}
-use Rattle.job_reports.specs.declared.report.Did.TheVariants.{Began as BeganPart, Chunk, Placed, Removed, Made, Set, Kept, Skipped, Cleaned, Barrier, Asked, Merges, Troubled, Ended}
+use Rattle.job_reports.specs.declared.report.Did.TheVariants.{Began as BeganPart, Chunk, Placed, Removed, Made, Set, Kept, Skipped, Cleaned, Barrier, Asked, Merges, Moved, Troubled, Ended}
 use Rattle.job_reports.specs.declared.answer.Answer.{Answer}
 use Rattle.job_reports.specs.declared.answer.Answer.TheVariants.{Yes, No, All, Update, Nothing, SizeDiffers, Retry, Skip, SkipAll, Abort}
 use Rattle.session_history.specs.declared.history.Entry.{Entry}
@@ -36,6 +36,7 @@ step_numbered n (BeganPart part) (Some job) h live is = let same : job.id ≡ li
 step_numbered n (Chunk bytes) (Some job) h live is = let same : job.id ≡ live.id = cc in sym same ∙ h job refl
 step_numbered n (Asked question) (Some job) h live is = let same : job.id ≡ live.id = cc in sym same ∙ h job refl
 step_numbered n (Merges pair names) (Some job) h live is = let same : job.id ≡ live.id = cc in sym same ∙ h job refl
+step_numbered n (Moved pair) (Some job) h live is = let same : job.id ≡ live.id = cc in sym same ∙ h job refl
 step_numbered n (Set path) (Some job) h live is = let same : job.id ≡ live.id = cc in sym same ∙ h job refl
 step_numbered n (Placed path) (Some job) h live is = let same : job.id ≡ live.id = cc in sym same ∙ h job refl
 step_numbered n (Removed path) (Some job) h live is = let same : job.id ≡ live.id = cc in sym same ∙ h job refl

@@ -6,7 +6,7 @@ use Rattle.job_reports.specs.declared.answer.Answer.{Answer}
 use Rattle.job_reports.specs.declared.answer.Answer.TheVariants.{Yes, No, All, Update, Nothing, SizeDiffers, Retry, Skip, SkipAll, Abort}
 use Rattle.job_reports.specs.declared.job.Job.{Job}
 use Rattle.job_reports.specs.declared.report.Did.{Did}
-use Rattle.job_reports.specs.declared.report.Did.TheVariants.{Began as BeganPart, Chunk, Placed, Removed, Made, Set, Kept, Skipped, Cleaned, Barrier, Asked, Merges, Troubled, Ended}
+use Rattle.job_reports.specs.declared.report.Did.TheVariants.{Began as BeganPart, Chunk, Placed, Removed, Made, Set, Kept, Skipped, Cleaned, Barrier, Asked, Merges, Moved, Troubled, Ended}
 use Rattle.job_reports.specs.declared.report.Ending.{Ending}
 use Rattle.job_reports.specs.declared.report.Ending.TheVariants.{Finished, Aborted}
 use Rattle.job_reports.specs.declared.report.Trouble.{Trouble}
@@ -46,6 +46,7 @@ step_never (BeganPart part) (Some job) h = h
 step_never (Chunk count) (Some job) h = h
 step_never (Asked question) (Some job) h = λ is. absurd cc
 step_never (Merges pair names) (Some job) h = h
+step_never (Moved pair) (Some job) h = h
 step_never (Set path) (Some job) h = h
 step_never (Placed path) (Some job) h = h
 step_never (Removed path) (Some job) h = h

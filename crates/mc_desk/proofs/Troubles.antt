@@ -7,7 +7,7 @@ use Rattle.tree_trait.specs.Change.{CallLog}
 use Rattle.job_reports.specs.declared.answer.Answer.{Answer}
 use Rattle.job_reports.specs.declared.answer.Answer.TheVariants.{Yes, No, All, Update, Nothing, SizeDiffers, Retry, Skip, SkipAll, Abort}
 use Rattle.job_reports.specs.declared.report.Did.{Did}
-use Rattle.job_reports.specs.declared.report.Did.TheVariants.{Began as BeganPart, Chunk, Placed, Removed, Made, Set, Kept, Skipped, Cleaned, Barrier, Asked, Merges, Troubled, Ended}
+use Rattle.job_reports.specs.declared.report.Did.TheVariants.{Began as BeganPart, Chunk, Placed, Removed, Made, Set, Kept, Skipped, Cleaned, Barrier, Asked, Merges, Moved, Troubled, Ended}
 use Rattle.job_reports.specs.declared.report.Trouble.{Trouble}
 use Rattle.job_reports.specs.Waits.{waits_at}
 use Rattle.job_reports.specs.declared.waits.Waits.{Waits}
@@ -85,6 +85,7 @@ step_waits id live (Cleaned part) allowed = λ waits. absurd (not_ready live (Cl
 step_waits id live Barrier allowed = λ waits. absurd (not_ready live Barrier allowed waits)
 step_waits id live (Asked question) allowed = λ waits. refl
 step_waits id live (Merges pair names) allowed = λ waits. absurd (not_ready live (Merges pair names) allowed waits)
+step_waits id live (Moved pair) allowed = λ waits. absurd (not_ready live (Moved pair) allowed waits)
 step_waits id live (Troubled trouble) allowed = λ waits. trouble_waits live trouble
 step_waits id live (Ended ending part) allowed = tt
 

@@ -8,7 +8,7 @@ use Rattle.tree_trait.specs.declared.devices.Command.{Command}
 use Rattle.key_screen.specs.declared.keys.Key.{Key as KeyType}
 use Rattle.key_screen.specs.DecodedKeys.{decoded_keys}
 use Rattle.job_reports.specs.declared.job.Job.{Job}
-use Rattle.job_reports.specs.declared.report.Did.TheVariants.{Barrier, Removed}
+use Rattle.job_reports.specs.declared.report.Did.TheVariants.{Barrier, Moved, Removed}
 use Rattle.session_history.specs.declared.history.Event.TheVariants.{Step}
 use Rattle.session_history.specs.declared.history.Entry.{Entry}
 use Rattle.session_history.specs.Sources.{sources_left}
@@ -17,6 +17,7 @@ use Rattle.copy_move.specs.Told.{told}
 use Rattle.copy_move.specs.Settling.{is_own}
 use Rattle.tree_deletion.specs.Folders.{joined}
 use Rattle.job_reports.specs.Paths.{folder_of, without}
+use Rattle.job_reports.specs.declared.job.Pair.{Pair}
 use Rattle.history_laws.specs.Traces.{Stand, before_others}
 use Rattle.mc_ui.specs.Screens.{Screen, Ends}
 use Rattle.mc_ui.specs.Seekings.{is_seeking}
@@ -228,6 +229,11 @@ abbrev pub HasRemoved : List Entry → Route → Type 0
 HasRemoved [] path = ⊥
 HasRemoved (e ∷ older) path = (id : ℕ) × (e.what ≡ Step id (Removed path))
 
+-- the newest entry is the report that a thing was moved
+abbrev pub HasMoved : List Entry → Pair → Type 0
+HasMoved [] pair = ⊥
+HasMoved (e ∷ older) pair = (id : ℕ) × (e.what ≡ Step id (Moved pair))
+
 -- a folder of the live job's own joined the dirty ones
 pub record JoinsDirty (job : Option Running) (dirty dirty_after : List Route) : Type 0 where
   pub live : Running
@@ -242,11 +248,18 @@ pub record RemovesDirty (newest : List Entry) (dirty dirty_after : List Route) :
   pub removed : HasRemoved newest path
   pub leaves : dirty_after ≡ without path (joined (folder_of path) dirty)
 
--- What a step makes of the dirty folders: one of the live job's own may join them, and one leaves them only with the report of its
--- removal, or of a sync.
+-- a thing was moved: the folder where it went joined the dirty ones, and the one where it was
+pub record JoinsBoth (newest : List Entry) (dirty dirty_after : List Route) : Type 0 where
+  pub pair : Pair
+  pub moved : HasMoved newest pair
+  pub join : dirty_after ≡ joined (folder_of pair.source) (joined (folder_of pair.target) dirty)
+
+-- What a step makes of the dirty folders: one of the live job's own may join them, or both where something was moved, and one leaves them only with
+-- the report of its removal, or of a sync.
 abbrev pub MovesDirty : Option Running → List Entry → List Route → List Route → Type 0
 MovesDirty job newest dirty dirty_after =
-    (dirty_after ≡ dirty) ⊎ (JoinsDirty job dirty dirty_after ⊎ (RemovesDirty newest dirty dirty_after ⊎ ((folder : Route) × (dirty_after ≡ without folder dirty) × HasSynced newest)))
+    (dirty_after ≡ dirty) ⊎ (JoinsDirty job dirty dirty_after ⊎ (RemovesDirty newest dirty dirty_after
+    ⊎ (JoinsBoth newest dirty dirty_after ⊎ ((folder : Route) × (dirty_after ≡ without folder dirty) × HasSynced newest))))
 
 -- the answer of a step where no job can be stepped, by whether the desk is closed
 abbrev pub idle_reply : Bool → StepReply

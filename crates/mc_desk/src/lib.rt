@@ -18,7 +18,7 @@ mod terminal;
 
 pub use desk::Desk;
 pub use mc_ui::{
-    Ask, Choice, Chosen, Dialog, JobPlan, KeyAct, Told, Ui, choose, plan_copy, resolve_text,
+    Ask, Choice, Chosen, Dialog, JobPlan, KeyAct, Told, Ui, choose, plan_carry, resolve_text,
 };
 pub use panel_pair::Side;
 pub use replies::{DeskError, DeskReply, Ended, Refused, StepReply};

@@ -10,6 +10,7 @@ use Rattle.history_laws.proofs.Calmed.{calm_law}
 use Rattle.history_laws.proofs.Done.{done_law}
 use Rattle.history_laws.proofs.Histories.{traced_reached}
 use Rattle.history_laws.proofs.Moments.{replay_law, session_law}
+use Rattle.history_laws.proofs.WholeMoments.{whole_law}
 use Rattle.outcome_laws.proofs.AnswersLaw.{answered_law}
 use Rattle.outcome_laws.proofs.Elsewhere.{untouched_law}
 use Rattle.outcome_laws.proofs.KeptSessions.{kept_law}
@@ -24,7 +25,7 @@ use Rattle.mc_desk.proofs.Terminals.{since_is}
 use Rattle.mc_main.specs.declared.session.SessionEnd.{SessionEnd}
 use Rattle.mc_main.specs.declared.session.SessionEnd.TheVariants.{Quit, KeysEnded}
 use Rattle.mc_main.proofs.Starting.{can_read}
-use Rattle.mc_main.specs.Headline.{IsAnsweredRun, IsCalmedRun, IsCut, ShowsRun, IsFinishedRun, IsOutcomeRun, IsReplayedRun, IsSafeRun, IsStatusOf, IsStatusOr, MayRefuseStart, IsComplete, RanSession, TookAll}
+use Rattle.mc_main.specs.Headline.{IsAnsweredRun, IsCalmedRun, IsCut, ShowsRun, IsFinishedRun, IsOutcomeRun, IsReplayedRun, IsSafeRun, IsStatusOf, IsStatusOr, MayRefuseStart, IsComplete, IsWholeRun, RanSession, TookAll}
 
 -- the trace of a tree that tells
 told_trace : (o contents : Option CallLog) (newest : List Entry) (opening now : CallLog) → o ≡ Some opening → contents ≡ Some now → IsTracedTo o contents newest → (dirty : List Route) × IsTraced opening newest (at_rest dirty) now
@@ -37,6 +38,12 @@ told_trace o contents newest opening now o_is is traced =
 pub safe_to : (o contents : Option CallLog) (newest : List Entry) → IsTracedTo o contents newest → IfKnown o (λ opening. IfKnown contents (λ now. IsSafeRun opening now newest))
 safe_to o contents newest traced opening o_is now is tree settled standing coming calls image moment left =
     let t = told_trace o contents newest opening now o_is is traced in session_law opening now newest standing coming (at_rest t.0) calls image tree settled t.1 moment left
+
+-- and a file that is moved is whole
+pub whole_to : (o contents : Option CallLog) (newest : List Entry) → IsTracedTo o contents newest → IfKnown o (λ opening. IfKnown contents (λ now. IsWholeRun opening now newest))
+whole_to o contents newest traced opening o_is now is tree settled older standing coming e id pair calls image moved unnamed moment since left =
+    let t = told_trace o contents newest opening now o_is is traced in
+    whole_law opening now newest older standing coming (at_rest t.0) e id pair calls image tree settled t.1 moved unnamed moment since left
 
 -- what a finished job did stays done
 pub finished_to : (o contents : Option CallLog) (newest : List Entry) → IsTracedTo o contents newest → IfKnown o (λ opening. IfKnown contents (λ now. IsFinishedRun opening now newest))

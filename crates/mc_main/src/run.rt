@@ -8,7 +8,7 @@ ghost use Rattle.mc_desk.specs.Shown.{put_since};
 ghost use Rattle.mc_desk.specs.Tallies.{faults_in, has_lost};
 ghost use Rattle.mc_desk.specs.Desks.{RanNothing};
 ghost use Rattle.mc_main.specs.Beginnings.{asked_in, printed_for, surroundings_in, start_in, status_with, text_of};
-ghost use Rattle.mc_main.specs.Headline.{IsStatusOr, MayRefuseStart, RefusesStart, IsRun, ReadsKeys, TookAll, IsSafeRun, IsFinishedRun, IsOutcomeRun, IsAnsweredRun, IsCalmedRun, IsReplayedRun, ShowsRun, IsComplete};
+ghost use Rattle.mc_main.specs.Headline.{IsStatusOr, MayRefuseStart, RefusesStart, IsRun, ReadsKeys, TookAll, IsSafeRun, IsFinishedRun, IsOutcomeRun, IsAnsweredRun, IsCalmedRun, IsReplayedRun, ShowsRun, IsComplete, IsWholeRun};
 ghost use Rattle.mc_main.specs.Printed.{PrintsStart};
 
 use crate::endings::{refuse, refuse_start, run_desk, without_session};
@@ -64,10 +64,15 @@ pub fn mc_run<N: Tag, T: Tree, K: Source, S: Sink, P: Spawner, C: Clock, G: Gate
 
     // At each moment, inside a call too, each path holds after a crash what the history says, or what it held before its last
     // change as long as that isn't on the disk: a copied source is unchanged, a target is as it was or has the source's bytes
-    // and mode, a file that is deleted is whole or gone. Parts that an entry named may be missing or hold anything, until they
+    // and mode, a file that is deleted is whole or gone, and so is one that is moved at its source. Parts that an entry named may be missing or hold anything, until they
     // are gone or replaced and that is on the disk.
     ensures safe { IfKnown (T.contents tree) (λ opening. IfKnown (T.contents result.tree) (λ now.
         IsSafeRun opening now (reverse result.history.entries))) }
+
+    // A thing that is moved is whole at its source or at its target, in one and the same image, at each moment from its renaming on, inside that too, until
+    // another source is taken up; but for one that was named as a part.
+    ensures whole { IfKnown (T.contents tree) (λ opening. IfKnown (T.contents result.tree) (λ now.
+        IsWholeRun opening now (reverse result.history.entries))) }
 
     // What a job did for a source with which it is done stays done, at each later moment, until an entry names the path again, or the folder that holds it; but
     // for parts that were named, and, unless it was the job's own, the mode of a folder at which another mount begins.
@@ -75,13 +80,13 @@ pub fn mc_run<N: Tag, T: Tree, K: Source, S: Sink, P: Spawner, C: Clock, G: Gate
         IsFinishedRun opening now (reverse result.history.entries))) }
 
     // Where a job is done with one of its sources, all that it was to do with it is done, but for what it passed over: a copy stands of all that stands at
-    // the source, nothing stands that was to be removed, and what was to be made, or given a mode, is so. All else is as it was where the job began with it.
+    // the source, what was moved stands at its target, and not at its source, nothing stands that was to be removed, and what was to be made, or given a mode, is so. All else is as it was where the job began with it.
     // So at its end all is done with all its sources, where no later one touches what concerns an earlier one.
     ensures outcome { IfKnown (T.contents tree) (λ opening. IfKnown (T.contents result.tree) (λ now.
         IsOutcomeRun opening now (reverse result.history.entries))) }
 
-    // A job asks what is to become of a file or a link at the target of its copy where no answer decides that, keeps it where one says so, and begins a part
-    // beside it only where one says that it is replaced.
+    // A job asks what is to become of a file or a link at the target of its copy or its move where no answer decides that, keeps it where one says so, and begins a
+    // part beside it, or moves something onto it, only where one says that it is replaced.
     ensures answered { IfKnown (T.contents tree) (λ opening. IfKnown (T.contents result.tree) (λ now.
         IsAnsweredRun opening now (reverse result.history.entries))) }
 

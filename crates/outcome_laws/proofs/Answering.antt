@@ -16,7 +16,7 @@ use Rattle.job_reports.specs.Paths.{folder_of}
 use Rattle.job_reports.specs.declared.job.Pair.{Pair}
 use Rattle.job_reports.specs.declared.question.Question.{Question}
 use Rattle.job_reports.specs.declared.report.Did.{Did}
-use Rattle.job_reports.specs.declared.report.Did.TheVariants.{Began, Chunk, Placed, Removed, Made, Set, Kept, Skipped, Cleaned, Barrier, Asked, Merges, Troubled, Ended}
+use Rattle.job_reports.specs.declared.report.Did.TheVariants.{Began, Chunk, Placed, Removed, Made, Set, Kept, Skipped, Cleaned, Barrier, Asked, Merges, Moved, Troubled, Ended}
 use Rattle.job_reports.specs.declared.report.StepResult.{StepResult}
 use Rattle.job_answers.specs.declared.replies.Decision.{Decision}
 use Rattle.job_answers.specs.declared.replies.Decision.TheVariants.{Ask, Keep, Replace}
@@ -75,6 +75,7 @@ IsOther (Skipped path cause) = ⊤
 IsOther (Cleaned part) = ⊤
 IsOther Barrier = ⊤
 IsOther (Merges pair names) = ⊤
+IsOther (Moved pair) = ⊤
 IsOther (Troubled trouble) = ⊤
 IsOther (Ended ending part) = ⊤
 
@@ -91,6 +92,7 @@ other_as replies source target v (Skipped path cause) h = tt
 other_as replies source target v (Cleaned part) h = tt
 other_as replies source target v Barrier h = tt
 other_as replies source target v (Merges pair names) h = tt
+other_as replies source target v (Moved pair) h = tt
 other_as replies source target v (Troubled trouble) h = tt
 other_as replies source target v (Ended ending part) h = tt
 
@@ -120,6 +122,7 @@ file_other f moved (Removed path) t begun = tt
 file_other f moved (Made path) t begun = tt
 file_other f moved (Set path) t begun = tt
 file_other f moved (Merges pair names) t begun = tt
+file_other f moved (Moved pair) t begun = tt
 
 link_other : (l moved : LinkCopying) (did : Did) → link.Tells l did moved → (l.stage ≡ link_stage.Make → ⊥) → IsOther did
 link_other l moved (Began part) t begun = absurd (begun t.0)
@@ -136,9 +139,10 @@ link_other l moved (Removed path) t begun = tt
 link_other l moved (Made path) t begun = tt
 link_other l moved (Set path) t begun = tt
 link_other l moved (Merges pair names) t begun = tt
+link_other l moved (Moved pair) t begun = tt
 
 -- nothing stands there, so nothing is replaced
-none_there : {A : Type 0} (o : Option Value) → o ≡ None → is_some o ≡ true → A
+pub none_there : {A : Type 0} (o : Option Value) → o ≡ None → is_some o ≡ true → A
 none_there None none some = absurd (let f : ⊥ = cc in f)
 none_there (Some x) none some = absurd (let f : ⊥ = cc in f)
 
@@ -209,6 +213,7 @@ module _ (log : CallLog) (v : View) (top : Pair) (unclaimed : Route → Type 0) 
   file_as pair facts moved m onto shows (Cleaned part) t called = tt
   file_as pair facts moved m onto shows Barrier t called = tt
   file_as pair facts moved m onto shows (Merges told names) t called = tt
+  file_as pair facts moved m onto shows (Moved told) t called = tt
   file_as pair facts moved m onto shows (Ended ending part) t called = tt
 
   link_as : (pair : Pair) (k : ℕ) (part : Route) (moved : LinkCopying) → part ≡ part_path (places old.job pair.source pair.target) k → IsMoved top pair.source pair.target → IsOpen (current log) (is_top old) replies pair → ShowsTree v log
@@ -226,6 +231,7 @@ module _ (log : CallLog) (v : View) (top : Pair) (unclaimed : Route → Type 0) 
   link_as pair k part moved part_is m onto shows (Cleaned left) t = tt
   link_as pair k part moved part_is m onto shows Barrier t = tt
   link_as pair k part moved part_is m onto shows (Merges told names) t = tt
+  link_as pair k part moved part_is m onto shows (Moved told) t = tt
   link_as pair k part moved part_is m onto shows (Ended ending left) t = tt
 
   moved_as : (pair : Pair) → due old ≡ Thing pair → IsMoved top pair.source pair.target

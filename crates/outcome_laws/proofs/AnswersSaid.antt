@@ -1,9 +1,8 @@
 -- By induction over a history: what a live job has been answered is what the history says, and it waits for an answer to its question where the history says so.
-use Rattle.std.proofs.Common.{◌≡◌, ℕ, Bool, true, false, List, [], ◌∷◌, length, refl, sym, ◌∙◌, ap, subst, inl, inr, Option, Some, None}
-use Rattle.std.specs.Prelude.{⊤, ◌+◌, ◌==◌, ◌&&◌, not, if◌then◌else◌, map}
+use Rattle.std.proofs.Common.{◌≡◌, ℕ, Bool, true, false, List, [], ◌∷◌, refl, sym, ◌∙◌, ap, subst, inl, inr, Option, Some, None}
+use Rattle.std.specs.Prelude.{⊤, ◌==◌, ◌&&◌, not, if◌then◌else◌, map}
 use Rattle.std.specs.Option.{option_map_or}
 use Rattle.std.proofs.lemmas.Bool.{eq-eqb}
-use Rattle.mc_text.specs.Routes.{Route}
 use Rattle.tree_trait.specs.Shape.{IsTree}
 use Rattle.tree_trait.specs.Change.{CallLog, current}
 use Rattle.tree_trait.specs.CrashImages.{all_settled}
@@ -11,7 +10,7 @@ use Rattle.job_reports.specs.declared.answer.Answer.{Answer}
 use Rattle.job_reports.specs.declared.answer.Answer.TheVariants.{Yes, No, All, Update, Nothing, SizeDiffers, Retry, Skip, SkipAll, Abort}
 use Rattle.job_reports.specs.declared.job.Job.{Job}
 use Rattle.job_reports.specs.declared.report.Did.{Did}
-use Rattle.job_reports.specs.declared.report.Did.TheVariants.{Began, Chunk, Placed, Removed, Made, Set, Kept, Skipped, Cleaned, Barrier, Asked, Merges, Troubled, Ended}
+use Rattle.job_reports.specs.declared.report.Did.TheVariants.{Began, Chunk, Placed, Removed, Made, Set, Kept, Skipped, Cleaned, Barrier, Asked, Merges, Moved, Troubled, Ended}
 use Rattle.job_reports.specs.declared.report.Ending.{Ending}
 use Rattle.job_reports.specs.declared.report.Ending.TheVariants.{Aborted, Finished}
 use Rattle.job_answers.specs.declared.replies.Replies.{Replies}
@@ -30,7 +29,7 @@ use Rattle.copy_move.specs.declared.work.Work.{Work}
 use Rattle.copy_move.specs.Jobs.{Running, TellsOn, answered, answered_on, asks_on, begun_work, closed_course, closed_job, course_after}
 use Rattle.copy_move.specs.Steps.{SyncsOwed}
 use Rattle.copy_move.specs.Told.{running}
-use Rattle.history_laws.specs.Traces.{EventLeads, IsTraced, Stand, StepLeads, WorkLeads, before_others, if_closed, ordered, unless_ended, with_job}
+use Rattle.history_laws.specs.Traces.{EventLeads, IsTraced, Stand, StepLeads, before_others, if_closed, ordered, unless_ended, with_job}
 use Rattle.history_laws.proofs.Finished.{AreTidy, IsTidyJob, traced_tidy}
 use Rattle.history_laws.proofs.FinishedPaths.{wound_up}
 use Rattle.history_laws.proofs.Going.{only_job}
@@ -42,7 +41,7 @@ use Rattle.history_laws.proofs.Turns.{Turned, one_turned, turned_id, turned_to}
 use Rattle.outcome_laws.specs.Answered.{asks_after, asks_by, asks_still, replies_said, said_after, settles}
 use Rattle.outcome_laws.proofs.Doing.{ordered_id}
 use Rattle.outcome_laws.proofs.MadeThings.{Unless, unless_of}
-use Rattle.outcome_laws.proofs.Touching.{UnlessEnding, unless_ending}
+use Rattle.outcome_laws.proofs.Touching.{UnlessEnding}
 
 if_same : {A : Type 0} (b : Bool) (x y : A) → b ≡ true → (if b then x else y) ≡ x
 if_same true x y is = refl
@@ -73,6 +72,7 @@ said_before (Cleaned part) asks said new h = h
 said_before Barrier asks said new h = h
 said_before (Asked question) asks said new h = h
 said_before (Merges pair names) asks said new h = h
+said_before (Moved pair) asks said new h = h
 said_before (Troubled trouble) asks said new h = h
 
 -- a step of a job that goes on
@@ -90,6 +90,7 @@ goes_said (Cleaned part) said replies is = (refl, is)
 goes_said Barrier said replies is = (refl, is)
 goes_said (Asked question) said replies is = (refl, is)
 goes_said (Merges pair names) said replies is = (refl, is)
+goes_said (Moved pair) said replies is = (refl, is)
 goes_said (Troubled trouble) said replies is = (refl, is)
 
 course_said : (job new : Running) (did : Did) (course : Course) (asks : Bool) (said : Replies) → job.course ≡ course → TellsOn course job did new → UnlessEnding course (IsSaid asks said course job.replies)
@@ -278,7 +279,7 @@ module _ (opening : CallLog) (tree : IsTree (current opening)) (settled : all_se
   event_said older was before r traced k (Next id plan) after now s =
       let one = only_job id was.jobs s.job (told_of opening before older r.part) was.dirty r.marks before s.its r.knows in
       let job = s.job in
-      let t : IsTidyJob opening older was.dirty job = subst (λ js. AreTidy opening older was.dirty js) one.0 (traced_tidy opening tree settled older was before traced) in
+      let t : IsTidyJob opening older was.dirty before job = subst (λ js. AreTidy opening older was.dirty before js) one.0 (traced_tidy opening tree settled older was before traced) in
       let done = s.done in
       let said = subst (λ js. JobsSaid (λ n. asks_still n older) (λ n. replies_said n older) js) one.0 k in
       subst (λ js. Then older (Next id plan) js) (sym (one_turned id was.jobs s.job s.next after.jobs one.0 one.1 s.jobs_is))

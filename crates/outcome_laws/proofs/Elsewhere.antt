@@ -35,24 +35,19 @@ use Rattle.history_laws.proofs.FinishedPaths.{wound_up}
 use Rattle.history_laws.proofs.Going.{only_job}
 use Rattle.history_laws.proofs.Histories.{IsReached, enters, step_view, traced_reached}
 use Rattle.history_laws.proofs.Moments.{log_of}
-use Rattle.history_laws.proofs.Prefixes.{AreWithin, replayed_more, told_of}
+use Rattle.history_laws.proofs.Prefixes.{replayed_more, told_of}
 use Rattle.history_laws.proofs.Reports.{with_one}
 use Rattle.history_laws.proofs.Sources.{item_in, tells_same}
 use Rattle.history_laws.proofs.Stepped.{more}
 use Rattle.history_laws.proofs.Turns.{Turned, one_turned, turned_id, turned_to}
+use Rattle.outcome_laws.specs.Begun.{begun_after, tree_begun}
 use Rattle.outcome_laws.specs.Outcomes.{Finishes, passed_over}
-use Rattle.outcome_laws.specs.Untouched.{UntouchedLaw, begun_after, touches, tree_begun}
+use Rattle.outcome_laws.specs.Untouched.{UntouchedLaw, touches}
+use Rattle.outcome_laws.proofs.BegunTrees.{begun_more}
 use Rattle.outcome_laws.proofs.Doing.{JobDone, JobsDone}
 use Rattle.outcome_laws.proofs.MadeThings.{Unless}
 use Rattle.outcome_laws.proofs.Outcome.{traced_done}
 use Rattle.outcome_laws.proofs.Touching.{IsAsBegun, JobKept, JobsKept, UnlessEnding, closed_kept, course_touches, kept_after, orders_kept, unless_ending}
-
--- where a job was begun doesn't hang on later calls
-pub begun_more : (opening now : CallLog) (cs : List Change) (id : ℕ) (g : List Entry) → AreWithin opening g now → tree_begun opening (more now cs) id g ≡ tree_begun opening now id g
-begun_more opening now cs id [] w = refl
-begun_more opening now cs id (e ∷ older) (few, w) =
-    ap (λ v. begun_after id e.what v (tree_begun opening (more now cs) id older)) (replayed_more opening now cs older w)
-    ∙ ap (begun_after id e.what (replayed_tree opening now older)) (begun_more opening now cs id older w)
 
 if_same : (b : Bool) (x y : View) → b ≡ true → (if b then x else y) ≡ x
 if_same true x y is = refl
@@ -74,8 +69,8 @@ module _ (opening : CallLog) (tree : IsTree (current opening)) (settled : all_se
     job_kept : JobKept (replayed_tree opening before older) (λ n. tree_begun opening before n older) job
     job_kept = subst (λ js. JobsKept (replayed_tree opening before older) (λ n. tree_begun opening before n older) js) jobs_is k
 
-    job_done : JobDone (passed_over job.id older) (replayed_tree opening before older) (current before) job
-    job_done = subst (λ js. JobsDone (λ n. passed_over n older) (replayed_tree opening before older) (current before) js) jobs_is (traced_done opening tree settled older was before traced)
+    job_done : JobDone (passed_over job.id older) (tree_begun opening before job.id older) (replayed_tree opening before older) (current before) job
+    job_done = subst (λ js. JobsDone (λ n. passed_over n older) (λ n. tree_begun opening before n older) (replayed_tree opening before older) (current before) js) jobs_is (traced_done opening tree settled older was before traced)
 
     view_is : replayed_event (log_prefix opening calls now) (Step id did) (live_jobs older) (replayed_tree opening now older) ≡ then_view
     view_is = step_view opening older calls was before r now id did counts job jobs_is id_is made now_is
@@ -96,7 +91,7 @@ module _ (opening : CallLog) (tree : IsTree (current opening)) (settled : all_se
     stepped new (inl (next, inl works, after_is)) is =
         subst (λ js. Then older calls (Step id did) now js) (sym (jobs_then new is ∙ ap (λ o. before_others o []) after_is))
         (let w = works.walks in
-        after_one next (course_touches was.dirty after.dirty before now (passed_over job.id older) (replayed_tree opening before older) job next did job.course w.0 w.1 w.2 (λ n. tree_begun opening before n older) refl works.tells w.3 job_done job_kept (tells_same job next did works.tells)))
+        after_one next (course_touches was.dirty after.dirty before now (passed_over job.id older) (tree_begun opening before job.id older) (replayed_tree opening before older) job next did job.course w.0 w.1 w.2 (λ n. tree_begun opening before n older) refl works.tells w.3 job_done job_kept (tells_same job next did works.tells)))
     stepped new (inl (next, inr syncs, after_is)) is =
         subst (λ js. Then older calls (Step id did) now js) (sym (jobs_then new is ∙ ap (λ o. before_others o []) after_is)) (by syncs.synced)
       where
@@ -176,7 +171,7 @@ module _ (opening now : CallLog) (newest : List Entry) (stand : Stand) (tree : I
       of_job : (part : Option Route) (job new : Running) → f.was.jobs ≡ job ∷ [] → job.id ≡ id → WorkLeads job (Ended Finished part) new f.was.dirty f.after.dirty f.before f.now → item_in job.work ≡ item → AsBegun
       of_job part job new jobs_is id_is works same =
           let r = traced_reached opening tree settled older f.was f.before f.traced in
-          let t : IsTidyJob opening older f.was.dirty job = subst (λ js. AreTidy opening older f.was.dirty js) jobs_is (traced_tidy opening tree settled older f.was f.before f.traced) in
+          let t : IsTidyJob opening older f.was.dirty f.before job = subst (λ js. AreTidy opening older f.was.dirty f.before js) jobs_is (traced_tidy opening tree settled older f.was f.before f.traced) in
           let k : JobKept (replayed_tree opening f.before older) (λ n. tree_begun opening f.before n older) job =
           subst (λ js. JobsKept (replayed_tree opening f.before older) (λ n. tree_begun opening f.before n older) js) jobs_is (traced_kept opening tree settled older f.was f.before f.traced) in
           let kept : IsAsBegun (replayed_tree opening f.before older) (tree_begun opening f.before job.id older) (item_in job.work) =

@@ -6,7 +6,7 @@ use Rattle.tree_trait.specs.Change.{CallLog}
 use Rattle.tree_trait.specs.CrashImages.{Among}
 use Rattle.job_answers.specs.declared.replies.Replies.{Replies}
 use Rattle.job_reports.specs.declared.report.Did.{Did}
-use Rattle.job_reports.specs.declared.report.Did.TheVariants.{Began, Chunk, Placed, Removed, Made, Set, Kept, Skipped, Cleaned, Barrier, Asked, Merges, Troubled, Ended}
+use Rattle.job_reports.specs.declared.report.Did.TheVariants.{Began, Chunk, Placed, Removed, Made, Set, Kept, Skipped, Cleaned, Barrier, Asked, Merges, Moved, Troubled, Ended}
 use Rattle.copy_levels.specs.Levels.{passed}
 use Rattle.tree_copy.specs.Reports.{changes}
 use Rattle.tree_copy.specs.Standing.{Seen, is_fresh}
@@ -57,6 +57,7 @@ IsOwn (Kept path) = ⊥
 IsOwn (Skipped path cause) = ⊥
 IsOwn (Asked question) = ⊥
 IsOwn (Merges pair names) = ⊥
+IsOwn (Moved pair) = ⊥
 IsOwn (Troubled trouble) = ⊥
 
 pub tells_own : (old new : SubtreeCopying) (did : Did) → IsOwn did → MayTell did → IsAfter did old new → (is_fresh old.at.stage ≡ true → MayBegin did) → (IsOver old.at → IsOver new.at × (changes did ≡ false)) → Tells old did new

@@ -18,7 +18,7 @@ use Rattle.job_reports.specs.Jobs.{Copies}
 use Rattle.job_reports.specs.declared.job.Pair.{Pair}
 use Rattle.job_reports.specs.declared.report.Cause.{Cause}
 use Rattle.job_reports.specs.declared.report.Did.{Did}
-use Rattle.job_reports.specs.declared.report.Did.TheVariants.{Began, Chunk, Placed, Removed, Made, Set, Kept, Skipped, Cleaned, Barrier, Asked, Merges, Troubled, Ended}
+use Rattle.job_reports.specs.declared.report.Did.TheVariants.{Began, Chunk, Placed, Removed, Made, Set, Kept, Skipped, Cleaned, Barrier, Asked, Merges, Moved, Troubled, Ended}
 use Rattle.job_reports.specs.declared.report.Ending.TheVariants.{Finished, Aborted, Killed, NoMemory}
 use Rattle.file_copy.specs.CopySteps as file
 use Rattle.file_copy.specs.Copying.{Copying, Tells, after_clean, skipped, taken_anew}
@@ -141,6 +141,7 @@ module _ (now : CallLog) (v : View) (passed : List Route) (top : Pair) where
     file_goes f moved (Kept path) m t begun d = absurd t
     file_goes f moved (Asked question) m t begun d = absurd t
     file_goes f moved (Merges pair names) m t begun d = absurd t
+    file_goes f moved (Moved pair) m t begun d = absurd t
     file_goes f moved (Skipped path cause) m t begun d = absurd t
 
 -- a file that is skipped is covered

@@ -23,7 +23,7 @@ use Rattle.session_history.specs.LiveJobs.{live_jobs}
 use Rattle.session_history.specs.Sources.{sources_of}
 use Rattle.copy_move.specs.declared.run.Course.TheVariants.{GoesOn, Skips}
 use Rattle.copy_move.specs.declared.work.Work.{Work}
-use Rattle.copy_move.specs.declared.work.Work.TheVariants.{Copy, Delete, Make, SetMode}
+use Rattle.copy_move.specs.declared.work.Work.TheVariants.{Copy, Delete, Make, Move, SetMode}
 use Rattle.thing_making.specs.declared.new_thing.NewThing.{NewThing}
 use Rattle.thing_making.specs.declared.new_thing.NewThing.TheVariants as thing
 use Rattle.copy_move.specs.Jobs.{Running, begun_work}
@@ -41,10 +41,11 @@ use Rattle.history_laws.proofs.Reports.{with_one}
 use Rattle.history_laws.proofs.Sources.{item_in, making_item, tells_same}
 use Rattle.history_laws.proofs.Stepped.{more}
 use Rattle.history_laws.proofs.Turns.{Turned, one_turned, turned_id, turned_to}
+use Rattle.outcome_laws.specs.Begun.{begun_after, tree_begun}
 use Rattle.outcome_laws.specs.Keeps.{KeptLaw, has_kept, keeps_after, keeps_by}
 use Rattle.outcome_laws.specs.Outcomes.{Finishes}
-use Rattle.outcome_laws.specs.Untouched.{begun_after, tree_begun}
-use Rattle.outcome_laws.proofs.Elsewhere.{begun_more, ended_on}
+use Rattle.outcome_laws.proofs.BegunTrees.{begun_more}
+use Rattle.outcome_laws.proofs.Elsewhere.{ended_on}
 use Rattle.outcome_laws.proofs.TopSteps.{AllSame}
 use Rattle.outcome_laws.proofs.KeptTargets.{JobSpares, JobsSpare, Spares, begun_spares, closed_spare, course_spares, orders_spare, spares_after, turned_spares}
 use Rattle.outcome_laws.proofs.MadeThings.{Unless}
@@ -191,6 +192,7 @@ all_same : (v was : View) (kept : Bool) (work : Work) (source target : Route) �
 all_same v was kept (Copy c) source target is has s = (s.spared.over has).1
 all_same v was kept (Delete d) source target is has s = absurd (let f : ⊥ = cc in f)
 all_same v was kept (Make m) source target is has s = made_no_copy m.thing m.path source target is
+all_same v was kept (Move m) source target is has s = absurd (let f : ⊥ = cc in f)
 all_same v was kept (SetMode w) source target is has s = absurd (let f : ⊥ = cc in f)
 
 module _ (opening now : CallLog) (newest : List Entry) (stand : Stand) (tree : IsTree (current opening)) (settled : all_settled opening.changes ≡ true) (e : Entry) (older : List Entry) (id : ℕ) (source target path : Route)
@@ -204,7 +206,7 @@ module _ (opening now : CallLog) (newest : List Entry) (stand : Stand) (tree : I
       of_job : (part : Option Route) (job new : Running) → f.was.jobs ≡ job ∷ [] → job.id ≡ id → WorkLeads job (Ended Finished part) new f.was.dirty f.after.dirty f.before f.now → item_in job.work ≡ Copies source target → AsBegun
       of_job part job new jobs_is id_is works same =
           let r = traced_reached opening tree settled older f.was f.before f.traced in
-          let t : IsTidyJob opening older f.was.dirty job = subst (λ js. AreTidy opening older f.was.dirty js) jobs_is (traced_tidy opening tree settled older f.was f.before f.traced) in
+          let t : IsTidyJob opening older f.was.dirty f.before job = subst (λ js. AreTidy opening older f.was.dirty f.before js) jobs_is (traced_tidy opening tree settled older f.was f.before f.traced) in
           let k : JobSpares (replayed_tree opening f.before older) (λ n. tree_begun opening f.before n older) (λ n. has_kept n older) job =
           subst (λ js. JobsSpare (replayed_tree opening f.before older) (λ n. tree_begun opening f.before n older) (λ n. has_kept n older) js) jobs_is (traced_spared opening tree settled older f.was f.before f.traced) in
           let s : Spares (replayed_tree opening f.before older) (tree_begun opening f.before job.id older) (has_kept job.id older) job.work =

@@ -1,7 +1,7 @@
 -- What a job has spared for the source at which it is, and how each step, skip, answer and next source keeps that.
-use Rattle.std.proofs.Common.{◌≡◌, ℕ, Bool, true, false, List, [], ◌∷◌, refl, sym, ◌∙◌, ap, subst, inl, inr, Option, Some}
+use Rattle.std.proofs.Common.{◌≡◌, ℕ, Bool, true, false, not, List, [], ◌∷◌, refl, sym, ◌∙◌, ap, subst, inl, inr, Option, Some}
 use Rattle.std.specs.Prelude.{⊤, ◌&&◌, is_some, nat_le, if◌then◌else◌, map, ◌==◌}
-use Rattle.mc_text.specs.Routes.{Route, parent_of}
+use Rattle.mc_text.specs.Routes.{Route, parent_of, same_path}
 use Rattle.tree_trait.specs.Change.{CallLog}
 use Rattle.tree_trait.specs.FileSystem.{View}
 use Rattle.job_reports.specs.Jobs.{is_link_text}
@@ -11,7 +11,7 @@ use Rattle.job_reports.specs.declared.job.Job.{Job}
 use Rattle.job_reports.specs.declared.job.Job.TheVariants as plan
 use Rattle.job_reports.specs.declared.report.Cause.{Cause}
 use Rattle.job_reports.specs.declared.report.Did.{Did}
-use Rattle.job_reports.specs.declared.report.Did.TheVariants.{Began, Chunk, Placed, Removed, Made, Set, Kept, Skipped, Cleaned, Barrier, Asked, Merges, Troubled, Ended}
+use Rattle.job_reports.specs.declared.report.Did.TheVariants.{Began, Chunk, Placed, Removed, Made, Set, Kept, Skipped, Cleaned, Barrier, Asked, Merges, Moved, Troubled, Ended}
 use Rattle.session_history.specs.declared.history.JobOrder.{JobOrder}
 use Rattle.session_history.specs.declared.history.JobOrder.TheVariants.{Answered}
 use Rattle.job_answers.specs.Skipping.{kind_in, with_kind}
@@ -21,7 +21,7 @@ use Rattle.thing_making.specs.declared.new_thing.NewThing.TheVariants as thing
 use Rattle.copy_move.specs.declared.run.Course.{Course}
 use Rattle.copy_move.specs.declared.run.Course.TheVariants.{GoesOn, Asking, InTrouble, OwedSyncFailed, Skips, Ends}
 use Rattle.copy_move.specs.declared.work.Work.{Work}
-use Rattle.copy_move.specs.declared.work.Work.TheVariants.{Copy, Delete, Make, SetMode}
+use Rattle.copy_move.specs.declared.work.Work.TheVariants.{Copy, Delete, Make, Move, SetMode}
 use Rattle.copy_move.specs.Jobs.{PassesOver, Running, TellsOn, WorkTells, answered_on, answered, begun_work, closed_job, first_work, passing_over, skips_of, with_skips}
 use Rattle.copy_move.specs.Jobs as works
 use Rattle.copy_move.specs.Steps.{SkipWalks, Walks}
@@ -40,6 +40,7 @@ abbrev pub Spares : View → View → Bool → Work → Type 0
 Spares v was kept (Copy c) = TreeSpares v was kept c
 Spares v was kept (Delete d) = ⊤
 Spares v was kept (Make m) = ⊤
+Spares v was kept (Move m) = ⊤
 Spares v was kept (SetMode s) = ⊤
 
 module _ (now : CallLog) (v was : View) (kept : Bool) where
@@ -50,37 +51,55 @@ module _ (now : CallLog) (v was : View) (kept : Bool) where
       tree_spares now (Some (item_in (Copy c))) v was kept c new did walks.free replies calls dirty dirty_after before after walks.since faults_after walks.steps s
   work_spares replies (Delete d) (Delete new) did calls faults faults_after dirty dirty_after before after t walks s = unless_of did ⊤ tt
   work_spares replies (Make m) (Make new) did calls faults faults_after dirty dirty_after before after t walks s = unless_of did ⊤ tt
+  work_spares replies (Move m) (Move new) did calls faults faults_after dirty dirty_after before after t walks s = unless_of did ⊤ tt
   work_spares replies (SetMode w) (SetMode new) did calls faults faults_after dirty dirty_after before after t walks s = unless_of did ⊤ tt
   work_spares replies (Copy c) (Delete new) did calls faults faults_after dirty dirty_after before after t walks s = absurd t
   work_spares replies (Copy c) (Make new) did calls faults faults_after dirty dirty_after before after t walks s = absurd t
+  work_spares replies (Copy c) (Move new) did calls faults faults_after dirty dirty_after before after t walks s = absurd t
   work_spares replies (Copy c) (SetMode new) did calls faults faults_after dirty dirty_after before after t walks s = absurd t
   work_spares replies (Delete d) (Copy new) did calls faults faults_after dirty dirty_after before after t walks s = absurd t
   work_spares replies (Delete d) (Make new) did calls faults faults_after dirty dirty_after before after t walks s = absurd t
+  work_spares replies (Delete d) (Move new) did calls faults faults_after dirty dirty_after before after t walks s = absurd t
   work_spares replies (Delete d) (SetMode new) did calls faults faults_after dirty dirty_after before after t walks s = absurd t
   work_spares replies (Make m) (Copy new) did calls faults faults_after dirty dirty_after before after t walks s = absurd t
+  work_spares replies (Move m) (Copy new) did calls faults faults_after dirty dirty_after before after t walks s = absurd t
   work_spares replies (Make m) (Delete new) did calls faults faults_after dirty dirty_after before after t walks s = absurd t
+  work_spares replies (Move m) (Delete new) did calls faults faults_after dirty dirty_after before after t walks s = absurd t
   work_spares replies (Make m) (SetMode new) did calls faults faults_after dirty dirty_after before after t walks s = absurd t
+  work_spares replies (Make m) (Move new) did calls faults faults_after dirty dirty_after before after t walks s = absurd t
+  work_spares replies (Move m) (SetMode new) did calls faults faults_after dirty dirty_after before after t walks s = absurd t
   work_spares replies (SetMode w) (Copy new) did calls faults faults_after dirty dirty_after before after t walks s = absurd t
   work_spares replies (SetMode w) (Delete new) did calls faults faults_after dirty dirty_after before after t walks s = absurd t
   work_spares replies (SetMode w) (Make new) did calls faults faults_after dirty dirty_after before after t walks s = absurd t
+  work_spares replies (Move w) (Make new) did calls faults faults_after dirty dirty_after before after t walks s = absurd t
+  work_spares replies (SetMode w) (Move new) did calls faults faults_after dirty dirty_after before after t walks s = absurd t
 
   passes_spares : (old new : Work) (cause : Cause) (did : Did) (path : Route) → PassesOver old path new → SkipWalks cause old did new → Spares v was kept old → Spares v was kept new
   passes_spares (Copy c) (Copy new) cause did path p k s = tree_passes v was kept c new cause did k s
   passes_spares (Delete d) (Delete new) cause did path p k s = tt
   passes_spares (Make m) (Make new) cause did path p k s = tt
+  passes_spares (Move m) (Move new) cause did path p k s = tt
   passes_spares (SetMode w) (SetMode new) cause did path p k s = tt
   passes_spares (Copy c) (Delete new) cause did path p k s = absurd p
   passes_spares (Copy c) (Make new) cause did path p k s = absurd p
+  passes_spares (Copy c) (Move new) cause did path p k s = absurd p
   passes_spares (Copy c) (SetMode new) cause did path p k s = absurd p
   passes_spares (Delete d) (Copy new) cause did path p k s = absurd p
   passes_spares (Delete d) (Make new) cause did path p k s = absurd p
+  passes_spares (Delete d) (Move new) cause did path p k s = absurd p
   passes_spares (Delete d) (SetMode new) cause did path p k s = absurd p
   passes_spares (Make m) (Copy new) cause did path p k s = absurd p
+  passes_spares (Move m) (Copy new) cause did path p k s = absurd p
   passes_spares (Make m) (Delete new) cause did path p k s = absurd p
+  passes_spares (Move m) (Delete new) cause did path p k s = absurd p
   passes_spares (Make m) (SetMode new) cause did path p k s = absurd p
+  passes_spares (Make m) (Move new) cause did path p k s = absurd p
+  passes_spares (Move m) (SetMode new) cause did path p k s = absurd p
   passes_spares (SetMode w) (Copy new) cause did path p k s = absurd p
   passes_spares (SetMode w) (Delete new) cause did path p k s = absurd p
   passes_spares (SetMode w) (Make new) cause did path p k s = absurd p
+  passes_spares (Move w) (Make new) cause did path p k s = absurd p
+  passes_spares (SetMode w) (Move new) cause did path p k s = absurd p
 
   -- a step, by the course
   pub course_spares : (job new : Running) (did : Did) (course : Course) → job.course ≡ course → TellsOn course job did new → ((cause : Cause) → course ≡ Skips cause → SkipWalks cause job.work did new.work)
@@ -105,6 +124,7 @@ module _ (now : CallLog) (v was : View) (kept : Bool) where
       ending_by Barrier h = h
       ending_by (Asked question) h = h
       ending_by (Merges pair names) h = h
+      ending_by (Moved pair) h = h
       ending_by (Troubled trouble) h = h
       ending_by (Ended ending part) h = h
   course_spares job new did (InTrouble halt) is t walks calls faults faults_after dirty dirty_after before after goes s = absurd t
@@ -141,6 +161,7 @@ spares_after (Cleaned part) v was kept new h = h
 spares_after Barrier v was kept new h = h
 spares_after (Asked question) v was kept new h = h
 spares_after (Merges pair names) v was kept new h = h
+spares_after (Moved pair) v was kept new h = h
 spares_after (Troubled trouble) v was kept new h = h
 
 -- an answer, and the close of a session
@@ -149,12 +170,14 @@ module _ (v was : View) (kept : Bool) where
   anew_spares (Copy c) s = tree_retries v was kept c s
   anew_spares (Delete d) s = s
   anew_spares (Make m) s = s
+  anew_spares (Move m) s = s
   anew_spares (SetMode w) s = s
 
   skips_spares : (cause : Cause) (work : Work) → Spares v was kept work → Spares v was kept (with_skips cause work)
   skips_spares cause (Copy c) s = other_skips v was kept c (with_kind (kind_in cause) c.skips) s
   skips_spares cause (Delete d) s = s
   skips_spares cause (Make m) s = s
+  skips_spares cause (Move m) s = s
   skips_spares cause (SetMode w) s = s
 
   abbrev Held : Running → Type 0
@@ -221,6 +244,10 @@ module _ (v : View) where
   first_spares id (plan.Copy []) w is = absurd (let f : ⊥ = cc in f)
   first_spares id (plan.Copy (pair ∷ [])) w is = some_and (Spares v v false) (is_some (parent_of pair.source)) (is_some (parent_of pair.target)) (works.copies id pair) w (λ from to. tree_begins id pair v from to) is
   first_spares id (plan.Copy (pair ∷ more ∷ pairs)) w is = absurd (let f : ⊥ = cc in f)
+  first_spares id (plan.Move []) w is = absurd (let f : ⊥ = cc in f)
+  first_spares id (plan.Move (pair ∷ [])) w is =
+      some_if (Spares v v false) ((is_some (parent_of pair.source) && is_some (parent_of pair.target)) && not (same_path pair.source pair.target)) (works.moves pair) w tt is
+  first_spares id (plan.Move (pair ∷ more ∷ pairs)) w is = absurd (let f : ⊥ = cc in f)
   first_spares id (plan.MakeFolder path) w is = some_if (Spares v v false) (is_some (parent_of path)) (works.makes thing.Folder path) w tt is
   first_spares id (plan.MakeLink path text) w is = some_if (Spares v v false) (is_some (parent_of path) && is_link_text text) (works.makes (thing.Link text) path) w tt is
   first_spares id (plan.SetMode [] mode) w is = absurd (let f : ⊥ = cc in f)
@@ -235,6 +262,7 @@ module _ (v : View) where
   passing_spares skips (Copy c) s = other_skips v v false c skips s
   passing_spares skips (Delete d) s = s
   passing_spares skips (Make m) s = s
+  passing_spares skips (Move m) s = s
   passing_spares skips (SetMode w) s = s
 
   pub turned_spares : (plan : Job) (job next : Running) → Turned plan job next → Spares v v false next.work

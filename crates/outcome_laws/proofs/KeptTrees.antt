@@ -11,7 +11,7 @@ use Rattle.job_reports.specs.Jobs.{Item}
 use Rattle.job_reports.specs.declared.job.Pair.{Pair}
 use Rattle.job_reports.specs.declared.report.Cause.{Cause}
 use Rattle.job_reports.specs.declared.report.Did.{Did}
-use Rattle.job_reports.specs.declared.report.Did.TheVariants.{Began, Chunk, Placed, Removed, Made, Set, Kept, Skipped, Cleaned, Barrier, Asked, Merges, Troubled, Ended}
+use Rattle.job_reports.specs.declared.report.Did.TheVariants.{Began, Chunk, Placed, Removed, Made, Set, Kept, Skipped, Cleaned, Barrier, Asked, Merges, Moved, Troubled, Ended}
 use Rattle.job_reports.specs.declared.report.StepResult.{StepResult}
 use Rattle.tree_copy.specs.InPlace.{IsInPlace}
 use Rattle.tree_copy.specs.Standing.{Seen}
@@ -47,6 +47,7 @@ unless_both (Cleaned part) P h f = f h
 unless_both Barrier P h f = f h
 unless_both (Asked question) P h f = f h
 unless_both (Merges pair names) P h f = f h
+unless_both (Moved pair) P h f = f h
 unless_both (Troubled trouble) P h f = f h
 
 -- a step

@@ -2,6 +2,7 @@ pub mod Accounts
 pub mod Answering
 pub mod AnswersLaw
 pub mod AnswersSaid
+pub mod BegunTrees
 pub mod CopyOutcome
 pub mod CopyTouches
 pub mod Deciding
@@ -17,6 +18,9 @@ pub mod KeptTrees
 pub mod LinkWork
 pub mod MadeThings
 pub mod MergedExample
+pub mod MovedAnswers
+pub mod MovedExample
+pub mod MovedThings
 pub mod Outcome
 pub mod Owed
 pub mod ReplacedExample

@@ -7,7 +7,7 @@ use Rattle.job_reports.specs.Jobs.{Copies}
 use Rattle.job_reports.specs.declared.job.Pair.{Pair}
 use Rattle.job_reports.specs.declared.report.Cause.{Cause}
 use Rattle.job_reports.specs.declared.report.Did.{Did}
-use Rattle.job_reports.specs.declared.report.Did.TheVariants.{Began, Chunk, Placed, Removed, Made, Set, Kept, Skipped, Cleaned, Barrier, Asked, Merges, Troubled, Ended}
+use Rattle.job_reports.specs.declared.report.Did.TheVariants.{Began, Chunk, Placed, Removed, Made, Set, Kept, Skipped, Cleaned, Barrier, Asked, Merges, Moved, Troubled, Ended}
 use Rattle.link_copy.specs.LinkCopying.{LinkCopying, Tells, after_clean, skipped, taken_anew}
 use Rattle.link_copy.specs.LinkSteps as link
 use Rattle.link_copy.specs.declared.stage.Next.{Next}
@@ -49,6 +49,7 @@ module _ (now : CallLog) (v : View) (passed : List Route) (top : Pair) (around :
   link_goes l moved (Kept path) m t d = absurd t
   link_goes l moved (Asked question) m t d = absurd t
   link_goes l moved (Merges pair names) m t d = absurd t
+  link_goes l moved (Moved pair) m t d = absurd t
   link_goes l moved (Skipped path cause) m t d = absurd t
 
 -- a link that is skipped is covered

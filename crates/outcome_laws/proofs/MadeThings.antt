@@ -8,7 +8,7 @@ use Rattle.tree_trait.specs.FileSystem.{Spot, Value, View, put}
 use Rattle.tree_trait.specs.Change.{CallLog}
 use Rattle.tree_trait.specs.CrashImages.{Among}
 use Rattle.job_reports.specs.declared.report.Did.{Did}
-use Rattle.job_reports.specs.declared.report.Did.TheVariants.{Began, Chunk, Placed, Removed, Made, Set, Kept, Skipped, Cleaned, Barrier, Asked, Merges, Troubled, Ended}
+use Rattle.job_reports.specs.declared.report.Did.TheVariants.{Began, Chunk, Placed, Removed, Made, Set, Kept, Skipped, Cleaned, Barrier, Asked, Merges, Moved, Troubled, Ended}
 use Rattle.job_reports.specs.Jobs.{Sets}
 use Rattle.mode_setting.specs.declared.setting.Stage.{Stage}
 use Rattle.mode_setting.specs.declared.setting.Stage.TheVariants as setting
@@ -38,6 +38,7 @@ Unless (Set path) Holds = Holds
 Unless (Kept kept) Holds = Holds
 Unless (Asked question) Holds = Holds
 Unless (Merges pair names) Holds = Holds
+Unless (Moved pair) Holds = Holds
 Unless (Skipped path cause) Holds = Holds
 Unless (Cleaned part) Holds = Holds
 Unless Barrier Holds = Holds
@@ -54,6 +55,7 @@ unless_of (Set path) Holds h = h
 unless_of (Kept kept) Holds h = h
 unless_of (Asked question) Holds h = h
 unless_of (Merges pair names) Holds h = h
+unless_of (Moved pair) Holds h = h
 unless_of (Skipped path cause) Holds h = h
 unless_of (Cleaned part) Holds h = h
 unless_of Barrier Holds h = h
@@ -100,6 +102,7 @@ making_steps m new (Removed made) log passed v t k = absurd t
 making_steps m new (Kept kept) log passed v t k = absurd t
 making_steps m new (Asked question) log passed v t k = absurd t
 making_steps m new (Merges pair names) log passed v t k = absurd t
+making_steps m new (Moved pair) log passed v t k = absurd t
 making_steps m new (Skipped path why) log passed v t k = absurd t
 making_steps m new (Cleaned part) log passed v t k = absurd t
 
@@ -112,8 +115,8 @@ making_skips m new path passed v path_is new_is k = subst (λ (x : Making). Maki
     by making.Finish k = k
     by making.PassedOver k = inr k
 
-pub making_ends : (m : Making) (passed : List Route) (v : View) → makings.is_done m.stage ≡ true → MakingDone passed v m → IsOutcome (making_item m.thing m.path) passed v
-making_ends m passed v is_done k = of_thing m.thing (λ reached. by m.stage is_done k reached)
+pub making_ends : (m : Making) (passed : List Route) (begun v : View) → makings.is_done m.stage ≡ true → MakingDone passed v m → IsOutcome (making_item m.thing m.path) passed begun v
+making_ends m passed begun v is_done k = of_thing m.thing (λ reached. by m.stage is_done k reached)
   where
     by : (stage : MakingStage) → makings.is_done stage ≡ true → MakingAt stage m.thing m.path passed v → IsReached passed m.path → (v m.path).value ≡ Some (value_of m.thing)
     by making.Make e k reached = absurd (let f : ⊥ = cc in f)
@@ -121,7 +124,7 @@ making_ends m passed v is_done k = of_thing m.thing (λ reached. by m.stage is_d
     by making.Finish e k reached = k
     by making.PassedOver e k reached = not_reached passed m.path k reached
 
-    of_thing : (new : NewThing) → IsMade m.path (value_of new) passed v → IsOutcome (making_item new m.path) passed v
+    of_thing : (new : NewThing) → IsMade m.path (value_of new) passed v → IsOutcome (making_item new m.path) passed begun v
     of_thing thing.Folder h = h
     of_thing (thing.Link text) h = h
 
@@ -160,6 +163,7 @@ setting_steps s new (Removed made) log passed v t stands k = absurd t
 setting_steps s new (Kept kept) log passed v t stands k = absurd t
 setting_steps s new (Asked question) log passed v t stands k = absurd t
 setting_steps s new (Merges pair names) log passed v t stands k = absurd t
+setting_steps s new (Moved pair) log passed v t stands k = absurd t
 setting_steps s new (Skipped path why) log passed v t stands k = absurd t
 setting_steps s new (Cleaned part) log passed v t stands k = absurd t
 

@@ -392,5 +392,5 @@ target_is_replaced =
 -- and its part was begun since an answer said so
 pub part_is_answered : (asks : Question) × IsQuestionOf (replayed_tree (log []) done_log yes_entries) source target asks × (decided (replies_said 1 yes_entries) asks ≡ Replace)
 part_is_answered =
-    answered_law (log []) done_log (end ∷ done_entries) (stand [] []) small_tree refl ended_traced (entry 1 (Step 1 (Began part))) yes_entries 1 (Began part) source target refl refl
+    (let law = answered_law (log []) done_log (end ∷ done_entries) (stand [] []) small_tree refl ended_traced in law.copies) (entry 1 (Step 1 (Began part))) yes_entries 1 (Began part) source target refl refl
     (inr (inr (inr (inr (inr (inr (inr (inr (inl (refl, refl, refl)))))))))) refl refl

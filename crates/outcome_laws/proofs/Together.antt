@@ -3,13 +3,13 @@ use Rattle.std.proofs.Common.{◌≡◌, ℕ, Bool, true, false, not, List, [], 
 use Rattle.std.specs.Prelude.{◌==◌, if◌then◌else◌}
 use Rattle.std.specs.Option.{option_map, option_map_or}
 use Rattle.std.proofs.lemmas.Bool.{eq-eqb, eqb-true, false≢true, or_left, or_right}
-use Rattle.mc_text.specs.Routes.{Route, is_prefix}
+use Rattle.mc_text.specs.Routes.{Route, is_prefix, same_path}
 use Rattle.tree_trait.specs.FileSystem.{Spot, View}
 use Rattle.tree_trait.specs.Shape.{IsTree}
 use Rattle.tree_trait.specs.Change.{CallLog, current}
 use Rattle.tree_trait.specs.CrashImages.{all_settled}
 use Rattle.tree_trait.proofs.Visible.{same_path-self}
-use Rattle.job_reports.specs.Jobs.{Item, Copies, Removes, Makes, MakesLink, Sets}
+use Rattle.job_reports.specs.Jobs.{Item, Copies, Moves, Removes, Makes, MakesLink, Sets}
 use Rattle.session_history.specs.declared.history.Event.{Event}
 use Rattle.session_history.specs.declared.history.Event.TheVariants.{Key, Look, Sought, Order, Step, Next, Closed}
 use Rattle.session_history.specs.declared.history.Event.TheVariants as event
@@ -21,20 +21,28 @@ use Rattle.history_laws.specs.Replayed.{replayed_tree}
 use Rattle.history_laws.specs.Traces.{IsTraced, Stand}
 use Rattle.history_laws.proofs.Intact.{prefix_append}
 use Rattle.outcome_laws.specs.AllSources.{AllSourcesLaw, GoesOn, IsLeftSince, concerns, is_elsewhere}
+use Rattle.outcome_laws.specs.Begun.{begun_after, tree_begun}
 use Rattle.outcome_laws.specs.Outcomes.{IsOutcome, as_copied}
-use Rattle.outcome_laws.specs.Untouched.{begun_after, touches, tree_begun}
+use Rattle.outcome_laws.specs.Untouched.{touches}
 use Rattle.outcome_laws.proofs.Elsewhere.{untouched_law}
 use Rattle.outcome_laws.proofs.Outcome.{outcome_law}
 
 -- an outcome hangs on what concerns the item alone
-outcome_same : (item : Item) (passed : List Route) (v w : View) → ((path : Route) → concerns item path ≡ true → w path ≡ v path) → IsOutcome item passed v → IsOutcome item passed w
-outcome_same (Copies source target) passed v w same k = λ rest off reached.
+outcome_same : (item : Item) (passed : List Route) (begun v w : View) → ((path : Route) → concerns item path ≡ true → w path ≡ v path) → IsOutcome item passed begun v → IsOutcome item passed begun w
+outcome_same (Copies source target) passed begun v w same k = λ rest off reached.
     ap (λ (s : Spot). s.value) (same (rest ++ target) (or_left _ _ (prefix_append target rest)))
     ∙ (k rest off reached ∙ ap (λ (s : Spot). option_map as_copied s.value) (sym (same (rest ++ source) (or_right (is_prefix target (rest ++ source)) _ (prefix_append source rest)))))
-outcome_same (Removes top) passed v w same k = λ rest reached. ap (λ (s : Spot). s.value) (same (rest ++ top) (or_left _ _ (prefix_append top rest))) ∙ k rest reached
-outcome_same (Makes made) passed v w same k = λ reached. ap (λ (s : Spot). s.value) (same made (or_left _ _ (same_path-self made))) ∙ k reached
-outcome_same (MakesLink made text) passed v w same k = λ reached. ap (λ (s : Spot). s.value) (same made (or_left _ _ (same_path-self made))) ∙ k reached
-outcome_same (Sets thing mode) passed v w same k = λ reached. ap (λ (s : Spot). option_map (λ x. x.mode) s.value) (same thing (or_left _ _ (same_path-self thing))) ∙ k reached
+outcome_same (Moves source target) passed begun v w same k =
+    let from = same source (or_left _ _ (or_left _ _ (same_path-self source))) in
+    let to = same target (or_left _ _ (or_right (same_path target source) _ (same_path-self target))) in
+    record {
+      went = λ reached. let h = k.went reached in (ap (λ (s : Spot). s.value) from ∙ h.0, ap (λ (s : Spot). s.value) to ∙ h.1);
+      stays = λ among. let h = k.stays among in (from ∙ h.0, to ∙ h.1);
+    }
+outcome_same (Removes top) passed begun v w same k = λ rest reached. ap (λ (s : Spot). s.value) (same (rest ++ top) (or_left _ _ (prefix_append top rest))) ∙ k rest reached
+outcome_same (Makes made) passed begun v w same k = λ reached. ap (λ (s : Spot). s.value) (same made (or_left _ _ (same_path-self made))) ∙ k reached
+outcome_same (MakesLink made text) passed begun v w same k = λ reached. ap (λ (s : Spot). s.value) (same made (or_left _ _ (same_path-self made))) ∙ k reached
+outcome_same (Sets thing mode) passed begun v w same k = λ reached. ap (λ (s : Spot). option_map (λ x. x.mode) s.value) (same thing (or_left _ _ (same_path-self thing))) ∙ k reached
 
 -- where an entry ends is a moment, and so is where the one before it ended
 moment_below : (newest g : List Entry) (e x : Entry) (calls : ℕ) → IsMoment newest (e ∷ x ∷ g) (e ∷ x ∷ g) calls → IsMoment newest (x ∷ g) (x ∷ g) x.calls
@@ -91,7 +99,7 @@ module _ (opening now : CallLog) (newest : List Entry) (stand : Stand) (tree : I
 
 pub all_sources_law : AllSourcesLaw
 all_sources_law opening now newest stand tree settled traced e first older before id last item h moment t then_moment apart =
-    outcome_same item _ (replayed_tree opening now before) (replayed_tree opening now older)
+    outcome_same item _ (tree_begun opening now id before) (replayed_tree opening now before) (replayed_tree opening now older)
     (λ path concerned.
     let off = apart path concerned in
     untouched_law opening now newest stand tree settled traced e older id last path h moment off.0

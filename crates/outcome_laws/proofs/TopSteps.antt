@@ -10,7 +10,7 @@ use Rattle.job_reports.specs.Jobs.{Item as WorkItem}
 use Rattle.job_reports.specs.declared.job.Pair.{Pair}
 use Rattle.job_reports.specs.declared.report.Cause.{Cause}
 use Rattle.job_reports.specs.declared.report.Did.{Did}
-use Rattle.job_reports.specs.declared.report.Did.TheVariants.{Began, Chunk, Placed, Removed, Made, Set, Kept, Skipped, Cleaned, Barrier, Asked, Merges, Troubled, Ended}
+use Rattle.job_reports.specs.declared.report.Did.TheVariants.{Began, Chunk, Placed, Removed, Made, Set, Kept, Skipped, Cleaned, Barrier, Asked, Merges, Moved, Troubled, Ended}
 use Rattle.file_copy.specs.Copying as file
 use Rattle.file_copy.specs.Copying.{Copying}
 use Rattle.file_copy.specs.PartSteps.{TellsMade}
@@ -106,6 +106,7 @@ IsPlain (Made path) = ⊥
 IsPlain (Set path) = ⊥
 IsPlain (Kept path) = ⊥
 IsPlain (Merges pair names) = ⊥
+IsPlain (Moved pair) = ⊥
 
 pub says_plain : (did : Did) → SaysPassed did → IsPlain did
 says_plain did (inl (path, cause, is)) = subst IsPlain (sym is) tt
@@ -130,6 +131,7 @@ of_file f moved (Made path) t = absurd t
 of_file f moved (Set path) t = absurd t
 of_file f moved (Kept path) t = absurd t
 of_file f moved (Merges pair names) t = absurd t
+of_file f moved (Moved pair) t = absurd t
 
 of_part : (facts : SourceFacts) (f moved : Copying) (did : Did) → TellsMade facts f did moved → IsPlain did
 of_part facts f moved (Began part) t = tt
@@ -145,6 +147,7 @@ of_part facts f moved (Cleaned part) t = absurd t
 of_part facts f moved Barrier t = absurd t
 of_part facts f moved (Asked question) t = absurd t
 of_part facts f moved (Merges pair names) t = absurd t
+of_part facts f moved (Moved pair) t = absurd t
 of_part facts f moved (Ended ending part) t = absurd t
 
 of_link : (l moved : LinkCopying) (did : Did) → link.Tells l did moved → IsOfItem did (link_progress moved.stage)
@@ -162,6 +165,7 @@ of_link l moved (Made path) t = absurd t
 of_link l moved (Set path) t = absurd t
 of_link l moved (Kept path) t = absurd t
 of_link l moved (Merges pair names) t = absurd t
+of_link l moved (Moved pair) t = absurd t
 
 -- names that are met, once the next one is done with
 some_due : (c : Seen) (names : List (List ℕ)) (pair : Pair) → due_at names c ≡ Thing pair → names ≡ [] → ⊥
@@ -222,6 +226,7 @@ module _ (now : CallLog) (v was : View) (kept : Bool) (work : Option WorkItem) (
   told (Set path) new plain s = absurd plain
   told (Kept path) new plain s = absurd plain
   told (Merges pair names) new plain s = absurd plain
+  told (Moved pair) new plain s = absurd plain
 
   -- a step at a file or a link
   item_spared : (p : Progress) (item : Item) (did : Did) (dirty : Bool) (old new : Seen) → IsOfItem did p → (IsPassed old → ⊥) → new ≡ settled p item (noted did dirty (idle old)) → IsInPlace top old → Spared v was kept old → After did new

@@ -4,14 +4,15 @@ use Rattle.std.specs.Prelude.{⊤, ◌==◌, if◌then◌else◌, map}
 use Rattle.std.specs.Option.{option_map}
 use Rattle.std.proofs.lemmas.Bool.{both_ways, false_from_ne_true}
 use Rattle.mc_text.specs.Routes.{Route, is_prefix, same_path}
-use Rattle.tree_trait.specs.FileSystem.{View}
+use Rattle.tree_trait.specs.FileSystem.{View, put}
 use Rattle.tree_trait.specs.Change.{CallLog, current}
+use Rattle.tree_trait.specs.CrashImages.{Among}
 use Rattle.tree_trait.proofs.Visible.{same_path-self, same_path-true}
 use Rattle.job_reports.specs.declared.answer.Answer.{Answer}
 use Rattle.job_answers.specs.declared.replies.Replies.{Replies}
 use Rattle.job_reports.specs.declared.report.Did.{Did}
-use Rattle.job_reports.specs.declared.report.Did.TheVariants.{Began, Chunk, Placed, Removed, Made, Set, Kept, Skipped, Cleaned, Barrier, Asked, Merges, Troubled, Ended}
-use Rattle.job_reports.specs.Jobs.{Item, Copies, Removes, Makes, MakesLink, Sets}
+use Rattle.job_reports.specs.declared.report.Did.TheVariants.{Began, Chunk, Placed, Removed, Made, Set, Kept, Skipped, Cleaned, Barrier, Asked, Merges, Moved, Troubled, Ended}
+use Rattle.job_reports.specs.Jobs.{Item, Copies, Moves, Removes, Makes, MakesLink, Sets}
 use Rattle.session_history.specs.declared.history.JobOrder.{JobOrder}
 use Rattle.session_history.specs.declared.history.JobOrder.TheVariants.{Answered}
 use Rattle.session_history.specs.Named.{changed_by}
@@ -22,7 +23,7 @@ use Rattle.thing_making.specs.declared.new_thing.NewThing.TheVariants as thing
 use Rattle.copy_move.specs.declared.run.Course.{Course}
 use Rattle.copy_move.specs.declared.run.Course.TheVariants.{GoesOn, Asking, InTrouble, OwedSyncFailed, Skips, Ends}
 use Rattle.copy_move.specs.declared.work.Work.{Work}
-use Rattle.copy_move.specs.declared.work.Work.TheVariants.{Copy, Delete, Make, SetMode}
+use Rattle.copy_move.specs.declared.work.Work.TheVariants.{Copy, Delete, Make, Move, SetMode}
 use Rattle.copy_move.specs.Deletions as deletions
 use Rattle.copy_move.specs.Deletions.{Deleting}
 use Rattle.thing_making.specs.Makings as makings
@@ -37,6 +38,7 @@ use Rattle.outcome_laws.specs.Untouched.{touches}
 use Rattle.outcome_laws.proofs.CopyTouches.{tree_touches}
 use Rattle.outcome_laws.proofs.Doing.{CourseDone, WorkDone}
 use Rattle.outcome_laws.proofs.MadeThings.{Unless, unless_of}
+use Rattle.outcome_laws.proofs.MovedThings.{moving_touches}
 
 -- this holds of a job that goes so, unless it makes its last steps
 abbrev pub UnlessEnding : Course → Type 0 → Type 0
@@ -66,6 +68,7 @@ unless_map (Set path) A B to a = to a
 unless_map (Kept kept) A B to a = to a
 unless_map (Asked question) A B to a = to a
 unless_map (Merges pair names) A B to a = to a
+unless_map (Moved pair) A B to a = to a
 unless_map (Skipped path cause) A B to a = to a
 unless_map (Cleaned part) A B to a = to a
 unless_map Barrier A B to a = to a
@@ -93,6 +96,7 @@ kept_after (Set path) v was new h = h
 kept_after (Kept kept) v was new h = h
 kept_after (Asked question) v was new h = h
 kept_after (Merges pair names) v was new h = h
+kept_after (Moved pair) v was new h = h
 kept_after (Skipped path cause) v was new h = h
 kept_after (Cleaned part) v was new h = h
 kept_after Barrier v was new h = h
@@ -101,6 +105,7 @@ kept_after (Troubled trouble) v was new h = h
 -- what a report makes of the tree elsewhere than at the path that it changes
 placed_off : (item : Option Item) (path : Route) (v : View) (p : Route) → same_path p path ≡ false → placed_by item path v p ≡ v p
 placed_off (Some (Copies source target)) path v p off = put_off v path (option_map placed_copy (v (moved_from source target path)).value) p off
+placed_off (Some (Moves source target)) path v p off = refl
 placed_off (Some (Removes top)) path v p off = refl
 placed_off (Some (Makes made)) path v p off = refl
 placed_off (Some (MakesLink made text)) path v p off = refl
@@ -109,6 +114,7 @@ placed_off None path v p off = refl
 
 set_off : (item : Option Item) (path : Route) (v : View) (p : Route) → same_path p path ≡ false → set_by item path v p ≡ v p
 set_off (Some (Copies source target)) path v p off = put_off v path (option_map (with_mode_of (v (moved_from source target path)).value) (v path).value) p off
+set_off (Some (Moves source target)) path v p off = refl
 set_off (Some (Removes top)) path v p off = refl
 set_off (Some (Makes made)) path v p off = refl
 set_off (Some (MakesLink made text)) path v p off = refl
@@ -118,37 +124,40 @@ set_off None path v p off = refl
 apart : (item : Item) (path p : Route) → touches item path ≡ true → touches item p ≡ false → same_path p path ≡ false
 apart item path p on off = false_from_ne_true _ (λ same. both_ways _ off (subst (λ q. touches item q ≡ true) (sym (same_path-true p path same)) on))
 
-step_else : (did : Did) (log : CallLog) (item : Item) (v : View) → ((path : Route) → changed_by did ≡ Some path → touches item path ≡ true) → Unless did (IsAsBegun (replayed_step log did (Some item) v) v item)
-step_else (Removed path) log item v on = λ p off. put_off v path None p (apart item path p (on path refl) off)
-step_else (Placed path) log item v on = λ p off. placed_off (Some item) path v p (apart item path p (on path refl) off)
-step_else (Made path) log item v on = λ p off. put_off v path (Some (made_by (Some item) path v)) p (apart item path p (on path refl) off)
-step_else (Set path) log item v on = λ p off. set_off (Some item) path v p (apart item path p (on path refl) off)
+step_else : (did : Did) (log : CallLog) (item : Item) (v : View) → ((path : Route) → Among (changed_by did) path → touches item path ≡ true) → Unless did (IsAsBegun (replayed_step log did (Some item) v) v item)
+step_else (Removed path) log item v on = λ p off. put_off v path None p (apart item path p (on path (inl refl)) off)
+step_else (Placed path) log item v on = λ p off. placed_off (Some item) path v p (apart item path p (on path (inl refl)) off)
+step_else (Made path) log item v on = λ p off. put_off v path (Some (made_by (Some item) path v)) p (apart item path p (on path (inl refl)) off)
+step_else (Set path) log item v on = λ p off. set_off (Some item) path v p (apart item path p (on path (inl refl)) off)
 step_else (Began part) log item v on = λ p off. refl
 step_else (Chunk count) log item v on = λ p off. refl
 step_else (Kept kept) log item v on = λ p off. refl
 step_else (Asked question) log item v on = λ p off. refl
 step_else (Merges pair names) log item v on = λ p off. refl
+step_else (Moved pair) log item v on = λ p off.
+    put_off (put v pair.source None) pair.target (v pair.source).value p (apart item pair.target p (on pair.target (inr (inl refl))) off)
+    ∙ put_off v pair.source None p (apart item pair.source p (on pair.source (inl refl)) off)
 step_else (Skipped path cause) log item v on = λ p off. refl
 step_else (Cleaned part) log item v on = λ p off. refl
 step_else Barrier log item v on = λ p off. refl
 step_else (Troubled trouble) log item v on = λ p off. refl
 step_else (Ended ending part) log item v on = tt
 
-some_path : {A : Type 0} (path : Route) → (let o : Option Route = None in o) ≡ Some path → A
-some_path path is = absurd (let f : ⊥ = cc in f)
+-- one path was changed
+one_path : (a b : Route) → Among (a ∷ []) b → b ≡ a
+one_path a b (inl is) = is
+one_path a b (inr none) = absurd none
 
-same_some : (a b : Route) → (let o : Option Route = Some a in o) ≡ Some b → a ≡ b
-same_some a b is = cc
-
-deletion_touches : (d new : Deleting) (did : Did) (path : Route) → deletions.Tells d did new → changed_by did ≡ Some path → is_prefix d.path path ≡ true
-deletion_touches d new (Removed p) path (off, within, at) is = subst (λ (q : Route). is_prefix d.path q ≡ true) (same_some p path is) within
-deletion_touches d new (Kept p) path t is = some_path path is
+deletion_touches : (d new : Deleting) (did : Did) (path : Route) → deletions.Tells d did new → Among (changed_by did) path → is_prefix d.path path ≡ true
+deletion_touches d new (Removed p) path (off, within, at) is = subst (λ (q : Route). is_prefix d.path q ≡ true) (sym (one_path p path is)) within
+deletion_touches d new (Kept p) path t is = absurd is
 deletion_touches d new (Asked question) path t is = absurd t
 deletion_touches d new (Merges pair names) path t is = absurd t
-deletion_touches d new (Skipped p why) path t is = some_path path is
-deletion_touches d new (Troubled trouble) path t is = some_path path is
-deletion_touches d new Barrier path t is = some_path path is
-deletion_touches d new (Ended ending part) path t is = some_path path is
+deletion_touches d new (Moved pair) path t is = absurd t
+deletion_touches d new (Skipped p why) path t is = absurd is
+deletion_touches d new (Troubled trouble) path t is = absurd is
+deletion_touches d new Barrier path t is = absurd is
+deletion_touches d new (Ended ending part) path t is = absurd is
 deletion_touches d new (Began part) path t is = absurd t
 deletion_touches d new (Chunk count) path t is = absurd t
 deletion_touches d new (Placed p) path t is = absurd t
@@ -156,15 +165,15 @@ deletion_touches d new (Made p) path t is = absurd t
 deletion_touches d new (Set p) path t is = absurd t
 deletion_touches d new (Cleaned part) path t is = absurd t
 
-making_touches : (m new : Making) (did : Did) (path : Route) → makings.Tells m did new → changed_by did ≡ Some path → touches (making_item m.thing m.path) path ≡ true
-making_touches m new (Made p) path (stage, path_is, new_is) is = by m.thing (subst (λ (q : Route). same_path q m.path ≡ true) (sym path_is ∙ same_some p path is) (same_path-self m.path))
+making_touches : (m new : Making) (did : Did) (path : Route) → makings.Tells m did new → Among (changed_by did) path → touches (making_item m.thing m.path) path ≡ true
+making_touches m new (Made p) path (stage, path_is, new_is) is = by m.thing (subst (λ (q : Route). same_path q m.path ≡ true) (sym path_is ∙ sym (one_path p path is)) (same_path-self m.path))
   where
     by : (new : NewThing) → same_path path m.path ≡ true → touches (making_item new m.path) path ≡ true
     by thing.Folder h = h
     by (thing.Link text) h = h
-making_touches m new Barrier path t is = some_path path is
-making_touches m new (Troubled trouble) path t is = some_path path is
-making_touches m new (Ended ending part) path t is = some_path path is
+making_touches m new Barrier path t is = absurd is
+making_touches m new (Troubled trouble) path t is = absurd is
+making_touches m new (Ended ending part) path t is = absurd is
 making_touches m new (Began part) path t is = absurd t
 making_touches m new (Chunk count) path t is = absurd t
 making_touches m new (Set p) path t is = absurd t
@@ -173,14 +182,15 @@ making_touches m new (Removed p) path t is = absurd t
 making_touches m new (Kept kept) path t is = absurd t
 making_touches m new (Asked question) path t is = absurd t
 making_touches m new (Merges pair names) path t is = absurd t
+making_touches m new (Moved pair) path t is = absurd t
 making_touches m new (Skipped p why) path t is = absurd t
 making_touches m new (Cleaned part) path t is = absurd t
 
-setting_touches : (s new : Setting) (did : Did) (path : Route) → settings.Tells s did new → changed_by did ≡ Some path → same_path path s.path ≡ true
-setting_touches s new (Set p) path (stage, path_is, new_is) is = subst (λ (q : Route). same_path q s.path ≡ true) (sym path_is ∙ same_some p path is) (same_path-self s.path)
-setting_touches s new Barrier path t is = some_path path is
-setting_touches s new (Troubled trouble) path t is = some_path path is
-setting_touches s new (Ended ending part) path t is = some_path path is
+setting_touches : (s new : Setting) (did : Did) (path : Route) → settings.Tells s did new → Among (changed_by did) path → same_path path s.path ≡ true
+setting_touches s new (Set p) path (stage, path_is, new_is) is = subst (λ (q : Route). same_path q s.path ≡ true) (sym path_is ∙ sym (one_path p path is)) (same_path-self s.path)
+setting_touches s new Barrier path t is = absurd is
+setting_touches s new (Troubled trouble) path t is = absurd is
+setting_touches s new (Ended ending part) path t is = absurd is
 setting_touches s new (Began part) path t is = absurd t
 setting_touches s new (Chunk count) path t is = absurd t
 setting_touches s new (Made p) path t is = absurd t
@@ -189,32 +199,42 @@ setting_touches s new (Removed p) path t is = absurd t
 setting_touches s new (Kept kept) path t is = absurd t
 setting_touches s new (Asked question) path t is = absurd t
 setting_touches s new (Merges pair names) path t is = absurd t
+setting_touches s new (Moved pair) path t is = absurd t
 setting_touches s new (Skipped p why) path t is = absurd t
 setting_touches s new (Cleaned part) path t is = absurd t
 
-module _ (dirty dirty_after : List Route) (log now : CallLog) (passed : List Route) (v : View) where
+module _ (dirty dirty_after : List Route) (log now : CallLog) (passed : List Route) (begun v : View) where
   work_touches : (replies : Replies) (old new : Work) (did : Did) (path : Route) (calls faults faults_after : ℕ) → WorkTells old did new → Walks IsUnclaimed replies old new did calls dirty dirty_after (Some log) (Some now) faults faults_after
-      → WorkDone passed v (current log) old → changed_by did ≡ Some path → touches (item_in old) path ≡ true
+      → WorkDone passed begun v (current log) old → Among (changed_by did) path → touches (item_in old) path ≡ true
   work_touches replies (Copy c) (Copy new) did path calls faults faults_after t walks k is =
       tree_touches c new did path walks.free replies calls dirty dirty_after (Some log) (Some now) walks.since faults_after walks.steps k.in_place t.may is
   work_touches replies (Delete d) (Delete new) did path calls faults faults_after t walks k is = deletion_touches d new did path t is
   work_touches replies (Make m) (Make new) did path calls faults faults_after t walks k is = making_touches m new did path t is
+  work_touches replies (Move m) (Move new) did path calls faults faults_after t walks k is = moving_touches m new did path t is
   work_touches replies (SetMode s) (SetMode new) did path calls faults faults_after t walks k is = setting_touches s new did path t is
   work_touches replies (Copy x) (Delete new) did path calls faults faults_after t walks k is = absurd t
   work_touches replies (Copy x) (Make new) did path calls faults faults_after t walks k is = absurd t
+  work_touches replies (Copy x) (Move new) did path calls faults faults_after t walks k is = absurd t
   work_touches replies (Copy x) (SetMode new) did path calls faults faults_after t walks k is = absurd t
   work_touches replies (Delete x) (Copy new) did path calls faults faults_after t walks k is = absurd t
   work_touches replies (Delete x) (Make new) did path calls faults faults_after t walks k is = absurd t
+  work_touches replies (Delete x) (Move new) did path calls faults faults_after t walks k is = absurd t
   work_touches replies (Delete x) (SetMode new) did path calls faults faults_after t walks k is = absurd t
   work_touches replies (Make x) (Copy new) did path calls faults faults_after t walks k is = absurd t
+  work_touches replies (Move x) (Copy new) did path calls faults faults_after t walks k is = absurd t
   work_touches replies (Make x) (Delete new) did path calls faults faults_after t walks k is = absurd t
+  work_touches replies (Move x) (Delete new) did path calls faults faults_after t walks k is = absurd t
   work_touches replies (Make x) (SetMode new) did path calls faults faults_after t walks k is = absurd t
+  work_touches replies (Make x) (Move new) did path calls faults faults_after t walks k is = absurd t
+  work_touches replies (Move x) (SetMode new) did path calls faults faults_after t walks k is = absurd t
   work_touches replies (SetMode x) (Copy new) did path calls faults faults_after t walks k is = absurd t
   work_touches replies (SetMode x) (Delete new) did path calls faults faults_after t walks k is = absurd t
   work_touches replies (SetMode x) (Make new) did path calls faults faults_after t walks k is = absurd t
+  work_touches replies (Move x) (Make new) did path calls faults faults_after t walks k is = absurd t
+  work_touches replies (SetMode x) (Move new) did path calls faults faults_after t walks k is = absurd t
 
   -- so a step leaves what the job doesn't touch
-  still : (job new : Running) (did : Did) (was : ℕ → View) → IsSame job new → IsAsBegun v (was job.id) (item_in job.work) → ((path : Route) → changed_by did ≡ Some path → touches (item_in job.work) path ≡ true)
+  still : (job new : Running) (did : Did) (was : ℕ → View) → IsSame job new → IsAsBegun v (was job.id) (item_in job.work) → ((path : Route) → Among (changed_by did) path → touches (item_in job.work) path ≡ true)
       → Unless did (JobKept (replayed_step now did (Some (item_in job.work)) v) was new)
   still job new did was same kept on =
       unless_map did (IsAsBegun (replayed_step now did (Some (item_in job.work)) v) v (item_in job.work)) (JobKept (replayed_step now did (Some (item_in job.work)) v) was new)
@@ -224,7 +244,7 @@ module _ (dirty dirty_after : List Route) (log now : CallLog) (passed : List Rou
       (step_else did now (item_in job.work) v on)
 
   pub course_touches : (job new : Running) (did : Did) (course : Course) (calls faults faults_after : ℕ) (v_was : ℕ → View) → job.course ≡ course → TellsOn course job did new
-      → WalksOn IsUnclaimed job.replies course job.work new.work did calls dirty dirty_after (Some log) (Some now) faults faults_after → CourseDone course passed v (current log) job.work
+      → WalksOn IsUnclaimed job.replies course job.work new.work did calls dirty dirty_after (Some log) (Some now) faults faults_after → CourseDone course passed begun v (current log) job.work
       → UnlessEnding course (IsAsBegun v (v_was job.id) (item_in job.work)) → IsSame job new → Unless did (JobKept (replayed_step now did (Some (item_in job.work)) v) v_was new)
   course_touches job new did GoesOn calls faults faults_after was is (work, t, new_is) walks k kept same =
       still job new did was same kept (λ path changed. work_touches job.replies job.work new.work did path calls faults faults_after (subst (WorkTells job.work did) (sym (ap (λ (x : Running). x.work) new_is)) t) walks k changed)
@@ -232,9 +252,9 @@ module _ (dirty dirty_after : List Route) (log now : CallLog) (passed : List Rou
   course_touches job new did (OwedSyncFailed cause) calls faults faults_after was is t walks k kept same = absurd t
   course_touches job new did Asking calls faults faults_after was is t walks k kept same = absurd t
   course_touches job new did (Skips cause) calls faults faults_after was is (inl (path, work, did_is, passes, new_is)) walks k kept same =
-      still job new did was same kept (λ p changed. some_path p (sym (ap changed_by did_is) ∙ changed))
+      still job new did was same kept (λ p changed. absurd (subst (λ (d : Did). Among (changed_by d) p) did_is changed))
   course_touches job new did (Skips cause) calls faults faults_after was is (inr (off, did_is, new_is)) walks k kept same =
-      still job new did was same kept (λ p changed. some_path p (sym (ap changed_by did_is) ∙ changed))
+      still job new did was same kept (λ p changed. absurd (subst (λ (d : Did). Among (changed_by d) p) did_is changed))
   course_touches job new did (Ends ending) calls faults faults_after was is (work, winds, new_is) walks k kept same =
       subst (λ c. Unless did (UnlessEnding c (IsAsBegun (replayed_step now did (Some (item_in job.work)) v) (was new.id) (item_in new.work)))) (sym (ap (λ (x : Running). x.course) new_is ∙ is)) (unless_of did ⊤ tt)
 

@@ -9,7 +9,7 @@ use Rattle.tree_trait.specs.FileSystem.{View}
 use Rattle.job_reports.specs.Jobs.{Copies}
 use Rattle.job_reports.specs.declared.job.Pair.{Pair}
 use Rattle.job_reports.specs.declared.report.Did.{Did}
-use Rattle.job_reports.specs.declared.report.Did.TheVariants.{Began, Chunk, Placed, Removed, Made, Set, Kept, Skipped, Cleaned, Barrier, Asked, Merges, Troubled, Ended}
+use Rattle.job_reports.specs.declared.report.Did.TheVariants.{Began, Chunk, Placed, Removed, Made, Set, Kept, Skipped, Cleaned, Barrier, Asked, Merges, Moved, Troubled, Ended}
 use Rattle.job_reports.specs.declared.report.Ending.TheVariants.{Finished, Aborted, Killed, NoMemory}
 use Rattle.file_copy.specs.Copying as file
 use Rattle.file_copy.specs.Copying.{Copying}
@@ -56,6 +56,7 @@ file_paths f moved (Set path) t = absurd t
 file_paths f moved (Kept path) t = absurd t
 file_paths f moved (Asked question) t = absurd t
 file_paths f moved (Merges pair names) t = absurd t
+file_paths f moved (Moved pair) t = absurd t
 file_paths f moved (Skipped path cause) t = absurd t
 
 pub link_paths : (l moved : LinkCopying) (did : Did) → link.Tells l did moved → (moved.source ≡ l.source) × (moved.target ≡ l.target)
@@ -72,6 +73,7 @@ link_paths l moved (Set path) t = absurd t
 link_paths l moved (Kept path) t = absurd t
 link_paths l moved (Asked question) t = absurd t
 link_paths l moved (Merges pair names) t = absurd t
+link_paths l moved (Moved pair) t = absurd t
 link_paths l moved (Skipped path cause) t = absurd t
 
 -- what a path of the source that doesn't lie at or below this one has come to
@@ -211,6 +213,7 @@ module _ (now : CallLog) (v : View) (passed : List Route) (top : Pair) where
   file_changes around f moved (Kept path) m t d = absurd t
   file_changes around f moved (Asked question) m t d = absurd t
   file_changes around f moved (Merges pair names) m t d = absurd t
+  file_changes around f moved (Moved pair) m t d = absurd t
   file_changes around f moved (Skipped path cause) m t d = absurd t
 
   link_changes : (around : List Level) (l moved : LinkCopying) (did : Did) → IsMoved top l.source l.target → link.Tells l did moved → LinkDone v passed top.target around l.source l.target l.stage → Changes did around l.target
@@ -229,6 +232,7 @@ module _ (now : CallLog) (v : View) (passed : List Route) (top : Pair) where
   link_changes around l moved (Kept path) m t d = absurd t
   link_changes around l moved (Asked question) m t d = absurd t
   link_changes around l moved (Merges pair names) m t d = absurd t
+  link_changes around l moved (Moved pair) m t d = absurd t
   link_changes around l moved (Skipped path cause) m t d = absurd t
 
   -- of other paths it is so still
@@ -313,6 +317,7 @@ module _ (now : CallLog) (v : View) (passed : List Route) (top : Pair) where
         by Barrier is t = absurd t
         by (Asked question) is t = absurd t
         by (Merges pair names) is t = absurd t
+        by (Moved pair) is t = absurd t
         by (Ended ending part) is t = absurd t
 
     pub link_works : (l : LinkCopying) (before after : Option CallLog) → LinkWorks l old new did before after → IsMoved top l.source l.target → IsNext old.levels.inner l.source

@@ -9,7 +9,7 @@ use Rattle.tree_trait.specs.FileSystem.{Value, View}
 use Rattle.tree_trait.proofs.Visible.{same_path-true}
 use Rattle.job_reports.specs.declared.job.Pair.{Pair}
 use Rattle.job_reports.specs.declared.report.Did.{Did}
-use Rattle.job_reports.specs.declared.report.Did.TheVariants.{Began, Chunk, Placed, Removed, Made, Set, Kept, Skipped, Cleaned, Barrier, Asked, Merges, Troubled, Ended}
+use Rattle.job_reports.specs.declared.report.Did.TheVariants.{Began, Chunk, Placed, Removed, Made, Set, Kept, Skipped, Cleaned, Barrier, Asked, Merges, Moved, Troubled, Ended}
 use Rattle.folder_copy.specs.FolderCopying.{closing, is_dirty}
 use Rattle.folder_copy.specs.declared.stage.Stage.{Stage}
 use Rattle.folder_copy.specs.declared.stage.Stage.TheVariants as at
@@ -113,6 +113,7 @@ covered_by top (Set set) passed path c = c
 covered_by top (Kept kept) passed path c = covered_more passed top.source path c
 covered_by top (Asked question) passed path c = c
 covered_by top (Merges pair names) passed path c = covered_more passed pair.source path c
+covered_by top (Moved pair) passed path c = c
 covered_by top (Cleaned part) passed path c = c
 covered_by top Barrier passed path c = c
 covered_by top (Troubled trouble) passed path c = c

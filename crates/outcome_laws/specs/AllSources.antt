@@ -7,7 +7,7 @@ use Rattle.tree_trait.specs.Shape.{IsTree}
 use Rattle.tree_trait.specs.Change.{CallLog, current}
 use Rattle.tree_trait.specs.CrashImages.{all_settled}
 use Rattle.job_reports.specs.declared.job.Job.{Job}
-use Rattle.job_reports.specs.Jobs.{Item, Copies, Removes, Makes, MakesLink, Sets}
+use Rattle.job_reports.specs.Jobs.{Item, Copies, Moves, Removes, Makes, MakesLink, Sets}
 use Rattle.session_history.specs.declared.history.Event.{Event}
 use Rattle.session_history.specs.declared.history.Event.TheVariants.{Key, Look, Sought, Order, Step, Next, Closed}
 use Rattle.session_history.specs.declared.history.Event.TheVariants as event
@@ -16,12 +16,14 @@ use Rattle.session_history.specs.Entries.{IsMoment}
 use Rattle.session_history.specs.LiveJobs.{live_item, live_jobs}
 use Rattle.history_laws.specs.Replayed.{replayed_tree}
 use Rattle.history_laws.specs.Traces.{IsTraced, Stand}
+use Rattle.outcome_laws.specs.Begun.{tree_begun}
 use Rattle.outcome_laws.specs.Outcomes.{Finishes, IsOutcome, passed_over}
 use Rattle.outcome_laws.specs.Untouched.{touches}
 
 -- what is copied stands here
 abbrev pub is_copied : Item → Route → Bool
 is_copied (Copies source target) path = is_prefix source path
+is_copied (Moves source target) path = false
 is_copied (Removes top) path = false
 is_copied (Makes made) path = false
 is_copied (MakesLink made text) path = false
@@ -60,7 +62,7 @@ LeavesAll opening now newest =
     (e first : Entry) (older before : List Entry) (id : ℕ) (last item : Item)
     → Finishes e older id last → IsMoment newest (e ∷ older) (e ∷ older) e.calls → GoesOn first before id item → IsMoment newest (first ∷ before) (first ∷ before) first.calls
     → ((path : Route) → concerns item path ≡ true → (touches last path ≡ false) × IsLeftSince id path (first ∷ before) older)
-    → IsOutcome item (passed_over id before) (replayed_tree opening now older)
+    → IsOutcome item (passed_over id before) (tree_begun opening now id before) (replayed_tree opening now older)
 
 abbrev pub AllSourcesLaw : Type 0
 AllSourcesLaw = (opening now : CallLog) (newest : List Entry) (stand : Stand)

@@ -1,7 +1,9 @@
--- What stands at the target of a copy is replaced, kept or asked about only as was answered; in the words of the history alone. Histories stand newest first here.
+-- What stands at the target of a copy or a move is replaced, kept or asked about only as was answered; in the words of the history alone. Histories stand newest first here.
 use Rattle.std.specs.Prelude.{◌≡◌, ℕ, ⊤, ◌==◌, Bool, true, false, ◌&&◌, not, if◌then◌else◌, List, [], ◌∷◌, length, is_some, Some, None}
 use Rattle.mc_text.specs.Routes.{Route}
+use Rattle.mc_text.specs.declared.kind.Kind.{Kind}
 use Rattle.tree_trait.specs.FileSystem.{Value, View}
+use Rattle.tree_trait.specs.Refusals.{folder_kind}
 use Rattle.tree_trait.specs.Shape.{IsTree}
 use Rattle.tree_trait.specs.Change.{CallLog, current}
 use Rattle.tree_trait.specs.CrashImages.{all_settled}
@@ -9,8 +11,8 @@ use Rattle.job_reports.specs.declared.answer.Answer.{Answer}
 use Rattle.job_reports.specs.declared.answer.Answer.TheVariants.{Yes, No, All, Update, Nothing, SizeDiffers, Retry, Skip, SkipAll, Abort}
 use Rattle.job_reports.specs.declared.question.Question.{Question}
 use Rattle.job_reports.specs.declared.report.Did.{Did}
-use Rattle.job_reports.specs.declared.report.Did.TheVariants.{Began, Chunk, Placed, Removed, Made, Set, Kept, Skipped, Cleaned, Barrier, Asked, Merges, Troubled, Ended}
-use Rattle.job_reports.specs.Jobs.{Copies}
+use Rattle.job_reports.specs.declared.report.Did.TheVariants.{Began, Chunk, Placed, Removed, Made, Set, Kept, Skipped, Cleaned, Barrier, Asked, Merges, Moved, Troubled, Ended}
+use Rattle.job_reports.specs.Jobs.{Item, Copies, Moves}
 use Rattle.job_reports.specs.Paths.{folder_of}
 use Rattle.job_answers.specs.declared.replies.Decision.TheVariants.{Ask, Keep, Replace}
 use Rattle.job_answers.specs.declared.replies.Replies.{Replies}
@@ -40,6 +42,7 @@ asks_by (Skipped path cause) = false
 asks_by (Cleaned part) = false
 asks_by Barrier = false
 asks_by (Merges pair names) = false
+asks_by (Moved pair) = false
 asks_by (Troubled trouble) = false
 asks_by (Ended ending part) = false
 
@@ -86,9 +89,13 @@ abbrev pub replies_said : ℕ → List Entry → Replies
 replies_said id [] = no_replies
 replies_said id (e ∷ older) = said_after id e.what (asks_still id older) (replies_said id older)
 
--- a file or a link of so many bytes stands at the path
+-- a thing of such a kind stands at the path, of so many bytes
+abbrev pub IsSizedAs : (Kind → Type 0) → View → Route → ℕ → Type 0
+IsSizedAs IsOfKind v path size = (x : Value) × ((v path).value ≡ Some x) × IsOfKind x.kind × (size ≡ length x.bytes)
+
+-- a file or a link does
 abbrev pub IsSized : View → Route → ℕ → Type 0
-IsSized v path size = (x : Value) × ((v path).value ≡ Some x) × IsReplaceable x.kind × (size ≡ length x.bytes)
+IsSized v path size = IsSizedAs IsReplaceable v path size
 
 -- The question is whether what stands at this source replaces what stands at this target, each a file or a link.
 pub record IsQuestionOf (v : View) (source target : Route) (question : Question) : Type 0 where
@@ -96,6 +103,34 @@ pub record IsQuestionOf (v : View) (source target : Route) (question : Question)
   pub to : question.target ≡ target
   pub source_is : IsSized v source question.source_size
   pub target_is : IsSized v target question.target_size
+
+-- The same of what is moved: a file, a link or a special thing.
+pub record IsMoveQuestion (v : View) (source target : Route) (question : Question) : Type 0 where
+  pub from : question.source ≡ source
+  pub to : question.target ≡ target
+  pub source_is : IsSizedAs (λ kind. folder_kind kind ≡ false) v source question.source_size
+  pub target_is : IsSized v target question.target_size
+
+-- A move asks where no answer that stands decides; it keeps what stands at its target where one says so; and it goes there, by which that is replaced if anything
+-- stands there, only where one says that.
+abbrev pub IsMovedAsAnswered : Replies → Route → Route → View → Did → Type 0
+IsMovedAsAnswered replies source target v (Asked question) = IsMoveQuestion v source target question × (decided replies question ≡ Ask)
+IsMovedAsAnswered replies source target v (Kept path) = (path ≡ target) × ((question : Question) × IsMoveQuestion v source target question × (decided replies question ≡ Keep))
+IsMovedAsAnswered replies source target v (Moved pair) =
+    (pair ≡ record { source = source; target = target })
+    × (is_some (v target).value ≡ true → (question : Question) × IsMoveQuestion v source target question × (decided replies question ≡ Replace))
+IsMovedAsAnswered replies source target v (Began part) = ⊥
+IsMovedAsAnswered replies source target v (Chunk count) = ⊥
+IsMovedAsAnswered replies source target v (Placed path) = ⊥
+IsMovedAsAnswered replies source target v (Removed path) = ⊥
+IsMovedAsAnswered replies source target v (Made made) = ⊥
+IsMovedAsAnswered replies source target v (Set path) = ⊥
+IsMovedAsAnswered replies source target v (Cleaned part) = ⊥
+IsMovedAsAnswered replies source target v (Merges pair names) = ⊥
+IsMovedAsAnswered replies source target v (Skipped path cause) = ⊤
+IsMovedAsAnswered replies source target v Barrier = ⊤
+IsMovedAsAnswered replies source target v (Troubled trouble) = ⊤
+IsMovedAsAnswered replies source target v (Ended ending part) = ⊤
 
 -- A copy asks where no answer that stands decides; it keeps what stands at its target where one says so; and it begins a part beside its target, by which that is replaced if anything stands
 -- there, only where one says that.
@@ -113,15 +148,21 @@ IsAsAnswered replies source target v (Skipped path cause) = ⊤
 IsAsAnswered replies source target v (Cleaned part) = ⊤
 IsAsAnswered replies source target v Barrier = ⊤
 IsAsAnswered replies source target v (Merges pair names) = ⊤
+IsAsAnswered replies source target v (Moved pair) = ⊤
 IsAsAnswered replies source target v (Troubled trouble) = ⊤
 IsAsAnswered replies source target v (Ended ending part) = ⊤
 
--- Wherever in a history a job that copies reports something, that is as was answered to it before.
-abbrev pub FollowsAnswers : CallLog → CallLog → List Entry → Type 0
-FollowsAnswers opening now newest =
+-- Wherever in a history a job that works on such an item reports something, that is as was answered to it before.
+abbrev pub Follows : (Route → Route → Item) → (Replies → Route → Route → View → Did → Type 0) → CallLog → CallLog → List Entry → Type 0
+Follows item IsAs opening now newest =
     (e : Entry) (older : List Entry) (id : ℕ) (did : Did) (source target : Route)
-    → e.what ≡ Step id did → live_item id (live_jobs older) ≡ Some (Copies source target) → IsMoment newest (e ∷ older) (e ∷ older) e.calls
-    → IsAsAnswered (replies_said id older) source target (replayed_tree opening now older) did
+    → e.what ≡ Step id did → live_item id (live_jobs older) ≡ Some (item source target) → IsMoment newest (e ∷ older) (e ∷ older) e.calls
+    → IsAs (replies_said id older) source target (replayed_tree opening now older) did
+
+-- so it is of a job that copies, and of one that moves
+pub record FollowsAnswers (opening now : CallLog) (newest : List Entry) : Type 0 where
+  pub copies : Follows Copies IsAsAnswered opening now newest
+  pub moves : Follows Moves IsMovedAsAnswered opening now newest
 
 abbrev pub AnsweredLaw : Type 0
 AnsweredLaw = (opening now : CallLog) (newest : List Entry) (stand : Stand)

@@ -5,7 +5,7 @@ use Rattle.tree_trait.specs.Shape.{IsTree}
 use Rattle.tree_trait.specs.Change.{CallLog, current}
 use Rattle.tree_trait.specs.CrashImages.{all_settled}
 use Rattle.job_reports.specs.declared.report.Did.{Did}
-use Rattle.job_reports.specs.declared.report.Did.TheVariants.{Began, Chunk, Placed, Removed, Made, Set, Kept, Skipped, Cleaned, Barrier, Asked, Merges, Troubled, Ended}
+use Rattle.job_reports.specs.declared.report.Did.TheVariants.{Began, Chunk, Placed, Removed, Made, Set, Kept, Skipped, Cleaned, Barrier, Asked, Merges, Moved, Troubled, Ended}
 use Rattle.job_reports.specs.Jobs.{Copies}
 use Rattle.session_history.specs.declared.history.Event.{Event}
 use Rattle.session_history.specs.declared.history.Event.TheVariants.{Key, Look, Sought, Order, Step, Next, Closed}
@@ -15,7 +15,7 @@ use Rattle.session_history.specs.Entries.{IsMoment}
 use Rattle.history_laws.specs.Replayed.{replayed_tree}
 use Rattle.history_laws.specs.Traces.{IsTraced, Stand}
 use Rattle.outcome_laws.specs.Outcomes.{Finishes}
-use Rattle.outcome_laws.specs.Untouched.{tree_begun}
+use Rattle.outcome_laws.specs.Begun.{tree_begun}
 
 -- whether a job has kept something once it has reported this: a file or a link at its target, or a folder there, with which that of the source is merged
 abbrev pub keeps_by : Did → Bool → Bool
@@ -31,6 +31,7 @@ keeps_by (Cleaned part) before = before
 keeps_by Barrier before = before
 keeps_by (Asked question) before = before
 keeps_by (Merges pair names) before = true
+keeps_by (Moved pair) before = before
 keeps_by (Troubled trouble) before = before
 keeps_by (Ended ending part) before = before
 

@@ -1,5 +1,6 @@
 pub mod AllSources
 pub mod Answered
+pub mod Begun
 pub mod Keeps
 pub mod Outcomes
 pub mod Untouched

@@ -10,8 +10,8 @@ use Rattle.tree_trait.specs.Shape.{IsTree}
 use Rattle.tree_trait.specs.Change.{CallLog, current}
 use Rattle.tree_trait.specs.CrashImages.{Among, all_settled}
 use Rattle.job_reports.specs.declared.report.Did.{Did}
-use Rattle.job_reports.specs.declared.report.Did.TheVariants.{Began, Chunk, Placed, Removed, Made, Set, Kept, Skipped, Cleaned, Barrier, Asked, Merges, Troubled, Ended}
-use Rattle.job_reports.specs.Jobs.{Item, Copies, Removes, Makes, MakesLink, Sets}
+use Rattle.job_reports.specs.declared.report.Did.TheVariants.{Began, Chunk, Placed, Removed, Made, Set, Kept, Skipped, Cleaned, Barrier, Asked, Merges, Moved, Troubled, Ended}
+use Rattle.job_reports.specs.Jobs.{Item, Copies, Moves, Removes, Makes, MakesLink, Sets}
 use Rattle.session_history.specs.declared.history.Event.{Event}
 use Rattle.session_history.specs.declared.history.Event.TheVariants.{Key, Look, Sought, Order, Step, Next, Closed}
 use Rattle.session_history.specs.declared.history.Event.TheVariants as event
@@ -21,6 +21,7 @@ use Rattle.session_history.specs.LiveJobs.{live_jobs, live_item}
 use Rattle.session_history.specs.Sources.{IsDoneWith}
 use Rattle.history_laws.specs.Replayed.{new_folder, new_link, placed_copy, replayed_tree}
 use Rattle.history_laws.specs.Traces.{IsTraced, Stand}
+use Rattle.outcome_laws.specs.Begun.{tree_begun}
 
 -- What was passed over once a job has reported this: what it skipped, and a folder that is merged with that at its target, since what lies in it is copied after it, each
 -- thing as a source of its own.
@@ -35,21 +36,23 @@ passed_by (Set path) before = before
 passed_by (Kept kept) before = before
 passed_by (Asked question) before = before
 passed_by (Merges pair names) before = pair.source ∷ before
+passed_by (Moved pair) before = before
 passed_by (Cleaned part) before = before
 passed_by Barrier before = before
 passed_by (Troubled trouble) before = before
 passed_by (Ended ending part) before = before
 
--- a job that copies passes over its source where it keeps what stands at its target; one that deletes, or makes, passes over nothing where it keeps a folder
+-- a job that copies or moves passes over its source where it keeps what stands at its target; one that deletes, or makes, passes over nothing where it keeps a folder
 abbrev pub kept_of : Option Item → List Route → List Route
 kept_of (Some (Copies source target)) before = source ∷ before
+kept_of (Some (Moves source target)) before = source ∷ before
 kept_of (Some (Removes path)) before = before
 kept_of (Some (Makes path)) before = before
 kept_of (Some (MakesLink path text)) before = before
 kept_of (Some (Sets path mode)) before = before
 kept_of None before = before
 
--- what a job that works on this has passed over once it has reported this, and the source of a copy whose target stays as it was
+-- what a job that works on this has passed over once it has reported this, and the source of a copy or a move whose target stays as it was
 abbrev pub passed_in : Option Item → Did → List Route → List Route
 passed_in item (Kept path) before = kept_of item before
 passed_in item (Skipped path cause) before = passed_by (Skipped path cause) before
@@ -61,6 +64,7 @@ passed_in item (Made made) before = before
 passed_in item (Set path) before = before
 passed_in item (Asked question) before = before
 passed_in item (Merges pair names) before = passed_by (Merges pair names) before
+passed_in item (Moved pair) before = before
 passed_in item (Cleaned part) before = before
 passed_in item Barrier before = before
 passed_in item (Troubled trouble) before = before
@@ -118,13 +122,19 @@ IsMade path made passed v = IsReached passed path → (v path).value ≡ Some ma
 abbrev pub IsSet : Route → ℕ → List Route → View → Type 0
 IsSet path mode passed v = IsReached passed path → option_map (λ x. x.mode) (v path).value ≡ Some mode
 
--- All that a job was to do with its item is done in this tree, but for what it passed over.
-abbrev pub IsOutcome : Item → List Route → View → Type 0
-IsOutcome (Copies source target) passed v = IsCopied source target passed v
-IsOutcome (Removes path) passed v = IsGone path passed v
-IsOutcome (Makes path) passed v = IsMade path new_folder passed v
-IsOutcome (MakesLink path text) passed v = IsMade path (new_link text) passed v
-IsOutcome (Sets path mode) passed v = IsSet path mode passed v
+-- What stood at the source where the job began with it stands at the target, and nothing at the source; but where it was passed over both are as they were.
+pub record IsMoved (source target : Route) (passed : List Route) (begun v : View) : Type 0 where
+  pub went : (Among passed source → ⊥) → ((v source).value ≡ None) × ((v target).value ≡ (begun source).value)
+  pub stays : Among passed source → (v source ≡ begun source) × (v target ≡ begun target)
+
+-- All that a job was to do with its item is done in this tree, which was another one where it began with that; but for what it passed over.
+abbrev pub IsOutcome : Item → List Route → View → View → Type 0
+IsOutcome (Copies source target) passed begun v = IsCopied source target passed v
+IsOutcome (Moves source target) passed begun v = IsMoved source target passed begun v
+IsOutcome (Removes path) passed begun v = IsGone path passed v
+IsOutcome (Makes path) passed begun v = IsMade path new_folder passed v
+IsOutcome (MakesLink path text) passed begun v = IsMade path (new_link text) passed v
+IsOutcome (Sets path mode) passed begun v = IsSet path mode passed v
 
 -- This entry, after the older ones, tells that the job with this number is done with this item: it is finished, or goes on with the next one.
 pub record Finishes (e : Entry) (older : List Entry) (id : ℕ) (item : Item) : Type 0 where
@@ -132,10 +142,10 @@ pub record Finishes (e : Entry) (older : List Entry) (id : ℕ) (item : Item) : 
   pub its : live_item id (live_jobs older) ≡ Some item
 
 -- Wherever in a history a job is done with an item, the tree that the history makes then is such an outcome.
-abbrev pub Leaves : (Item → List Route → View → Type 0) → CallLog → CallLog → List Entry → Type 0
+abbrev pub Leaves : (Item → List Route → View → View → Type 0) → CallLog → CallLog → List Entry → Type 0
 Leaves Outcome opening now newest =
     (e : Entry) (older : List Entry) (id : ℕ) (item : Item)
-    → Finishes e older id item → IsMoment newest (e ∷ older) (e ∷ older) e.calls → Outcome item (passed_over id older) (replayed_tree opening now older)
+    → Finishes e older id item → IsMoment newest (e ∷ older) (e ∷ older) e.calls → Outcome item (passed_over id older) (tree_begun opening now id older) (replayed_tree opening now older)
 
 abbrev pub OutcomeLaw : Type 0
 OutcomeLaw = (opening now : CallLog) (newest : List Entry) (stand : Stand)

@@ -1,42 +1,25 @@
 -- While a job is live nothing changes but what it may touch; in the words of the history alone. Histories stand newest first here.
-use Rattle.std.specs.Prelude.{◌≡◌, ℕ, ◌==◌, Bool, true, false, if◌then◌else◌, List, [], ◌∷◌}
+use Rattle.std.specs.Prelude.{◌≡◌, ℕ, ◌||◌, Bool, true, false, List, ◌∷◌}
 use Rattle.mc_text.specs.Routes.{Route, is_prefix, same_path}
-use Rattle.tree_trait.specs.FileSystem.{View, visible_tree}
 use Rattle.tree_trait.specs.Shape.{IsTree}
 use Rattle.tree_trait.specs.Change.{CallLog, current}
 use Rattle.tree_trait.specs.CrashImages.{all_settled}
-use Rattle.job_reports.specs.Jobs.{Item, Copies, Removes, Makes, MakesLink, Sets}
-use Rattle.session_history.specs.declared.history.Event.{Event}
-use Rattle.session_history.specs.declared.history.Event.TheVariants.{Key, Look, Sought, Order, Step, Next, Closed}
-use Rattle.session_history.specs.declared.history.Event.TheVariants as event
+use Rattle.job_reports.specs.Jobs.{Item, Copies, Moves, Removes, Makes, MakesLink, Sets}
 use Rattle.session_history.specs.declared.history.Entry.{Entry}
 use Rattle.session_history.specs.Entries.{IsMoment}
 use Rattle.history_laws.specs.Replayed.{replayed_tree}
 use Rattle.history_laws.specs.Traces.{IsTraced, Stand}
+use Rattle.outcome_laws.specs.Begun.{tree_begun}
 use Rattle.outcome_laws.specs.Outcomes.{Finishes}
 
--- a path that a job may change: what it makes, deletes or gives a mode; where it copies or deletes, also what lies in that
+-- a path that a job may change: what it makes, deletes or gives a mode; where it copies or deletes, also what lies in that; where it moves, both its paths
 abbrev pub touches : Item → Route → Bool
 touches (Copies source target) path = is_prefix target path
+touches (Moves source target) path = same_path path source || same_path path target
 touches (Removes top) path = is_prefix top path
 touches (Makes made) path = same_path path made
 touches (MakesLink made text) path = same_path path made
 touches (Sets thing mode) path = same_path path thing
-
-abbrev pub begun_after : ℕ → Event → View → View → View
-begun_after id (event.Began number plan background) now before = if number == id then now else before
-begun_after id (Step number did) now before = before
-begun_after id (Key key time refusals lost) now before = before
-begun_after id (Look refusals) now before = before
-begun_after id Sought now before = before
-begun_after id (Order number order) now before = before
-begun_after id (Next number plan) now before = if number == id then now else before
-begun_after id Closed now before = before
-
--- the tree as the history makes it where the job with this number was begun last, or went on with a source last
-abbrev pub tree_begun : CallLog → CallLog → ℕ → List Entry → View
-tree_begun opening now id [] = visible_tree (current opening)
-tree_begun opening now id (e ∷ older) = begun_after id e.what (replayed_tree opening now older) (tree_begun opening now id older)
 
 -- Wherever in a history a job is done with an item, each path that this doesn't touch shows what it showed where the job began with it.
 abbrev pub LeavesAlone : CallLog → CallLog → List Entry → Type 0

@@ -27,7 +27,7 @@ pub fn what_a_finished_job_has_done_with_all()
     ensures { AllSourcesLaw }
 {}
 
-/// What a copy replaces, keeps or asks about at its target is as was answered to it.
+/// What a copy or a move replaces, keeps or asks about at its target is as was answered to it.
 pub fn what_was_answered_decides()
     ensures { AnsweredLaw }
 {}

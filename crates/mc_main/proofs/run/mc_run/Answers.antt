@@ -9,7 +9,7 @@ use Rattle.mc_main.specs.Headline.{IsStatusOr, TookAll}
 use Rattle.mc_main.proofs.Printing.{at_most_five, begins_none, below_four, completes_none, not_at, print_is, prints_it, prints_not, prints_start, put_printed, put_start, refuses_none, session_is, some_prints_not, starts_in, status_few, text_given, usage_asked}
 use Rattle.mc_main.proofs.Starting.{completes, completes_by_five, may_refuse, refuses_by, refuses_listed}
 use Rattle.mc_main.proofs.Taking.{reads_none}
-use Rattle.mc_main.proofs.Runs.{none_counted, answered_to, calmed_to, finished_to, outcome_to, replayed_to, run_in, run_shows, shows_none, safe_to, traced_none, refused_start}
+use Rattle.mc_main.proofs.Runs.{none_counted, answered_to, calmed_to, finished_to, outcome_to, replayed_to, run_in, run_shows, shows_none, safe_to, traced_none, whole_to, refused_start}
 use Rattle.mc_main.proofs.run.mc_run.Goals as goal
 
 pub returns-in-Ok-Print-clause-safe : goal.returns-in-Ok-Print-clause-safe
@@ -23,6 +23,9 @@ returns-in-Ok-Print-clause-outcome g c = outcome_to _ _ _ (traced_none _ _ (reve
 
 pub returns-in-Ok-Print-clause-answered : goal.returns-in-Ok-Print-clause-answered
 returns-in-Ok-Print-clause-answered g c = answered_to _ _ _ (traced_none _ _ (reverse c.refuse.result.history.entries) (ap reverse c.refuse.ensures.empty) (ap g.T.ReadTree.contents c.refuse.ensures.tree))
+
+pub returns-in-Ok-Print-clause-whole : goal.returns-in-Ok-Print-clause-whole
+returns-in-Ok-Print-clause-whole g c = whole_to _ _ _ (traced_none _ _ (reverse c.refuse.result.history.entries) (ap reverse c.refuse.ensures.empty) (ap g.T.ReadTree.contents c.refuse.ensures.tree))
 
 pub returns-in-Ok-Print-clause-calmed : goal.returns-in-Ok-Print-clause-calmed
 returns-in-Ok-Print-clause-calmed g c = calmed_to _ _ _ (traced_none _ _ (reverse c.refuse.result.history.entries) (ap reverse c.refuse.ensures.empty) (ap g.T.ReadTree.contents c.refuse.ensures.tree))
@@ -44,6 +47,9 @@ returns-in-Err-clause-outcome g c = outcome_to _ _ _ (traced_none _ _ (reverse c
 
 pub returns-in-Err-clause-answered : goal.returns-in-Err-clause-answered
 returns-in-Err-clause-answered g c = answered_to _ _ _ (traced_none _ _ (reverse c.without_session.result.history.entries) (ap reverse c.without_session.ensures.empty) (ap g.T.ReadTree.contents c.without_session.ensures.tree))
+
+pub returns-in-Err-clause-whole : goal.returns-in-Err-clause-whole
+returns-in-Err-clause-whole g c = whole_to _ _ _ (traced_none _ _ (reverse c.without_session.result.history.entries) (ap reverse c.without_session.ensures.empty) (ap g.T.ReadTree.contents c.without_session.ensures.tree))
 
 pub returns-in-Err-clause-calmed : goal.returns-in-Err-clause-calmed
 returns-in-Err-clause-calmed g c = calmed_to _ _ _ (traced_none _ _ (reverse c.without_session.result.history.entries) (ap reverse c.without_session.ensures.empty) (ap g.T.ReadTree.contents c.without_session.ensures.tree))
@@ -70,6 +76,10 @@ pub returns-in-Ok-clause-answered : goal.returns-in-Ok-clause-answered
 returns-in-Ok-clause-answered g c =
     answered_to _ _ _ (subst (λ o. IsTracedTo o (g.T.ReadTree.contents c.run_desk.result.tree) (reverse c.run_desk.result.history.entries)) (sym c.requires.opening) c.run_desk.ensures.traced)
 
+pub returns-in-Ok-clause-whole : goal.returns-in-Ok-clause-whole
+returns-in-Ok-clause-whole g c =
+    whole_to _ _ _ (subst (λ o. IsTracedTo o (g.T.ReadTree.contents c.run_desk.result.tree) (reverse c.run_desk.result.history.entries)) (sym c.requires.opening) c.run_desk.ensures.traced)
+
 pub returns-in-Ok-clause-calmed : goal.returns-in-Ok-clause-calmed
 returns-in-Ok-clause-calmed g c =
     calmed_to _ _ _ (subst (λ o. IsTracedTo o (g.T.ReadTree.contents c.run_desk.result.tree) (reverse c.run_desk.result.history.entries)) (sym c.requires.opening) c.run_desk.ensures.traced)
@@ -89,6 +99,9 @@ returns-clause-outcome g c = outcome_to _ _ _ (traced_none _ _ (reverse c.refuse
 
 pub returns-clause-answered : goal.returns-clause-answered
 returns-clause-answered g c = answered_to _ _ _ (traced_none _ _ (reverse c.refuse_start.result.history.entries) (ap reverse c.refuse_start.ensures.empty) (ap g.T.ReadTree.contents c.refuse_start.ensures.tree ∙ c.in-Err-begin.ensures.same))
+
+pub returns-clause-whole : goal.returns-clause-whole
+returns-clause-whole g c = whole_to _ _ _ (traced_none _ _ (reverse c.refuse_start.result.history.entries) (ap reverse c.refuse_start.ensures.empty) (ap g.T.ReadTree.contents c.refuse_start.ensures.tree ∙ c.in-Err-begin.ensures.same))
 
 pub returns-clause-calmed : goal.returns-clause-calmed
 returns-clause-calmed g c = calmed_to _ _ _ (traced_none _ _ (reverse c.refuse_start.result.history.entries) (ap reverse c.refuse_start.ensures.empty) (ap g.T.ReadTree.contents c.refuse_start.ensures.tree ∙ c.in-Err-begin.ensures.same))

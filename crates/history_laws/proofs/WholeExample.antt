@@ -1,0 +1,110 @@
+-- A small session in which a file is moved to the folder around its own, so what the law of moved files asks for can be met: until both folders were synced a
+-- crash may leave it at its source, and it may leave it at its target, and it leaves it at one of them.
+use Rattle.std.proofs.Common.{◌≡◌, pos, false, List, [], ◌∷◌, refl, inl, inr, Some, None, true≢false, sym}
+use Rattle.mc_text.specs.declared.kind.Kind.TheVariants.{File}
+use Rattle.mc_text.specs.Routes.{Route}
+use Rattle.tree_trait.specs.declared.calls.Meta.{Meta}
+use Rattle.tree_trait.specs.declared.file_system.FileSystem.{FileSystem}
+use Rattle.tree_trait.specs.FileSystem.{value, value_at}
+use Rattle.tree_trait.specs.Change.{Change, Moves, Syncs, CallLog, after_change, current}
+use Rattle.tree_trait.specs.CrashImages.{IsCrashImage}
+use Rattle.job_answers.specs.Decisions.{no_replies}
+use Rattle.job_reports.specs.declared.job.Job.TheVariants as plan
+use Rattle.job_reports.specs.declared.job.Pair.{Pair}
+use Rattle.job_reports.specs.declared.report.Did.TheVariants.{Barrier, Moved}
+use Rattle.session_history.specs.declared.history.Event.TheVariants.{Began, Step}
+use Rattle.session_history.specs.declared.history.Entry.{Entry}
+use Rattle.thing_moving.specs.declared.moving.MovingStage.{MovingStage}
+use Rattle.thing_moving.specs.declared.moving.MovingStage.TheVariants.{Take, SyncTarget, SyncSource}
+use Rattle.thing_moving.specs.Movings.{Moving, started}
+use Rattle.thing_moving.specs.Takings.{MayMove, Stands}
+use Rattle.copy_move.specs.declared.run.Course.TheVariants.{GoesOn}
+use Rattle.copy_move.specs.declared.work.Work.TheVariants.{Move}
+use Rattle.copy_move.specs.Jobs.{Running}
+use Rattle.history_laws.specs.Traces.{IsTraced, nothing_live}
+use Rattle.history_laws.specs.Whole.{IsWholeAt}
+use Rattle.history_laws.proofs.ExampleParts.{entry, file, own_step, stand}
+use Rattle.history_laws.proofs.FolderExampleSteps.{first, log, small_tree, top}
+use Rattle.history_laws.proofs.WholeMoments.{whole_law}
+
+-- the first of two files goes out of the folder that holds them
+abbrev root : Route
+root = []
+
+abbrev out : Route
+out = (3 ∷ []) ∷ root
+
+abbrev pair : Pair
+pair = record { source = first; target = out }
+
+abbrev renaming : Change
+renaming = Moves 1 (1 ∷ []) 0 (3 ∷ []) 2 None
+
+abbrev job : MovingStage → Running
+job stage = record { id = 1; work = Move (let m : Moving = record (started pair) { stage = stage } in m); course = GoesOn; replies = no_replies }
+
+abbrev begun_entries : List Entry
+begun_entries = entry 0 (Began 1 (plan.Move (pair ∷ [])) false) ∷ []
+
+begun_traced : IsTraced (log []) begun_entries (stand (job Take ∷ []) []) (log [])
+begun_traced = (nothing_live, log [], (refl, refl), record { after = stand (job Take ∷ []) []; leads = record { none_live = refl; after_is = refl; now_is = refl }; stand_is = refl; counts = refl })
+
+-- it is renamed, and both folders are dirty
+abbrev moving : Entry
+moving = entry 1 (Step 1 (Moved pair))
+
+abbrev moved_entries : List Entry
+moved_entries = moving ∷ begun_entries
+
+abbrev moved_log : CallLog
+moved_log = log (renaming ∷ [])
+
+abbrev meta : Meta
+meta = record { kind = File; size = 1; mode = 0o644; mtime = pos 0; mount = 0 }
+
+stands : Stands (current (log [])) first meta
+stands = record { there = refl; is = record { kind = refl; size = refl; mode = refl; mtime = refl; mount = refl } }
+
+may : MayMove (current (log [])) pair no_replies
+may = record { can = record { source = meta; stands = stands; single = refl }; free = inl refl }
+
+moved_traced : IsTraced (log []) moved_entries (stand (job SyncTarget ∷ []) (root ∷ top ∷ [])) moved_log
+moved_traced =
+    own_step (log []) 1 1 (Moved pair) begun_entries (stand (job Take ∷ []) []) (stand (job SyncTarget ∷ []) (root ∷ top ∷ [])) (log []) moved_log (job Take) (job SyncTarget) begun_traced (inl (refl, refl))
+    (record {
+      tells = (Move (let m : Moving = record (started pair) { stage = SyncTarget } in m), (refl, refl, refl), refl);
+      called = (may, (refl, (pos 0, refl)));
+      settled = λ goes fresh kept among. absurd among;
+      leaves = refl;
+      walks = (1, 0, 0, tt);
+    }) refl refl refl
+
+-- the target's folder is synced, and the source's is not yet
+abbrev half_entries : List Entry
+half_entries = entry 2 (Step 1 Barrier) ∷ moved_entries
+
+abbrev half_log : CallLog
+half_log = log (renaming ∷ Syncs 0 ∷ [])
+
+half_traced : IsTraced (log []) half_entries (stand (job SyncSource ∷ []) (top ∷ [])) half_log
+half_traced =
+    own_step (log []) 1 2 Barrier moved_entries (stand (job SyncTarget ∷ []) (root ∷ top ∷ [])) (stand (job SyncSource ∷ []) (top ∷ [])) moved_log half_log (job SyncTarget) (job SyncSource) moved_traced (inl (refl, refl))
+    (record {
+      tells = (Move (let m : Moving = record (started pair) { stage = SyncSource } in m), (refl, refl), refl);
+      called = (refl, (pos 0, refl));
+      settled = λ goes fresh. absurd (true≢false (sym fresh));
+      leaves = refl;
+      walks = (1, 0, 0, tt);
+    }) refl refl refl
+
+-- then it is at its source after some crash, and at its target after another
+at_source : (image : FileSystem) × IsCrashImage half_log 2 image × (value_at image first ≡ Some (value file)) × (value_at image out ≡ None)
+at_source = (current (log []), inr (refl, (current (log []), refl, inl refl)), refl, refl)
+
+at_target : (image : FileSystem) × IsCrashImage half_log 2 image × (value_at image first ≡ None) × (value_at image out ≡ Some (value file))
+at_target = (after_change (current (log [])) renaming, inl (inl refl), refl, refl)
+
+-- and at one of them after any
+pub stays_whole : (image : FileSystem) → IsCrashImage half_log 2 image → IsWholeAt image pair (Some (value file))
+stays_whole image left =
+    whole_law (log []) half_log half_entries begun_entries half_entries half_entries (stand (job SyncSource ∷ []) (top ∷ [])) moving 1 pair 2 image small_tree refl half_traced refl (λ among. among) (inl (refl, refl, refl)) (inr (refl, inl refl)) left

@@ -1,0 +1,48 @@
+-- What a crash leaves of a file that is moved: in one and the same image it is whole at its source or at its target. Histories stand newest first here.
+use Rattle.std.specs.Prelude.{◌≡◌, ◌⊎◌, ℕ, ◌+◌, Bool, true, false, is_some, List, [], ◌∷◌, length, Option}
+use Rattle.tree_trait.specs.declared.file_system.FileSystem.{FileSystem}
+use Rattle.tree_trait.specs.FileSystem.{Value, value_at}
+use Rattle.tree_trait.specs.Shape.{IsTree}
+use Rattle.tree_trait.specs.Change.{CallLog, current}
+use Rattle.tree_trait.specs.CrashImages.{Among, all_settled, IsCrashImage}
+use Rattle.job_reports.specs.declared.job.Pair.{Pair}
+use Rattle.job_reports.specs.declared.report.Did.TheVariants.{Moved}
+use Rattle.session_history.specs.declared.history.Event.{Event}
+use Rattle.session_history.specs.declared.history.Event.TheVariants.{Key, Look, Sought, Order, Step, Next, Closed}
+use Rattle.session_history.specs.declared.history.Event.TheVariants as event
+use Rattle.session_history.specs.declared.history.Entry.{Entry}
+use Rattle.session_history.specs.Entries.{IsMoment}
+use Rattle.session_history.specs.Named.{named_parts}
+use Rattle.history_laws.specs.Replayed.{replayed_tree}
+use Rattle.history_laws.specs.Traces.{IsTraced, Stand}
+
+-- the event takes up a source: the first one of a job that begins, or the next one of a job
+abbrev pub takes_up : Event → Bool
+takes_up (event.Began id plan background) = true
+takes_up (Next id plan) = true
+takes_up (Step id did) = false
+takes_up (Order id order) = false
+takes_up (Key key now refusals lost) = false
+takes_up (Look refusals) = false
+takes_up Sought = false
+takes_up Closed = false
+
+-- these entries are the first ones with more on top, of which none takes up another source
+abbrev pub IsStillSince : List Entry → List Entry → Type 0
+IsStillSince first [] = first ≡ []
+IsStillSince first (e ∷ entries) = (first ≡ e ∷ entries) ⊎ ((takes_up e.what ≡ false) × IsStillSince first entries)
+
+-- Something stood at the source, and it stands there, with its bytes and its mode, or it stands so at the target.
+pub record IsWholeAt (image : FileSystem) (pair : Pair) (stood : Option Value) : Type 0 where
+  pub some : is_some stood ≡ true
+  pub stands : (value_at image pair.source ≡ stood) ⊎ (value_at image pair.target ≡ stood)
+
+-- The law of what a crash leaves of a file that is moved. From the entry that tells of the move on, and within it, until another source is taken up, each crash
+-- image has at the source or at the target what the history says of the source before that entry, at each moment, inside a call too; but not where an entry
+-- named the source as a part. What stays of a source with which the job is done `DoneLaw` says: then the target has it for good.
+abbrev pub WholeLaw : Type 0
+WholeLaw = (opening now : CallLog) (newest older standing coming : List Entry) (stand : Stand) (e : Entry) (id : ℕ) (pair : Pair) (calls : ℕ) (image : FileSystem)
+    → IsTree (current opening) → all_settled opening.changes ≡ true → IsTraced opening newest stand now
+    → e.what ≡ Step id (Moved pair) → (Among (named_parts older) pair.source → ⊥)
+    → IsMoment newest standing coming calls → IsStillSince (e ∷ older) coming → IsCrashImage now (length opening.changes + calls) image
+    → IsWholeAt image pair (replayed_tree opening now older pair.source).value
