@@ -15,6 +15,8 @@ use Rattle.session_history.specs.declared.refusal.Refusal.{Refusal}
 use Rattle.session_history.specs.declared.refusal.Refusal.TheVariants.{Tree, Read, Resolve, Plan, Begin, Typed}
 use Rattle.mc_dialogs.specs.InputKeys.{InputState}
 use Rattle.mc_dialogs.specs.ModeKeys.{ModeState}
+use Rattle.box_words.specs.declared.carry.Carry.{Carry}
+use Rattle.box_words.specs.declared.carry.Carry.TheVariants as carry
 use Rattle.box_words.specs.declared.message.Message.{Message}
 use Rattle.box_words.specs.declared.message.Message.TheVariants.{Refused, PartLeft, OutOfMemory, Help}
 use Rattle.box_words.specs.Causes.{refusal_words, trouble_words}
@@ -117,13 +119,17 @@ link_text_line text = record { title = codes "Link text"; before = text; behind 
 abbrev pub link_name_line : InputState
 link_name_line = record { title = codes "Link name"; before = []; behind = [] }
 
--- what a copy's destination is at first: the other panel's folder and a slash
+-- what the destination is at first: the other panel's folder and a slash
 abbrev pub target_text : Route → List ℕ
 target_text folder = spelled folder ++ codes "/"
 
--- the line that asks for the destination, as it opens
-abbrev pub target_line : Route → InputState
-target_line folder = record { title = codes "Copy to"; before = target_text folder; behind = [] }
+-- the line that asks where things are to be copied or moved to, as it opens
+abbrev pub target_title : Carry → List ℕ
+target_title carry.Copy = codes "Copy to"
+target_title carry.Move = codes "Move to"
+
+abbrev pub target_line : Carry → Route → InputState
+target_line how folder = record { title = target_title how; before = target_text folder; behind = [] }
 
 -- the box that asks for a mode, as it opens; a mode has four octal digits
 abbrev pub mode_box : ℕ → ModeState

@@ -2,8 +2,9 @@
 ghost use Rattle.std.specs.Prelude.{◌≡◌, ◌∷◌, ◌++◌, [], IfOk};
 ghost use Rattle.std.specs.Option.{option_map_or};
 ghost use Rattle.mc_text.specs.Routes.{path_text as path_text_of};
-ghost use Rattle.box_words.specs.BoxLines.{delete_lines as lines_of_deletion, folder_line as line_of_folder, link_name_line as line_of_link_name, link_text_line as line_of_link_text, mask_line as line_of_mask, message_lines as lines_of_message, mode_box as box_of_mode, path_lines, plan_path, question_lines as lines_of_question, resolve_path, sizes_line as line_of_sizes, target_line as line_of_target, target_text as text_of_target, thing_text as text_of_thing, trouble_letter_words, trouble_lines as lines_of_trouble, waits_lines as lines_of_waits};
+ghost use Rattle.box_words.specs.BoxLines.{delete_lines as lines_of_deletion, folder_line as line_of_folder, link_name_line as line_of_link_name, link_text_line as line_of_link_text, mask_line as line_of_mask, message_lines as lines_of_message, mode_box as box_of_mode, path_lines, plan_path, question_lines as lines_of_question, resolve_path, sizes_line as line_of_sizes, target_line as line_of_target, target_text as text_of_target, target_title as title_of_target, thing_text as text_of_thing, trouble_letter_words, trouble_lines as lines_of_trouble, waits_lines as lines_of_waits};
 
+use crate::carry::Carry;
 use crate::causes::{refusal_text, trouble_text};
 use crate::message::Message;
 use job_reports::{Question, Trouble, Waits};
@@ -212,12 +213,22 @@ pub fn mask_line(alloc: Global) -> Result<InputLine, NoMemory>
     InputLine::new(alloc, "Source mask", "*")
 }
 
-/// The line that asks for a copy's destination, while the other panel shows this folder.
-pub fn target_line(alloc: Global, folder: &Path) -> Result<InputLine, NoMemory>
-    ensures { IfOk result (λ line. line ≡ line_of_target folder.now) }
+/// The line that asks where things are to be copied or moved to, while the other panel shows this folder.
+pub fn target_line(alloc: Global, carry: Carry, folder: &Path) -> Result<InputLine, NoMemory>
+    ensures { IfOk result (λ line. line ≡ line_of_target carry folder.now) }
 {
     let text = target_text(alloc, folder)?;
-    InputLine::new(alloc, "Copy to", text.as_str())
+    InputLine::new(alloc, target_title(carry), text.as_str())
+}
+
+/// The title of that line.
+fn target_title(carry: Carry) -> &'static str
+    ensures { result.now ≡ title_of_target carry }
+{
+    match carry {
+        Carry::Copy => "Copy to",
+        Carry::Move => "Move to",
+    }
 }
 
 /// The line that asks for a new folder's path.

@@ -2,6 +2,7 @@
 #![tactic(auto)]
 
 mod box_lines;
+mod carry;
 mod causes;
 mod chosen;
 mod message;
@@ -11,6 +12,7 @@ pub use box_lines::{
     delete_lines, folder_line, link_name_line, link_text_line, mask_line, message_lines, mode_box,
     target_line, thing_text, waits_lines,
 };
+pub use carry::Carry;
 pub use causes::{cause_text, resolve_text};
 pub use chosen::Chosen;
 pub use message::Message;

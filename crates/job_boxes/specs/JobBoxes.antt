@@ -5,16 +5,17 @@ use Rattle.job_reports.specs.declared.row.JobRow.{JobRow}
 use Rattle.job_reports.specs.declared.waits.Waits.{Waits}
 use Rattle.mc_dialogs.specs.InputKeys.{InputState}
 use Rattle.mc_dialogs.specs.ModeKeys.{ModeState}
+use Rattle.box_words.specs.declared.carry.Carry.{Carry}
 use Rattle.job_boxes.specs.declared.job_box.JobBox.{JobBox}
 use Rattle.job_boxes.specs.declared.job_box.JobBox.TheVariants as box
 use Rattle.job_boxes.specs.declared.job_box.Surroundings.{Surroundings}
 
--- A box that asks whether to delete things, asks for the source mask of a copy or, with that mask, for its destination, for a new folder,
--- for what a new link is to say or, with that, for its name, or for the mode of things, or tells what a job waits with.
+-- A box that asks whether to delete things, asks for the source mask of a copy or a move or, with that mask, for its destination, for a new
+-- folder, for what a new link is to say or, with that, for its name, or for the mode of things, or tells what a job waits with.
 pub data JobBoxState : Type 0 where
   DeleteBox : (paths : List Route) → JobBoxState
-  MaskBox : (paths : List Route) → (typed : InputState) → JobBoxState
-  TargetBox : (paths : List Route) → (mask : List ℕ) → (typed : InputState) → JobBoxState
+  MaskBox : (how : Carry) → (paths : List Route) → (typed : InputState) → JobBoxState
+  TargetBox : (how : Carry) → (paths : List Route) → (mask : List ℕ) → (typed : InputState) → JobBoxState
   FolderBox : (typed : InputState) → JobBoxState
   LinkTextBox : (typed : InputState) → JobBoxState
   LinkNameBox : (text : List ℕ) → (typed : InputState) → JobBoxState
@@ -24,8 +25,8 @@ pub data JobBoxState : Type 0 where
 -- a box as it is seen
 abbrev pub seen : JobBox → JobBoxState
 seen (box.Delete chosen) = DeleteBox chosen.paths
-seen (box.SourceMask chosen typed) = MaskBox chosen.paths typed
-seen (box.CopyTo source typed) = TargetBox source.chosen.paths source.mask typed
+seen (box.SourceMask how chosen typed) = MaskBox how chosen.paths typed
+seen (box.CarryTo source typed) = TargetBox source.carry source.chosen.paths source.mask typed
 seen (box.MakeFolder typed) = FolderBox typed
 seen (box.LinkText typed) = LinkTextBox typed
 seen (box.LinkName text typed) = LinkNameBox text typed

@@ -10,8 +10,8 @@ use Rattle.job_boxes.specs.JobBoxes.{JobBoxState, DeleteBox, MaskBox, TargetBox,
 
 abbrev pub with_job_box : JobBoxState → CellGrid → CellGrid
 with_job_box (DeleteBox paths) grid = with_box grid (plain_lines (delete_lines (length paths)))
-with_job_box (MaskBox paths typed) grid = with_input grid typed
-with_job_box (TargetBox paths mask typed) grid = with_input grid typed
+with_job_box (MaskBox how paths typed) grid = with_input grid typed
+with_job_box (TargetBox how paths mask typed) grid = with_input grid typed
 with_job_box (FolderBox typed) grid = with_input grid typed
 with_job_box (LinkTextBox typed) grid = with_input grid typed
 with_job_box (LinkNameBox text typed) grid = with_input grid typed

@@ -3,8 +3,8 @@ use Rattle.std.specs.Prelude.{ℕ, List, Option}
 use Rattle.mc_text.specs.Routes.{Route}
 use Rattle.home_paths.specs.Homes.{with_home}
 use Rattle.tree_trait.specs.Change.{CallLog}
-use Rattle.job_plans.specs.declared.copying.JobPlan.{JobPlan}
-use Rattle.job_plans.specs.CopyPlans.{CopyLeads}
+use Rattle.job_plans.specs.declared.carrying.JobPlan.{JobPlan}
+use Rattle.job_plans.specs.Carrying.{CarryLeads}
 use Rattle.job_plans.specs.Folders.{FolderLeads}
 use Rattle.job_plans.specs.Links.{LinkLeads}
 use Rattle.job_boxes.specs.declared.plan_of.PlanOf.{PlanOf}
@@ -13,7 +13,7 @@ use Rattle.job_boxes.specs.JobBoxes.{Around}
 
 -- what planning it comes to where a text leads from a folder
 abbrev pub PlansAt : PlanOf → Option CallLog → Route → List ℕ → JobPlan → Type 0
-PlansAt (plan_of.Copy source) contents from text plan = CopyLeads contents source.now.chosen.paths source.now.mask from text plan
+PlansAt (plan_of.Carry source) contents from text plan = CarryLeads source.now.carry contents source.now.chosen.paths source.now.mask from text plan
 PlansAt plan_of.Folder contents from text plan = FolderLeads contents from text plan
 PlansAt (plan_of.Link said) contents from text plan = LinkLeads contents from text said.now plan
 

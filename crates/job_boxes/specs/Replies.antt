@@ -1,4 +1,4 @@
--- What a key comes to in each box of a job (mc(1), "Copy, Rename", "Miscellaneous Keys"; F5, F7 and F8 of its bottom line).
+-- What a key comes to in each box of a job (mc(1), "Copy, Rename", "Miscellaneous Keys"; F5 to F8 of its bottom line).
 use Rattle.std.specs.Prelude.{◌≡◌, ◌⊎◌, ⊤, ℕ, Bool, true, false, MatchBool, if◌then◌else◌, List, [], ◌∷◌, Option}
 use Rattle.mc_text.specs.Routes.{Route}
 use Rattle.home_paths.specs.Homes.{with_home}
@@ -12,6 +12,7 @@ use Rattle.session_history.specs.declared.refusal.Refusal.{Refusal}
 use Rattle.session_history.specs.declared.refusal.Refusal.TheVariants.{Begin}
 use Rattle.mc_dialogs.specs.InputKeys.{input_after, input_shut}
 use Rattle.mc_dialogs.specs.ModeKeys.{mode_after, mode_shut}
+use Rattle.box_words.specs.declared.carry.Carry.{Carry}
 use Rattle.box_words.specs.declared.replies.AnswerReply.{AnswerReply}
 use Rattle.box_words.specs.declared.replies.AnswerReply.TheVariants as answer
 use Rattle.box_words.specs.declared.replies.DeleteReply.{DeleteReply}
@@ -22,10 +23,10 @@ use Rattle.box_words.specs.declared.replies.ModeReply.{ModeReply}
 use Rattle.box_words.specs.declared.replies.ModeReply.TheVariants as asked
 use Rattle.box_words.specs.BoxKeys.{answer_reply_to, delete_reply_to, line_reply, mode_reply}
 use Rattle.box_words.specs.BoxLines.{link_name_line, target_line}
-use Rattle.job_plans.specs.declared.copying.JobPlan.{JobPlan}
-use Rattle.job_plans.specs.declared.copying.JobPlan.TheVariants as plan
-use Rattle.job_plans.specs.Copies.{delete_plan, mode_plan}
-use Rattle.job_plans.specs.CopyPlans.{CopyLeads}
+use Rattle.job_plans.specs.declared.carrying.JobPlan.{JobPlan}
+use Rattle.job_plans.specs.declared.carrying.JobPlan.TheVariants as plan
+use Rattle.job_plans.specs.Plans.{delete_plan, mode_plan}
+use Rattle.job_plans.specs.Carrying.{CarryLeads}
 use Rattle.job_plans.specs.Folders.{FolderLeads}
 use Rattle.job_plans.specs.Links.{LinkLeads}
 use Rattle.job_boxes.specs.declared.job_box.JobReply.{JobReply}
@@ -70,10 +71,10 @@ delete_answer rows paths delete.Shuts = Shuts
 delete_answer rows paths delete.Deletes = begun_alone rows (delete_plan paths)
 
 -- the source mask: with any mask that is typed the destination is asked for, at first the folder of the other panel
-abbrev pub MaskLeads : LineReply → List Route → Route → JobReply → Type 0
-MaskLeads line.Stays paths other reply = reply ≡ Stays
-MaskLeads line.Shuts paths other reply = reply ≡ Shuts
-MaskLeads (line.Takes text) paths other reply = OpensBox (TargetBox paths text (target_line other)) reply
+abbrev pub MaskLeads : LineReply → Carry → List Route → Route → JobReply → Type 0
+MaskLeads line.Stays how paths other reply = reply ≡ Stays
+MaskLeads line.Shuts how paths other reply = reply ≡ Shuts
+MaskLeads (line.Takes text) how paths other reply = OpensBox (TargetBox how paths text (target_line how other)) reply
 
 -- what a new link is to say: with any text that is typed its name is asked for
 abbrev pub LinkTextLeads : LineReply → JobReply → Type 0
@@ -101,14 +102,14 @@ given_answer rows (answer.Gives given) = if can_answer rows given then Answers g
 
 -- KEYS
 
--- What a key comes to in a box. A typed path leads from the folder of the current panel, with HOME in place of a tilde: the copy's destination,
+-- What a key comes to in a box. A typed path leads from the folder of the current panel, with HOME in place of a tilde: the destination
 -- of those things that match the mask, the new folder's path, and that of the link with its text.
 abbrev pub BoxLeads : JobBoxState → Option CallLog → Around → Key → JobReply → Type 0
 BoxLeads (DeleteBox paths) contents around key reply = reply ≡ delete_answer around.rows paths (delete_reply_to key)
-BoxLeads (MaskBox paths typed) contents around key reply = MaskLeads (line_reply (input_shut typed key)) paths around.other reply
-BoxLeads (TargetBox paths mask typed) contents around key reply =
+BoxLeads (MaskBox how paths typed) contents around key reply = MaskLeads (line_reply (input_shut typed key)) how paths around.other reply
+BoxLeads (TargetBox how paths mask typed) contents around key reply =
     PathLeads (line_reply (input_shut typed key)) around.rows
-    (λ text planned. CopyLeads contents paths mask around.current (with_home around.home text) planned) reply
+    (λ text planned. CarryLeads how contents paths mask around.current (with_home around.home text) planned) reply
 BoxLeads (FolderBox typed) contents around key reply =
     PathLeads (line_reply (input_shut typed key)) around.rows
     (λ text planned. FolderLeads contents around.current (with_home around.home text) planned) reply
@@ -122,8 +123,8 @@ BoxLeads (AnswerBox waits) contents around key reply = reply ≡ given_answer ar
 -- a box after a key
 abbrev pub box_after : JobBoxState → Key → JobBoxState
 box_after (DeleteBox paths) key = DeleteBox paths
-box_after (MaskBox paths typed) key = MaskBox paths (input_after typed key)
-box_after (TargetBox paths mask typed) key = TargetBox paths mask (input_after typed key)
+box_after (MaskBox how paths typed) key = MaskBox how paths (input_after typed key)
+box_after (TargetBox how paths mask typed) key = TargetBox how paths mask (input_after typed key)
 box_after (FolderBox typed) key = FolderBox (input_after typed key)
 box_after (LinkTextBox typed) key = LinkTextBox (input_after typed key)
 box_after (LinkNameBox text typed) key = LinkNameBox text (input_after typed key)

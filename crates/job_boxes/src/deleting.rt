@@ -1,7 +1,7 @@
 //! Keys while it is asked whether to delete things.
 ghost use Rattle.std.specs.Prelude.{◌≡◌, IfOk};
 ghost use Rattle.box_words.specs.BoxKeys.{delete_reply_to as deletes_by};
-ghost use Rattle.job_plans.specs.Copies.{delete_plan};
+ghost use Rattle.job_plans.specs.Plans.{delete_plan};
 ghost use Rattle.job_boxes.specs.Replies.{IsAllowed, IsFullAtMost, begun_alone, delete_answer, reply_refusals};
 
 use crate::job_box::JobReply;

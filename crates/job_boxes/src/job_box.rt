@@ -1,13 +1,14 @@
 //! A box of a job, and what a key comes to in it.
-use box_words::Chosen;
+use box_words::{Carry, Chosen};
 use job_reports::{Answer, Job, JobRows, Waits};
 use mc_dialogs::{InputLine, ModeBox};
 use mc_text::{Path, Text};
 use session_history::Refusal;
 
-/// Things of which those are to be copied whose names match the mask.
+/// Things of which those are to be copied or moved whose names match the mask.
 #[derive(Debug, Drop)]
 pub struct MaskedSource {
+    pub carry: Carry,
     pub chosen: Chosen,
     pub mask: Text,
 }
@@ -17,10 +18,10 @@ pub struct MaskedSource {
 pub enum JobBox {
     /// Asks whether to delete these things.
     Delete(Chosen),
-    /// Asks which of these things are copied, by their names.
-    SourceMask(Chosen, InputLine),
-    /// Asks where these things are to be copied to.
-    CopyTo(MaskedSource, InputLine),
+    /// Asks which of these things are copied or moved, by their names.
+    SourceMask(Carry, Chosen, InputLine),
+    /// Asks where these things are to be copied or moved to.
+    CarryTo(MaskedSource, InputLine),
     /// Asks where a new folder is to be made, and under which name.
     MakeFolder(InputLine),
     /// Asks what a new link is to say.

@@ -36,11 +36,11 @@ impl JobBox {
     {
         match self {
             JobBox::Delete(chosen) => key_in_delete(alloc, around.rows, chosen, key),
-            JobBox::SourceMask(chosen, line) => {
-                key_in_mask(alloc, around.other, chosen, line, key)
+            JobBox::SourceMask(carry, chosen, line) => {
+                key_in_mask(alloc, around.other, *carry, chosen, line, key)
             }
-            JobBox::CopyTo(source, line) => {
-                key_in_path(alloc, tree, around, &PlanOf::Copy(source), line, key)
+            JobBox::CarryTo(source, line) => {
+                key_in_path(alloc, tree, around, &PlanOf::Carry(source), line, key)
             }
             JobBox::MakeFolder(line) => {
                 key_in_path(alloc, tree, around, &PlanOf::Folder, line, key)

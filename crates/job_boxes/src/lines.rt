@@ -8,7 +8,7 @@ ghost use Rattle.job_boxes.specs.Lines.{StaysWhereTaken};
 ghost use Rattle.job_boxes.specs.Replies.{AsksNothing, LinkTextLeads, MaskLeads, stays};
 
 use crate::job_box::{JobBox, JobReply, MaskedSource};
-use box_words::{Chosen, LineReply, line_reply, link_name_line, target_line};
+use box_words::{Carry, Chosen, LineReply, line_reply, link_name_line, target_line};
 use key_screen::Key;
 use mc_dialogs::InputLine;
 use mc_text::{NoMemory, Path, Text};
@@ -18,11 +18,12 @@ use std::alloc::Global;
 pub(crate) fn key_in_mask(
     alloc: Global,
     other: &Path,
+    carry: Carry,
     chosen: &Chosen,
     line: &mut InputLine,
     key: Key,
 ) -> Result<JobReply, NoMemory>
-    ensures leads { IfOk result (MaskLeads (line_reply_of (input_shut line.old key)) chosen.now.paths other.now) }
+    ensures leads { IfOk result (MaskLeads (line_reply_of (input_shut line.old key)) carry chosen.now.paths other.now) }
     ensures state { OnOk result (line.new ≡ input_after line.old key) }
     ensures kept { IfOk result (λ reply. stays reply ≡ false → line.new ≡ line.old) }
     ensures lost { OnErr result (line.new ≡ line.old) }
@@ -32,21 +33,32 @@ pub(crate) fn key_in_mask(
         LineReply::Stays => Ok(JobReply::Stays),
         LineReply::Shuts => Ok(JobReply::Shuts),
         LineReply::Takes(text) => {
-            let asked = ask_target(alloc, other, chosen, text)?;
+            let asked = ask_target(alloc, other, carry, chosen, text)?;
             Ok(JobReply::Opens(asked))
         }
     }
 }
 
 /// The box that asks for the destination, at first the folder of the other panel.
-fn ask_target(alloc: Global, other: &Path, chosen: &Chosen, mask: Text) -> Result<JobBox, NoMemory>
-    ensures { IfOk result (λ asks. seen asks ≡ TargetBox chosen.now.paths mask (target_line_of other.now)) }
+fn ask_target(
+    alloc: Global,
+    other: &Path,
+    carry: Carry,
+    chosen: &Chosen,
+    mask: Text,
+) -> Result<JobBox, NoMemory>
+    ensures { IfOk result (λ asks. seen asks ≡ TargetBox carry chosen.now.paths mask (target_line_of carry other.now)) }
 {
-    let line = target_line(alloc, other)?;
+    let line = target_line(alloc, carry, other)?;
     let chosen = Chosen {
         paths: chosen.paths.copy(alloc)?,
     };
-    Ok(JobBox::CopyTo(MaskedSource { chosen, mask }, line))
+    let source = MaskedSource {
+        carry,
+        chosen,
+        mask,
+    };
+    Ok(JobBox::CarryTo(source, line))
 }
 
 /// A key while it is asked what a new link is to say.

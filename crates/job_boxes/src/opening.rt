@@ -20,7 +20,10 @@ impl JobBox {
     {
         match opens {
             Opens::Delete => Ok(JobBox::Delete(chosen)),
-            Opens::SourceMask => Ok(JobBox::SourceMask(chosen, mask_line(alloc)?)),
+            Opens::SourceMask(carry) => {
+                let line = mask_line(alloc)?;
+                Ok(JobBox::SourceMask(carry, chosen, line))
+            }
             Opens::Mode => Ok(JobBox::Mode(chosen, mode_box(alloc, mode)?)),
         }
     }

@@ -23,11 +23,11 @@ impl JobBox {
                 paint_lines(grid, alloc, lines)?;
                 Ok(())
             }
-            JobBox::SourceMask(_, line) => {
+            JobBox::SourceMask(_, _, line) => {
                 line.paint(alloc, grid)?;
                 Ok(())
             }
-            JobBox::CopyTo(_, line) => {
+            JobBox::CarryTo(_, line) => {
                 line.paint(alloc, grid)?;
                 Ok(())
             }

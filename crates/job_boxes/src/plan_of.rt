@@ -5,8 +5,8 @@ use mc_text::Text;
 /// What is planned where a typed path leads.
 #[derive(Drop)]
 pub(crate) enum PlanOf<'a> {
-    /// The copy of these, to there.
-    Copy(&'a MaskedSource),
+    /// That these are copied or moved there.
+    Carry(&'a MaskedSource),
     /// A new folder there.
     Folder,
     /// A new link there that says this.

@@ -1,4 +1,4 @@
-//! Keys in the lines by whose text a job is planned: a copy's destination, a new folder's path, the name of a new link.
+//! Keys in the lines by whose text a job is planned: the destination of what is copied or moved, a new folder's path, the name of a new link.
 ghost use Rattle.std.specs.Prelude.{◌≡◌, [], false, OnErr, OnOk, IfOk};
 ghost use Rattle.mc_dialogs.specs.InputKeys.{input_after, input_shut};
 ghost use Rattle.box_words.specs.BoxKeys.{line_reply as line_reply_of};
@@ -14,7 +14,7 @@ use crate::live_jobs::{full, none_live};
 use crate::plan_of::PlanOf;
 use box_words::LineReply;
 use home_paths::with_home;
-use job_plans::{JobPlan, plan_copy, plan_folder, plan_link};
+use job_plans::{JobPlan, plan_carry, plan_folder, plan_link};
 use key_screen::Key;
 use mc_dialogs::InputLine;
 use mc_text::{NoMemory, Path, Text};
@@ -100,9 +100,9 @@ fn plan_at<T: ReadTree>(
         (T.fault_count tree.old) (T.fault_count tree.new) }
 {
     match wanted {
-        PlanOf::Copy(source) => {
+        PlanOf::Carry(source) => {
             let mask = source.mask.as_str();
-            plan_copy(alloc, tree, &source.chosen, mask, from, typed)
+            plan_carry(alloc, tree, source.carry, &source.chosen, mask, from, typed)
         }
         PlanOf::Folder => plan_folder(alloc, tree, from, typed),
         PlanOf::Link(text) => plan_link(alloc, tree, from, typed, text.as_str()),

@@ -2,7 +2,7 @@
 ghost use Rattle.std.specs.Prelude.{◌≡◌, ◌<◌, false, OnErr, OnOk, IfOk};
 ghost use Rattle.mc_dialogs.specs.ModeKeys.{mode_after, mode_shut};
 ghost use Rattle.box_words.specs.BoxKeys.{mode_reply as mode_reply_of};
-ghost use Rattle.job_plans.specs.Copies.{mode_plan};
+ghost use Rattle.job_plans.specs.Plans.{mode_plan};
 ghost use Rattle.job_boxes.specs.Lines.{StaysWhereGiven};
 ghost use Rattle.job_boxes.specs.Replies.{IsAllowed, IsFullAtMost, begun_alone, mode_answer, reply_refusals, stays};
 

@@ -11,7 +11,7 @@ use Rattle.job_plans.specs.declared.choosing.Choice.{Choice}
 use Rattle.job_plans.specs.declared.choosing.Choice.TheVariants.{NoSelection, TooLong, Things, Refused}
 use Rattle.job_plans.specs.declared.choosing.Opens.{Opens}
 use Rattle.job_plans.specs.Choices.{IsChoiceOf, IsThing, paths_in}
-use Rattle.job_plans.specs.Copies.{HasMode, MayAsk}
+use Rattle.job_plans.specs.Plans.{HasMode, MayAsk}
 use Rattle.job_plans.specs.Reading.{sight}
 use Rattle.job_plans.proofs.Sights.{thing_look}
 

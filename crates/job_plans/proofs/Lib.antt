@@ -1,8 +1,8 @@
 mod Firsts
 mod Refusing
 mod NewPlaces
-mod CopyCauses
+mod CarryCauses
 mod Within
-mod CopiesLead
+mod CarriesLead
 mod Sights
 mod ChoiceLemmas

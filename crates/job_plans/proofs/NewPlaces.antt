@@ -31,7 +31,7 @@ use Rattle.session_history.specs.declared.refusal.TypedError.TheVariants.{BadNam
 use Rattle.session_history.specs.Refusals.{AreRefused, HasCause, IsTargetRefused}
 use Rattle.job_plans.specs.declared.new_place.NewPlace.{NewPlace}
 use Rattle.job_plans.specs.declared.new_place.NewPlace.TheVariants.{At, Refused}
-use Rattle.job_plans.specs.Copies.{IsVacant}
+use Rattle.job_plans.specs.Plans.{IsVacant}
 use Rattle.job_plans.specs.Places.{IsPlace, IsToldOfPlace, PlaceLeads, PlaceRefused, is_below_home, place_refusals, told_of_place}
 use Rattle.job_plans.specs.Reading.{ReadsTree, sight}
 use Rattle.job_plans.specs.Refused.{has_fault}

@@ -19,8 +19,8 @@ use Rattle.session_history.specs.declared.refusal.Refusal.{Refusal}
 use Rattle.session_history.specs.declared.refusal.Refusal.TheVariants.{Plan}
 use Rattle.session_history.specs.declared.refusal.PlanError.TheVariants.{NoSelection, Nested, Source, BadMask, Target, TargetThere, SameFile, IntoItself, TwoToOne, BadLinkText}
 use Rattle.session_history.specs.Refusals.{AreRefused, HasCause, IsSourceRefused, IsTargetRefused}
-use Rattle.job_plans.specs.declared.copying.JobPlan.{JobPlan}
-use Rattle.job_plans.specs.declared.copying.JobPlan.TheVariants.{Begins, Refuses}
+use Rattle.job_plans.specs.declared.carrying.JobPlan.{JobPlan}
+use Rattle.job_plans.specs.declared.carrying.JobPlan.TheVariants.{Begins, Refuses}
 use Rattle.job_plans.specs.Choices.{plan_refusals}
 use Rattle.job_plans.specs.Reading.{ReadsTree}
 use Rattle.job_plans.specs.Refused.{has_fault}

@@ -11,7 +11,7 @@ use Rattle.tree_trait.specs.Change.{CallLog, current}
 use Rattle.tree_trait.specs.Answers.{IsMeta, IfKnown, Reads}
 use Rattle.tree_trait.proofs.Walking.{stat-found}
 use Rattle.job_plans.specs.Choices.{HasSeenMode, first_of}
-use Rattle.job_plans.specs.Copies.{HasMode, MayAsk}
+use Rattle.job_plans.specs.Plans.{HasMode, MayAsk}
 use Rattle.job_plans.specs.Reading.{sight}
 
 le_true : (n m : ℕ) → n ≤ m → nat_le n m ≡ true

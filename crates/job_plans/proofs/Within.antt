@@ -3,13 +3,14 @@ use Rattle.std.proofs.Common.{◌≡◌, ◌⊎◌, inl, inr, ℕ, ◌<◌, ◌�
 use Rattle.std.specs.Prelude.{filter, nat_le, nat_lt, not}
 use Rattle.std.specs.List.{list_all, list_any}
 use Rattle.std.proofs.lemmas.List.Folds.{list_all-map, list_any_at}
-use Rattle.mc_text.specs.Routes.{Route, spelled}
+use Rattle.mc_text.specs.Routes.{Route, is_prefix, same_path, spelled}
 use Rattle.tagging.specs.declared.glob.GlobPart.{GlobPart}
 use Rattle.op_plan.specs.declared.job.Pair.{Pair as PlannedPair}
 use Rattle.op_plan.specs.declared.mask.MaskPiece.{MaskPiece}
 use Rattle.op_plan.specs.declared.mask.MaskPiece.TheVariants.{Star}
 use Rattle.op_plan.specs.Asking.{ArePairsFor, ArePlaced}
 use Rattle.op_plan.specs.Checks.{sources_in, targets_from}
+use Rattle.op_plan.specs.Meeting.{meet}
 use Rattle.op_plan.specs.Naming.{chosen, has_match}
 use Rattle.op_plan.specs.Soundness.{ArePairsApart}
 use Rattle.job_reports.specs.declared.job.Job.{Job}
@@ -18,8 +19,10 @@ use Rattle.job_reports.specs.declared.job.Pair.{Pair}
 use Rattle.job_reports.specs.Jobs.{is_workable}
 use Rattle.session_history.specs.Sources.{are_workable}
 use Rattle.box_words.specs.Chosen.{can_be_chosen, is_within}
+use Rattle.box_words.specs.declared.carry.Carry.{Carry}
+use Rattle.box_words.specs.declared.carry.Carry.TheVariants as carry
 use Rattle.job_plans.specs.Choices.{are_several, is_too_long, paths_in}
-use Rattle.job_plans.specs.Copies.{can_be_copied, delete_plan, lie_within, mode_plan, reported}
+use Rattle.job_plans.specs.Plans.{can_be_carried, can_go, carry_job, delete_plan, lie_within, mode_plan, reported}
 use Rattle.job_plans.proofs.Firsts.{Each}
 
 both : (a b : Bool) → a ≡ true → b ≡ true → (a && b) ≡ true
@@ -90,7 +93,7 @@ pub setting_works : (paths : List Route) (mode : ℕ) → mode < 4096 → can_be
 setting_works [] mode few h = absurd cc
 setting_works (path ∷ paths) mode few h = sets mode (path ∷ paths) (le_true mode 0o7777 (omega (arith, few))) (each_within (path ∷ paths) h)
 
--- THINGS THAT ARE COPIED
+-- THINGS THAT ARE COPIED OR MOVED
 
 each_kept : {X : Type 0} (P : X → Type 0) (test : X → Bool) (xs : List X) → Each P xs → Each P (filter test xs)
 each_kept P test [] h = tt
@@ -119,26 +122,81 @@ targets_within : (pattern : Option (List GlobPart)) (mask : List MaskPiece) (pai
 targets_within pattern mask pairs (inl at) = placed_within pattern mask pairs at
 targets_within pattern mask pairs (inr at) = placed_within pattern (Star ∷ []) pairs at
 
-some_copied : (pairs : List PlannedPair) → (pairs ≡ [] → ⊥) → Each (λ pair. lie_within pair ≡ true) pairs → can_be_copied pairs ≡ true
-some_copied [] some h = absurd (some refl)
-some_copied (pair ∷ pairs) some h = pass_all lie_within (pair ∷ pairs) h
+neither_of : (a b : Bool) → a ≡ false → b ≡ false → (a || b) ≡ false
+neither_of true b p q = absurd cc
+neither_of false b p q = q
 
--- each copy that was asked for has a source and a target in folders
-pub copied_within : (paths : List Route) (mask typed : List ℕ) (pairs : List PlannedPair) → can_be_chosen paths ≡ true → ArePairsFor paths mask typed pairs
-    → ArePairsApart pairs → can_be_copied pairs ≡ true
-copied_within paths mask typed pairs within asked sound =
-    some_copied pairs sound.some
+none_of : (a b : Bool) → (a || b) ≡ false → (a ≡ false) × (b ≡ false)
+none_of true b h = absurd cc
+none_of false b h = (refl, h)
+
+-- a path that doesn't begin with another isn't that one
+other_path : (front path : Route) → is_prefix front path ≡ false → same_path front path ≡ false
+other_path front [] h = h
+other_path front (name ∷ folder) h = (none_of (same_path front (name ∷ folder)) (is_prefix front folder) h).0
+
+-- where no source meets a target, none is its own
+fewer : (sources : List Route) (target : Route) (targets : List Route)
+    → list_any (λ source. list_any (meet source) (target ∷ targets)) sources ≡ false → list_any (λ source. list_any (meet source) targets) sources ≡ false
+fewer [] target targets h = refl
+fewer (source ∷ sources) target targets h =
+    let at = none_of (list_any (meet source) (target ∷ targets)) (list_any (λ source. list_any (meet source) (target ∷ targets)) sources) h in
+    neither_of (list_any (meet source) targets) (list_any (λ source. list_any (meet source) targets) sources)
+    (none_of (meet source target) (list_any (meet source) targets) at.0).1 (fewer sources target targets at.1)
+
+apart_each : (pairs : List PlannedPair) → list_any (λ source. list_any (meet source) (targets_from pairs)) (sources_in pairs) ≡ false
+    → Each (λ (pair : PlannedPair). same_path pair.source pair.target ≡ false) pairs
+apart_each [] h = tt
+apart_each (pair ∷ pairs) h =
+    let at = none_of (list_any (meet pair.source) (targets_from (pair ∷ pairs)))
+    (list_any (λ source. list_any (meet source) (targets_from (pair ∷ pairs))) (sources_in pairs)) h in
+    let first = none_of (meet pair.source pair.target) (list_any (meet pair.source) (targets_from pairs)) at.0 in
+    let front = none_of (is_prefix pair.source pair.target) (is_prefix pair.target pair.source) first.0 in
+    (other_path pair.source pair.target front.0, apart_each pairs (fewer (sources_in pairs) pair.target (targets_from pairs) at.1))
+
+goes : (how : Carry) (pair : PlannedPair) → lie_within pair ≡ true → same_path pair.source pair.target ≡ false → can_go how pair ≡ true
+goes carry.Copy pair within apart = within
+goes carry.Move pair within apart = both (lie_within pair) (not (same_path pair.source pair.target)) within (ap not apart)
+
+all_go : (how : Carry) (pairs : List PlannedPair) → Each (λ pair. lie_within pair ≡ true) pairs
+    → Each (λ (pair : PlannedPair). same_path pair.source pair.target ≡ false) pairs → Each (λ pair. can_go how pair ≡ true) pairs
+all_go how [] within apart = tt
+all_go how (pair ∷ pairs) within apart = (goes how pair within.0 apart.0, all_go how pairs within.1 apart.1)
+
+some_carried : (how : Carry) (pairs : List PlannedPair) → (pairs ≡ [] → ⊥) → Each (λ pair. can_go how pair ≡ true) pairs → can_be_carried how pairs ≡ true
+some_carried how [] some h = absurd (some refl)
+some_carried how (pair ∷ pairs) some h = pass_all (can_go how) (pair ∷ pairs) h
+
+-- what was asked for has sources and targets in folders, and none of it is moved to where it is
+pub carried_within : (how : Carry) (paths : List Route) (mask typed : List ℕ) (pairs : List PlannedPair) → can_be_chosen paths ≡ true
+    → ArePairsFor paths mask typed pairs → ArePairsApart pairs → can_be_carried how pairs ≡ true
+carried_within how paths mask typed pairs within asked sound =
+    some_carried how pairs sound.some (all_go how pairs
     (pairs_within pairs
     (subst (λ (l : List Route). Each (λ path. is_within path ≡ true) l) (sym asked.sources_are) (left_within _ paths within))
     (targets_within _ _ pairs asked.targets_are))
+    (apart_each pairs sound.across))
 
-trees_work : (pairs : List PlannedPair) → Each (λ pair. lie_within pair ≡ true) pairs
+copies_work : (pairs : List PlannedPair) → Each (λ pair. can_go carry.Copy pair ≡ true) pairs
     → list_all is_workable (map (λ (pair : Pair). plan.Copy (pair ∷ [])) (reported pairs)) ≡ true
-trees_work [] h = refl
-trees_work (pair ∷ pairs) h =
-    both (lie_within pair) (list_all is_workable (map (λ (pair : Pair). plan.Copy (pair ∷ [])) (reported pairs))) h.0 (trees_work pairs h.1)
+copies_work [] h = refl
+copies_work (pair ∷ pairs) h =
+    both (can_go carry.Copy pair) (list_all is_workable (map (λ (pair : Pair). plan.Copy (pair ∷ [])) (reported pairs))) h.0 (copies_work pairs h.1)
+
+moves_work : (pairs : List PlannedPair) → Each (λ pair. can_go carry.Move pair ≡ true) pairs
+    → list_all is_workable (map (λ (pair : Pair). plan.Move (pair ∷ [])) (reported pairs)) ≡ true
+moves_work [] h = refl
+moves_work (pair ∷ pairs) h =
+    both (can_go carry.Move pair) (list_all is_workable (map (λ (pair : Pair). plan.Move (pair ∷ [])) (reported pairs))) h.0 (moves_work pairs h.1)
+
+some_work : (how : Carry) (pair : PlannedPair) (pairs : List PlannedPair) → Each (λ pair. can_go how pair ≡ true) (pair ∷ pairs)
+    → are_workable (carry_job how (reported (pair ∷ pairs))) ≡ true
+some_work carry.Copy pair pairs h = copies_work (pair ∷ pairs) h
+some_work carry.Move pair pairs h = moves_work (pair ∷ pairs) h
 
 -- and can be worked
-pub copy_works : (pairs : List PlannedPair) (told : List Pair) → can_be_copied pairs ≡ true → told ≡ reported pairs → are_workable (plan.Copy told) ≡ true
-copy_works [] told within is = absurd cc
-copy_works (pair ∷ pairs) told within is = ap (λ (l : List Pair). are_workable (plan.Copy l)) is ∙ trees_work (pair ∷ pairs) (all_pass lie_within (pair ∷ pairs) within)
+pub carry_works : (how : Carry) (pairs : List PlannedPair) (told : List Pair) → can_be_carried how pairs ≡ true → told ≡ reported pairs
+    → are_workable (carry_job how told) ≡ true
+carry_works how [] told within is = absurd cc
+carry_works how (pair ∷ pairs) told within is =
+    ap (λ (l : List Pair). are_workable (carry_job how l)) is ∙ some_work how pair pairs (all_pass (can_go how) (pair ∷ pairs) within)

@@ -13,9 +13,9 @@ use Rattle.job_plans.specs.declared.choosing.Opens.{Opens}
 use Rattle.job_plans.specs.declared.choosing.Opens.TheVariants as opens
 use Rattle.job_plans.specs.declared.choosing.Choice.{Choice}
 use Rattle.job_plans.specs.declared.choosing.Choice.TheVariants.{NoSelection, TooLong, Things, Refused}
-use Rattle.job_plans.specs.declared.copying.JobPlan.{JobPlan}
-use Rattle.job_plans.specs.declared.copying.JobPlan.TheVariants.{Begins, Refuses}
-use Rattle.job_plans.specs.Copies.{HasMode, MayAsk}
+use Rattle.job_plans.specs.declared.carrying.JobPlan.{JobPlan}
+use Rattle.job_plans.specs.declared.carrying.JobPlan.TheVariants.{Begins, Refuses}
+use Rattle.job_plans.specs.Plans.{HasMode, MayAsk}
 
 -- the things of these names in a folder
 abbrev pub paths_in : Route → List (List ℕ) → List Route
@@ -35,7 +35,7 @@ abbrev pub looked_at : Opens → List Route → Option Route
 looked_at box [] = None
 looked_at box (path ∷ []) = Some path
 looked_at opens.Delete (path ∷ other ∷ more) = None
-looked_at opens.SourceMask (path ∷ other ∷ more) = None
+looked_at (opens.SourceMask how) (path ∷ other ∷ more) = None
 looked_at opens.Mode (path ∷ other ∷ more) = Some path
 
 -- what was looked at has this mode

@@ -5,8 +5,8 @@ use Rattle.tree_trait.specs.Change.{CallLog}
 use Rattle.job_reports.specs.declared.job.Job.{Job}
 use Rattle.job_reports.specs.declared.job.Job.TheVariants as plan
 use Rattle.session_history.specs.Sources.{are_workable}
-use Rattle.job_plans.specs.declared.copying.JobPlan.{JobPlan}
-use Rattle.job_plans.specs.declared.copying.JobPlan.TheVariants.{Begins, Refuses}
+use Rattle.job_plans.specs.declared.carrying.JobPlan.{JobPlan}
+use Rattle.job_plans.specs.declared.carrying.JobPlan.TheVariants.{Begins, Refuses}
 use Rattle.job_plans.specs.Places.{IsNewPlace, PlaceRefused}
 
 -- the plan of a new folder

@@ -1,9 +1,9 @@
+pub mod Carrying
 pub mod Choices
-pub mod Copies
-pub mod CopyPlans
 pub mod Folders
 pub mod Links
 pub mod Places
+pub mod Plans
 pub mod Reading
 pub mod Refused
 pub mod Told

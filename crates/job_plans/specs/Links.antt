@@ -9,8 +9,8 @@ use Rattle.session_history.specs.Sources.{are_workable}
 use Rattle.session_history.specs.declared.refusal.PlanError.TheVariants.{BadLinkText}
 use Rattle.session_history.specs.declared.refusal.Refusal.{Refusal}
 use Rattle.session_history.specs.declared.refusal.Refusal.TheVariants.{Plan}
-use Rattle.job_plans.specs.declared.copying.JobPlan.{JobPlan}
-use Rattle.job_plans.specs.declared.copying.JobPlan.TheVariants.{Begins, Refuses}
+use Rattle.job_plans.specs.declared.carrying.JobPlan.{JobPlan}
+use Rattle.job_plans.specs.declared.carrying.JobPlan.TheVariants.{Begins, Refuses}
 use Rattle.job_plans.specs.Places.{IsNewPlace, PlaceRefused}
 
 -- the plan of a new link that says a text

@@ -16,7 +16,7 @@ use Rattle.session_history.specs.declared.refusal.Refusal.{Refusal}
 use Rattle.session_history.specs.declared.refusal.Refusal.TheVariants.{Tree, Read, Resolve, Plan, Begin, Typed}
 use Rattle.job_plans.specs.declared.new_place.NewPlace.{NewPlace}
 use Rattle.job_plans.specs.declared.new_place.NewPlace.TheVariants.{At, Refused}
-use Rattle.job_plans.specs.Copies.{IsVacant}
+use Rattle.job_plans.specs.Plans.{IsVacant}
 use Rattle.job_plans.specs.Reading.{sight}
 
 -- A typed tilde, alone or before a slash, stands for HOME, which isn't known here.

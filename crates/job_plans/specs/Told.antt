@@ -5,8 +5,8 @@ use Rattle.op_plan.specs.declared.error.PlanError.TheVariants as place
 use Rattle.session_history.specs.declared.refusal.PlanError.TheVariants.{NoSelection, Nested, Source, BadMask, Target, TargetThere, SameFile, IntoItself, TwoToOne, BadLinkText}
 use Rattle.session_history.specs.declared.refusal.Refusal.{Refusal}
 use Rattle.session_history.specs.declared.refusal.Refusal.TheVariants.{Plan}
-use Rattle.job_plans.specs.declared.copying.JobPlan.{JobPlan}
-use Rattle.job_plans.specs.declared.copying.JobPlan.TheVariants.{Begins, Refuses}
+use Rattle.job_plans.specs.declared.carrying.JobPlan.{JobPlan}
+use Rattle.job_plans.specs.declared.carrying.JobPlan.TheVariants.{Begins, Refuses}
 
 -- the refusal that an error of a plan is; want of memory is none
 abbrev pub told_as : PlanError → Option Refusal

@@ -5,7 +5,7 @@ ghost use Rattle.box_words.specs.Chosen.{can_be_chosen};
 ghost use Rattle.job_plans.specs.Choices.{ArePathsIn, IsChoice, IsChoiceOf, IsLookAtFirst, IsThing, are_several, choice_refusals, looked_at, paths_in};
 ghost use Rattle.job_plans.specs.Reading.{ReadsTree, sight};
 
-use box_words::Chosen;
+use box_words::{Carry, Chosen};
 use mc_panels::Panel;
 use mc_text::{Name, NoMemory, Path, PathError, Paths};
 use std::alloc::Global;
@@ -15,7 +15,7 @@ use tree_trait::{Meta, ReadTree, TreeError};
 #[derive(Clone, Copy, Debug, Drop, PartialEq, Eq)]
 pub enum Opens {
     Delete,
-    SourceMask,
+    SourceMask(Carry),
     Mode,
 }
 
@@ -105,7 +105,7 @@ fn choose_several<T: ReadTree>(
         return Ok(Choice::TooLong);
     };
     match opens {
-        Opens::Delete | Opens::SourceMask => Ok(Choice::Things(Chosen { paths }, 0)),
+        Opens::Delete | Opens::SourceMask(_) => Ok(Choice::Things(Chosen { paths }, 0)),
         Opens::Mode => with_first_mode(alloc, tree, Chosen { paths }),
     }
 }

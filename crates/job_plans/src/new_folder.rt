@@ -5,7 +5,7 @@ ghost use Rattle.job_plans.specs.Folders.{FolderLeads};
 ghost use Rattle.job_plans.specs.Places.{is_below_home};
 ghost use Rattle.job_plans.specs.Reading.{ReadsTree};
 
-use crate::copying::JobPlan;
+use crate::carrying::JobPlan;
 use crate::new_place::{NewPlace, new_place};
 use job_reports::Job;
 use mc_text::{NoMemory, Path};

@@ -6,7 +6,7 @@ ghost use Rattle.job_plans.specs.Links.{IsLinkAt, LinkLeads};
 ghost use Rattle.job_plans.specs.Places.{is_below_home};
 ghost use Rattle.job_plans.specs.Reading.{ReadsTree};
 
-use crate::copying::JobPlan;
+use crate::carrying::JobPlan;
 use crate::new_place::{NewPlace, new_place};
 use crate::refused::refuse;
 use job_reports::Job;

@@ -2,7 +2,7 @@
 ghost use Rattle.std.specs.Prelude.{◌≡◌, IfOk, Ok};
 ghost use Rattle.job_plans.specs.Told.{IsToldAs};
 
-use crate::copying::JobPlan;
+use crate::carrying::JobPlan;
 use mc_text::NoMemory;
 use op_plan::PlanError as PlaceError;
 use session_history::{PlanError, Refusal};

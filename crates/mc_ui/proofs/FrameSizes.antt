@@ -33,8 +33,8 @@ panel_columns_same (Options list) grid = box_columns_same grid (list_lines list)
 -- a box of a job
 job_lines_same : (asks : JobBoxState) (grid : CellGrid) → (with_job_box asks grid).lines ≡ grid.lines
 job_lines_same (DeleteBox paths) grid = box_lines_same grid (plain_lines (delete_lines (length paths)))
-job_lines_same (MaskBox paths typed) grid = input_lines_same grid typed
-job_lines_same (TargetBox paths mask typed) grid = input_lines_same grid typed
+job_lines_same (MaskBox how paths typed) grid = input_lines_same grid typed
+job_lines_same (TargetBox how paths mask typed) grid = input_lines_same grid typed
 job_lines_same (FolderBox typed) grid = input_lines_same grid typed
 job_lines_same (LinkTextBox typed) grid = input_lines_same grid typed
 job_lines_same (LinkNameBox text typed) grid = input_lines_same grid typed
@@ -43,8 +43,8 @@ job_lines_same (AnswerBox waits) grid = box_lines_same grid (plain_lines (waits_
 
 job_columns_same : (asks : JobBoxState) (grid : CellGrid) → (with_job_box asks grid).columns ≡ grid.columns
 job_columns_same (DeleteBox paths) grid = box_columns_same grid (plain_lines (delete_lines (length paths)))
-job_columns_same (MaskBox paths typed) grid = input_columns_same grid typed
-job_columns_same (TargetBox paths mask typed) grid = input_columns_same grid typed
+job_columns_same (MaskBox how paths typed) grid = input_columns_same grid typed
+job_columns_same (TargetBox how paths mask typed) grid = input_columns_same grid typed
 job_columns_same (FolderBox typed) grid = input_columns_same grid typed
 job_columns_same (LinkTextBox typed) grid = input_columns_same grid typed
 job_columns_same (LinkNameBox text typed) grid = input_columns_same grid typed

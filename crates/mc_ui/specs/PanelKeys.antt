@@ -1,4 +1,4 @@
--- The keys of the panels, while no box is open (mc(1), "Directory Panels" and its M-?; F1, F3, F5, F7, F8 and F10 of its bottom line).
+-- The keys of the panels, while no box is open (mc(1), "Directory Panels" and its M-?; F1, F3, F5 to F8 and F10 of its bottom line).
 use Rattle.std.specs.Prelude.{ℕ, ◌==◌, if◌then◌else◌, Option, Some, None}
 use Rattle.key_screen.specs.declared.keys.Key.{Key}
 use Rattle.key_screen.specs.declared.keys.Base.{Base}
@@ -7,6 +7,7 @@ use Rattle.panel_pair.specs.declared.command.PanelCommand.{PanelCommand}
 use Rattle.panel_pair.specs.Keys.{key_command}
 use Rattle.panel_boxes.specs.declared.opening.Opening.{Opening}
 use Rattle.panel_boxes.specs.Openings.{opening_of}
+use Rattle.box_words.specs.declared.carry.Carry.TheVariants.{Copy, Move}
 use Rattle.job_plans.specs.declared.choosing.Opens.TheVariants.{Delete, SourceMask}
 use Rattle.mc_ui.specs.declared.panel_command.KeyCommand.{KeyCommand}
 use Rattle.mc_ui.specs.declared.panel_command.KeyCommand.TheVariants.{Work, ShowHelp, View, Open, AskFolder, OpenPanelBox, Find, Quit, Nothing}
@@ -16,7 +17,8 @@ abbrev pub function_command : ℕ → KeyCommand
 function_command number =
     if number == 1 then ShowHelp
     else if number == 3 then View
-    else if number == 5 then Open SourceMask
+    else if number == 5 then Open (SourceMask Copy)
+    else if number == 6 then Open (SourceMask Move)
     else if number == 7 then AskFolder
     else if number == 8 then Open Delete
     else if number == 10 then Quit

@@ -11,6 +11,6 @@ mod viewing;
 pub use asks::{Ask, KeyAct, Told};
 pub use box_words::{Chosen, Message, resolve_text};
 pub use dialog::Dialog;
-pub use job_plans::{Choice, JobPlan, choose, plan_copy};
+pub use job_plans::{Choice, JobPlan, choose, plan_carry};
 pub use ui::Ui;
 pub use viewing::{Leaving, ViewedFile};

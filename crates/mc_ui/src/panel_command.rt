@@ -3,6 +3,7 @@ ghost use Rattle.std.specs.Prelude.{◌≡◌};
 ghost use Rattle.panel_boxes.specs.Openings.{opening_of as opening_by};
 ghost use Rattle.mc_ui.specs.PanelKeys.{box_or_other, meta_command as command_of_meta, other_command as command_of_base, panel_command_of, plain_base as plain_base_of};
 
+use box_words::Carry;
 use job_plans::Opens;
 use key_screen::{Base, Key};
 use panel_boxes::{Opening, opening_of};
@@ -65,7 +66,8 @@ fn other_command(base: Base) -> KeyCommand
     match base {
         Base::F(1) => KeyCommand::ShowHelp,
         Base::F(3) => KeyCommand::View,
-        Base::F(5) => KeyCommand::Open(Opens::SourceMask),
+        Base::F(5) => KeyCommand::Open(Opens::SourceMask(Carry::Copy)),
+        Base::F(6) => KeyCommand::Open(Opens::SourceMask(Carry::Move)),
         Base::F(7) => KeyCommand::AskFolder,
         Base::F(8) => KeyCommand::Open(Opens::Delete),
         Base::F(10) => KeyCommand::Quit,

@@ -147,7 +147,7 @@ impl Ui {
     /// Works a key at a second of the clock, while these jobs are live. What was refused, the refusals say, and a message the
     /// first of them. Where the key asks for a job, or answers one, the screen stays as it is until `settle` tells what
     /// became of that. A key of the panels takes what its command takes, each other the time of what is on the screen, and of the
-    /// paths and texts of the box; F5 and F8 go over the shown names once, and a new folder's path is looked at name by name.
+    /// paths and texts of the box; F5, F6 and F8 go over the shown names once, and a new folder's path is looked at name by name.
     pub fn key<T: ReadTree>(
         &mut self,
         alloc: Global,

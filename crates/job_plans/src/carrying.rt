@@ -1,17 +1,17 @@
 //! The plans of the jobs that a box confirms.
 ghost use Rattle.std.specs.Prelude.{◌≡◌, ◌<◌, true, IfOk};
 ghost use Rattle.session_history.specs.Sources.{are_workable};
-ghost use Rattle.job_plans.specs.Copies.{can_be_copied, delete_plan, mode_plan, reported as reported_pairs};
-ghost use Rattle.job_plans.specs.CopyPlans.{BeginsCopy, CopyLeads, IsCopy, copy_request};
+ghost use Rattle.job_plans.specs.Plans.{can_be_carried, carry_job, delete_plan, mode_plan, reported as reported_pairs};
+ghost use Rattle.job_plans.specs.Carrying.{BeginsCarry, CarryLeads, IsPlanOf, carry_request, planned_as};
 ghost use Rattle.job_plans.specs.Choices.{plan_refusals};
 ghost use Rattle.job_plans.specs.Places.{is_below_home};
 ghost use Rattle.job_plans.specs.Reading.{ReadsTree};
 
 use crate::home::is_below_home;
 use crate::refused::{refuse, refused};
-use box_words::Chosen;
+use box_words::{Carry, Chosen};
 use job_reports::{Job, Pair, Pairs};
-use mc_text::{NoMemory, Path, Text};
+use mc_text::{NoMemory, Path, Paths, Text};
 use op_plan::{Job as Planned, Pair as PlannedPair, Pairs as PlannedPairs, Request, make_plan};
 use session_history::{PlanError, Refusal};
 use std::alloc::Global;
@@ -24,18 +24,19 @@ pub enum JobPlan {
     Refuses(Refusal),
 }
 
-/// Plans the copy of those things that a mask matches to where a typed text leads from a folder. The text's last part makes the targets'
-/// names of the sources', or names the folder that is to hold them. What stands at a target is the job's to ask about. What begins at HOME,
-/// which isn't known here, is refused without a look.
-pub fn plan_copy<T: ReadTree>(
+/// Plans how those things that a mask matches are copied or moved to where a typed text leads from a folder. The text's last part makes the
+/// targets' names of the sources', or names the folder that is to hold them. What stands at a target is the job's to ask about. What begins
+/// at HOME, which isn't known here, is refused without a look.
+pub fn plan_carry<T: ReadTree>(
     alloc: Global,
     tree: &mut T,
+    carry: Carry,
     chosen: &Chosen,
     mask: &str,
     from: &Path,
     typed: &str,
 ) -> Result<JobPlan, NoMemory>
-    ensures leads { IfOk result (CopyLeads (T.contents tree.old) chosen.now.paths mask.now from.now typed.now) }
+    ensures leads { IfOk result (CarryLeads carry (T.contents tree.old) chosen.now.paths mask.now from.now typed.now) }
     ensures home { is_below_home typed.now ≡ true → tree.new ≡ tree.old }
     ensures reads { ReadsTree plan_refusals result (T.contents tree.old) (T.contents tree.new)
         (T.fault_count tree.old) (T.fault_count tree.new) }
@@ -43,49 +44,81 @@ pub fn plan_copy<T: ReadTree>(
     if is_below_home(typed) {
         return refuse(PlanError::BadMask);
     }
-    let request = request_of(alloc, chosen, mask, from, typed)?;
+    let request = request_of(alloc, carry, chosen, mask, from, typed)?;
     match make_plan(alloc, tree, request) {
-        Ok(job) => plan_to(alloc, pairs_of(job)),
+        Ok(job) => plan_to(alloc, carry, pairs_of(carry, job)),
         Err(error) => refused(error),
     }
 }
 
-/// What is asked for: the copy of these things.
+/// What is asked for: that these things are copied or moved.
 fn request_of(
     alloc: Global,
+    carry: Carry,
     chosen: &Chosen,
     mask: &str,
     from: &Path,
     typed: &str,
 ) -> Result<Request, NoMemory>
-    ensures { IfOk result (λ request. request ≡ copy_request chosen.now.paths mask.now from.now typed.now) }
+    ensures { IfOk result (λ request. request ≡ carry_request carry chosen.now.paths mask.now from.now typed.now) }
 {
-    Ok(Request::Copy {
-        sources: chosen.paths.copy(alloc)?,
-        mask: Text::from_str(alloc, mask)?,
-        from: from.copy(alloc)?,
-        to: Text::from_str(alloc, typed)?,
-    })
+    let sources = chosen.paths.copy(alloc)?;
+    let mask = Text::from_str(alloc, mask)?;
+    let from = from.copy(alloc)?;
+    let to = Text::from_str(alloc, typed)?;
+    Ok(request_to(carry, sources, mask, from, to))
 }
 
-/// The sources of a copy, each with its target.
-fn pairs_of(job: Planned) -> PlannedPairs
-    requires { IsCopy job }
-    ensures { job ≡ Planned.Copy result }
+/// The request of its kind.
+fn request_to(carry: Carry, sources: Paths, mask: Text, from: Path, to: Text) -> Request
+    ensures { result ≡ carry_request carry sources mask from to }
+{
+    match carry {
+        Carry::Copy => Request::Copy {
+            sources,
+            mask,
+            from,
+            to,
+        },
+        Carry::Move => Request::Move {
+            sources,
+            mask,
+            from,
+            to,
+        },
+    }
+}
+
+/// The sources of such a plan, each with its target.
+fn pairs_of(carry: Carry, job: Planned) -> PlannedPairs
+    requires { IsPlanOf carry job }
+    ensures { job ≡ planned_as carry result }
 {
     match job {
         Planned::Copy(pairs) => pairs,
+        Planned::Move(pairs) => pairs,
         _ => unreachable!(),
     }
 }
 
-/// The plan of the copies of sources to their targets.
-#[tactic(auto, using(crate::proofs::Within::copy_works))]
-fn plan_to(alloc: Global, pairs: PlannedPairs) -> Result<JobPlan, NoMemory>
-    requires within { can_be_copied pairs ≡ true }
-    ensures { IfOk result (BeginsCopy pairs) }
+/// The plan of the job that copies or moves sources to their targets.
+#[tactic(auto, using(crate::proofs::Within::carry_works))]
+fn plan_to(alloc: Global, carry: Carry, pairs: PlannedPairs) -> Result<JobPlan, NoMemory>
+    requires within { can_be_carried carry pairs ≡ true }
+    ensures { IfOk result (BeginsCarry carry pairs) }
 {
-    Ok(JobPlan::Begins(Job::Copy(reported(alloc, pairs)?)))
+    let told = reported(alloc, pairs)?;
+    Ok(JobPlan::Begins(job_of(carry, told)))
+}
+
+/// The job of its kind.
+fn job_of(carry: Carry, pairs: Pairs) -> Job
+    ensures { result ≡ carry_job carry pairs }
+{
+    match carry {
+        Carry::Copy => Job::Copy(pairs),
+        Carry::Move => Job::Move(pairs),
+    }
 }
 
 /// The pairs of a plan, as jobs have them.

@@ -1,4 +1,4 @@
--- What a plan of copies says of the tree where it is refused.
+-- What a plan of things that are copied or moved says of the tree where it is refused.
 use Rattle.std.proofs.Common.{◌≡◌, ◌≢◌, inl, inr, ℕ, Bool, true, false, List, [], ◌∷◌, map, refl, subst, Option, Some, None, Result, Ok, Err}
 use Rattle.std.specs.Prelude.{if◌then◌else◌, chars, option_map}
 use Rattle.std.specs.List.{find, list_any}
@@ -30,7 +30,9 @@ use Rattle.op_plan.specs.Meeting.{first_across, first_two, meet}
 use Rattle.op_plan.specs.Naming.{chosen, names_for, pattern_in}
 use Rattle.op_plan.specs.Planning.{apart, folder_for, pairs_into, pairs_of, placed_masked, placed_there, plan_of, sources_of}
 use Rattle.session_history.specs.Refusals.{IsSourceRefused, IsTargetRefused}
-use Rattle.job_plans.specs.CopyPlans.{IsPlanned, copy_request}
+use Rattle.box_words.specs.declared.carry.Carry.{Carry}
+use Rattle.box_words.specs.declared.carry.Carry.TheVariants as carry
+use Rattle.job_plans.specs.Carrying.{IsPlanned, carry_request}
 use Rattle.job_plans.proofs.Firsts.{Each, across, each, each_of, each_paired, found, two}
 use Rattle.job_plans.proofs.Refusing.{HasTreeCause, after, refused_in}
 
@@ -211,19 +213,23 @@ module _ (log : CallLog) (error : PlanError) where
       (λ left is h. let at = are_there log (chosen pattern paths) left is in
       target_cause left at pattern pieces from (front_of typed) (folder_for (current log) pieces from typed) h)
 
-  plan_cause : (paths : List Route) (mask : List ℕ) (from : Route) (typed : List ℕ) → plan_of (current log) (copy_request paths mask from typed) ≡ Err error
-      → HasOwnCause log error
-  plan_cause paths mask from typed h =
+  plan_cause : (how : Carry) (paths : List Route) (mask : List ℕ) (from : Route) (typed : List ℕ)
+      → plan_of (current log) (carry_request how paths mask from typed) ≡ Err error → HasOwnCause log error
+  plan_cause carry.Copy paths mask from typed h =
       refused_in (HasOwnCause log error) (pairs_of (current log) paths mask from typed) (λ pairs. Ok (planned.Copy pairs)) error h
       (λ bad. own_cause paths mask from typed bad)
       (λ pairs is h. absurd cc)
+  plan_cause carry.Move paths mask from typed h =
+      refused_in (HasOwnCause log error) (pairs_of (current log) paths mask from typed) (λ pairs. Ok (planned.Move pairs)) error h
+      (λ bad. own_cause paths mask from typed bad)
+      (λ pairs is h. absurd cc)
 
-module _ (log : CallLog) (paths : List Route) (mask : List ℕ) (from : Route) (typed : List ℕ) where
+module _ (log : CallLog) (how : Carry) (paths : List Route) (mask : List ℕ) (from : Route) (typed : List ℕ) where
   abbrev Comes : PlanError → Type 0
-  Comes error = Plans (plan_of (current log) (copy_request paths mask from typed)) (Err error)
+  Comes error = Plans (plan_of (current log) (carry_request how paths mask from typed)) (Err error)
 
-  own : (error : PlanError) → plan_of (current log) (copy_request paths mask from typed) ≡ Err error → HasOwnCause log error
-  own error h = plan_cause log error paths mask from typed h
+  own : (error : PlanError) → plan_of (current log) (carry_request how paths mask from typed) ≡ Err error → HasOwnCause log error
+  own error h = plan_cause log error how paths mask from typed h
 
   of_source : (at : Route) (e : TreeError) → Comes (place.Source at e) → e ≢ tree.Memory → IsSourceRefused log at e
   of_source at tree.Fault known some = tt
@@ -248,20 +254,20 @@ module _ (log : CallLog) (paths : List Route) (mask : List ℕ) (from : Route) (
   of_target resolve.BadName known = own (place.Target resolve.BadName) (known refl)
   of_target resolve.Memory known = own (place.Target resolve.Memory) (known refl)
 
-  copy_cause : (error : PlanError) → Comes error → CarriesPlanCause error → HasTreeCause log error
-  copy_cause place.NoSelection known carried = tt
-  copy_cause (place.Nested one second) known carried = own (place.Nested one second) (known refl)
-  copy_cause (place.Source at e) known carried = of_source at e known carried
-  copy_cause place.BadMask known carried = tt
-  copy_cause (place.Target e) known carried = of_target e known
-  copy_cause (place.TargetThere at) known carried = own (place.TargetThere at) (known refl)
-  copy_cause (place.SameFile at) known carried = own (place.SameFile at) (known refl)
-  copy_cause (place.IntoItself source target) known carried = own (place.IntoItself source target) (known refl)
-  copy_cause (place.TwoToOne one second) known carried = own (place.TwoToOne one second) (known refl)
-  copy_cause place.BadLinkText known carried = tt
-  copy_cause place.Memory known carried = tt
+  carry_cause : (error : PlanError) → Comes error → CarriesPlanCause error → HasTreeCause log error
+  carry_cause place.NoSelection known carried = tt
+  carry_cause (place.Nested one second) known carried = own (place.Nested one second) (known refl)
+  carry_cause (place.Source at e) known carried = of_source at e known carried
+  carry_cause place.BadMask known carried = tt
+  carry_cause (place.Target e) known carried = of_target e known
+  carry_cause (place.TargetThere at) known carried = own (place.TargetThere at) (known refl)
+  carry_cause (place.SameFile at) known carried = own (place.SameFile at) (known refl)
+  carry_cause (place.IntoItself source target) known carried = own (place.IntoItself source target) (known refl)
+  carry_cause (place.TwoToOne one second) known carried = own (place.TwoToOne one second) (known refl)
+  carry_cause place.BadLinkText known carried = tt
+  carry_cause place.Memory known carried = tt
 
--- what a copy was refused has its cause in the tree
-pub copy_causes : (contents : Option CallLog) (paths : List Route) (mask : List ℕ) (from : Route) (typed : List ℕ) (error : PlanError)
-    → IsPlanned contents (copy_request paths mask from typed) (Err error) → CarriesPlanCause error → IfKnown contents (λ log. HasTreeCause log error)
-copy_causes contents paths mask from typed error known carried = λ log is. copy_cause log paths mask from typed error (known log is) carried
+-- what was refused has its cause in the tree
+pub carry_causes : (contents : Option CallLog) (how : Carry) (paths : List Route) (mask : List ℕ) (from : Route) (typed : List ℕ) (error : PlanError)
+    → IsPlanned contents (carry_request how paths mask from typed) (Err error) → CarriesPlanCause error → IfKnown contents (λ log. HasTreeCause log error)
+carry_causes contents how paths mask from typed error known carried = λ log is. carry_cause log how paths mask from typed error (known log is) carried

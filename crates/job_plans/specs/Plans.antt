@@ -1,14 +1,16 @@
 -- What a box may ask of, and the plans that it confirms.
-use Rattle.std.specs.Prelude.{◌≡◌, ℕ, Bool, true, false, ◌&&◌, is_some, nat_le, ⊤, List, [], ◌∷◌, length, map, Option, Some, None}
+use Rattle.std.specs.Prelude.{◌≡◌, ℕ, Bool, true, false, ◌&&◌, not, is_some, nat_le, ⊤, List, [], ◌∷◌, length, map, Option, Some, None}
 use Rattle.std.specs.List.{list_all}
 use Rattle.std.specs.Option.{option_map}
-use Rattle.mc_text.specs.Routes.{Route, spelled}
+use Rattle.mc_text.specs.Routes.{Route, same_path, spelled}
 use Rattle.tree_trait.specs.FileSystem.{Value, View}
 use Rattle.op_plan.specs.declared.job.Pair.{Pair as PlannedPair}
 use Rattle.job_reports.specs.declared.job.Job.{Job}
 use Rattle.job_reports.specs.declared.job.Job.TheVariants as plan
 use Rattle.job_reports.specs.declared.job.Pair.{Pair}
 use Rattle.box_words.specs.Chosen.{is_within}
+use Rattle.box_words.specs.declared.carry.Carry.{Carry}
+use Rattle.box_words.specs.declared.carry.Carry.TheVariants as carry
 
 -- a box may ask of the thing at a path: exactly where something stands there, as far as the tree can be seen, and the path isn't too long
 abbrev pub MayAsk : Option View → Route → Bool → Type 0
@@ -31,17 +33,25 @@ mode_plan paths mode = plan.SetMode paths mode
 abbrev pub reported : List PlannedPair → List Pair
 reported = map (λ (pair : PlannedPair). record { source = pair.source; target = pair.target })
 
--- the copy of things, each with all that lies in it
-abbrev pub copy_plan : List PlannedPair → Job
-copy_plan pairs = plan.Copy (reported pairs)
+-- the job that copies these, each with all that lies in it, or moves them
+abbrev pub carry_job : Carry → List Pair → Job
+carry_job carry.Copy pairs = plan.Copy pairs
+carry_job carry.Move pairs = plan.Move pairs
 
--- at least one source with its target, of which each lies in a folder
+abbrev pub carry_plan : Carry → List PlannedPair → Job
+carry_plan how pairs = carry_job how (reported pairs)
+
+-- at least one source with its target, of which each lies in a folder; nothing is moved to where it is
 abbrev pub lie_within : PlannedPair → Bool
 lie_within pair = is_within pair.source && is_within pair.target
 
-abbrev pub can_be_copied : List PlannedPair → Bool
-can_be_copied [] = false
-can_be_copied (pair ∷ pairs) = list_all lie_within (pair ∷ pairs)
+abbrev pub can_go : Carry → PlannedPair → Bool
+can_go carry.Copy pair = lie_within pair
+can_go carry.Move pair = lie_within pair && not (same_path pair.source pair.target)
+
+abbrev pub can_be_carried : Carry → List PlannedPair → Bool
+can_be_carried how [] = false
+can_be_carried how (pair ∷ pairs) = list_all (can_go how) (pair ∷ pairs)
 
 -- nothing stands at a path, as far as the tree can be seen
 abbrev pub IsVacant : Option View → Route → Type 0
