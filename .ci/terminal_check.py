@@ -13,6 +13,7 @@ from job_checks import (
     check_new_folders, check_set_id_bits,
 )
 from merge_checks import check_merged_folders
+from move_checks import check_moves
 from panel_box_checks import check_big_home, check_panel_boxes
 from screen_checks import check_find, check_frames, check_panels, check_viewer
 from several_checks import check_several_things
@@ -57,6 +58,7 @@ def main():
         check_copied_folders(program, base, check)
         check_several_things(program, base, check)
         check_merged_folders(program, base, check)
+        check_moves(program, base, check)
         check_frames(program, base, check)
         check_viewer(program, base, check)
         check_find(program, base, check)

@@ -16,7 +16,7 @@ from terminal_screen import Screen
 
 UP, DOWN, HOME, END, TAB, INSERT = b"\x1b[A", b"\x1b[B", b"\x1b[H", b"\x1b[F", b"\t", b"\x1b[2~"
 BACK, FORWARD, AGAIN, SWAP = b"\x1by", b"\x1bu", b"\x12", b"\x15"
-F1, F3, F5, F7, F8, F9, F10, ENTER, ESCAPE = b"\x1bOP", b"\x1bOR", b"\x1b[15~", b"\x1b[18~", b"\x1b[19~", b"\x1b[20~", b"\x1b[21~", b"\r", b"\x1b\x1b"
+F1, F3, F5, F6, F7, F8, F9, F10, ENTER, ESCAPE = b"\x1bOP", b"\x1bOR", b"\x1b[15~", b"\x1b[17~", b"\x1b[18~", b"\x1b[19~", b"\x1b[20~", b"\x1b[21~", b"\r", b"\x1b\x1b"
 EMPTY, HIDDEN, FIND = b"\x15", b"\x1b.", b"\x1b?"
 LINK, MODE = [b"\x18", b"s"], [b"\x18", b"c"]
 COPY = [DOWN, F5, ENTER, ENTER]

@@ -5,7 +5,7 @@ import select
 import sys
 import time
 
-DOWN, F5, F8, F10, ENTER = b"\x1b[B", b"\x1b[15~", b"\x1b[19~", b"\x1b[21~", b"\r"
+DOWN, F5, F6, F8, F10, ENTER = b"\x1b[B", b"\x1b[15~", b"\x1b[17~", b"\x1b[19~", b"\x1b[21~", b"\r"
 TOP = os.path.dirname(os.path.dirname(os.path.abspath(__file__)))
 
 

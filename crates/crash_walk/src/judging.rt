@@ -31,6 +31,9 @@ pub fn tell_left<T: Tree>(page: &mut Page, image: &mut T, scene: Scene) {
         Scene::Mode => tell_modes(page, image),
         Scene::LeftMode => tell_modes(page, image),
         Scene::Tree => tell_tree(page, image),
+        Scene::Move => tell_copy(page, image),
+        Scene::MoveOver => tell_overwriting(page, image),
+        Scene::LeftMove => tell_copy(page, image),
     }
 }
 

@@ -30,6 +30,13 @@ pub enum Scene {
     LeftMode,
     /// A folder of mode 555 is copied with a file and a link in it.
     Tree,
+    /// A file is moved from one folder into the other.
+    Move,
+    /// It is moved over another file, which the answer to the question allows.
+    MoveOver,
+    /// A file is moved. The sync of its new folder is refused, and so are those of both folders in the last steps. The second job, which
+    /// deletes the file, makes both before that.
+    LeftMove,
 }
 
 impl Scene {
@@ -49,6 +56,9 @@ impl Scene {
             Scene::Mode => "/a/x is given the mode 600",
             Scene::LeftMode => "/a/x is given the mode 600 and not synced, then /a/y is",
             Scene::Tree => "/s/d is copied into /t with all that lies in it",
+            Scene::Move => "/s/e is moved into /t",
+            Scene::MoveOver => "/s/e is moved over /t/e",
+            Scene::LeftMove => "/s/e is moved and neither folder synced, then /t/e is deleted",
         }
     }
 
@@ -68,9 +78,7 @@ impl Scene {
         match self {
             Scene::Folder => "folder /a 755\nfolder /a/d 755\nfile /a/d/x 644 hi\nfile /a/y 644 hi",
             Scene::Copy => "folder /s 755\nfolder /t 755\nfile /s/e 640 hello",
-            Scene::Overwriting => {
-                "folder /s 755\nfolder /t 755\nfile /s/e 640 hello\nfile /t/e 600 old"
-            }
+            Scene::Overwriting => FILE_OVER_FILE,
             Scene::LinkOver => "folder /s 755\nfolder /t 755\nlink /s/l x\nfile /t/l 600 old",
             Scene::LeftTarget => "folder /s 755\nfolder /t 755\nfile /s/e 640 hello",
             Scene::NewFolder => "folder /a 755",
@@ -79,6 +87,9 @@ impl Scene {
             Scene::Tree => {
                 "folder /s 755\nfolder /t 755\nfolder /s/d 555\nfile /s/d/e 640 hello\nlink /s/d/l e"
             }
+            Scene::Move => "folder /s 755\nfolder /t 755\nfile /s/e 640 hello",
+            Scene::MoveOver => FILE_OVER_FILE,
+            Scene::LeftMove => "folder /s 755\nfolder /t 755\nfile /s/e 640 hello",
             _ => "folder /a 755\nfile /a/x 644 hi\nfile /a/y 644 hi",
         }
     }
@@ -90,6 +101,7 @@ impl Scene {
             Scene::LeftTarget => REFUSED_TARGET_SYNCS,
             Scene::LeftNewFolder => REFUSED_FOLDER_SYNCS,
             Scene::LeftMode => REFUSED_FILE_SYNCS,
+            Scene::LeftMove => REFUSED_MOVE_SYNCS,
             _ => &[],
         }
     }
@@ -106,6 +118,9 @@ impl Scene {
             Scene::LeftTarget => Some(session("/s", "/t", COPYING_AND_DELETING)),
             Scene::NewFolder => Some(session("/a", "/a", MAKING)),
             Scene::LeftNewFolder => Some(session("/a", "/a", MAKING_BOTH)),
+            Scene::Move => Some(session("/s", "/t", MOVING)),
+            Scene::MoveOver => Some(session("/s", "/t", MOVING_OVER)),
+            Scene::LeftMove => Some(session("/s", "/t", MOVING_AND_DELETING)),
             Scene::NewLink => None,
             Scene::Mode => None,
             Scene::LeftMode => None,
@@ -113,6 +128,9 @@ impl Scene {
         }
     }
 }
+
+/// A file, and one with its name in the folder to which it is to come.
+const FILE_OVER_FILE: &str = "folder /s 755\nfolder /t 755\nfile /s/e 640 hello\nfile /t/e 600 old";
 
 /// A session by keys: the folders of its panels, and the bytes of its keys.
 #[derive(Clone, Copy)]
@@ -194,3 +212,16 @@ const REFUSED_FOLDER_SYNCS: &[u64] = &[8, 9];
 /// The calls that are the sync of the file, and the one of the last steps. Before the first come the setting and a look, and another look
 /// between them.
 const REFUSED_FILE_SYNCS: &[u64] = &[3, 5];
+
+/// Down, F6, Enter at the mask, Enter at the target, F10.
+const MOVING: &[u8] = b"\x1b[B\x1b[17~\r\r\x1b[21~";
+
+/// Down, F6, Enter at the mask, Enter at the target, y in the box of the question, F10.
+const MOVING_OVER: &[u8] = b"\x1b[B\x1b[17~\r\ry\x1b[21~";
+
+/// Down, F6, Enter, Enter, b in the box of the refused sync, Tab, Down, F8, Enter, F10.
+const MOVING_AND_DELETING: &[u8] = b"\x1b[B\x1b[17~\r\rb\t\x1b[B\x1b[19~\r\x1b[21~";
+
+/// The calls that are the sync of the target's folder after the renaming, and in the last steps that one again and the sync of the source's
+/// folder. Before them comes what comes before the looks of a copy, eight calls; then two looks of the job, and the renaming.
+const REFUSED_MOVE_SYNCS: &[u64] = &[12, 13, 14];

@@ -76,6 +76,9 @@ fn things_in(scene: &str) -> &'static str {
         "special things" => {
             "folder /s 755\nother /s/a\nfile /s/b 640 new\nother /s/c\nfolder /t 755\nfile /t/b 600 old"
         }
+        "folders among files" => {
+            "folder /s 755\nfolder /s/d 700\nfolder /s/e 755\nfile /s/x 640 new\nfile /s/y 644 more\nfolder /t 755\nfolder /t/x 711"
+        }
         "standing tree" => {
             "folder /s 755\nfolder /s/a 750\nfolder /s/a/d 700\nfile /s/a/d/z 644 hi\nfile /s/a/x 640 new\nfile /s/a/y 644 more\nfile /s/b 640 hey\nfolder /a 711\nfolder /a/d 755\nfile /a/x 600 old\nfile /a/y 604 less!\nfile /b 600 old"
         }

@@ -126,6 +126,7 @@ fn word_of(did: &Did) -> &'static str {
         Did::Barrier => " barrier",
         Did::Asked(_) => " asked",
         Did::Merges(_, _) => " merged",
+        Did::Moved(_) => " moved",
         Did::Troubled(trouble) => match trouble.cause {
             Cause::Tree(TreeError::Denied) => " denied",
             Cause::Tree(TreeError::NoSpace) => " full",

@@ -1,0 +1,206 @@
+"""Checks of F6: files, links and special things are renamed, and what stands at a target is asked about; folders and other mounts are troubles."""
+import os
+import shutil
+import subprocess
+import tempfile
+
+from frames import LONG_AGO, with_box
+from several_checks import folder_with
+from terminal_run import DOWN, EMPTY, END, ENTER, ESCAPE, F10, F6, F8, INSERT, for_somebody, left_panel, make_file, run, things_at
+
+MOVE = [DOWN, F6, ENTER, ENTER]
+
+
+def place(base, name, sources, targets):
+    """Two new folders that hold these things."""
+    return folder_with(base, f"{name} from", sources), folder_with(base, f"{name} to", targets)
+
+
+def things_in(folder):
+    """What lies in a folder, and the number by which the system knows it: what is renamed keeps that, and a copy has another one."""
+    return {name: (os.lstat(os.path.join(folder, name)).st_ino, things_at(os.path.join(folder, name))) for name in os.listdir(folder)}
+
+
+def shows(told, before, box):
+    """Whether this box stood over these rows at some moment; the line of the jobs and that of the keys apart."""
+    wanted = with_box(before.rows(), box)[:-2]
+    return any(screen.rows()[:-2] == wanted for screen in told.screens)
+
+
+def tagged(count):
+    """The first things of a panel are tagged, and moved."""
+    return [DOWN] + count * [INSERT] + [F6, ENTER, ENTER]
+
+
+def check_moved_files(program, base, check):
+    """A file by keys, and several under the names that masks make."""
+    source, target = place(base, "move", {"x": 70000}, {})
+    before = things_in(source)
+    status, told, same = run(program, [source, target], MOVE + [F10])
+    plain, moved = told.screens[1], told.screens[-1]
+    check("F6 asks for the mask, then for the destination", shows(told, plain, ["Source mask", "*"]) and shows(told, plain, ["Move to", target + "/"]))
+    check("a file is moved, and is the same file still", status == 0 and same and things_in(source) == {} and things_in(target) == before)
+    check("the panel shows that it is gone", [row[:4].rstrip() for row in left_panel(moved)[1]] == ["/.."])
+
+    source, target = place(base, "names", {"a.c": 3, "b.c": 0, "c": 5, "l": "a.c"}, {})
+    before = things_in(source)
+    tag = [DOWN] + 4 * [INSERT]
+    status, _, same = run(program, [source, target], tag + [F6, EMPTY + b"*.c", ENTER, EMPTY + b"\\1.old", ENTER, F10])
+    renamed = {{"a.c": "a.old", "b.c": "b.old"}.get(name, name): thing for name, thing in before.items()}
+    check("what the mask matches is renamed in its folder, and nothing else", status == 0 and same and things_in(source) == renamed)
+    status, _, same = run(program, [source, target], tag + [F6, ENTER, EMPTY + b"../names to/*.\\1", ENTER, F10])
+    check("all that is tagged is moved under such names, a link among it", status == 0 and same and things_in(source) == {} and things_in(target) == {f"{name}.{name}": thing for name, thing in renamed.items()})
+
+    source, target = place(base, "left", {"d": {}, "x": 3}, {})
+    before = things_in(source)
+    for keys in [[F6, ENTER], [DOWN, F6, ESCAPE], [DOWN, F6, ENTER, ESCAPE]]:
+        status, _, same = run(program, [source, target], keys + [F10])
+        check(f"nothing is moved after {len(keys)} keys", status == 0 and same and things_in(source) == before and things_in(target) == {})
+    for words, folders, first in [(b"same file", [source, source], [END]), (b"inside itself", [source, os.path.join(source, "d")], [DOWN])]:
+        status, told, _ = run(program, folders, first + MOVE[1:] + [ENTER, F10, F10])
+        check(f"nothing is moved: {words.decode()}", status == 0 and words in told and things_in(source) == before)
+
+
+def check_moves_over_files(program, base, check):
+    """Where a file stands at the target each letter answers."""
+    source, target = place(base, "asked", {}, {})
+
+    def put(name, size, old_size, age):
+        make_file(os.path.join(source, name), size, 0o640)
+        make_file(os.path.join(target, name), old_size, 0o600)
+        os.utime(os.path.join(target, name), (LONG_AGO - age,) * 2)
+
+    def moved(keys, names, goes):
+        """Whether just these went, and replaced what stood there."""
+        new, old = things_in(source), things_in(target)
+        status, told, same = run(program, [source, target], tagged(names) + keys + [F10])
+        went = things_in(source) == {name: thing for name, thing in new.items() if name not in goes}
+        stands = things_in(target) == {name: (new if name in goes else old)[name] for name in old}
+        for folder in (source, target):
+            for name in os.listdir(folder):
+                os.remove(os.path.join(folder, name))
+        return status == 0 and same and went and stands and b"Target exists" in told
+
+    for keys, old_size, age, goes in [
+        ([b"y"], 3, 0, "x"), ([ENTER], 3, 0, "x"), ([b"a"], 3, 0, "x"), ([b"u"], 9, 100, "x"), ([b"s"], 3, 0, "x"), ([b"r", b"k", F6, b"y"], 3, 0, "x"),
+        ([ESCAPE, b"\x18", b"j", ENTER, b"y"], 3, 0, "x"), ([b"n"], 3, 0, ""), ([b"o"], 3, 0, ""), ([b"u"], 3, -100, ""), ([b"s"], 9, 100, ""), ([b"b"], 3, 0, ""), ([F10], 3, 0, ""),
+    ]:
+        put("x", 9, old_size, age)
+        check(f"a file comes over one of {old_size} bytes, by age {age}: {keys}", moved(keys, 1, goes))
+    for keys, goes in [
+        ([b"y", b"n"], "x"), ([b"n", b"y"], "y"), ([b"a"], "xy"), ([b"n", b"a"], "y"), ([b"o"], ""), ([b"u"], "x"), ([b"s"], "y"), ([b"y", b"b"], "x"),
+    ]:
+        put("x", 9, 9, 100)
+        put("y", 7, 3, -100)
+        check(f"of two files those are moved that are answered so: {keys}", moved(keys, 2, goes))
+
+    put("x", 9, 3, 0)
+    _, told, _ = run(program, [source, target], MOVE + [F10, F10])
+    box = ["Target exists", os.path.join(target, "x"), "source 9 bytes, target 3 bytes", "y Yes  n No  a All  u Update", "o None  s Size differs  b Abort"]
+    check("the question of a move shows the target and both sizes", shows(told, told.screens[1], box))
+
+    source, target = place(base, "one file", {"x": 9}, {})
+    os.link(os.path.join(source, "x"), os.path.join(target, "x"))
+    before = things_in(source)
+    status, _, same = run(program, [source, target], MOVE + [b"y", F10])
+    check("where both are names of one file, both stay", status == 0 and same and things_in(source) == before == things_in(target))
+
+
+def check_moved_links(program, base, check):
+    """A link and a pipe are moved as they are, also over a file; nothing comes over a pipe or a folder."""
+    beside = folder_with(base, "led to", {"y": 3})
+    source, target = place(base, "links", {"k": "far", "l": "somewhere", "p": None, "q": None, "w": beside}, {"k": "old", "l": 5, "p": 7})
+    before = things_in(source)
+    status, _, same = run(program, [source, target], tagged(5) + [b"y", b"n", b"a", F10])
+    left = {name: thing for name, thing in things_in(target).items() if name != "l"}
+    check("links and pipes are moved, over a file where that was answered", status == 0 and same and list(things_in(source)) == ["l"] and left == {name: thing for name, thing in before.items() if name != "l"})
+    check("and nothing that a link leads to", things_at(beside)[1]["y"] is not None and os.listdir(beside) == ["y"])
+
+    for name, what in [("pipe", None), ("folder", {"y": 3})]:
+        source, target = place(base, f"over a {name}", {"x": 3, "z": 5}, {"x": what})
+        before, stands = things_in(source), things_in(target)
+        status, told, same = run(program, [source, target], tagged(2) + [b"s", F10])
+        said = b"target is of another kind" in told and os.fsencode(os.path.join(target, "x")) in told
+        check(f"nothing comes over a {name}, and the next file is moved", status == 0 and same and said and things_in(source) == {"x": before["x"]} and things_in(target) == {**stands, "z": before["z"]})
+
+
+def check_moved_folders(program, base, check):
+    """A folder isn't moved yet: it is asked about, and stays."""
+    for keys, goes in [([b"s", b"s"], "f"), ([b"a"], "f"), ([b"r", b"s", b"a"], "f"), ([b"s", b"b"], ""), ([b"b"], ""), ([ESCAPE], "")]:
+        source, target = place(base, "folders", {"d": {"x": 3}, "e": {}, "f": 5}, {})
+        before = things_in(source)
+        status, told, same = run(program, [source, target], tagged(3) + keys + [F10])
+        stays = things_in(source) == {name: thing for name, thing in before.items() if name not in goes}
+        check(f"folders among tagged files are asked about: {keys}", status == 0 and same and stays and things_in(target) == {name: before[name] for name in goes})
+        box = ["is a folder", os.path.join(source, "d"), "r Retry  s Skip  a Skip all  b Abort"]
+        check("the box of a folder names it", shows(told, told.screens[4], box))
+        shutil.rmtree(source)
+        shutil.rmtree(target)
+
+
+def other_mounts(base):
+    """Folders on other mounts: one that is made here, where it can be, and one in the memory of the system, where that is."""
+    own = os.path.join(base, "own mount")
+    os.mkdir(own)
+    if subprocess.run(["mount", "-t", "tmpfs", "tmpfs", own], stderr=subprocess.DEVNULL).returncode == 0:
+        yield own
+        subprocess.run(["umount", own], check=True)
+    shared = "/dev/shm"
+    if os.path.isdir(shared) and os.access(shared, os.W_OK) and os.stat(shared).st_dev != os.stat(base).st_dev:
+        with tempfile.TemporaryDirectory(dir=shared) as folder:
+            yield folder
+
+
+def check_other_mounts(program, base, check):
+    """Nothing is moved to another mount yet."""
+    tried = False
+    for target in other_mounts(base):
+        source = folder_with(base, "mount from", {"x": 3, "y": 5})
+        before = things_in(source)
+        status, told, same = run(program, [source, target], tagged(2) + [b"s", b"a", F10])
+        said = b"other mount" in told and os.fsencode(os.path.join(target, "x")) in told
+        check(f"to another mount nothing is moved ({target})", status == 0 and same and said and things_in(source) == before and os.listdir(target) == [])
+        shutil.rmtree(source)
+        tried = True
+    if not tried:
+        print("there is no other mount: a move to one was not tried")
+
+
+def check_barred_moves(program, base, check):
+    """A folder that may not be changed bars the renaming, and one that may not be read its sync."""
+    user, program = for_somebody(program, base)
+
+    def owned(name, sources):
+        source, target = place(base, name, sources, {})
+        if user is not None:
+            for path in [source, target] + [os.path.join(source, thing) for thing in sources]:
+                os.chown(path, user, user)
+        return source, target, things_in(source)
+
+    source, target, before = owned("fixed", {"x": 3})
+    os.chmod(source, 0o500)
+    status, told, same = run(program, [source, target], MOVE + [b"s", F10], user=user)
+    os.chmod(source, 0o700)
+    check("out of a folder that may not be changed nothing is moved", status == 0 and same and b"permission denied" in told and things_in(source) == before and os.listdir(target) == [])
+
+    source, target, before = owned("closed", {"x": 3})
+    shut, mended = (lambda _: os.chmod(target, 0o300)), (lambda _: os.chmod(target, 0o700))
+    status, told, same = run(program, [source, target], [DOWN, F6, ENTER, shut, ENTER, b"s", b"a", mended, b"r", F10], user=user)
+    check("where the sync of the target's folder is refused a retry makes it", status == 0 and same and b"r Retry  b Abort" in told and things_in(source) == {} and things_in(target) == before)
+
+    source, target, before = owned("dirty", {"x": 3, "y": 5})
+    shut, mended = (lambda _: os.chmod(target, 0o300)), (lambda _: os.chmod(target, 0o700))
+    # The look after the abort can't read the target's folder: Enter closes the message.
+    first = [DOWN, F6, ENTER, shut, ENTER, b"b", ENTER]
+    status, told, same = run(program, [source, target], first + [END, F8, ENTER, mended, b"r", F10], user=user)
+    check("after an abort the next job syncs that folder first", status == 0 and same and sum("r Retry  b Abort" in row for screen in told.screens for row in screen.rows()) > 1 and things_in(source) == {} and things_in(target) == {"x": before["x"]})
+
+
+def check_moves(program, base, check):
+    """F6, by keys on real files."""
+    check_moved_files(program, base, check)
+    check_moves_over_files(program, base, check)
+    check_moved_links(program, base, check)
+    check_moved_folders(program, base, check)
+    check_other_mounts(program, base, check)
+    check_barred_moves(program, base, check)
