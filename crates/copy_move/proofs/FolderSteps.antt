@@ -27,7 +27,7 @@ use Rattle.copy_move.specs.Deletions as deletions
 use Rattle.copy_move.specs.DeletionSteps.{DeletionSkips, DeletionStep, LastDeletionStep, after_try, is_decided}
 use Rattle.copy_move.specs.Jobs.{Running, CallsOn, PassesOver, TellsOn, course_after, is_fresh}
 use Rattle.copy_move.specs.Ranks.{rank_at, rank_on, tries_left}
-use Rattle.copy_move.specs.Settling.{NoneOwed, with_change}
+use Rattle.copy_move.specs.Settling.{NoneForFolder, NoneOwed, with_change}
 use Rattle.copy_move.specs.Steps.{LeavesDirty, OwnStep, OwedSyncStep, SkipSteps, SkipWalks, Walks, WalksOn, WindingStep, WorkSkips, WorkSteps, WorkWindsUp, step_made}
 use Rattle.job_reports.proofs.Runs.{risen_before}
 use Rattle.copy_move.specs.Faults.{MeetsFault}
@@ -182,9 +182,9 @@ module _ (unclaimed : Route → Type 0) (did : Did) (calls : ℕ) (dirty dirty_a
 
   -- a step of the work
   pub worked_on : (id : ℕ) (old work : Work) (was course : Course) (replies : Replies) (job : Running) → (let r : Running = record { id = id; work = old; course = was; replies = replies } in r) ≡ job → job.course ≡ GoesOn
-      → (is_fresh job.work ≡ true → IfKnown before (λ log. NoneOwed (current log) job.work dirty)) → WorkSteps unclaimed replies old work did calls dirty dirty_after before after f0 f1 → course ≡ course_after did
+      → (is_fresh job.work ≡ true → IfKnown before (λ log. NoneOwed (current log) job.work dirty)) → (is_fresh job.work ≡ true → IfKnown before (λ log. NoneForFolder (current log) job.work dirty)) → WorkSteps unclaimed replies old work did calls dirty dirty_after before after f0 f1 → course ≡ course_after did
       → IsOwn job (record { id = id; work = work; course = course; replies = replies })
-  worked_on id old work was course replies job is goes settled steps course_is =
+  worked_on id old work was course replies job is goes settled cleared steps course_is =
       let same : old ≡ job.work = ap (λ (j : Running). j.work) is in
       let number : id ≡ job.id = ap (λ (j : Running). j.id) is in
       let said : replies ≡ job.replies = ap (λ (j : Running). j.replies) is in
@@ -195,6 +195,7 @@ module _ (unclaimed : Route → Type 0) (did : Did) (calls : ℕ) (dirty dirty_a
             (ap (λ n. let r : Running = record { id = n; work = work; course = course; replies = replies } in r) number
             ∙ (ap (λ replies. let r : Running = record { id = job.id; work = work; course = course; replies = replies } in r) said ∙ ap (λ c. let r : Running = record job { work = work; course = c } in r) course_is));
         settled = λ now fresh. settled fresh;
+        cleared = λ now fresh. cleared fresh;
         leaves = subst (λ c. LeavesDirty c job.work did work dirty dirty_after before after) (sym goes) s.leaves;
         walks = subst (λ c. WalksOn unclaimed job.replies c job.work work did calls dirty dirty_after before after f0 f1) (sym goes) s.walks;
         winds = λ ending ends. absurd (ends_not ending (sym ends ∙ goes));
@@ -206,6 +207,7 @@ module _ (unclaimed : Route → Type 0) (did : Did) (calls : ℕ) (dirty dirty_a
   wound_up ending job new ends w = record {
     own = run_ends unclaimed job new did calls dirty dirty_after before after f0 f1 ending job.work new.work w.left refl ends w.winds w.new_is;
     settled = λ goes fresh. absurd (ends_not ending (sym ends ∙ goes));
+    cleared = λ goes fresh. absurd (ends_not ending (sym ends ∙ goes));
     leaves = subst (λ c. LeavesDirty c job.work did new.work dirty dirty_after before after) (sym ends)
         (record { refusal = w.left; folder = w.winds.folder; own = w.winds.own; dirty_is = w.winds.dirty_is; tried = w.winds.synced });
     walks = subst (λ c. WalksOn unclaimed job.replies c job.work new.work did calls dirty dirty_after before after f0 f1) (sym ends) (w.left, w.winds.walks);
@@ -232,6 +234,7 @@ module _ (unclaimed : Route → Type 0) (contents : Option CallLog) (dirty : Lis
           fault = λ h. absurd (quiet (subst (λ c. MeetsFault c did) skips h));
         };
         settled = λ goes fresh. absurd (skips_not cause (sym skips ∙ goes));
+        cleared = λ goes fresh. absurd (skips_not cause (sym skips ∙ goes));
         leaves = subst (λ c. LeavesDirty c job.work did new.work dirty dirty contents contents) (sym skips) refl;
         walks = subst (λ c. WalksOn unclaimed job.replies c job.work new.work did calls dirty dirty contents contents f f) (sym skips)
             (subst (λ (r : Running). SkipWalks cause job.work did r.work) (sym s.new_is) (let k = s.skips in k.walks));
@@ -324,6 +327,7 @@ own_later unclaimed job new did calls dirty dirty_after first before after f0 f1
     fault = λ h. risen_before f0 f1 f2 later (o.own.fault h);
   };
   settled = o.settled;
+  cleared = o.cleared;
   leaves = o.leaves;
   walks = subst (λ c. WalksOn unclaimed job.replies c job.work new.work did calls dirty dirty_after before after f0 f2) (sym goes)
       (walks_later unclaimed job.replies job.work new.work did calls dirty dirty_after before after f0 f1 f2 later (subst (λ c. WalksOn unclaimed job.replies c job.work new.work did calls dirty dirty_after before after f1 f2) goes o.walks));

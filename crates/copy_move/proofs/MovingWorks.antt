@@ -1,8 +1,8 @@
 -- The move of a thing as the work of a job: its steps, its last steps and its skips.
 use Rattle.std.proofs.Common.{◌≡◌, ℕ, ◌+◌, ◌*◌, ◌<◌, ◌≤◌, Bool, true, false, List, length, refl, sym, ◌∙◌, ap, subst, inl, inr, Option, arith}
-use Rattle.std.specs.Prelude.{if◌then◌else◌}
+use Rattle.std.specs.Prelude.{◌||◌, if◌then◌else◌}
 use Rattle.std.proofs.lemmas.Bool.{false≢true, or_left, or_right}
-use Rattle.mc_text.specs.Routes.{Route, same_path}
+use Rattle.mc_text.specs.Routes.{Route, is_prefix, same_path}
 use Rattle.tree_trait.specs.declared.calls.TreeError.{TreeError}
 use Rattle.tree_trait.specs.Change.{CallLog}
 use Rattle.tree_trait.proofs.Visible.{same_path-self}
@@ -19,6 +19,7 @@ use Rattle.job_answers.specs.declared.replies.Replies.{Replies}
 use Rattle.thing_moving.specs.declared.moving.MovingStage.{MovingStage}
 use Rattle.thing_moving.specs.declared.moving.MovingStage.TheVariants.{Take, SyncTarget, SyncSource, Finish, PassedOver}
 use Rattle.thing_moving.specs.Movings.{Moving, Tells, after_sync, at_barrier, is_dirty, owed_folder, owed_in, owes_target, with_moves}
+use Rattle.tree_deletion.specs.Folders.{is_of}
 use Rattle.thing_moving.specs.MovingSteps.{LastMovingStep, MovingSkips, MovingStep, TellsFault}
 use Rattle.copy_move.specs.declared.work.Work.TheVariants.{Move}
 use Rattle.copy_move.specs.declared.run.Course.TheVariants.{GoesOn, InTrouble}
@@ -168,12 +169,15 @@ module _ (unclaimed : Route → Type 0) (replies : Replies) (m new : Moving) (di
   }
 
 -- the folder that is tried is one of the two
+source_own : (pair : Pair) → (is_of (folder_of pair.source) pair.source (folder_of pair.source) || is_of (folder_of pair.target) pair.target (folder_of pair.source)) ≡ true
+source_own pair = or_left _ (is_of (folder_of pair.target) pair.target (folder_of pair.source)) (or_left _ (is_prefix pair.source (folder_of pair.source)) (same_path-self (folder_of pair.source)))
+
 owed_own : (m : Moving) (stage : MovingStage) → is_own (Move m) (owed_in m.pair stage) ≡ true
-owed_own m SyncTarget = or_right (same_path (folder_of m.pair.target) (folder_of m.pair.source)) _ (same_path-self (folder_of m.pair.target))
-owed_own m Take = or_left _ (same_path (folder_of m.pair.source) (folder_of m.pair.target)) (same_path-self (folder_of m.pair.source))
-owed_own m SyncSource = or_left _ (same_path (folder_of m.pair.source) (folder_of m.pair.target)) (same_path-self (folder_of m.pair.source))
-owed_own m Finish = or_left _ (same_path (folder_of m.pair.source) (folder_of m.pair.target)) (same_path-self (folder_of m.pair.source))
-owed_own m PassedOver = or_left _ (same_path (folder_of m.pair.source) (folder_of m.pair.target)) (same_path-self (folder_of m.pair.source))
+owed_own m SyncTarget = or_right (is_of (folder_of m.pair.source) m.pair.source (folder_of m.pair.target)) _ (or_left _ (is_prefix m.pair.target (folder_of m.pair.target)) (same_path-self (folder_of m.pair.target)))
+owed_own m Take = source_own m.pair
+owed_own m SyncSource = source_own m.pair
+owed_own m Finish = source_own m.pair
+owed_own m PassedOver = source_own m.pair
 
 -- a last step
 pub moving_winds_up : (ending : Ending) (m new : Moving) (did : Did) (calls : ℕ) (left : Option TreeError) (dirty dirty_after : List Route) (before after : Option CallLog) (f0 f1 : ℕ) → LastMovingStep ending m new did calls left before after f0 f1

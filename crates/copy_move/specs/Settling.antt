@@ -1,14 +1,16 @@
 -- Folders in which jobs changed names, and things that were given a mode, which no sync has brought onto the disk yet: what jobs leave
--- there, and how a later job syncs them before it changes anything on that mount.
-use Rattle.std.specs.Prelude.{◌≡◌, ◌⊎◌, ℕ, Bool, true, false, ◌||◌, List, Option, Some}
+-- there, and how a later job syncs them before it changes anything there, or on a mount that begins below it.
+use Rattle.std.specs.Prelude.{◌≡◌, ◌⊎◌, ℕ, Bool, true, false, ◌||◌, List, [], ◌∷◌, Option, Some, None}
+use Rattle.std.specs.Option.{option_map_or}
 use Rattle.mc_text.specs.Routes.{Route, is_prefix, same_path}
 use Rattle.tree_trait.specs.declared.file_system.FileSystem.{FileSystem}
 use Rattle.tree_trait.specs.declared.calls.TreeError.{TreeError}
 use Rattle.tree_trait.specs.declared.calls.TreeError.TheVariants.{Missing}
 use Rattle.tree_trait.specs.Calls.{Stat}
-use Rattle.tree_trait.specs.Change.{CallLog}
+use Rattle.tree_trait.specs.FileSystem.{node}
+use Rattle.tree_trait.specs.Change.{CallLog, found}
 use Rattle.tree_trait.specs.Answers.{mount_number}
-use Rattle.tree_trait.specs.Refusals.{refusal_of, mount_of}
+use Rattle.tree_trait.specs.Refusals.{is_folder, refusal_of, mount_of}
 use Rattle.tree_trait.specs.CrashImages.{Among}
 use Rattle.job_reports.specs.declared.report.Did.{Did}
 use Rattle.job_reports.specs.Paths.{folder_of}
@@ -34,23 +36,43 @@ changed_folder (Make m) = folder_of m.path
 changed_folder (Move m) = folder_of m.pair.target
 changed_folder (SetMode s) = folder_of s.path
 
--- a folder in which a job may change names: of a deletion also the thing itself, and what lies in it, and so of the target of a copy; of a move those of both its
--- paths; or the thing to which a job gives a mode
+-- a folder in which a job may change names: of a deletion also the thing itself, and what lies in it, and so of the target of a copy, and of both paths of a
+-- move; or the thing to which a job gives a mode
 abbrev pub is_own : Work → Route → Bool
 is_own (Copy c) kept = tree.is_own c kept
 is_own (Delete d) kept = is_of (folder_of d.path) d.path kept
 is_own (Make m) kept = same_path kept (folder_of m.path)
-is_own (Move m) kept = same_path kept (folder_of m.pair.source) || same_path kept (folder_of m.pair.target)
+is_own (Move m) kept = is_of (folder_of m.pair.source) m.pair.source kept || is_of (folder_of m.pair.target) m.pair.target kept
 is_own (SetMode s) kept = same_path kept s.path
 
--- What is dirty here is owed on whatever mount it lies: at the thing that is deleted, or in it; and before a mode is set all is, since the
+-- the folder that something leaves: of a move the source's, of all else the one that is changed
+abbrev pub left_folder : Work → Route
+left_folder (Copy c) = folder_of c.top.target
+left_folder (Delete d) = folder_of d.path
+left_folder (Make m) = folder_of m.path
+left_folder (Move m) = folder_of m.pair.source
+left_folder (SetMode s) = folder_of s.path
+
+-- What is dirty here is owed on whatever mount it lies: at the thing that is deleted or moved, or in it; and before a mode is set all is, since the
 -- mode of a folder may bar the way to what lies in it. Where something is copied to nothing stands yet.
 abbrev pub is_owed_anywhere : Work → Route → Bool
 is_owed_anywhere (Copy c) kept = false
 is_owed_anywhere (Delete d) kept = is_prefix d.path kept
 is_owed_anywhere (Make m) kept = false
-is_owed_anywhere (Move m) kept = false
+is_owed_anywhere (Move m) kept = is_prefix m.pair.source kept
 is_owed_anywhere (SetMode s) kept = true
+
+-- what is moved
+abbrev pub moved_thing : Work → Option Route
+moved_thing (Copy c) = None
+moved_thing (Delete d) = None
+moved_thing (Make m) = None
+moved_thing (Move m) = Some m.pair.source
+moved_thing (SetMode s) = None
+
+-- it is a folder (where nothing stands there this says so, too, and then nothing is moved)
+abbrev pub moves_folder : FileSystem → Work → Bool
+moves_folder s work = option_map_or (λ source. is_folder (node s (found s source))) (moved_thing work) false
 
 -- the folder of a new thing, or a thing that is given a mode, joins the dirty ones with its first change, and leaves them with its sync
 abbrev pub with_change : Bool → Bool → Route → List Route → List Route
@@ -83,13 +105,25 @@ IsMountOf s folder number = number ≡ mount_number s.mounts (mount_of s folder)
 abbrev pub LiesApart : FileSystem → Route → Route → Type 0
 LiesApart s folder kept = (number : ℕ) × IsMountOf s folder number × (IsMountOf s kept number → ⊥)
 
--- what is dirty was removed, or a job that changes something on this mount, if that is known, has nothing to do with it
-abbrev pub IsElsewhere : FileSystem → Work → Route → Option ℕ → Type 0
-IsElsewhere s work folder mount =
-    (refusal_of s (Stat folder) ≡ Some Missing) ⊎ ((is_owed_anywhere work folder ≡ false) × ((number : ℕ) × (mount ≡ Some number) × (IsMountOf s folder number → ⊥)))
+-- a folder lies on another mount than this one, and than each on the way to it
+abbrev pub LiesOff : FileSystem → Route → Route → Type 0
+LiesOff s [] kept = LiesApart s [] kept
+LiesOff s (name ∷ up) kept = LiesApart s (name ∷ up) kept × LiesOff s up kept
 
--- Nothing that is dirty is owed by a job before its first change: each lies on another mount than the folder that holds what the job
--- places or removes, and isn't owed on any; or it was removed.
+-- What is dirty isn't owed by a job before its first change: it was removed; or it isn't owed on any mount, and lies on another one than the folders
+-- of what the job places, moves or removes, and than each on the way to them, since a folder on the way may be one that was moved there.
+abbrev pub IsElsewhere : FileSystem → Work → Route → Type 0
+IsElsewhere s work kept =
+    (refusal_of s (Stat kept) ≡ Some Missing) ⊎ ((is_owed_anywhere work kept ≡ false) × LiesOff s (changed_folder work) kept × LiesOff s (left_folder work) kept)
+
+-- nothing that is dirty is owed by a job before its first change
 abbrev pub NoneOwed : FileSystem → Work → List Route → Type 0
-NoneOwed s work dirty = (kept : Route) → Among dirty kept
-    → (refusal_of s (Stat kept) ≡ Some Missing) ⊎ ((is_owed_anywhere work kept ≡ false) × LiesApart s (changed_folder work) kept)
+NoneOwed s work dirty = (kept : Route) → Among dirty kept → IsElsewhere s work kept
+
+-- what is dirty was removed, where a folder is to be moved
+abbrev pub IsGoneForFolder : FileSystem → Work → Route → Type 0
+IsGoneForFolder s work kept = moves_folder s work ≡ true → refusal_of s (Stat kept) ≡ Some Missing
+
+-- before a folder is moved nothing that stands is dirty, on whatever mount: so it is before the mode of a folder is set
+abbrev pub NoneForFolder : FileSystem → Work → List Route → Type 0
+NoneForFolder s work dirty = (kept : Route) → Among dirty kept → IsGoneForFolder s work kept

@@ -22,7 +22,7 @@ use Rattle.copy_move.specs.declared.run.Course.TheVariants.{GoesOn, Asking, InTr
 use Rattle.copy_move.specs.Faults.{MeetsFault}
 use Rattle.copy_move.specs.DeletionSteps.{Goes, Passes, TriesNext, after_try}
 use Rattle.copy_move.specs.Jobs.{Running, JobTells, JobCalls, PassesOver, WorkTells, WorkCalls, WorkWinds, WorkLastCalls, at_barrier, course_after, is_fresh}
-use Rattle.copy_move.specs.Settling.{NoneOwed, TellsFolder, WorkLeaves, is_own}
+use Rattle.copy_move.specs.Settling.{NoneForFolder, NoneOwed, TellsFolder, WorkLeaves, is_own}
 use Rattle.job_reports.specs.Paths.{without}
 use Rattle.copy_move.specs.Ranks.{last_rank, rank_at, rank_on, rank_with, work_rank}
 use Rattle.mode_setting.specs.SettingSteps.{SyncStops, sync_of}
@@ -171,11 +171,12 @@ pub record WindingStep (ending : Ending) (step : StepMade) : Type 0 where
   pub winds : WorkWindsUp ending step.old.work step.new.work step.did step.calls left step.dirty step.dirty_after step.before step.after step.faults step.faults_after
   pub new_is : step.new ≡ record step.old { work = step.new.work }
 
--- A step of the job's own: one that may make its first change is made only where nothing dirty is owed, a deletion or a copy does
--- what its machine does, and a job that is to end makes one of its last steps. But for an end fewer steps are left.
+-- A step of the job's own: one that may make its first change is made only where nothing dirty is owed, and that of a move of a folder only where
+-- nothing that stands is dirty; a deletion or a copy does what its machine does, and a job that is to end makes one of its last steps. But for an end fewer steps are left.
 pub record OwnStep (unclaimed : Route → Type 0) (step : StepMade) : Type 0 where
   pub own : StepsOn unclaimed step.old step.new step.did step.calls step.before step.after step.faults step.faults_after
   pub settled : step.old.course ≡ GoesOn → is_fresh step.old.work ≡ true → IfKnown step.before (λ log. NoneOwed (current log) step.old.work step.dirty)
+  pub cleared : step.old.course ≡ GoesOn → is_fresh step.old.work ≡ true → IfKnown step.before (λ log. NoneForFolder (current log) step.old.work step.dirty)
   pub leaves : LeavesDirty step.old.course step.old.work step.did step.new.work step.dirty step.dirty_after step.before step.after
   pub walks : WalksOn unclaimed step.old.replies step.old.course step.old.work step.new.work step.did step.calls step.dirty step.dirty_after step.before step.after step.faults step.faults_after
   pub winds : (ending : Ending) → step.old.course ≡ Ends ending → WindingStep ending step

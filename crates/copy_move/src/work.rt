@@ -2,7 +2,7 @@
 //! One machine for each.
 ghost use Rattle.std.specs.Prelude.{◌≡◌, false, option_map, true};
 ghost use Rattle.copy_move.specs.Jobs.{IsGoing, at_barrier, is_fresh, kind_of, part_of, passing_over, path_of, skipping_by, skips_of, taken_anew as anew, with_skips};
-ghost use Rattle.copy_move.specs.Settling.{changed_folder, is_owed_anywhere};
+ghost use Rattle.copy_move.specs.Settling.{changed_folder, is_owed_anywhere, left_folder, moved_thing};
 ghost use Rattle.copy_move.specs.Steps.{WorkSkips, WorkSteps, WorkWindsUp};
 
 use crate::deletion::TreeDeletion;
@@ -241,8 +241,21 @@ impl Work {
         }
     }
 
-    /// Whether what is dirty here has to be synced first on whatever mount it lies: it is the thing that is deleted, or lies in it; and
-    /// before a mode is set all has, since the mode of a folder may bar the way to what lies in it.
+    /// The folder that something leaves: of a move that of its source, of all else the one that is changed.
+    pub(crate) fn left_folder(&self) -> &Path
+        ensures { result.now ≡ left_folder self.now }
+    {
+        match self {
+            Work::Copy(copy) => copy.folder(),
+            Work::Delete(deletion) => deletion.folder(),
+            Work::Make(making) => making.folder(),
+            Work::Move(moving) => moving.source_folder(),
+            Work::SetMode(setting) => setting.folder(),
+        }
+    }
+
+    /// Whether what is dirty here has to be synced first on whatever mount it lies: it is the thing that is deleted or moved, or lies in
+    /// it; and before a mode is set all has, since the mode of a folder may bar the way to what lies in it.
     pub(crate) fn is_owed_anywhere(&self, dirty: &Path) -> bool
         ensures { result ≡ is_owed_anywhere self.now dirty.now }
     {
@@ -250,8 +263,21 @@ impl Work {
             Work::Copy(_) => false,
             Work::Delete(deletion) => deletion.path().is_prefix_of(dirty),
             Work::Make(_) => false,
-            Work::Move(_) => false,
+            Work::Move(moving) => moving.pair().source.is_prefix_of(dirty),
             Work::SetMode(_) => true,
+        }
+    }
+
+    /// What is moved, if anything is.
+    pub(crate) fn moved_thing(&self) -> Option<&Path>
+        ensures { option_map (λ source. source.now) result ≡ moved_thing self.now }
+    {
+        match self {
+            Work::Copy(_) => None,
+            Work::Delete(_) => None,
+            Work::Make(_) => None,
+            Work::Move(moving) => Some(&moving.pair().source),
+            Work::SetMode(_) => None,
         }
     }
 

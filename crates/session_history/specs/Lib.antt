@@ -1,5 +1,6 @@
 pub mod Entries
 pub mod LiveJobs
+pub mod Moves
 pub mod Named
 pub mod Refusals
 pub mod Sources

@@ -1,19 +1,18 @@
 -- Which paths the entries of a history name, as what was changed and as parts. Histories stand newest first here.
-use Rattle.std.specs.Prelude.{◌≡◌, ◌⊎◌, ℕ, ◌==◌, Bool, true, false, ◌||◌, ◌&&◌, List, [], ◌∷◌, Option, Some, None, if◌then◌else◌}
-use Rattle.std.specs.List.{list_any}
+use Rattle.std.specs.Prelude.{◌≡◌, ◌⊎◌, ℕ, ◌==◌, Bool, true, false, ◌||◌, ◌&&◌, List, [], ◌∷◌, ◌++◌, Option, Some, None, if◌then◌else◌}
 use Rattle.std.specs.Option.{option_map_or}
 use Rattle.mc_text.specs.Routes.{Route, same_path}
-use Rattle.job_reports.specs.declared.job.Pair.{Pair}
 use Rattle.job_reports.specs.declared.report.Did.{Did}
 use Rattle.job_reports.specs.declared.report.Did.TheVariants.{Began, Chunk, Placed, Removed, Made, Set, Kept, Skipped, Cleaned, Barrier, Asked, Merges, Moved, Troubled, Ended}
 use Rattle.job_reports.specs.Paths.{without}
+use Rattle.session_history.specs.Moves.{is_of_move, paths_below, paths_moved, paths_off}
 use Rattle.session_history.specs.declared.history.Event.{Event}
 use Rattle.session_history.specs.declared.history.Event.TheVariants.{Key, Look, Sought, Order, Step, Next, Closed}
 use Rattle.session_history.specs.declared.history.Event.TheVariants as event
 use Rattle.session_history.specs.declared.history.Entry.{Entry}
 
 -- a report names this path: as a part that was made, is gone, or is left, or as what was placed, removed, made or given a mode, or where something was that was
--- moved, and where it went
+-- moved, and where it went, and what lies below
 abbrev pub names : Did → Route → Bool
 names (Began part) path = same_path path part
 names (Placed target) path = same_path path target
@@ -28,7 +27,7 @@ names (Skipped file cause) path = false
 names Barrier path = false
 names (Asked question) path = false
 names (Merges pair within) path = false
-names (Moved pair) path = same_path path pair.source || same_path path pair.target
+names (Moved pair) path = is_of_move pair path
 names (Troubled trouble) path = false
 
 abbrev pub names_path : Event → Route → Bool
@@ -46,13 +45,13 @@ abbrev pub IsUnnamedSince : List Entry → Route → List Entry → Type 0
 IsUnnamedSince older path [] = older ≡ []
 IsUnnamedSince older path (e ∷ entries) = (older ≡ e ∷ entries) ⊎ ((names_path e.what path ≡ false) × IsUnnamedSince older path entries)
 
--- the paths that a report says were changed: what was placed, removed, made or given a mode, and where something was that was moved, and where it went
+-- the path that a report says was changed: what was placed, removed, made or given a mode; those of a move `is_of_move` tells
 abbrev pub changed_by : Did → List Route
 changed_by (Placed path) = path ∷ []
 changed_by (Removed path) = path ∷ []
 changed_by (Set path) = path ∷ []
 changed_by (Made path) = path ∷ []
-changed_by (Moved pair) = pair.source ∷ pair.target ∷ []
+changed_by (Moved pair) = []
 changed_by (Began part) = []
 changed_by (Chunk count) = []
 changed_by (Kept kept) = []
@@ -64,16 +63,7 @@ changed_by (Merges pair names) = []
 changed_by (Troubled trouble) = []
 changed_by (Ended ending part) = []
 
--- it is one of these paths
-abbrev pub is_among : Route → List Route → Bool
-is_among path paths = list_any (same_path path) paths
-
--- a part that was moved is one where it went, and no more where it was
-abbrev pub left_moved : Bool → Pair → List Route → List Route
-left_moved true pair before = pair.target ∷ without pair.source before
-left_moved false pair before = before
-
--- the parts that ended jobs left, until one is removed
+-- the parts that ended jobs left, until one is removed; one that was moved, with what it lies in, is one where it went
 abbrev pub left_by : Did → List Route → List Route
 left_by (Ended ending (Some part)) before = part ∷ before
 left_by (Ended ending None) before = before
@@ -89,7 +79,7 @@ left_by (Cleaned part) before = before
 left_by Barrier before = before
 left_by (Asked question) before = before
 left_by (Merges pair names) before = before
-left_by (Moved pair) before = left_moved (is_among pair.source before) pair before
+left_by (Moved pair) before = paths_moved pair before ++ paths_off pair.source before
 left_by (Troubled trouble) before = before
 
 abbrev pub left_after : Event → List Route → List Route
@@ -112,13 +102,8 @@ abbrev pub if_among : Route → List Route → List Route → List Route
 if_among path [] others = others
 if_among path (first ∷ rest) others = if same_path path first then path ∷ others else if_among path rest others
 
--- where a part was that was moved, a crash may leave it still; and where something is moved over a part, that
-abbrev pub named_moved : Bool → Pair → List Route → List Route → List Route
-named_moved true pair left before = pair.target ∷ before
-named_moved false pair left before = if_among pair.target left (without pair.target before)
-
--- A path that is placed or made is a part no more, nor is one to which something is moved, if that is none. But where a file is placed over a part that an ended
--- job left, or something is moved over it, a crash may still leave that part, so the path stays one.
+-- A path that is placed or made is a part no more, nor is one to which something is moved, or one below it, unless that is one. But where a file is placed over a
+-- part that an ended job left, or something is moved over it, a crash may still leave that part, so the path stays one; and so does that of a part that was moved.
 abbrev pub named_by : Did → List Route → List Route → List Route
 named_by (Began part) left before = part ∷ before
 named_by (Placed path) left before = if_among path left (without path before)
@@ -132,7 +117,7 @@ named_by (Cleaned part) left before = before
 named_by Barrier left before = before
 named_by (Asked question) left before = before
 named_by (Merges pair names) left before = before
-named_by (Moved pair) left before = named_moved (is_among pair.source left) pair left before
+named_by (Moved pair) left before = paths_moved pair left ++ paths_below pair.target left ++ paths_off pair.target before
 named_by (Troubled trouble) left before = before
 named_by (Ended ending part) left before = before
 

@@ -2,7 +2,6 @@
 use Rattle.std.proofs.Common.{◌≡◌, false, refl, sym, subst, inl, inr, Option, Some, None, Result, Ok, Err}
 use Rattle.std.specs.Prelude.{MatchResult}
 use Rattle.mc_text.specs.declared.kind.Kind.{Kind}
-use Rattle.mc_text.specs.declared.kind.Kind.TheVariants.{Folder}
 use Rattle.tree_trait.specs.declared.file_system.FileSystem.{FileSystem}
 use Rattle.tree_trait.specs.declared.calls.Meta.{Meta}
 use Rattle.tree_trait.specs.declared.calls.TreeError.TheVariants as refused
@@ -14,7 +13,7 @@ use Rattle.job_reports.specs.declared.report.Trouble.{Trouble}
 use Rattle.job_reports.specs.Questions.{question_on}
 use Rattle.job_reports.specs.Stops.{IsTroubleWithPath, out_of_memory_at}
 use Rattle.job_answers.specs.declared.placing.Origin.TheVariants.{Moved}
-use Rattle.job_answers.specs.declared.placing.Placing.TheVariants.{Asks, TargetKind}
+use Rattle.job_answers.specs.declared.placing.Placing.TheVariants.{Asks, Merges, TargetKind}
 use Rattle.job_answers.specs.declared.replies.Replies.{Replies}
 use Rattle.job_answers.specs.declared.replies.Decision.{Decision}
 use Rattle.job_answers.specs.declared.replies.Decision.TheVariants.{Replace, Keep, Ask}
@@ -30,18 +29,19 @@ module _ (s : FileSystem) (pair : Pair) (replies : Replies) (source : Meta) (sta
   no_memory : (trouble : Trouble) → trouble ≡ out_of_memory_at false → LooksStop s pair trouble.cause trouble.path
   no_memory trouble same = subst (λ (t : Trouble). LooksStop s pair t.cause t.path) (sym same) (inr (inr (refl, refl)))
 
-  -- a folder is to be moved
-  is_folder : (trouble : Trouble) → source.kind ≡ Folder → IsTroubleWithPath (why.Tree refused.IsFolder) pair.source trouble → LooksStop s pair trouble.cause trouble.path
-  is_folder trouble folder (inl same) =
-      subst (λ (t : Trouble). LooksStop s pair t.cause t.path) (sym same)
-      (inr (inl (inl (record { cause_is = refl; path_is = refl; source = source; stands = stands; folder = folder }))))
-  is_folder trouble folder (inr same) = no_memory trouble same
-
   module _ (target : Meta) (there : Stands s pair.target target) where
+    -- a folder comes onto a folder
+    to_be_merged : (trouble : Trouble) → placing_at (Moved source.kind) (Some target.kind) ≡ Merges
+        → IsTroubleWithPath (why.Tree refused.Exists) pair.target trouble → LooksStop s pair trouble.cause trouble.path
+    to_be_merged trouble meets (inl same) =
+        subst (λ (t : Trouble). LooksStop s pair t.cause t.path) (sym same)
+        (inr (inl (inl (record { cause_is = refl; path_is = refl; source = source; target = target; of_source = stands; of_target = there; meets = meets }))))
+    to_be_merged trouble meets (inr same) = no_memory trouble same
+
     -- what stands at the target is in the way
-    in_the_way : (kind : Kind) (trouble : Trouble) → folder_kind source.kind ≡ false → placing_at (Moved source.kind) (Some target.kind) ≡ TargetKind kind
+    in_the_way : (kind : Kind) (trouble : Trouble) → placing_at (Moved source.kind) (Some target.kind) ≡ TargetKind kind
         → IsTroubleWithPath (why.TargetKind kind) pair.target trouble → LooksStop s pair trouble.cause trouble.path
-    in_the_way kind trouble single meets (inl same) =
+    in_the_way kind trouble meets (inl same) =
         subst (λ (t : Trouble). LooksStop s pair t.cause t.path) (sym same)
         (inr (inl (inr (record {
           kind = kind;
@@ -51,14 +51,13 @@ module _ (s : FileSystem) (pair : Pair) (replies : Replies) (source : Meta) (sta
           target = target;
           of_source = stands;
           of_target = there;
-          single = single;
           meets = meets;
         }))))
-    in_the_way kind trouble single meets (inr same) = no_memory trouble same
+    in_the_way kind trouble meets (inr same) = no_memory trouble same
 
     onto_stops : (trouble : Trouble) → Judges pair replies source (Some target) (Err trouble) → LooksStop s pair trouble.cause trouble.path
-    onto_stops trouble (inl h) = is_folder trouble h.0 h.1
-    onto_stops trouble (inr (inl (kind, single, meets, named))) = in_the_way kind trouble single meets named
+    onto_stops trouble (inl h) = to_be_merged trouble h.0 h.1
+    onto_stops trouble (inr (inl (kind, meets, named))) = in_the_way kind trouble meets named
     onto_stops trouble (inr (inr h)) = no_memory trouble h
 
     -- the answers that stand decide so
@@ -79,7 +78,7 @@ module _ (s : FileSystem) (pair : Pair) (replies : Replies) (source : Meta) (sta
     onto_takes taking.Moves (single, meets, decides) =
         let question = question_on pair.source source pair.target target in
         record {
-          can = record { source = source; stands = stands; single = single };
+          can = record { source = source; stands = stands };
           free = inr (question, is_decided question Replace single meets refl decides);
         }
     onto_takes taking.Keeps (single, meets, decides) =
@@ -88,9 +87,9 @@ module _ (s : FileSystem) (pair : Pair) (replies : Replies) (source : Meta) (sta
 
   pub judged : (found : Option Meta) (result : Result Taking Trouble) → IsThere s pair.target found → Judges pair replies source found result
       → MatchResult result (λ taken. Takes s pair replies taken) (λ trouble. LooksStop s pair trouble.cause trouble.path)
-  judged None (Ok taking.Moves) there h = record { can = record { source = source; stands = stands; single = h }; free = inl there }
+  judged None (Ok taking.Moves) there h = record { can = record { source = source; stands = stands }; free = inl there }
   judged None (Ok taking.Keeps) there h = absurd h
   judged None (Ok (taking.Asks question)) there h = absurd h
-  judged None (Err trouble) there h = is_folder trouble h.0 h.1
+  judged None (Err trouble) there h = absurd h
   judged (Some target) (Ok taken) there h = onto_takes target (record { there = there.0; is = there.1 }) taken h
   judged (Some target) (Err trouble) there h = onto_stops target (record { there = there.0; is = there.1 }) trouble h

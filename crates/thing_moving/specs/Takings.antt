@@ -1,8 +1,7 @@
 -- What comes of a thing that is to be moved: the looks at it and at its target, and what the answers that stand decide.
-use Rattle.std.specs.Prelude.{◌≡◌, ◌⊎◌, false, Option, Some, None, Result, Ok, Err}
+use Rattle.std.specs.Prelude.{◌≡◌, ◌⊎◌, ⊤, false, Option, Some, None, Result, Ok, Err}
 use Rattle.mc_text.specs.Routes.{Route}
 use Rattle.mc_text.specs.declared.kind.Kind.{Kind}
-use Rattle.mc_text.specs.declared.kind.Kind.TheVariants.{Folder}
 use Rattle.tree_trait.specs.declared.file_system.FileSystem.{FileSystem}
 use Rattle.tree_trait.specs.declared.calls.Meta.{Meta}
 use Rattle.tree_trait.specs.declared.calls.TreeError.TheVariants as refused
@@ -18,7 +17,7 @@ use Rattle.job_reports.specs.Questions.{question_on}
 use Rattle.job_reports.specs.Reading.{StatStops, TargetStops}
 use Rattle.job_reports.specs.Stops.{IsTroubleWithPath, out_of_memory_at}
 use Rattle.job_answers.specs.declared.placing.Origin.TheVariants.{Moved}
-use Rattle.job_answers.specs.declared.placing.Placing.TheVariants.{Asks, TargetKind}
+use Rattle.job_answers.specs.declared.placing.Placing.TheVariants.{Asks, Merges, TargetKind}
 use Rattle.job_answers.specs.declared.replies.Decision.{Decision}
 use Rattle.job_answers.specs.declared.replies.Decision.TheVariants.{Replace, Keep, Ask}
 use Rattle.job_answers.specs.declared.replies.Replies.{Replies}
@@ -32,13 +31,12 @@ pub record Stands (s : FileSystem) (path : Route) (meta : Meta) : Type 0 where
   pub there : refusal_of s (Stat path) ≡ None
   pub is : IsMeta s path meta
 
--- a file, a link or a special thing stands at the source
+-- a thing stands at the source
 pub record CanMove (s : FileSystem) (pair : Pair) : Type 0 where
   pub source : Meta
   pub stands : Stands s pair.source source
-  pub single : folder_kind source.kind ≡ false
 
--- Such a thing comes onto a file or a link, this is the question whether it replaces that, and this is decided of it by the answers that stand.
+-- A thing that is no folder comes onto a file or a link, this is the question whether it replaces that, and this is decided of it by the answers that stand.
 pub record IsDecided (s : FileSystem) (pair : Pair) (replies : Replies) (question : Question) (decision : Decision) : Type 0 where
   pub source : Meta
   pub target : Meta
@@ -49,7 +47,8 @@ pub record IsDecided (s : FileSystem) (pair : Pair) (replies : Replies) (questio
   pub asks : question ≡ question_on pair.source source pair.target target
   pub decides : decided replies question ≡ decision
 
--- A thing may be renamed: nothing stands at its target, or what does is replaced by an answer that stands.
+-- A thing may be renamed, a folder with all that lies in it: nothing stands at its target, or it is no folder, and what stands there is replaced by an answer that
+-- stands.
 pub record MayMove (s : FileSystem) (pair : Pair) (replies : Replies) : Type 0 where
   pub can : CanMove s pair
   pub free : (refusal_of s (Stat pair.target) ≡ Some refused.Missing) ⊎ ((question : Question) × IsDecided s pair replies question Replace)
@@ -64,15 +63,17 @@ Takes s pair replies taking.Moves = MayMove s pair replies
 Takes s pair replies taking.Keeps = IsKept s pair replies
 Takes s pair replies (taking.Asks question) = IsDecided s pair replies question Ask
 
--- a folder stands at the source, and such are not moved yet
-pub record IsFolderSource (s : FileSystem) (pair : Pair) (cause : Cause) (path : Option Route) : Type 0 where
-  pub cause_is : cause ≡ why.Tree refused.IsFolder
-  pub path_is : path ≡ Some pair.source
+-- a folder comes onto a folder, and the two are not merged yet
+pub record IsToBeMerged (s : FileSystem) (pair : Pair) (cause : Cause) (path : Option Route) : Type 0 where
+  pub cause_is : cause ≡ why.Tree refused.Exists
+  pub path_is : path ≡ Some pair.target
   pub source : Meta
-  pub stands : Stands s pair.source source
-  pub folder : source.kind ≡ Folder
+  pub target : Meta
+  pub of_source : Stands s pair.source source
+  pub of_target : Stands s pair.target target
+  pub meets : placing_at (Moved source.kind) (Some target.kind) ≡ Merges
 
--- what stands at the target can't be replaced: a folder, or something special
+-- what stands at the target can't be replaced: a folder, or something special, or what comes there is a folder
 pub record StandsInTheWay (s : FileSystem) (pair : Pair) (cause : Cause) (path : Option Route) : Type 0 where
   pub kind : Kind
   pub cause_is : cause ≡ why.TargetKind kind
@@ -81,14 +82,13 @@ pub record StandsInTheWay (s : FileSystem) (pair : Pair) (cause : Cause) (path :
   pub target : Meta
   pub of_source : Stands s pair.source source
   pub of_target : Stands s pair.target target
-  pub single : folder_kind source.kind ≡ false
   pub meets : placing_at (Moved source.kind) (Some target.kind) ≡ TargetKind kind
 
--- the trouble before a thing is renamed: a look was refused, a folder is to be moved, something stands in the way, or there was no memory
+-- the trouble before a thing is renamed: a look was refused, a folder comes onto a folder, something stands in the way, or there was no memory
 abbrev pub LooksStop : FileSystem → Pair → Cause → Option Route → Type 0
 LooksStop s pair cause path =
     (StatStops s pair.source cause path ⊎ TargetStops s pair.target cause path)
-    ⊎ ((IsFolderSource s pair cause path ⊎ StandsInTheWay s pair cause path) ⊎ ((cause ≡ why.Memory) × (path ≡ None)))
+    ⊎ ((IsToBeMerged s pair cause path ⊎ StandsInTheWay s pair cause path) ⊎ ((cause ≡ why.Memory) × (path ≡ None)))
 
 -- what is decided of what comes onto something
 abbrev pub Decides : Pair → Replies → Meta → Meta → Result Taking Trouble → Type 0
@@ -100,12 +100,12 @@ Decides pair replies source target (Err trouble) = trouble ≡ out_of_memory_at 
 
 -- what is decided of what was seen
 abbrev pub Judges : Pair → Replies → Meta → Option Meta → Result Taking Trouble → Type 0
-Judges pair replies source None (Ok taking.Moves) = folder_kind source.kind ≡ false
+Judges pair replies source None (Ok taking.Moves) = ⊤
 Judges pair replies source None (Ok taken) = ⊥
-Judges pair replies source None (Err trouble) = (source.kind ≡ Folder) × IsTroubleWithPath (why.Tree refused.IsFolder) pair.source trouble
+Judges pair replies source None (Err trouble) = ⊥
 Judges pair replies source (Some target) (Ok taken) =
     (folder_kind source.kind ≡ false) × (placing_at (Moved source.kind) (Some target.kind) ≡ Asks) × Decides pair replies source target (Ok taken)
 Judges pair replies source (Some target) (Err trouble) =
-    ((source.kind ≡ Folder) × IsTroubleWithPath (why.Tree refused.IsFolder) pair.source trouble)
-    ⊎ (((kind : Kind) × (folder_kind source.kind ≡ false) × (placing_at (Moved source.kind) (Some target.kind) ≡ TargetKind kind) × IsTroubleWithPath (why.TargetKind kind) pair.target trouble)
+    ((placing_at (Moved source.kind) (Some target.kind) ≡ Merges) × IsTroubleWithPath (why.Tree refused.Exists) pair.target trouble)
+    ⊎ (((kind : Kind) × (placing_at (Moved source.kind) (Some target.kind) ≡ TargetKind kind) × IsTroubleWithPath (why.TargetKind kind) pair.target trouble)
     ⊎ (trouble ≡ out_of_memory_at false))

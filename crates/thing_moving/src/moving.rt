@@ -1,5 +1,6 @@
-//! The move of one thing that is no folder, a call of the tree at each step: it is looked at and renamed, the folder of its target is
-//! synced, then the one in which it was, and only then is it finished, so that a thing whose move is finished is on the disk where it went.
+//! The move of one thing, of a folder with all that lies in it, a call of the tree at each step: it is looked at and renamed, the folder of its
+//! target is synced, then the one in which it was, and only then is it finished, so that a thing whose move is finished is on the disk where it
+//! went.
 ghost use Rattle.std.specs.Prelude.{◌≡◌, false, true, Some, Err, if◌then◌else◌};
 ghost use Rattle.mc_text.specs.Routes.{parent_of, same_path};
 ghost use Rattle.tree_trait.specs.Change.{current};

@@ -1,6 +1,5 @@
 //! What comes of a thing that is to be moved: the looks at it and at its target, and what the answers that stand decide.
-ghost use Rattle.std.specs.Prelude.{◌≡◌, false, MatchResult, IfSome};
-ghost use Rattle.tree_trait.specs.Refusals.{folder_kind};
+ghost use Rattle.std.specs.Prelude.{◌≡◌, MatchResult, IfSome};
 ghost use Rattle.tree_trait.specs.Change.{current};
 ghost use Rattle.tree_trait.specs.Answers.{IfKnown};
 ghost use Rattle.job_reports.specs.Reading.{Peeks};
@@ -9,14 +8,13 @@ ghost use Rattle.thing_moving.specs.Takings.{Decides, Judges, LooksStop, Takes};
 use file_copy::{look, look_at_target};
 use job_answers::{Decision, Origin, Placing, Replies, placing_of};
 use job_reports::{Cause, Pair, Question, Trouble, out_of_memory, trouble_with_path};
-use mc_text::Kind;
 use std::alloc::Global;
 use tree_trait::{Meta, Tree, TreeError};
 
 /// What comes of a thing that is to be moved.
 #[derive(Debug, Drop)]
 pub(crate) enum Taking {
-    /// It is renamed: nothing stands at its target, or what does is replaced.
+    /// It is renamed, a folder with all that lies in it: nothing stands at its target, or it is no folder, and what stands there is replaced.
     Moves,
     /// What stands at its target stays, and so does the thing.
     Keeps,
@@ -48,7 +46,7 @@ pub(crate) fn take_up<T: Tree>(
     judge(alloc, pair, replies, source, target)
 }
 
-/// What the looks come to. A folder isn't moved yet.
+/// What the looks come to.
 fn judge(
     alloc: Global,
     pair: &Pair,
@@ -58,16 +56,13 @@ fn judge(
 ) -> Result<Taking, Trouble>
     ensures { Judges pair.now replies source target result }
 {
-    if source.kind == Kind::Folder {
-        return Err(trouble_with_path(alloc, Cause::Tree(TreeError::IsFolder), &pair.source));
-    }
     match target {
         None => Ok(Taking::Moves),
         Some(target) => onto(alloc, pair, replies, source, target),
     }
 }
 
-/// Something stands at the target.
+/// Something stands at the target. A folder isn't merged with another yet.
 fn onto(
     alloc: Global,
     pair: &Pair,
@@ -75,17 +70,21 @@ fn onto(
     source: Meta,
     target: Meta,
 ) -> Result<Taking, Trouble>
-    requires single { folder_kind source.kind ≡ false }
     ensures { Judges pair.now replies source (Some target) result }
 {
     match placing_of(Origin::Moved(source.kind), Some(target.kind)) {
         Placing::Asks => by_answer(alloc, pair, replies, source, target),
+        Placing::Merges => Err(trouble_with_path(
+            alloc,
+            Cause::Tree(TreeError::Exists),
+            &pair.target,
+        )),
         Placing::TargetKind(kind) => Err(trouble_with_path(
             alloc,
             Cause::TargetKind(kind),
             &pair.target,
         )),
-        // What is no folder, and comes onto something, is asked about, or that is in its way.
+        // What comes onto something is asked about or merged, or that is in its way.
         _ => unreachable!(),
     }
 }

@@ -5,7 +5,7 @@ ghost use Rattle.tree_trait.specs.Change.{current};
 ghost use Rattle.tree_trait.specs.Answers.{IfKnown};
 ghost use Rattle.tree_trait.specs.CrashImages.{Among};
 ghost use Rattle.copy_move.specs.Jobs.{IsGoing, course_after, is_fresh};
-ghost use Rattle.copy_move.specs.Settling.{NoneOwed};
+ghost use Rattle.copy_move.specs.Settling.{NoneForFolder, NoneOwed};
 ghost use Rattle.copy_move.specs.Steps.{OwedSyncStep, OwnStep, RunStep, SkipSteps, WindingStep};
 
 use super::{Course, Halt, Run};
@@ -135,6 +135,7 @@ impl Run {
     ) -> StepResult
         requires course { self.old.course ≡ Course.GoesOn }
         requires settled { is_fresh self.old.work ≡ true → IfKnown (T.contents tree.old) (λ log. NoneOwed (current log) self.old.work dirty.old) }
+        requires cleared { is_fresh self.old.work ≡ true → IfKnown (T.contents tree.old) (λ log. NoneForFolder (current log) self.old.work dirty.old) }
         ensures steps { OwnStep (λ path. P.is_free parts.now path ≡ true) (record {
           old = self.old;
           new = self.new;

@@ -6,6 +6,6 @@ use Rattle.copy_move.proofs.run.Run.work_on.Goals as goal
 pub returns : goal.returns
 returns g c =
     record {
-      steps = worked_on (λ path. g.P.PartTest.is_free c.args.parts.now path ≡ true) _ _ _ _ _ _ _ _ _ _ _ _ _ _ _ c.self.view_is c.requires.course c.requires.settled c.step-stepped.ensures.steps
+      steps = worked_on (λ path. g.P.PartTest.is_free c.args.parts.now path ≡ true) _ _ _ _ _ _ _ _ _ _ _ _ _ _ _ c.self.view_is c.requires.course c.requires.settled c.requires.cleared c.step-stepped.ensures.steps
           c.after_report-self-inside.ensures;
     }
