@@ -1,103 +1,68 @@
 -- The removal of a thing that holds nothing, a file or an empty folder; and what changes of names have in common.
-use Rattle.std.proofs.Common.{◌≡◌, ◌⊎◌, ℕ, ◌<◌, Bool, true, false, List, [], ◌∷◌, ◌++◌, length, refl, sym, ◌∙◌, ap, subst, inl, inr, Option, Some, None, arith, cond, length-append}
+use Rattle.std.proofs.Common.{◌≡◌, ◌⊎◌, ℕ, ◌<◌, Bool, true, false, ◌||◌, List, [], ◌∷◌, ◌++◌, length, refl, sym, ◌∙◌, ap, subst, inl, inr, Option, Some, None, cond}
 use Rattle.std.specs.Prelude.{is_some, option_and_then}
 use Rattle.std.specs.Option.{option_map, option_map_or}
-use Rattle.std.proofs.lemmas.Bool.{false≢true, both_ways, false_from_ne_true}
+use Rattle.std.proofs.lemmas.Bool.{false≢true, true≢false, both_ways, false_from_ne_true}
 use Rattle.mc_text.specs.Routes.{Route, same_path}
 use Rattle.tree_trait.specs.declared.file_system.FileSystem.{FileSystem}
 use Rattle.tree_trait.specs.FileSystem.{lookup, find, node, value, visible_tree, starts_mount}
-use Rattle.tree_trait.specs.Shape.{IsTree, IsRemovable}
 use Rattle.tree_trait.specs.Refusals.{is_folder}
 use Rattle.tree_trait.specs.Change.{Change, Removes, CallLog, current, with_change}
-use Rattle.tree_trait.specs.CrashImages.{says as says_of, same_name, Among}
+use Rattle.tree_trait.specs.CrashImages.{says as says_of, Among}
 use Rattle.tree_trait.proofs.Kept.{folder_there}
-use Rattle.tree_trait.proofs.Finding.{and_then-some, find-once, same_name-true, same_name-self}
-use Rattle.tree_trait.proofs.Visible.{same_path-self, same_path-true}
+use Rattle.tree_trait.proofs.Finding.{and_then-some, find-once}
+use Rattle.tree_trait.proofs.Visible.{same_path-true}
 use Rattle.crash_law.specs.Guarded.{Marks, IsNaming, with_mode}
 use Rattle.crash_law.specs.Steps.{IsAnchored}
-use Rattle.crash_law.proofs.Guarding.{find_same, found_at, naming_law}
+use Rattle.crash_law.proofs.Guarding.{found_at, naming_law}
 use Rattle.crash_law.proofs.Leading.{current_more}
 use Rattle.crash_law.proofs.Removing.{removal_law}
 use Rattle.crash_law.proofs.Syncing.{unaltered_law}
-use Rattle.crash_law.proofs.Tops.{under_removed, none_below}
 use Rattle.history_laws.specs.Doubt.{is_pending, way_waits, name_waits, is_joint}
 use Rattle.history_laws.proofs.Pending.{pending_less}
-use Rattle.history_laws.proofs.Knowing.{HasMode, HasNoMode, IsCalmFolder, IsKnown, IsUnreached, Said, held, nowhere}
-use Rattle.history_laws.proofs.Quiet.{folder_same, held_same, kind_same, mount_same, shows_same, starts_same, unclean_before, was_bare}
-use Rattle.history_laws.proofs.Resting.{IsBeside, IsSureFolder, joint_still, mounted, stands_at, sure_still, unborn_more, unjoined_still}
+use Rattle.history_laws.proofs.InTransit.{transit_waits}
+pub use Rattle.history_laws.proofs.HollowThings.{IsHollow, hollow_file, holds_none, none_below_file, none_below_hollow, off_itself, said_one, some_is, some_none}
+use Rattle.history_laws.proofs.HollowThings.{folder_before, folder_stands, found_elsewhere, found_or_gone, leads_as_before, path_gone, says_name, sure_elsewhere}
+use Rattle.history_laws.proofs.Knowing.{HasMode, HasNoMode, IsCalmFolder, IsKnown, IsUnreached, RoamInTransit, Said, held, nowhere}
+use Rattle.history_laws.proofs.Quiet.{held_same, kind_same, shows_same, starts_same, unclean_before, was_bare}
+use Rattle.history_laws.proofs.Resting.{IsBeside, IsSureFolder, joint_still, unborn_more, unjoined_still}
 use Rattle.history_laws.proofs.Restless.{is_restless, restless_less}
+use Rattle.history_laws.proofs.RoamingFolders.{roaming_still}
 use Rattle.history_laws.proofs.WaitsFor.{names_said}
-
-pub some_none : {A : Type 0} (x : ℕ) → (let o : Option ℕ = Some x in o) ≡ None → A
-some_none x h = absurd (let e : ⊥ = cc in e)
-
-pub some_is : (x y : ℕ) → (let o : Option ℕ = Some x in o) ≡ Some y → y ≡ x
-some_is x y h = cc
 
 -- where nothing stands nothing is seen
 pub seen_nowhere : (s : FileSystem) (p : Route) → find s p ≡ None → visible_tree s p ≡ nowhere
 seen_nowhere s p none = ap (λ o. (let v : _ = record { value = option_map (λ i. value (node s i)) o; is_mount = option_map_or (starts_mount s) o false } in v)) none
 
--- a folder that stands at a path is anchored there
-pub folder_anchored : (said : Said) (dirty : List Route) (marks : Marks) (log : CallLog) → IsKnown said dirty marks log → (p : Route) (j : ℕ) → find (current log) p ≡ Some j → is_folder (node (current log) j) ≡ true
-    → IsAnchored marks log p
-folder_anchored said dirty marks log known [] j at folder = tt
-folder_anchored said dirty marks log known (name ∷ q) j at folder =
-    let h = and_then-some (find (current log) q) (λ g. lookup (current log).names g name) j at in (
-      folder_anchored said dirty marks log known q h.0 h.1 (known.guarded.tree.in_folders h.0 name j h.2),
-      λ i there. subst (λ k. marks.roams k ≡ false) (sym (some_is j i (sym at ∙ there))) (known.folders j folder).0,
-    )
+neither : (a b : Bool) → (a || b) ≡ false → (a ≡ false) × (b ≡ false)
+neither true b h = absurd (true≢false h)
+neither false b h = (refl, h)
 
-pub off_itself : (p q : Route) → p ≡ q → same_path p q ≡ false → ⊥
-off_itself p q e off = both_ways _ off (subst (λ r. same_path r q ≡ true) (sym e) (same_path-self q))
+module _ (said : Said) (dirty : List Route) (marks : Marks) (log : CallLog) (known : IsKnown said dirty marks log) (in_transit : RoamInTransit marks log) where
+  -- a folder whose name doesn't wait roams nowhere
+  pub folder_stays : (p : Route) (i : ℕ) → find (current log) p ≡ Some i → is_folder (node (current log) i) ≡ true → name_waits log p ≡ false → marks.roams i ≡ false
+  folder_stays p i at folder sure = by (marks.roams i) refl
+    where
+      by : (b : Bool) → marks.roams i ≡ b → marks.roams i ≡ false
+      by false is = is
+      by true roams = elim (known.folders i folder).0 [
+        | inl stays ↦ stays
+        | inr renamed ↦ absurd (both_ways _ sure (transit_waits log i renamed (in_transit i folder roams) p at))
+      ]
 
-pub said_one : (b : Bool) (to : Option ℕ) → is_some (let o : Option (Option ℕ) = cond b (Some to) None in o) ≡ true → b ≡ true
-said_one true to h = refl
-said_one false to h = absurd (false≢true h)
+  -- so one that stands at a path of which nothing waits on the way is anchored there
+  pub folder_anchored : (p : Route) (i : ℕ) → find (current log) p ≡ Some i → is_folder (node (current log) i) ≡ true → way_waits log p ≡ false → IsAnchored marks log p
+  folder_anchored [] i at folder sure = tt
+  folder_anchored (name ∷ q) i at folder sure =
+      let h = and_then-some (find (current log) q) (λ g. lookup (current log).names g name) i at in
+      let both = neither (name_waits log (name ∷ q)) (way_waits log q) sure in (
+        folder_anchored q h.0 h.1 (known.guarded.tree.in_folders h.0 name i h.2) both.1,
+        λ j there. subst (λ k. marks.roams k ≡ false) (sym (some_is i j (sym at ∙ there))) (folder_stays (name ∷ q) i at folder both.0),
+      )
 
 pub said_two : (a b : Bool) (x y : Option ℕ) → is_some (let o : Option (Option ℕ) = cond a (Some x) (cond b (Some y) None) in o) ≡ true → (a ≡ true) ⊎ (b ≡ true)
 said_two true b x y h = inl refl
 said_two false b x y h = inr (said_one b y h)
-
--- A thing that holds nothing stands under a name: a file, or an empty folder.
-pub record IsHollow (s : FileSystem) (path : Route) : Type 0 where
-  pub up : Route
-  pub name : List ℕ
-  pub f : ℕ
-  pub i : ℕ
-  pub path_is : path ≡ name ∷ up
-  pub folder : find s up ≡ Some f
-  pub leads : lookup s.names f name ≡ Some i
-  pub empty : (m : List ℕ) → lookup s.names i m ≡ None
-
--- what is no folder holds no names
-pub holds_none : (s : FileSystem) → IsTree s → (i : ℕ) → is_folder (node s i) ≡ false → (m : List ℕ) → lookup s.names i m ≡ None
-holds_none s tree i bare m = by (lookup s.names i m) refl
-  where
-    by : (o : Option ℕ) → lookup s.names i m ≡ o → lookup s.names i m ≡ None
-    by None is = is
-    by (Some j) is = absurd (both_ways _ bare (tree.in_folders i m j is))
-
-abbrev pub hollow_file : (s : FileSystem) (path : Route) → IsTree s → IsRemovable s path → IsHollow s path
-hollow_file s path tree r = record {
-  up = r.up;
-  name = r.name;
-  f = r.f;
-  i = r.i;
-  path_is = r.path_is;
-  folder = r.folder;
-  leads = r.leads;
-  empty = holds_none s tree r.i r.no_folder;
-}
-
--- below it nothing stands
-pub none_below_hollow : (s : FileSystem) (top : Route) (i : ℕ) → find s top ≡ Some i → ((m : List ℕ) → lookup s.names i m ≡ None) → (name : List ℕ) (rest : Route) → find s (name ∷ rest ++ top) ≡ None
-none_below_hollow s top i at empty name [] = ap (option_and_then (λ f. lookup s.names f name)) at ∙ empty name
-none_below_hollow s top i at empty name (more ∷ rest) = ap (option_and_then (λ f. lookup s.names f name)) (none_below_hollow s top i at empty more rest)
-
--- below what is no folder nothing stands
-pub none_below_file : (s : FileSystem) → IsTree s → (top : Route) (i : ℕ) → find s top ≡ Some i → is_folder (node s i) ≡ false → (name : List ℕ) (rest : Route) → find s (name ∷ rest ++ top) ≡ None
-none_below_file s tree top i at bare name rest = none_below_hollow s top i at (holds_none s tree i bare) name rest
 
 -- What a history says once a path has nothing any more: elsewhere it says what it said.
 pub record SaysGone (said after : Said) (marks : Marks) (log : CallLog) (path : Route) : Type 0 where
@@ -119,10 +84,10 @@ pub record SaysGone (said after : Said) (marks : Marks) (log : CallLog) (path : 
 pub other_mode : {A : Type 0} (marks : Marks) (i before : ℕ) → marks.modes i ≡ None → marks.modes i ≡ Some before → A
 other_mode marks i before none some = absurd (let e : (let o : Option ℕ = None in o) ≡ Some before = sym none ∙ some in let f : ⊥ = cc in f)
 
--- Its removal keeps what is known, where no mode of it waits, nor a renaming for it and another folder. The folder that holds it is dirty then, and it is no longer one itself.
+-- Its removal keeps what is known, where nothing waits on the way to the folder that holds it, no mode of it waits, nor a renaming for it and another folder. The folder that holds it is dirty then, and it is no longer one itself.
 module _ (told after : Said) (dirty dirty_after : List Route) (marks : Marks) (log : CallLog) (known : IsKnown told dirty marks log) (path : Route) (r : IsHollow (current log) path) (k : ℕ)
     (says : SaysGone told after marks log path) (was : marks.aside path ≡ false → marks.was path ≡ find (current log) path)
-    (no_mode : marks.modes r.i ≡ None) (apart : (g : ℕ) → is_joint r.i g log.changes ≡ false) (listed : Among dirty_after r.up) (more : (q : Route) → Among dirty q → same_path q path ≡ false → Among dirty_after q) where
+    (in_transit : RoamInTransit marks log) (sure : way_waits log r.up ≡ false) (no_mode : marks.modes r.i ≡ None) (apart : (g : ℕ) → is_joint r.i g log.changes ≡ false) (listed : Among dirty_after r.up) (more : (q : Route) → Among dirty q → same_path q path ≡ false → Among dirty_after q) where
   abbrev removes : Change
   removes = Removes r.f r.name k
 
@@ -144,64 +109,35 @@ module _ (told after : Said) (dirty dirty_after : List Route) (marks : Marks) (l
 
   naming : IsNaming marks log removes
   naming = removal_law marks log r.up r.name r.f k known.guarded (record {
-    stands = record { at = r.folder; anchored = folder_anchored told dirty marks log known r.up r.f r.folder removed_folder };
+    stands = record { at = r.folder; anchored = folder_anchored told dirty marks log known in_transit r.up r.f r.folder removed_folder sure };
     unworked = unworked;
   })
 
-  no_longer : (rest : Route) → r.up ≡ rest ++ r.name ∷ r.up → ⊥
-  no_longer rest e = let l = ap (λ (q : Route). length q) e in let n = length-append rest (r.name ∷ r.up) in absurd (omega (arith, l, n))
-
   stands : find (current now) r.up ≡ Some r.f
-  stands = elim (find_same log removes r.up) [
-    | inl same ↦ same ∙ r.folder
-    | inr under ↦ let u = under_removed log known.guarded.tree r.up r.f r.folder r.name k r.up under in absurd (no_longer u.0 u.1)
-  ]
-
-  gone_name : lookup (current now).names r.f r.name ≡ None
-  gone_name = Rattle.crash_law.proofs.Guarding.said log removes r.f r.name None (ap (λ (b : Bool). let o : Option (Option ℕ) = cond b (Some None) None in o) (same_name-self r.f r.name))
-
-  gone_at : find (current now) (r.name ∷ r.up) ≡ None
-  gone_at = ap (option_and_then (λ g. lookup (current now).names g r.name)) stands ∙ gone_name
+  stands = folder_stands log known.guarded.tree path r k
 
   gone_path : find (current now) path ≡ None
-  gone_path = ap (find (current now)) r.path_is ∙ gone_at
+  gone_path = path_gone log known.guarded.tree path r k
 
   -- a path leads where it led, or nowhere
   found_then : (q : Route) → (find (current now) q ≡ find (current log) q) ⊎ (find (current now) q ≡ None)
-  found_then q = elim (find_same log removes q) [
-    | inl same ↦ inl same
-    | inr under ↦
-        let u = under_removed log known.guarded.tree r.up r.f r.folder r.name k q under in
-        inr (ap (find (current now)) u.1 ∙ none_below now u.0 (r.name ∷ r.up) gone_at)
-  ]
+  found_then = found_or_gone log known.guarded.tree path r k
 
   off_path : (p : Route) → same_path p path ≡ false → find (current now) p ≡ find (current log) p
-  off_path p off = elim (find_same log removes p) [
-    | inl same ↦ same
-    | inr under ↦ let u = under_removed log known.guarded.tree r.up r.f r.folder r.name k p under in below u.0 u.1
-  ]
-    where
-      below : (rest : Route) → p ≡ rest ++ r.name ∷ r.up → find (current now) p ≡ find (current log) p
-      below [] e = absurd (off_itself p path (e ∙ sym r.path_is) off)
-      below (name ∷ rest) e =
-          ap (find (current now)) e ∙ none_below now (name ∷ rest) (r.name ∷ r.up) gone_at
-          ∙ sym (ap (find (current log)) e ∙ none_below_hollow (current log) (r.name ∷ r.up) r.i removed_at r.empty name rest)
+  off_path = found_elsewhere log known.guarded.tree path r k
 
   same_count : length (current now).nodes ≡ length (current log).nodes
   same_count = ap (λ (s : FileSystem). length s.nodes) (current_more log removes)
 
-  there_before : (i : ℕ) → is_folder (node (current now) i) ≡ true → i < length (current log).nodes
-  there_before i is = subst (λ n. i < n) same_count (folder_there (current now).nodes i is)
-
   was_folder : (i : ℕ) → is_folder (node (current now) i) ≡ true → is_folder (node (current log) i) ≡ true
-  was_folder i is = sym (kind_same log removes i (there_before i is)) ∙ is
+  was_folder = folder_before log known.guarded.tree path r k
 
   unaltered : (i : ℕ) → i < length (current log).nodes → node (current now) i ≡ node (current log) i
   unaltered i there = unaltered_law log removes i (naming.bytes i) there
 
   -- the change is of this name
   says_it : (g : ℕ) (m : List ℕ) → is_some (says_of removes 0 g m) ≡ true → (r.f ≡ g) × (r.name ≡ m)
-  says_it g m h = same_name-true r.f g r.name m (said_one (same_name r.f r.name g m) None h)
+  says_it = says_name log known.guarded.tree path r k
 
   bare_now : (i : ℕ) (m : List ℕ) → is_folder (node (current now) i) ≡ false → is_pending i m now.changes ≡ true → ⊥
   bare_now i m bare waits = elim (pending_less i m log.changes removes waits) [
@@ -304,10 +240,7 @@ module _ (told after : Said) (dirty dirty_after : List Route) (marks : Marks) (l
           other_mode marks i before (subst (λ k. marks.modes k ≡ None) (sym i_is) no_mode) is)
 
   as_before : (q : Route) (g h : ℕ) → find (current log) q ≡ Some g → is_folder (node (current log) g) ≡ true → find (current now) q ≡ Some h → h ≡ g
-  as_before q g h before holds then = elim (found_then q) [
-    | inl same ↦ let e : (let o : Option ℕ = Some g in o) ≡ Some h = sym before ∙ (sym same ∙ then) in cc
-    | inr gone ↦ absurd (no_path q h then gone)
-  ]
+  as_before = leads_as_before log known.guarded.tree path r k
 
   was_at : (q : Route) (g : ℕ) → is_folder (node (current log) g) ≡ true → find (current now) q ≡ Some g → find (current log) q ≡ Some g
   was_at q g folder then = elim (found_then q) [ inl same ↦ sym same ∙ then | inr gone ↦ absurd (no_path q g then gone) ]
@@ -338,34 +271,14 @@ module _ (told after : Said) (dirty dirty_after : List Route) (marks : Marks) (l
         shows_same log removes p (off_path p off) (λ i is. unaltered i (known.guarded.there p i (found_at log p (Some i) is))) ∙ (known.shows p o.2 ∙ sym o.0)
   ]
 
-  -- a folder that isn't in doubt and stays is in none then
-  folder_sure : (p : Route) (j : ℕ) → find (current log) p ≡ Some j → is_folder (node (current log) j) ≡ true → find (current now) p ≡ Some j → way_waits log p ≡ false → way_waits now p ≡ false
-  folder_sure p j at folder stays sure = sure_still log removes known.guarded.tree as_before
-      (λ g m k said before then holds.
-      let same = says_it g m said in
-      some_none k (sym then ∙ (ap (λ h. lookup (current now).names h m) (sym same.0) ∙ (ap (lookup (current now).names r.f) (sym same.1) ∙ gone_name))))
-      p j at folder stays sure
-
+  -- a folder that isn't in doubt is in none then
   firm_still : (p : Route) → same_path p path ≡ false → IsSureFolder log p → IsSureFolder now p
-  firm_still p off firm =
-      let there = stands_at (current log) p firm.stands in
-      record {
-        stands = folder_same log removes p (off_path p off) (λ i is. known.guarded.there p i (found_at log p (Some i) is)) ∙ firm.stands;
-        sure = folder_sure p there.i there.at there.folder (off_path p off ∙ there.at) firm.sure;
-      }
+  firm_still = sure_elsewhere log known.guarded.tree path r k
 
   stand : (p : Route) → after.folders p ≡ true → IsSureFolder now p
   stand p there =
       let k = says.folders p there in
       elim k.1 [ inl before ↦ firm_still p k.0 (known.stand p before) | inr firm ↦ firm_still p k.0 firm ]
-
-  mounts_sure : (p : Route) → (visible_tree (current now) p).is_mount ≡ true → way_waits now p ≡ false
-  mounts_sure p on =
-      let there = mounted (current now) naming.tree p on in
-      elim (found_then p) [
-        | inl same ↦ folder_sure p there.i (sym same ∙ there.at) (was_folder there.i there.folder) there.at (known.files.mounts p (sym (mount_same log removes p same) ∙ on))
-        | inr gone ↦ absurd (no_path p there.i there.at gone)
-      ]
 
   left_then : (p : Route) → marks.aside p ≡ true → is_some (find (current now) p) ≡ true → (after.part ≡ Some p) ⊎ Among after.left p
   left_then p is there = elim (where_is p) [
@@ -379,11 +292,10 @@ module _ (told after : Said) (dirty dirty_after : List Route) (marks : Marks) (l
     files = record {
       bare = λ i m bare. false_from_ne_true _ (bare_now i m bare);
       unborn = unborn_more log removes (λ i past. naming.bytes i) naming.count known.files.unborn;
-      mounts = mounts_sure;
     };
     moded = λ i before is unclean. moded_still i before is (known.moded i before is (unclean_before log removes i refl unclean));
     calm = λ p there. elim (says.calm p there) [ inl before ↦ calm_was p (known.calm p before) | inr calm ↦ calm_was p calm ];
-    folders = λ i folder. known.folders i (was_folder i folder);
+    folders = λ i folder. let before = known.folders i (was_folder i folder) in (roaming_still log removes i (marks.roams i) refl before.0, before.1);
     aside = says.named;
     left = left_then;
     was_there = λ p i out is. let t = known.was_there p i out is in (subst (λ n. i < n) (sym same_count) t.0, t.1);

@@ -16,7 +16,7 @@ use Rattle.crash_law.specs.Guarded.{Marks}
 use Rattle.crash_law.specs.Steps.{StandsAt}
 use Rattle.history_laws.specs.Doubt.{way_waits}
 use Rattle.history_laws.proofs.FilledFolders.{IsFilling}
-use Rattle.history_laws.proofs.Knowing.{IsKnown, Said}
+use Rattle.history_laws.proofs.Knowing.{IsKept, Said}
 use Rattle.history_laws.proofs.Resting.{IsOfFiles}
 use Rattle.history_laws.proofs.AtWork.{ItemKnown}
 use Rattle.history_laws.proofs.OpenFolders.{LevelsKnow}
@@ -54,5 +54,5 @@ MetLaw =
 -- The folder that is worked, once it is on the disk, stands at its path after any crash or nowhere, so that names may be changed in it.
 abbrev pub StandingLaw : Type 0
 StandingLaw =
-    (told : Said) (dirty : List Route) (marks : Marks) (log : CallLog) (c : Seen) → IsKnown told dirty marks log → FoldersKnown log c → is_around_dirty c.levels.around ≡ false
+    (told : Said) (dirty : List Route) (marks : Marks) (log : CallLog) (c : Seen) → IsKept told dirty marks log → FoldersKnown log c → is_around_dirty c.levels.around ≡ false
     → (f : ℕ) × StandsAt marks log c.levels.inner.copy.target f

@@ -45,7 +45,8 @@ use Rattle.tree_copy.specs.InPlace.{IsMoved}
 use Rattle.tree_copy.specs.Progress.{progress}
 use Rattle.tree_copy.specs.declared.progress.Progress.TheVariants.{UnderWay, Anew}
 use Rattle.tree_copy.specs.declared.progress.Progress.TheVariants.{Decided as IsDecided}
-use Rattle.history_laws.specs.Replayed.{moved_from}
+use Rattle.session_history.specs.Moves.{moved_from}
+use Rattle.history_laws.specs.Doubt.{way_waits}
 use Rattle.history_laws.proofs.Calming.{stopped_is, written_known}
 use Rattle.history_laws.proofs.Changing.{off_itself, removed_known}
 use Rattle.history_laws.proofs.Deleted.{IsRemoval, file_unjoined, removal_done, removal_leads}
@@ -66,9 +67,9 @@ some_route p q h = cc
 
 -- the part is removed
 pub part_cleaned : (told : Said) (dirty : List Route) (marks : Marks) (log now : CallLog) (work : Work) (target part : Route) (i : ℕ) → IsKept told dirty marks log → HasPart told marks (current log) target part i
-    → Among dirty (folder_of target) → Performs {A = Unit {0}} log (RemoveFile part) (Ok tt) (Some now)
+    → Among dirty (folder_of target) → told.folders (folder_of target) ≡ true → Performs {A = Unit {0}} log (RemoveFile part) (Ok tt) (Some now)
     → Comes told (said_after now (Cleaned part) work told) dirty log now (λ m. IsAsFound m (current now) target)
-part_cleaned told dirty marks log now work target part i kept has listed done = at (removal_done log now part kept.known.guarded.tree done)
+part_cleaned told dirty marks log now work target part i kept has listed firm done = at (removal_done log now part kept.known.guarded.tree done)
   where
     aside : marks.aside part ≡ true
     aside = (kept.known.part part has.part_is).0
@@ -97,6 +98,10 @@ part_cleaned told dirty marks log now work target part i kept has listed done = 
           absurd (apart_from u.0 (u.1 ∙ ap (λ q. u.0 ++ q) (sym it.r.path_is)))
     ]
 
+    -- nothing waits on the way to the folder
+    way : (it : IsRemoval log now part) → way_waits log it.r.up ≡ false
+    way it = (let sure = kept.known.stand (folder_of target) firm in ap (way_waits log) (sym (ap folder_of it.r.path_is) ∙ folder_is) ∙ sure.sure)
+
     at : IsRemoval log now part → Comes told (said_after now (Cleaned part) work told) dirty log now (λ m. IsAsFound m (current now) target)
     at it =
         let known = removed_known told (said_after now (Cleaned part) work told) dirty dirty marks log kept.known part it.r it.k (record {
@@ -111,7 +116,7 @@ part_cleaned told dirty marks log now work target part i kept has listed done = 
           modes = λ p h. h;
           calm = λ p h. inl h;
           doubted = or_right _ _ (same_path-self part);
-        }) (λ out. absurd (both_ways _ out aside)) (none_of_part told dirty marks log kept part it.r.i (removal_leads log now part it) aside)
+        }) (λ out. absurd (both_ways _ out aside)) kept.roams (way it) (none_of_part told dirty marks log kept part it.r.i (removal_leads log now part it) aside)
         (file_unjoined log now part it kept.known.guarded.tree kept.known.files (ap (λ o. option_map_or (λ j. is_folder (node (current log) j)) o false) has.leads ∙ ap folder_kind has.file))
         (subst (λ q. Among dirty q) (sym folder_is ∙ ap folder_of it.r.path_is) listed) (λ q among off. among) in
         let after = with_change log (Removes it.r.f it.r.name it.k) in
@@ -238,14 +243,14 @@ module _ (told : Said) (dirty : List Route) (marks : Marks) (log now : CallLog) 
       (subst (λ q. Known (Placed q) GoesOn (record c { stage = Decided })) (sym path_is)
       (comes_map told (said_placed told t.top.source t.top.target c.target) dirty log now (λ m. (let o : Option Route = None in o) ≡ None)
       (λ m. FileKnows (said_placed told t.top.source t.top.target c.target) dirty m (current now) GoesOn (record c { stage = Decided })) (λ m k none. (name, listed, none))
-      (part_placed told dirty t.top.source t.top.target c source_is name.name name.is part at_fill.1.0 (listed at_fill.0).0 (listed at_fill.0).2 marks log now said kept at_fill.1.1 (at_fill.1.2 refl) row)))
+      (part_placed told dirty t.top.source t.top.target c source_is name.name name.is part at_fill.1.0 (listed at_fill.0).0 (listed at_fill.0).1 (listed at_fill.0).2 marks log now said kept at_fill.1.1 (at_fill.1.2 refl) row)))
   copy_tells new (Cleaned part) going (name, listed, knows) (follows, stage, new_is) rows =
       let at_clean = subst (λ x. StageKnows told marks (current log) GoesOn c x) stage knows in
       let after = said_after now (Cleaned part) (Copy t) told in
       subst (λ (x : Copying). Known (Cleaned part) GoesOn x) (sym new_is)
       (comes_map told after dirty log now (λ m. IsAsFound m (current now) c.target) (λ m. FileKnows after dirty m (current now) GoesOn (record c { stage = after_clean follows }))
       (λ m k found. (name, listed, cleaned_knows follows after m (current now) refl found))
-      (part_cleaned told dirty marks log now (Copy t) c.target part at_clean.1.0 kept at_clean.1.1 (listed at_clean.0).0
+      (part_cleaned told dirty marks log now (Copy t) c.target part at_clean.1.0 kept at_clean.1.1 (listed at_clean.0).0 (listed at_clean.0).1
       (subst (λ (l : CallLog). Performs {A = Unit {0}} log (RemoveFile part) (Ok tt) (Some l)) (sym (some_log now rows.0 rows.2)) rows.1)))
   copy_tells new (Troubled trouble) going knows (barrier, new_is) stop =
       subst (λ (x : Copying). Known (Troubled trouble) (InTrouble (halt_of trouble)) x) (sym new_is)

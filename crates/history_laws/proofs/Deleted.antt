@@ -21,7 +21,7 @@ use Rattle.job_reports.proofs.CallAnswers.{done_call, IsDoneCall}
 use Rattle.copy_move.specs.declared.work.Work.{Work}
 use Rattle.copy_move.specs.declared.run.Course.{Course}
 use Rattle.history_laws.specs.Staying.{may_change}
-use Rattle.history_laws.specs.Doubt.{is_joint}
+use Rattle.history_laws.specs.Doubt.{is_joint, way_waits}
 use Rattle.history_laws.proofs.Calming.{nothing_known}
 use Rattle.history_laws.proofs.Changing.{IsHollow, hollow_file, removed_known}
 use Rattle.history_laws.proofs.Emptied.{IsEmptied, emptied}
@@ -127,14 +127,14 @@ pub file_unjoined : (log now : CallLog) (path : Route) (it : IsRemoval log now p
 file_unjoined log now path it tree files bare g =
     bare_unjoined log tree files it.r.i g (sym (ap (λ o. Rattle.std.specs.Option.option_map_or (λ j. is_folder (node (current log) j)) o false) (removal_leads log now path it)) ∙ bare)
 
--- A thing is removed, of which a job knows that nothing was done there yet, that the folder in which it changes names is on the disk, and that no
+-- A thing is removed, of which a job knows that nothing was done there yet, that the folder in which it changes names is on the disk, and that which holds the thing, and that no
 -- mode waits in its folders, nor of the thing, and no renaming waits for a folder of them and another one.
 pub removes_thing : (told : Said) (dirty dirty_after : List Route) (marks : Marks) (log now : CallLog) (path : Route) (work : Work) (knows : Marks → Type 0) → IsKept told dirty marks log → told.part ≡ None
-    → (marks.aside path ≡ false → marks.was path ≡ find (current log) path) → IsSureFolder log (folder_changed (item_in work)) → ((p : Route) → may_change (item_in work) p ≡ true → IsCalmFolder marks log p)
+    → (marks.aside path ≡ false → marks.was path ≡ find (current log) path) → IsSureFolder log (folder_changed (item_in work)) → way_waits log (folder_of path) ≡ false → ((p : Route) → may_change (item_in work) p ≡ true → IsCalmFolder marks log p)
     → ((i : ℕ) → find (current log) path ≡ Some i → starts_mount (current log) i ≡ false → marks.modes i ≡ None) → IsUnjoined log path → Among dirty_after (folder_of path)
     → ((q : Route) → Among dirty q → same_path q path ≡ false → Among dirty_after q)
     → IsRemoval log now path → knows (settled_marks now marks) → Comes told (said_after now (Removed path) work told) dirty_after log now knows
-removes_thing told dirty dirty_after marks log now path work knows kept none was firm calm no_mode apart listed more it known_of =
+removes_thing told dirty dirty_after marks log now path work knows kept none was firm sure calm no_mode apart listed more it known_of =
     comes_one told (said_after now (Removed path) work told) dirty dirty_after marks marks log now (Removes it.r.f it.r.name it.k) knows kept it.now_is
     (subst (λ (l : CallLog). IsKnown (said_after now (Removed path) work told) dirty_after marks l) (sym it.now_is)
     (removed_known told (said_after now (Removed path) work told) dirty dirty_after marks log kept.known path it.r it.k (record {
@@ -149,7 +149,7 @@ removes_thing told dirty dirty_after marks log now path work knows kept none was
       modes = λ p h. h;
       calm = λ p h. elim (either (may_change (item_in work) p) (told.calm p) h) [ inl here ↦ inr (calm p here) | inr before ↦ inl before ];
       doubted = or_right _ _ (same_path-self path);
-    }) was (no_mode it.r.i (removal_leads log now path it) it.mountless) (λ g. apart it.r.i g (removal_leads log now path it)) (subst (λ q. Among dirty_after (folder_of q)) it.r.path_is listed) more))
+    }) was kept.roams (ap (λ q. way_waits log (folder_of q)) (sym it.r.path_is) ∙ sure) (no_mode it.r.i (removal_leads log now path it) it.mountless) (λ g. apart it.r.i g (removal_leads log now path it)) (subst (λ q. Among dirty_after (folder_of q)) it.r.path_is listed) more))
     known_of
   where
     no_part : (p : Route) → told.part ≡ Some p → ⊥

@@ -35,10 +35,11 @@ use Rattle.copy_move.specs.Jobs.{course_after}
 use Rattle.copy_move.specs.Settling.{NoneOwed, is_own, with_change as moves_dirty}
 use Rattle.history_laws.proofs.Calming.{cleared_known, refused_is, still_listed, thing_done}
 use Rattle.history_laws.proofs.Knowing.{IsCalmFolder, IsKept, IsKnown, Said, settled_marks}
-use Rattle.history_laws.proofs.JobKnows.{HasName, IsIntact, KnowsAfter, KnowsWithin, WorkKnows, work_settled, work_still}
+use Rattle.history_laws.specs.Doubt.{way_waits}
+use Rattle.history_laws.proofs.JobKnows.{AreSureWithin, HasName, IsIntact, KnowsAfter, KnowsWithin, WorkKnows, work_settled, work_still}
 use Rattle.history_laws.proofs.Stepped.{Comes, comes_none, comes_one, folders_by, said_after}
 use Rattle.history_laws.proofs.Deleted.{IsRemoval, comes_refused, folder_removed, removal_done, removal_leads, removes_thing}
-use Rattle.history_laws.proofs.Intact.{calm_begins, folder_apart, folder_firm, intact_after, intact_begins, intact_was, own_folder, removed_in}
+use Rattle.history_laws.proofs.Intact.{calm_begins, folder_apart, folder_firm, intact_after, intact_begins, intact_was, own_folder, removed_in, removed_sure, within_after, within_begins}
 use Rattle.history_laws.proofs.Resting.{IsSureFolder}
 
 last_among : (up : Route) (dirty : List Route) → Among (dirty ++ up ∷ []) up
@@ -126,8 +127,8 @@ module _ (told : Said) (dirty dirty_after : List Route) (marks : Marks) (log now
       (comes_none told told dirty log now (λ m. (let o : Option Route = None in o) ≡ None) marks is kept refl))
 
   -- what a deletion knows that goes on, of the same path
-  moved : (d new : Deleting) → new.path ≡ d.path → KnowsWithin told marks (current log) d.path → KnowsWithin told marks (current log) new.path
-  moved d new path_is known = subst (KnowsWithin told marks (current log)) (sym path_is) known
+  moved : (d new : Deleting) → new.path ≡ d.path → KnowsWithin told marks log d.path → KnowsWithin told marks log new.path
+  moved d new path_is known = subst (KnowsWithin told marks log) (sym path_is) known
 
   -- a deletion that stands at this stage, wherever its walk is
   pub stays : (course other : Course) (d new : Deleting) (stage : Stage) → WorkKnows told dirty marks log course (Delete d) → IsAtStage d stage new → (stage ≡ Going → d.stage ≡ Going) → (routes : List Route)
@@ -151,7 +152,16 @@ module _ (told : Said) (dirty dirty_after : List Route) (marks : Marks) (log now
     where
       by : (stage : Stage) → d.stage ≡ stage → IsIntact marks (current log) d.path
       by Begin is = intact_begins told dirty marks log kept d name (settled (ap is_fresh is))
-      by Going is = (known is).0
+      by Going is = (known is).intact
+      by Sync is = absurd (false≢true (sym going ∙ ap at_barrier is))
+
+  -- nor is a folder in doubt that stands there
+  within_now : (d : Deleting) → WorkKnows told dirty marks log GoesOn (Delete d) → at_barrier d.stage ≡ false → (is_fresh d.stage ≡ true → NoneOwed (current log) (Delete d) dirty) → AreSureWithin log d.path
+  within_now d (name, none, known) going settled = by d.stage refl
+    where
+      by : (stage : Stage) → d.stage ≡ stage → AreSureWithin log d.path
+      by Begin is = within_begins told dirty marks log kept d name (settled (ap is_fresh is))
+      by Going is = (known is).sure
       by Sync is = absurd (false≢true (sym going ∙ ap at_barrier is))
 
   -- no mode waits in its folders
@@ -161,7 +171,7 @@ module _ (told : Said) (dirty dirty_after : List Route) (marks : Marks) (log now
     where
       by : (stage : Stage) → d.stage ≡ stage → IsCalmFolder marks log q
       by Begin is = calm_begins told dirty marks log kept d name (settled (ap is_fresh is)) q own
-      by Going is = kept.known.calm q ((known is).2 q own)
+      by Going is = kept.known.calm q ((known is).calm q own)
       by Sync is = absurd (false≢true (sym going ∙ ap at_barrier is))
 
   -- nor of what is removed, at which no mount begins
@@ -178,26 +188,30 @@ module _ (told : Said) (dirty dirty_after : List Route) (marks : Marks) (log now
     where
       by : (stage : Stage) → d.stage ≡ stage → IsSureFolder log (folder_of d.path)
       by Begin is = folder_firm told dirty marks log kept d name (settled (ap is_fresh is)) (removed_in log now d.path path kept.known.guarded.tree within it)
-      by Going is = kept.known.stand (folder_of d.path) (known is).1
+      by Going is = kept.known.stand (folder_of d.path) (known is).folder
       by Sync is = absurd (false≢true (sym going ∙ ap at_barrier is))
 
   above_it : (path : Route) → IsRemoval log now path → same_path (folder_of path) path ≡ false
   above_it path it = subst (λ q. same_path (folder_of q) q ≡ false) (sym it.r.path_is) (same_path-lengths it.r.up (it.r.name ∷ it.r.up) (λ e. let n : ⊥ = absurd (omega (arith, e)) in n))
 
-  removes : (d new : Deleting) (path : Route) (stage : Stage) → WorkKnows told dirty marks log GoesOn (Delete d) → IsIntact marks (current log) d.path → IsSureFolder log (folder_of d.path) → ((q : Route) → is_own (Delete d) q ≡ true → IsCalmFolder marks log q) → is_prefix d.path path ≡ true
+  removes : (d new : Deleting) (path : Route) (stage : Stage) → WorkKnows told dirty marks log GoesOn (Delete d) → IsIntact marks (current log) d.path → AreSureWithin log d.path → IsSureFolder log (folder_of d.path) → ((q : Route) → is_own (Delete d) q ≡ true → IsCalmFolder marks log q) → is_prefix d.path path ≡ true
       → IsAtStage d stage new → Among dirty_after (folder_of path) → ((q : Route) → Among dirty q → same_path q path ≡ false → Among dirty_after q) → IsRemoval log now path → Steps (Removed path) GoesOn (Delete d) (Delete new)
-  removes d new path stage (name, none, known) intact firm calm within at listed more it =
+  removes d new path stage (name, none, known) intact sure firm calm within at listed more it =
       removes_thing told dirty dirty_after marks log now path (Delete d) (KnowsAfter (Removed path) (said_after now (Removed path) (Delete d) told) dirty_after now GoesOn (Delete new)) kept none
-      (λ out. intact_was marks (current log) d.path path it.r.i intact within (removal_leads log now path it) out) firm calm (no_mode_now d path calm within it) (let own = calm path (or_right _ _ within) in own.apart) listed more it (
+      (λ out. intact_was marks (current log) d.path path it.r.i intact within (removal_leads log now path it) out) firm way calm (no_mode_now d path calm within it) (let own = calm path (or_right _ _ within) in own.apart) listed more it (
         subst HasName (sym at.path_is) name,
         none,
-        λ is. (
-          subst (IsIntact (settled_marks now marks) (current now)) (sym at.path_is) (intact_after told dirty marks log now path d.path kept.known it intact),
-          subst (λ q. folders_by (Removed path) (folder_of d.path) told.folders (folder_of q) ≡ true) (sym at.path_is) there,
-          λ q own. or_left _ _ (subst (λ (p : Route). is_of (folder_of p) p q ≡ true) at.path_is own),
-        ),
+        λ is. record {
+          intact = subst (IsIntact (settled_marks now marks) (current now)) (sym at.path_is) (intact_after told dirty marks log now path d.path kept it way intact);
+          sure = subst (AreSureWithin now) (sym at.path_is) (within_after log now path d.path kept.known.guarded.tree it sure);
+          folder = subst (λ q. folders_by (Removed path) (folder_of d.path) told.folders (folder_of q) ≡ true) (sym at.path_is) there;
+          calm = λ q own. or_left _ _ (subst (λ (p : Route). is_of (folder_of p) p q ≡ true) at.path_is own);
+        },
       )
     where
+      way : way_waits log (folder_of path) ≡ false
+      way = let around = removed_sure log now d.path path kept.known.guarded.tree within sure firm it in around.sure
+
       there : folders_by (Removed path) (folder_of d.path) told.folders (folder_of d.path) ≡ true
       there = and_from (same_path (folder_of d.path) (folder_of d.path) || told.folders (folder_of d.path)) (not (same_path (folder_of d.path) path)) (or_left _ _ (same_path-self (folder_of d.path)))
           (ap not (folder_apart log now d.path path within it))
@@ -211,11 +225,11 @@ module _ (told : Said) (dirty dirty_after : List Route) (marks : Marks) (log now
       → (is_fresh d.stage ≡ true → NoneOwed (current log) (Delete d) dirty) → DeletionLeaves d did dirty dirty_after (Some log) (Some now) → Steps did (course_after did) (Delete d) (Delete new)
   deletion_tells d new (Removed path) knows (going, within, at) done settled (inl (leaves, called)) =
       let it = removal_done log now path kept.known.guarded.tree (called log refl) in
-      removes d new path _ knows (intact_now d knows going settled) (firm_now d path knows going settled within it) (calm_now d knows going settled) within at (subst (λ xs. Among xs (folder_of path)) (sym leaves) (joined_holds (folder_of path) dirty))
+      removes d new path _ knows (intact_now d knows going settled) (within_now d knows going settled) (firm_now d path knows going settled within it) (calm_now d knows going settled) within at (subst (λ xs. Among xs (folder_of path)) (sym leaves) (joined_holds (folder_of path) dirty))
       (λ q among off. subst (λ xs. Among xs q) (sym leaves) (joined_more (folder_of path) q dirty among)) it
   deletion_tells d new (Removed path) knows (going, within, at) done settled (inr (leaves, called)) =
       let it = folder_removed log now path kept.known.guarded.tree (called log refl) in
-      removes d new path _ knows (intact_now d knows going settled) (firm_now d path knows going settled within it) (calm_now d knows going settled) within at
+      removes d new path _ knows (intact_now d knows going settled) (within_now d knows going settled) (firm_now d path knows going settled within it) (calm_now d knows going settled) within at
       (subst (λ xs. Among xs (folder_of path)) (sym leaves) (still_listed path (folder_of path) (joined (folder_of path) dirty) (joined_holds (folder_of path) dirty) (above_it path it)))
       (λ q among off. subst (λ xs. Among xs q) (sym leaves) (still_listed path q (joined (folder_of path) dirty) (joined_more (folder_of path) q dirty among) off)) it
   deletion_tells d new (Kept path) knows (going, at) done settled leaves = stands GoesOn (Delete new) (stays GoesOn GoesOn d new _ knows at (still_going path d) dirty) leaves (some_log now log done)

@@ -21,7 +21,7 @@ use Rattle.crash_law.proofs.Leading.{current_more}
 use Rattle.crash_law.proofs.Tops.{none_below, under_made, under_moved, under_removed}
 use Rattle.history_laws.specs.Doubt.{is_pending, name_waits, is_joint}
 use Rattle.history_laws.proofs.Changing.{none_below_file, said_one, said_two, some_is, some_none}
-use Rattle.history_laws.proofs.Untouched.{IsAsFound, IsBare, found_bare, IsUntouched, NoneOn, none_joint, none_waits, untouched_free, way_sure}
+use Rattle.history_laws.proofs.Untouched.{IsAsFound, IsBare, found_bare, IsUntouched, NoneOver, none_joint, none_waits, over_it, untouched_free, way_sure}
 use Rattle.history_laws.proofs.Knowing.{IsKept, Said}
 use Rattle.history_laws.proofs.Pending.{is_within, pending_less, quiet_within}
 use Rattle.history_laws.proofs.Resting.{IsOfFiles, IsSureFolder, bare_unjoined, folder_at, folder_at_of, stands_at, sure_path, sure_still, unjoined_at}
@@ -44,13 +44,13 @@ pub record IsNew (log : CallLog) (up : Route) (coming : List (List ℕ)) : Type 
   pub calm : NoneWait log up coming
   pub apart : IsUnjoined log up
 
--- It begins where no dirty folder lies on its mount.
+-- It begins where no dirty folder lies on its mount, nor on that of a folder on the way to it.
 pub filling_begins : (told : Said) (dirty : List Route) (marks : Marks) (log : CallLog) (up : Route) (f : ℕ) (coming : List (List ℕ)) → IsKept told dirty marks log → find (current log) up ≡ Some f → is_folder (node (current log) f) ≡ true
-    → NoneOn (current log) up dirty → IsFilling log up coming
+    → NoneOver (current log) up dirty → IsFilling log up coming
 filling_begins told dirty marks log up f coming kept at folder owed = record {
-  firm = record { stands = folder_at_of (current log) up f at folder; sure = way_sure told dirty marks log up f kept.known at owed };
-  calm = λ name among. none_waits told dirty marks log up kept.known owed name;
-  apart = none_joint told dirty marks log up kept.known owed;
+  firm = record { stands = folder_at_of (current log) up f at folder; sure = way_sure told dirty marks log up kept.known owed };
+  calm = λ name among. none_waits told dirty marks log up kept.known (over_it (current log) up dirty owed) name;
+  apart = none_joint told dirty marks log up kept.known (over_it (current log) up dirty owed);
 }
 
 -- What is met next, where nothing stands, is untouched.
@@ -269,6 +269,9 @@ module _ (log : CallLog) (c : Change) (tree : IsTree (current log)) (none : (n g
 
   stays_quiet : (p : Route) (f : ℕ) → find (current log) p ≡ Some f → is_folder (node (current log) f) ≡ true → find (current (with_change log c)) p ≡ Some f
   stays_quiet p f stands folder = same_quiet log c (none (length (current log).nodes)) p ∙ stands
+
+  pub sure_quiet : (up : Route) → IsSureFolder log up → IsSureFolder (with_change log c) up
+  sure_quiet = sure_after log c tree (quiet_within c none) stays_quiet (λ g m j said found folder. none_said g m said)
 
   pub filling_quiet : (up : Route) (coming : List (List ℕ)) → IsFilling log up coming → IsFilling (with_change log c) up coming
   filling_quiet up coming = filling_still log c tree (quiet_within c none) stays_quiet (λ g m j said found folder. none_said g m said) up coming (λ f stands name among said. none_said f name said)

@@ -66,7 +66,7 @@ module _ (told : Said) (dirty dirty_after : List Route) (marks : Marks) (log now
   passes = making_passes (current log) name up mode d.permits
 
   makes : MakesPart told log name up (found (current log) up)
-  makes = record { none = none; at = passes.folder; folder = passes.holds; free = passes.none }
+  makes = record { none = none; at = passes.folder; folder = passes.holds; free = passes.none; sure = firm.sure }
 
   abbrev f : ℕ
   f = found (current log) up
@@ -85,13 +85,13 @@ module _ (told : Said) (dirty dirty_after : List Route) (marks : Marks) (log now
   new_marks = marks_new marks part n
 
   node_made : node (current after) n ≡ made
-  node_made = part_node told dirty dirty_after marks log kept.known name up f made makes refl new_mode
+  node_made = part_node told dirty dirty_after marks log kept.known name up f made kept.roams makes refl new_mode
 
   apart_of : (p : Route) → (part ≡ p → ⊥) → same_path p part ≡ false
   apart_of p apart = false_from_ne_true _ (λ same. apart (sym (same_path-true p part same)))
 
   off : (p : Route) → (part ≡ p → ⊥) → find (current after) p ≡ find (current log) p
-  off p apart = off_part told dirty dirty_after marks log kept.known name up f made makes refl new_mode p (apart_of p apart)
+  off p apart = off_part told dirty dirty_after marks log kept.known name up f made kept.roams makes refl new_mode p (apart_of p apart)
 
   same_n : (n == n) ≡ true
   same_n = Rattle.std.proofs.lemmas.Bool.eq-eqb n n refl
@@ -102,7 +102,7 @@ module _ (told : Said) (dirty dirty_after : List Route) (marks : Marks) (log now
   has : HasPart after_said (marks_new marks part n) (current after) c.target part n
   has = record {
     part_is = refl;
-    leads = part_leads told dirty dirty_after marks log kept.known name up f made makes refl new_mode;
+    leads = part_leads told dirty dirty_after marks log kept.known name up f made kept.roams makes refl new_mode;
     loose = or_left _ _ same_n;
     moves = or_left _ _ same_n;
     file = ap (λ (x : Node). x.kind) node_made;
@@ -142,7 +142,7 @@ module _ (told : Said) (dirty dirty_after : List Route) (marks : Marks) (log now
   begun = comes_one told after_said dirty dirty_after marks (marks_new marks part n) log now (Makes f name made)
       (λ m. FileKnows after_said dirty_after m (current now) GoesOn (record c { stage = Fill part said 0; folder = Dirty })) kept d.is
       (subst (λ (l : CallLog). IsKnown after_said dirty_after (marks_new marks part n) l) (sym d.is)
-      (made_known told dirty dirty_after marks log kept.known name up f made makes refl new_mode around own around_firm firm own_calm listed more))
+      (made_known told dirty dirty_after marks log kept.known name up f made kept.roams makes refl new_mode around own around_firm firm own_calm listed more))
       (subst (λ (l : CallLog). FileKnows after_said dirty_after (settled_marks l (marks_new marks part n)) (current l) GoesOn (record c { stage = Fill part said 0; folder = Dirty })) (sym d.is)
       (target_name, (λ e. (listed, or_left _ _ (or_right _ _ (same_path-self up)), or_left _ _ own_here)), (refl, (n, part_settled after (marks_new marks part n) after_said c.target part n has, λ e. filled))))
 

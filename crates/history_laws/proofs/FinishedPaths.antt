@@ -45,8 +45,9 @@ use Rattle.history_laws.proofs.Histories.{IsReached, traced_reached}
 use Rattle.history_laws.proofs.Owing.{calm_at, calm_there, owed_modes, owed_names}
 use Rattle.history_laws.proofs.Intact.{own_folder, prefix_way}
 use Rattle.history_laws.proofs.JobKnows.{WorkKnows}
-use Rattle.history_laws.proofs.Knowing.{IsCalmIn, Said}
-use Rattle.history_laws.proofs.MoveKnown.{IsMovedIn, MoveKnown, is_moved, none_waits_from, none_waits_to}
+use Rattle.history_laws.proofs.Knowing.{Said}
+use Rattle.history_laws.proofs.KnownParts.{HasName}
+use Rattle.history_laws.proofs.MoveKnown.{IsMovedIn, MoveKnown, is_moved}
 use Rattle.history_laws.proofs.Reports.{JobsKnow}
 use Rattle.history_laws.proofs.Resting.{IsSureFolder, sure_path}
 use Rattle.history_laws.proofs.Sources.{item_in, making_changed, making_changes}
@@ -57,6 +58,7 @@ use Rattle.history_laws.proofs.TreeDone.{TreeLeft, tree_done}
 use Rattle.history_laws.proofs.TreeKnown.{TreeKnown}
 use Rattle.history_laws.proofs.Unchanged.{knows_calm}
 use Rattle.history_laws.proofs.Finished.{AreTidy, IsTidyJob, traced_tidy}
+use Rattle.history_laws.proofs.FinishedMoves.{move_left}
 
 -- a job whose step is that it is finished owes no sync
 done_making : (stage : MakingStage) → makings.is_done stage ≡ true → makings.is_dirty stage ≡ false
@@ -214,35 +216,6 @@ module _ (opening now : CallLog) (newest : List Entry) (stand : Stand) (path : R
       let sure = sure_path now path (ap (λ q. way_waits now (folder_of q)) same ∙ firm) (ap (name_waits now) same ∙ named) in
       (sure, λ unnamed none. ap (λ b. b || node_waits now path) sure ∙ false_from_ne_true _ (λ waits. off (subst (λ q. Among stand.dirty q) same (owed_modes opening now newest stand path tree settled traced unnamed waits))))
 
-  -- and of a move: both folders are at rest, and joined with each other alone
-  module _ (m : Moving) (stage : (movings.owes_target m.stage ≡ false) × (movings.is_dirty m.stage ≡ false)) (left : IsMovedIn (told_of opening now newest seen.part) seen.marks now m) where
-    abbrev told : Said
-    told = told_of opening now newest seen.part
-
-    -- a path in the folder at this one
-    in_folder : (up : Route) → ((name : List ℕ) → name_waits now (name ∷ up) ≡ false) → IsCalmIn seen.marks (current now) up → way_waits now up ≡ false → (p : Route) → path ≡ p → folder_of p ≡ up → IsLeft (Move m)
-    in_folder up names calm firm [] is within = (
-      ap (way_waits now) is,
-      λ unnamed no_mount. ap (λ b. b || node_waits now path) (ap (way_waits now) is) ∙ false_from_ne_true (node_waits now path) (λ waits. no_mount (record {
-        begins = ap (λ q. (visible_tree (current now) q).is_mount) is ∙ seen.kept.known.guarded.tree.mounted;
-        waits = waits;
-      })),
-    )
-    in_folder up names calm firm (name ∷ folder) is within =
-        let there : path ≡ name ∷ up = is ∙ ap (λ q. (let r : Route = name ∷ q in r)) within in
-        let sure : way_waits now path ≡ false =
-        ap (way_waits now) there ∙ sure_path now (name ∷ up) firm (names name) in (
-          sure,
-          λ unnamed no_mount. ap (λ b. b || node_waits now path) sure ∙ false_from_ne_true (node_waits now path) (λ waits.
-              both_ways _ (calm_at opening now newest stand path tree settled traced unnamed (λ i here. calm name i (ap (find (current now)) (sym there) ∙ here)) (false_from_ne_true _ (λ begins. no_mount (record { begins = begins; waits = waits })))) waits),
-        )
-
-    move_left : is_own (Move m) (folder_of path) ≡ true → IsLeft (Move m)
-    move_left own = elim (or_cases (same_path (folder_of path) (folder_of m.pair.source)) (same_path (folder_of path) (folder_of m.pair.target)) own) [
-      | inl from ↦ (let firm = seen.kept.known.stand (folder_of m.pair.source) left.told_from in in_folder (folder_of m.pair.source) (none_waits_from told seen.marks now m left stage.0 stage.1) left.calm_from firm.sure path refl (same_path-true _ _ from))
-      | inr to ↦ (let firm = seen.kept.known.stand (folder_of m.pair.target) left.told_to in in_folder (folder_of m.pair.target) (none_waits_to told seen.marks now m left stage.0 stage.1) left.calm_to firm.sure path refl (same_path-true _ _ to))
-    ]
-
   -- and of a copy
   module _ (c : SubtreeCopying) (left : TreeLeft (told_of opening now newest seen.part) seen.marks now c) where
     -- no mode waits of anything else in the folder that holds the target
@@ -297,7 +270,7 @@ module _ (opening now : CallLog) (newest : List Entry) (stand : Stand) (path : R
   -- what is known of a copy or a move when it ends
   abbrev IsWhole : Work → Type 0
   IsWhole (Copy c) = TreeLeft (told_of opening now newest seen.part) seen.marks now c
-  IsWhole (Move m) = ((movings.owes_target m.stage ≡ false) × (movings.is_dirty m.stage ≡ false)) × IsMovedIn (told_of opening now newest seen.part) seen.marks now m
+  IsWhole (Move m) = HasName m.pair.source × (HasName m.pair.target × (((movings.owes_target m.stage ≡ false) × (movings.is_dirty m.stage ≡ false)) × IsMovedIn (told_of opening now newest seen.part) seen.marks now m))
   IsWhole work = Unit {0}
 
   left_by : (work : Work) → way_waits now (changed_folder work) ≡ false → (knows_calm work ≡ false → (q : Route) → is_own work q ≡ true → Among stand.dirty q → ⊥) → IsSureThing (item_in work) now
@@ -305,7 +278,7 @@ module _ (opening now : CallLog) (newest : List Entry) (stand : Stand) (path : R
   left_by (Copy c) firm off named calm whole own = tree_left c whole firm own
   left_by (Delete d) firm off named calm whole own = names_left (Delete d) tt firm (unlisted (is_own (Delete d)) (off refl) (calm refl)) (calm refl) own
   left_by (Make m) firm off named calm whole own = names_left (Make m) tt firm (making_none m (off refl) (calm refl)) (calm refl) own
-  left_by (Move m) firm off named calm whole own = move_left m whole.0 whole.1 own
+  left_by (Move m) firm off named calm whole own = move_left opening now newest stand path tree settled traced m whole.0 whole.1.0 whole.1.1.0 whole.1.1.1 own
   left_by (SetMode s) firm off named calm whole own = mode_left s firm (off refl s.path (same_path-self s.path)) named (same_path-true path s.path own)
 
 -- so it is of a copy, where it tells its end
@@ -341,12 +314,12 @@ move_done m (Make new) part t = absurd t
 move_done m (SetMode new) part t = absurd t
 
 moved_left : (told : Said) (dirty dirty_after : List Route) (marks : Marks) (log now : CallLog) (job new : Running) (part : Option Route) (m : Moving) → job.work ≡ Move m → job.course ≡ GoesOn → WorkKnows told dirty marks log job.course job.work
-    → TidyFolder job.work dirty → WorkLeads job (Ended Finished part) new dirty dirty_after log now → ((movings.owes_target m.stage ≡ false) × (movings.is_dirty m.stage ≡ false)) × IsMovedIn told marks log m
+    → TidyFolder job.work dirty → WorkLeads job (Ended Finished part) new dirty dirty_after log now → HasName m.pair.source × (HasName m.pair.target × (((movings.owes_target m.stage ≡ false) × (movings.is_dirty m.stage ≡ false)) × IsMovedIn told marks log m))
 moved_left told dirty dirty_after marks log now job new part m is on knows tidy works =
     let known : MoveKnown told marks log GoesOn m = subst (λ x. WorkKnows told dirty marks log GoesOn x) is (subst (λ x. WorkKnows told dirty marks log x job.work) on knows) in
     let renamed : is_moved m.stage ≡ true = subst (λ x. TidyFolder x dirty) is tidy in
     let tells : TellsOn GoesOn job (Ended Finished part) new = subst (λ x. TellsOn x job (Ended Finished part) new) on works.tells in
-    (done_moving m.stage (move_done m tells.0 part (subst (λ x. WorkTells x (Ended Finished part) tells.0) is tells.1)) renamed, known.moved refl renamed)
+    (known.source, (known.target, (done_moving m.stage (move_done m tells.0 part (subst (λ x. WorkTells x (Ended Finished part) tells.0) is tells.1)) renamed, known.moved refl renamed)))
 
 pub finished_law : FinishedLaw
 finished_law opening now after newest stand dirty job new part path tree settled traced jobs_is works changed own =

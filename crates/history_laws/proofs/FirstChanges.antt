@@ -3,7 +3,7 @@
 use Rattle.std.proofs.Common.{◌≡◌, ◌⊎◌, ℕ, Bool, true, false, not, ◌||◌, List, [], ◌∷◌, refl, sym, ◌∙◌, ap, subst, inl, inr, Some}
 use Rattle.std.specs.Prelude.{◌==◌}
 use Rattle.std.proofs.lemmas.Bool.{and_from, both_ways, eq-eqb, eqb-true, false≢true, or_cases, or_right}
-use Rattle.mc_text.specs.Routes.{Route, same_path}
+use Rattle.mc_text.specs.Routes.{Route, is_prefix, same_path}
 use Rattle.tree_trait.specs.Shape.{IsTree}
 use Rattle.tree_trait.specs.Answers.{mount_number}
 use Rattle.tree_trait.specs.Calls.{SetMode as Sets_mode}
@@ -20,6 +20,7 @@ use Rattle.job_reports.specs.Jobs.{Item}
 use Rattle.job_reports.specs.Paths.{folder_of}
 use Rattle.job_reports.proofs.CallAnswers.{one_done}
 use Rattle.job_answers.specs.declared.replies.Replies.{Replies}
+use Rattle.session_history.specs.Moves.{is_of_move}
 use Rattle.session_history.specs.declared.history.Entry.{Entry}
 use Rattle.tree_deletion.specs.Standing.{is_fresh as is_fresh_stage}
 use Rattle.tree_copy.specs.Standing.{is_fresh as is_fresh_tree}
@@ -94,18 +95,19 @@ module _ (up : Route) (told : Said) (dirty : List Route) (marks : Marks) (log : 
     aside = kept.aside;
     was = kept.was;
     modes = kept.modes;
+    roams = kept.roams;
   }
 
 -- a report leaves a calm folder so, unless a mode was set in it, or something was moved from it or to it
 data Calms (did : Did) (up : Route) (then : Bool) : Type 0 where
   Stays : (still : then ≡ true) → Calms did up then
   Sets_in : (path : Route) → (is : did ≡ Set path) → Calms did up then
-  Moves_in : (pair : Pair) → (is : did ≡ Moved pair) → (here : (same_path up (folder_of pair.source) || same_path up (folder_of pair.target)) ≡ true) → Calms did up then
+  Moves_in : (pair : Pair) → (is : did ≡ Moved pair) → (here : (is_of_move pair up || (same_path up (folder_of pair.source) || same_path up (folder_of pair.target))) ≡ true) → Calms did up then
 
 calms : (did : Did) (item : Item) (before : Route → Bool) (up : Route) → before up ≡ true → Calms did up (calm_by did item before up)
-calms (Moved pair) item before up was = by (same_path up (folder_of pair.source) || same_path up (folder_of pair.target)) refl
+calms (Moved pair) item before up was = by (is_of_move pair up || (same_path up (folder_of pair.source) || same_path up (folder_of pair.target))) refl
   where
-    by : (b : Bool) → (same_path up (folder_of pair.source) || same_path up (folder_of pair.target)) ≡ b → Calms (Moved pair) up (calm_by (Moved pair) item before up)
+    by : (b : Bool) → (is_of_move pair up || (same_path up (folder_of pair.source) || same_path up (folder_of pair.target))) ≡ b → Calms (Moved pair) up (calm_by (Moved pair) item before up)
     by true is = Moves_in pair refl is
     by false is = Stays (and_from (before up) _ was (ap not is))
 calms (Set path) item before up was = Sets_in path refl
@@ -123,9 +125,21 @@ calms Barrier item before up was = Stays was
 calms (Troubled trouble) item before up was = Stays was
 calms (Ended ending left) item before up was = Stays was
 
--- the folders of a move are its own
-moved_own : (old new : Work) (pair : Pair) (up : Route) → WorkTells old (Moved pair) new → (same_path up (folder_of pair.source) || same_path up (folder_of pair.target)) ≡ true → is_own old up ≡ true
-moved_own (Move m) (Move new) pair up (stage, pair_is, new_is) here = subst (λ (p : Pair). (same_path up (folder_of p.source) || same_path up (folder_of p.target)) ≡ true) pair_is here
+-- the folders of a move are its own, and what lies below its paths
+own_either : (source target from to : Bool) → ((source || target) || (from || to)) ≡ true → ((from || source) || (to || target)) ≡ true
+own_either true target true to h = refl
+own_either true target false to h = refl
+own_either false true true to h = refl
+own_either false true false true h = refl
+own_either false true false false h = refl
+own_either false false true to h = refl
+own_either false false false true h = refl
+own_either false false false false h = h
+
+moved_own : (old new : Work) (pair : Pair) (up : Route) → WorkTells old (Moved pair) new → (is_of_move pair up || (same_path up (folder_of pair.source) || same_path up (folder_of pair.target))) ≡ true → is_own old up ≡ true
+moved_own (Move m) (Move new) pair up (stage, pair_is, new_is) here =
+    own_either (is_prefix m.pair.source up) (is_prefix m.pair.target up) (same_path up (folder_of m.pair.source)) (same_path up (folder_of m.pair.target))
+    (subst (λ (p : Pair). (is_of_move p up || (same_path up (folder_of p.source) || same_path up (folder_of p.target))) ≡ true) pair_is here)
 moved_own (Copy c) (Copy new) pair up t here = absurd t.may
 moved_own (Copy c) (Delete new) pair up t here = absurd t
 moved_own (Copy c) (Make new) pair up t here = absurd t

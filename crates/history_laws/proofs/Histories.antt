@@ -147,12 +147,12 @@ module _ (opening : CallLog) (older : List Entry) (calls : ℕ) (was : Stand) (b
     told_is made now_is =
         let tree : replayed_tree opening now older ≡ replayed_tree opening before older = ap (λ l. replayed_tree opening l older) now_is ∙ replayed_more opening before made older r.within in
         let earlier : earlier_tree opening now older ≡ earlier_tree opening before older = ap (λ l. earlier_tree opening l older) now_is ∙ earlier_more opening before made older r.within in
-        ap (λ t. said_by (folders_event (Step id did) (live_jobs older) (folders_told opening older)) (calm_event (Step id did) (live_jobs older) (calm_told older)) t (Rattle.history_laws.specs.Replayed.keeping (Rattle.session_history.specs.Named.changed_by did) (replayed_tree opening now older) (earlier_tree opening now older)) (Rattle.session_history.specs.Named.named_by did (Rattle.session_history.specs.Named.left_parts older) (Rattle.session_history.specs.Named.named_parts older)) (Rattle.session_history.specs.Named.left_by did (Rattle.session_history.specs.Named.left_parts older)) (part_after did r.part))
+        ap (λ t. said_by (folders_event (Step id did) (live_jobs older) (folders_told opening older)) (calm_event (Step id did) (live_jobs older) (calm_told older)) t (Rattle.history_laws.specs.Replayed.earlier_step did (replayed_tree opening now older) (earlier_tree opening now older)) (Rattle.session_history.specs.Named.named_by did (Rattle.session_history.specs.Named.left_parts older) (Rattle.session_history.specs.Named.named_parts older)) (Rattle.session_history.specs.Named.left_by did (Rattle.session_history.specs.Named.left_parts older)) (part_after did r.part))
         (step_view made now_is)
         ∙ ap (λ t. said_by (folders_event (Step id did) (live_jobs older) (folders_told opening older)) (calm_event (Step id did) (live_jobs older) (calm_told older)) (replayed_step now did (Some (item_in job.work)) (replayed_tree opening before older)) t (Rattle.session_history.specs.Named.named_by did (Rattle.session_history.specs.Named.left_parts older) (Rattle.session_history.specs.Named.named_parts older)) (Rattle.session_history.specs.Named.left_by did (Rattle.session_history.specs.Named.left_parts older)) (part_after did r.part))
-        (ap (λ v. Rattle.history_laws.specs.Replayed.keeping (Rattle.session_history.specs.Named.changed_by did) v (earlier_tree opening now older)) tree
-        ∙ ap (Rattle.history_laws.specs.Replayed.keeping (Rattle.session_history.specs.Named.changed_by did) (replayed_tree opening before older)) earlier)
-        ∙ (ap (λ o. said_by (option_map_or (λ item. folders_by did (folder_changed item) (folders_told opening older)) o (folders_told opening older)) (option_map_or (λ item. calm_by did item (calm_told older)) o (calm_told older)) (replayed_step now did (Some (item_in job.work)) (replayed_tree opening before older)) (Rattle.history_laws.specs.Replayed.keeping (Rattle.session_history.specs.Named.changed_by did) (replayed_tree opening before older) (earlier_tree opening before older)) (Rattle.session_history.specs.Named.named_by did (Rattle.session_history.specs.Named.left_parts older) (Rattle.session_history.specs.Named.named_parts older)) (Rattle.session_history.specs.Named.left_by did (Rattle.session_history.specs.Named.left_parts older)) (part_after did r.part)) item_is
+        (ap (λ v. Rattle.history_laws.specs.Replayed.earlier_step did v (earlier_tree opening now older)) tree
+        ∙ ap (Rattle.history_laws.specs.Replayed.earlier_step did (replayed_tree opening before older)) earlier)
+        ∙ (ap (λ o. said_by (option_map_or (λ item. folders_by did (folder_changed item) (folders_told opening older)) o (folders_told opening older)) (option_map_or (λ item. calm_by did item (calm_told older)) o (calm_told older)) (replayed_step now did (Some (item_in job.work)) (replayed_tree opening before older)) (Rattle.history_laws.specs.Replayed.earlier_step did (replayed_tree opening before older) (earlier_tree opening before older)) (Rattle.session_history.specs.Named.named_by did (Rattle.session_history.specs.Named.left_parts older) (Rattle.session_history.specs.Named.named_parts older)) (Rattle.session_history.specs.Named.left_by did (Rattle.session_history.specs.Named.left_parts older)) (part_after did r.part)) item_is
         ∙ (ap (λ d. (let t : Said = record (said_after now did job.work told) { doubt = d; modes = anywhere } in t)) (sym (doubt_anywhere did r.part))
         ∙ ap (λ m. (let t : Said = record (said_after now did job.work told) { modes = m } in t)) (sym (modes_anywhere did))))
 
@@ -212,11 +212,10 @@ module _ (opening : CallLog) (tree : IsTree (current opening)) (settled : all_se
       files = record {
         bare = λ i m bare. pending_settled i m opening.changes settled;
         unborn = λ i past. (opening_law opening tree settled).clean i refl;
-        mounts = λ p on. none_unsettled p;
       };
       moded = λ i before is unclean. absurd (let f : ⊥ = cc in f);
       calm = λ p there. record { modes = λ name i at. inl refl; apart = λ f g at. joint_settled f g opening.changes settled };
-      folders = λ i folder. (refl, refl);
+      folders = λ i folder. (inl refl, refl);
       aside = λ p is. absurd (false≢true is);
       left = λ p is there. absurd (false≢true is);
       was_there = λ p i out is. (found_there (current opening) tree p i is, refl);
@@ -231,6 +230,7 @@ module _ (opening : CallLog) (tree : IsTree (current opening)) (settled : all_se
     aside = λ p is. absurd (false≢true is);
     was = λ p out sure. refl;
     modes = λ i clean. refl;
+    roams = λ i folder roams. absurd (false≢true roams);
   }
     where
       none_by : (name : List ℕ) (o : Option ℕ) → option_map_or (λ f. is_pending f name opening.changes) o false ≡ false

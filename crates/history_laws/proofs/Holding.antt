@@ -100,6 +100,7 @@ module _ (path : Route) (v : Option Value) (told : Said) where
     aside = kept.aside;
     was = kept.was;
     modes = kept.modes;
+    roams = kept.roams;
   }
     where
       moded : (i before : ℕ) → is_clean i log.changes ≡ false → HasMode told dirty marks log i before → HasMode (holding path v told) dirty marks log i before

@@ -21,28 +21,37 @@ use Rattle.tree_deletion.specs.declared.deletion.Stage.TheVariants.{Going}
 use Rattle.tree_deletion.specs.Folders.{is_of}
 use Rattle.crash_law.proofs.Unworked.{unworked_law}
 use Rattle.history_laws.specs.Doubt.{way_waits}
+use Rattle.history_laws.proofs.FilledFolders.{sure_quiet}
 use Rattle.history_laws.proofs.Knowing.{HasMode, IsCalmFolder, IsCalmIn, IsKept, Said, settled_marks}
 use Rattle.history_laws.proofs.MoveKnown.{MoveKnown, move_course, move_said, move_settled, move_still}
+use Rattle.history_laws.proofs.Resting.{IsSureFolder, folder_at}
 use Rattle.job_reports.specs.Paths.{folder_of}
 use Rattle.tree_trait.specs.Shape.{IsTree}
 use Rattle.tree_trait.specs.Change.{Change, Nothing, Syncs, with_change}
 use Rattle.crash_law.proofs.Leading.{current_more}
 use Rattle.history_laws.proofs.TreeKnown.{IsStill, TreeKnown, is_over, tree_course, tree_said, tree_settled, tree_still}
 pub use Rattle.history_laws.proofs.KnownParts.{may_fill, found_settled, FileKnows, HasLink, HasName, HasPart, IsFilled, IsLeftPart, LinkKnows, StageKnows, file_course, file_settled, part_settled, stage_course, stage_settled, untouched_settled}
-pub use Rattle.history_laws.proofs.Untouched.{IsAsFound, IsBare, IsUntouched, as_found, bare_free, found_bare, NoneOn, none_joint, none_on, none_waits, untouched_free, way_sure}
+pub use Rattle.history_laws.proofs.Untouched.{IsAsFound, IsBare, IsUntouched, as_found, bare_free, found_bare, NoneOn, NoneOver, none_joint, none_left, none_on, none_over, none_waits, over_it, untouched_free, way_sure}
 
 -- at and below the path stands what the job found there, or nothing any more
 abbrev pub IsIntact : Marks → FileSystem → Route → Type 0
 IsIntact marks s top = (rest : Route) → marks.aside (rest ++ top) ≡ false → (find s (rest ++ top) ≡ marks.was (rest ++ top)) ⊎ (find s (rest ++ top) ≡ None)
 
+-- no folder that stands at or below the path is in doubt
+abbrev pub AreSureWithin : CallLog → Route → Type 0
+AreSureWithin log top = (rest : Route) → folder_at (current log) (rest ++ top) ≡ true → IsSureFolder log (rest ++ top)
+
 -- of a deletion that goes on: the folder that holds the thing is on the disk, too, and in it, and within the thing, no mode waits
-abbrev pub KnowsWithin : Said → Marks → FileSystem → Route → Type 0
-KnowsWithin told marks s top = IsIntact marks s top × (told.folders (folder_of top) ≡ true) × ((q : Route) → is_of (folder_of top) top q ≡ true → told.calm q ≡ true)
+pub record KnowsWithin (told : Said) (marks : Marks) (log : CallLog) (top : Route) : Type 0 where
+  pub intact : IsIntact marks (current log) top
+  pub sure : AreSureWithin log top
+  pub folder : told.folders (folder_of top) ≡ true
+  pub calm : (q : Route) → is_of (folder_of top) top q ≡ true → told.calm q ≡ true
 
 abbrev pub WorkKnows : Said → List Route → Marks → CallLog → Course → Work → Type 0
 WorkKnows told dirty marks log course (Copy c) = TreeKnown told dirty marks log course c
 WorkKnows told dirty marks log course (Delete d) =
-    HasName d.path × (told.part ≡ None) × (d.stage ≡ Going → KnowsWithin told marks (current log) d.path)
+    HasName d.path × (told.part ≡ None) × (d.stage ≡ Going → KnowsWithin told marks log d.path)
 WorkKnows told dirty marks log course (Make m) = HasName m.path × (told.part ≡ None)
 WorkKnows told dirty marks log course (Move m) = MoveKnown told marks log course m
 WorkKnows told dirty marks log course (SetMode s) = HasName s.path × (told.part ≡ None)
@@ -110,7 +119,7 @@ module _ (log : CallLog) (marks : Marks) where
 
   pub work_settled : (told : Said) (dirty : List Route) (course : Course) (work : Work) → WorkKnows told dirty marks log course work → WorkKnows told dirty (settled_marks log marks) log course work
   work_settled told dirty course (Copy c) k = tree_settled log marks told dirty course c k
-  work_settled told dirty course (Delete d) (name, none, intact) = (name, none, λ is. let k = intact is in (intact_settled d.path k.0, k.1, k.2))
+  work_settled told dirty course (Delete d) (name, none, known) = (name, none, λ is. let k = known is in record { intact = intact_settled d.path k.intact; sure = k.sure; folder = k.folder; calm = k.calm })
   work_settled told dirty course (Make w) k = k
   work_settled told dirty course (Move w) k = move_settled log marks told course w k
   work_settled told dirty course (SetMode s) k = k
@@ -132,12 +141,33 @@ still_same log now (c, is, how) = ap current is ∙ by c how
     by c (inl none) = ap (λ (x : Change). current (with_change log x)) none ∙ current_more log Nothing
     by c (inr (f, sync)) = ap (λ (x : Change). current (with_change log x)) sync ∙ current_more log (Syncs f)
 
+-- so no folder is in doubt that wasn't
+within_still : (log now : CallLog) (top : Route) → IsTree (current log) → IsStill log now → AreSureWithin log top → AreSureWithin now top
+within_still log now top tree still sure rest stands = by still
+  where
+    before : IsSureFolder log (rest ++ top)
+    before = sure rest (ap (λ s. folder_at s (rest ++ top)) (sym (still_same log now still)) ∙ stands)
+
+    by : IsStill log now → IsSureFolder now (rest ++ top)
+    by (c, is, inl none) =
+        subst (λ (l : CallLog). IsSureFolder l (rest ++ top)) (sym (is ∙ ap (with_change log) none)) (sure_quiet log Nothing tree (λ n g m. refl) (rest ++ top) before)
+    by (c, is, inr (f, sync)) =
+        subst (λ (l : CallLog). IsSureFolder l (rest ++ top)) (sym (is ∙ ap (with_change log) sync)) (sure_quiet log (Syncs f) tree (λ n g m. refl) (rest ++ top) before)
+
 -- so what is known holds on
 pub work_still : (told : Said) (dirty : List Route) (marks : Marks) (log now : CallLog) (course : Course) (work : Work) → IsTree (current log) → IsStill log now → WorkKnows told dirty marks log course work
     → WorkKnows told dirty marks now course work
 work_still told dirty marks log now course (Copy c) tree still k = tree_still told dirty marks log now course c tree still k
-work_still told dirty marks log now course (Delete d) tree still (name, none, known) =
-    (name, none, λ is. let k = known is in (subst (λ (s : FileSystem). IsIntact marks s d.path) (sym (still_same log now still)) k.0, k.1, k.2))
+work_still told dirty marks log now course (Delete d) tree still (name, none, known) = (
+  name,
+  none,
+  λ is. let k = known is in record {
+    intact = subst (λ (s : FileSystem). IsIntact marks s d.path) (sym (still_same log now still)) k.intact;
+    sure = within_still log now d.path tree still k.sure;
+    folder = k.folder;
+    calm = k.calm;
+  },
+)
 work_still told dirty marks log now course (Make m) tree still k = k
 work_still told dirty marks log now course (Move m) tree still k = move_still told marks log now course m still k
 work_still told dirty marks log now course (SetMode s) tree still k = k
@@ -149,7 +179,7 @@ work_said told other tree part folders calm dirty marks log course (Copy c) k = 
 work_said told other tree part folders calm dirty marks log course (Delete d) (name, none, known) = (
   name,
   part ∙ none,
-  λ is. let k = known is in (k.0, ap (λ b. b (folder_of d.path)) folders ∙ k.1, λ q own. ap (λ b. b q) calm ∙ k.2 q own),
+  λ is. let k = known is in record { intact = k.intact; sure = k.sure; folder = ap (λ b. b (folder_of d.path)) folders ∙ k.folder; calm = λ q own. ap (λ b. b q) calm ∙ k.calm q own },
 )
 work_said told other tree part folders calm dirty marks log course (Make m) (name, none) = (name, part ∙ none)
 work_said told other tree part folders calm dirty marks log course (Move m) k = move_said told other part folders marks log course m k

@@ -30,7 +30,7 @@ use Rattle.history_laws.proofs.MakingSteps.{making_tells, making_winds}
 use Rattle.history_laws.proofs.MovingSteps.{moving_skipped, moving_tells, moving_winds}
 use Rattle.history_laws.proofs.JobSteps.{fresh_knows}
 use Rattle.history_laws.proofs.Knowing.{Said, IsKept}
-use Rattle.history_laws.proofs.JobKnows.{KnowsAfter, WorkKnows, none_on, work_course}
+use Rattle.history_laws.proofs.JobKnows.{KnowsAfter, WorkKnows, none_over, work_course}
 use Rattle.history_laws.proofs.Stepped.{Comes, said_after}
 use Rattle.history_laws.proofs.TreeKnown.{is_over}
 use Rattle.history_laws.proofs.TreeSkipped.{skips_tree}
@@ -75,8 +75,8 @@ module _ (told : Said) (dirty dirty_after : List Route) (marks : Marks) (log now
       → (is_fresh old ≡ true → NoneOwed (current log) old dirty) → WorkLeaves old did new dirty dirty_after (Some log) (Some now) → WorkWalks replies GoesOn old did new
       → Steps told dirty dirty_after marks log now kept did (course_after did) old new
   work_tells replies (Delete d) (Delete new) did knows tells calls settled leaves walks = deletion_tells told dirty dirty_after marks log now kept d new did knows tells calls settled leaves
-  work_tells replies (Make w) (Make new) did knows tells calls settled leaves walks = making_tells told dirty dirty_after marks log now kept w new did knows tells calls (λ fresh. none_on (current log) (Make w) dirty (settled fresh)) leaves
-  work_tells replies (Move w) (Move new) did knows tells calls settled leaves walks = moving_tells told dirty dirty_after marks log now kept replies w new did knows tells calls (λ fresh. none_on (current log) (Move w) dirty (settled fresh)) leaves
+  work_tells replies (Make w) (Make new) did knows tells calls settled leaves walks = making_tells told dirty dirty_after marks log now kept w new did knows tells calls (λ fresh. none_over (current log) (Make w) dirty (settled fresh)) leaves
+  work_tells replies (Move w) (Move new) did knows tells calls settled leaves walks = moving_tells told dirty dirty_after marks log now kept replies w new did knows tells calls settled leaves
   work_tells replies (SetMode s) (SetMode new) did knows tells calls settled leaves walks = setting_tells told dirty dirty_after marks log now kept s new did knows tells calls settled leaves
   work_tells replies (Copy c) (Copy new) did knows tells calls settled leaves (count, f0, f1, goes) = tree_tells told dirty dirty_after marks log now kept c new did knows tells settled goes.free replies count goes.since f1 goes.steps
   work_tells replies (Delete d) (Make new) did knows tells calls settled leaves walks = absurd tells

@@ -97,6 +97,7 @@ module _ (told : Said) (dirty dirty_after : List Route) (marks : Marks) (log now
         aside = kept.aside;
         was = kept.was;
         modes = kept.modes;
+        roams = kept.roams;
       })) refl)
     where
       mountless : option_map_or (starts_mount (current log)) (find (current log) part) false ≡ false

@@ -2,7 +2,7 @@
 use Rattle.std.proofs.Common.{◌≡◌, ◌⊎◌, ℕ, ◌<◌, Bool, true, false, not, ◌&&◌, ◌||◌, List, ◌∷◌, length, refl, sym, ◌∙◌, ap, subst, inl, inr, Option, Some, None, cond}
 use Rattle.std.specs.Prelude.{is_some}
 use Rattle.std.specs.Option.{option_map, option_map_or}
-use Rattle.std.proofs.lemmas.Bool.{true≢false, false≢true, both_ways, or_left, or_right}
+use Rattle.std.proofs.lemmas.Bool.{true≢false, false≢true, and_from, and_parts, both_ways, not-false, or_cases, or_left, or_right}
 use Rattle.mc_text.specs.Routes.{Route}
 use Rattle.tree_trait.specs.declared.file_system.FileSystem.{FileSystem}
 use Rattle.tree_trait.specs.FileSystem.{Value, Spot, View, find, node, starts_mount, value, value_at, visible_tree}
@@ -11,9 +11,10 @@ use Rattle.tree_trait.specs.Change.{CallLog, current}
 use Rattle.tree_trait.specs.CrashImages.{Among, is_clean}
 use Rattle.tree_trait.proofs.Finding.{find-once}
 use Rattle.crash_law.specs.Possible.{MayFind, IsImage}
-use Rattle.crash_law.specs.Guarded.{Marks, IsGuarded, IsOnDisk, Holds, Shows, with_mode}
+use Rattle.crash_law.specs.Guarded.{Marks, HasOneName, IsGuarded, IsOnDisk, Holds, Shows, with_mode}
 use Rattle.crash_law.proofs.Guarding.{settle_law, guard_law, found_at}
 use Rattle.history_laws.specs.Doubt.{is_unsettled, name_waits, node_waits, way_waits, is_joint}
+use Rattle.history_laws.proofs.InTransit.{WasRenamed, is_in_transit, one_name}
 use Rattle.history_laws.proofs.Resting.{IsBeside, IsOfFiles, IsSureFolder, settled_unless}
 use Rattle.history_laws.proofs.Restless.{IsUnjoined, is_restless}
 
@@ -75,8 +76,8 @@ pub record IsKnown (said : Said) (dirty : List Route) (marks : Marks) (log : Cal
   -- a mode that waits is of a dirty path
   pub moded : (i before : ℕ) → marks.modes i ≡ Some before → is_clean i log.changes ≡ false → HasMode said dirty marks log i before
   pub calm : (p : Route) → said.calm p ≡ true → IsCalmFolder marks log p
-  -- a folder is never loose, and never roams
-  pub folders : (i : ℕ) → is_folder (node (current log) i) ≡ true → (marks.roams i ≡ false) × (marks.loose i ≡ false)
+  -- a folder is never loose, and it roams only where it was renamed
+  pub folders : (i : ℕ) → is_folder (node (current log) i) ≡ true → ((marks.roams i ≡ false) ⊎ WasRenamed log i) × (marks.loose i ≡ false)
   pub aside : (p : Route) → marks.aside p ≡ true → Among said.named p
   -- a part that stands is the live job's, or an ended one left it
   pub left : (p : Route) → marks.aside p ≡ true → is_some (find (current log) p) ≡ true → (said.part ≡ Some p) ⊎ Among said.left p
@@ -91,12 +92,17 @@ pub record IsKnown (said : Said) (dirty : List Route) (marks : Marks) (log : Cal
   pub doubts : (p : Route) → name_waits log p ≡ true → said.doubt p ≡ true
   pub stand : (p : Route) → said.folders p ≡ true → IsSureFolder log p
 
+-- a folder that roams is in transit
+abbrev pub RoamInTransit : Marks → CallLog → Type 0
+RoamInTransit marks log = (i : ℕ) → is_folder (node (current log) i) ≡ true → marks.roams i ≡ true → is_in_transit i log.changes ≡ true
+
 -- and where nothing waits nothing is left open
 pub record IsKept (said : Said) (dirty : List Route) (marks : Marks) (log : CallLog) : Type 0 where
   pub known : IsKnown said dirty marks log
   pub aside : (p : Route) → marks.aside p ≡ true → (way_waits log p ≡ true) ⊎ (is_some (find (current log) p) ≡ true)
   pub was : (p : Route) → marks.aside p ≡ false → way_waits log p ≡ false → marks.was p ≡ find (current log) p
   pub modes : (i : ℕ) → is_clean i log.changes ≡ true → marks.modes i ≡ None
+  pub roams : RoamInTransit marks log
 
 -- the marks, where all is taken back that waits for nothing
 abbrev pub settled_marks : CallLog → Marks → Marks
@@ -104,7 +110,12 @@ settled_marks log marks = record marks {
   was = λ p. cond (way_waits log p) (marks.was p) (find (current log) p);
   aside = λ p. marks.aside p && (way_waits log p || is_some (find (current log) p));
   modes = λ i. cond (is_clean i log.changes) None (marks.modes i);
+  roams = λ i. marks.roams i && (is_in_transit i log.changes || not (is_folder (node (current log) i)));
 }
+
+-- of what is no folder it says what it said
+pub bare_roams : (log : CallLog) (marks : Marks) (i : ℕ) → is_folder (node (current log) i) ≡ false → marks.roams i ≡ true → (let m : Marks = settled_marks log marks in m.roams i) ≡ true
+bare_roams log marks i bare roams = and_from (marks.roams i) (is_in_transit i log.changes || not (is_folder (node (current log) i))) roams (or_right (is_in_transit i log.changes) (not (is_folder (node (current log) i))) (ap not bare))
 
 none_of : (o : Option ℕ) → is_some o ≡ false → o ≡ None
 none_of None h = refl
@@ -177,12 +188,25 @@ module _ (said : Said) (dirty : List Route) (marks : Marks) (log : CallLog) (kno
   firm_of i (inl firm) = firm
   firm_of i (inr folder) = (known.folders i folder).1
 
+  -- a folder that roams no more has one name
+  places : (i : ℕ) (r : Bool) → marks.roams i ≡ r → (r && (is_in_transit i log.changes || not (is_folder (node (current log) i)))) ≡ false → (marks.roams i ≡ false) ⊎ HasOneName log i
+  places i false is h = inl is
+  places i true is h =
+      let both = neither (is_in_transit i log.changes) (not (is_folder (node (current log) i))) h in
+      elim (known.folders i (not-false _ both.1)).0 [ inl stays ↦ inl stays | inr renamed ↦ inr (one_name log i renamed both.0) ]
+
+  in_transit : (i : ℕ) → is_folder (node (current log) i) ≡ true → after.roams i ≡ true → is_in_transit i log.changes ≡ true
+  in_transit i folder roams = elim (or_cases (is_in_transit i log.changes) (not (is_folder (node (current log) i))) (and_parts (marks.roams i) (is_in_transit i log.changes || not (is_folder (node (current log) i))) roams).1) [
+    | inl transit ↦ transit
+    | inr bare ↦ absurd (false≢true (sym (ap not folder) ∙ bare))
+  ]
+
   pub settled_guarded : IsGuarded after log
   settled_guarded = settle_law marks after log known.guarded (record {
     paths = λ p h. paths p h (way_waits log p) refl;
     nodes = λ i firm. modes_if i firm (is_clean i log.changes) refl;
     firm = solid;
-    places = λ i stays. inl stays;
+    places = λ i stays. places i (marks.roams i) refl stays;
   })
 
   there_by : (p : Route) (i : ℕ) → after.aside p ≡ false → after.was p ≡ Some i → (u : Bool) → way_waits log p ≡ u → (i < length (current log).nodes) × (marks.loose i ≡ false)
@@ -222,7 +246,9 @@ module _ (said : Said) (dirty : List Route) (marks : Marks) (log : CallLog) (kno
       files = known.files;
       moded = moded_by;
       calm = calm_by;
-      folders = known.folders;
+      folders = λ i folder.
+          let k = known.folders i folder in
+          (elim k.0 [ inl stays ↦ inl (ap (λ b. b && (is_in_transit i log.changes || not (is_folder (node (current log) i)))) stays) | inr renamed ↦ inr renamed ], k.1);
       aside = λ p h. known.aside p (aside_of p (marks.aside p) refl h).0;
       left = λ p h there. known.left p (aside_of p (marks.aside p) refl h).0 there;
       was_there = λ p i h is. there_by p i h is (way_waits log p) refl;
@@ -237,6 +263,7 @@ module _ (said : Said) (dirty : List Route) (marks : Marks) (log : CallLog) (kno
     aside = λ p h. (aside_of p (marks.aside p) refl h).1;
     was = λ p h sure. (was_if p false sure).1 refl;
     modes = λ i clean. ap (λ b. cond b (let o : Option ℕ = None in o) (marks.modes i)) clean;
+    roams = in_transit;
   }
 
 -- What stands at a path that isn't a part's.

@@ -22,7 +22,7 @@ use Rattle.file_copy.proofs.FilledParts.{Holds}
 use Rattle.copy_move.specs.declared.run.Course.{Course}
 use Rattle.copy_move.specs.declared.run.Course.TheVariants.{GoesOn, Asking, InTrouble, OwedSyncFailed, Skips, Ends}
 use Rattle.history_laws.specs.Doubt.{way_waits}
-use Rattle.history_laws.proofs.Knowing.{Said, settled_marks}
+use Rattle.history_laws.proofs.Knowing.{Said, bare_roams, settled_marks}
 use Rattle.history_laws.proofs.Untouched.{IsAsFound, IsUntouched}
 
 -- the part stands beside the target, and leads to this node
@@ -148,7 +148,7 @@ module _ (log : CallLog) (marks : Marks) where
     part_is = h.part_is;
     leads = h.leads;
     loose = h.loose;
-    moves = h.moves;
+    moves = bare_roams log marks i (ap folder_kind h.file) h.moves;
     file = h.file;
     unnamed = h.unnamed;
     name = h.name;
@@ -172,7 +172,7 @@ module _ (log : CallLog) (marks : Marks) where
     part_is = h.part_is;
     leads = h.leads;
     firm = h.firm;
-    moves = h.moves;
+    moves = bare_roams log marks i (ap folder_kind h.link) h.moves;
     link = h.link;
     says = h.says;
     name = h.name;

@@ -1,4 +1,5 @@
 pub mod AmongParts
+pub mod AtRest
 pub mod AtWork
 pub mod BareItems
 pub mod BareSteps
@@ -34,6 +35,7 @@ pub mod FilledFolders
 pub mod Filling
 pub mod Finished
 pub mod FinishedExample
+pub mod FinishedMoves
 pub mod FinishedPaths
 pub mod FolderExample
 pub mod FolderExampleSteps
@@ -45,6 +47,8 @@ pub mod GivenModes
 pub mod Going
 pub mod Histories
 pub mod Holding
+pub mod HollowThings
+pub mod InTransit
 pub mod Intact
 pub mod ItemFiles
 pub mod ItemLinks
@@ -70,11 +74,15 @@ pub mod ModesStay
 pub mod Moments
 pub mod Mounts
 pub mod MoveKnown
+pub mod MovableThings
 pub mod Moved
+pub mod MovedPaths
+pub mod MovedTree
 pub mod MovesOn
 pub mod MovingExample
-pub mod MovingFiles
 pub mod MovingSteps
+pub mod MovingThings
+pub mod MovingWaits
 pub mod NameChanges
 pub mod NameItems
 pub mod NameLaws
@@ -86,6 +94,7 @@ pub mod OpenFolders
 pub mod OpenTargets
 pub mod OwedModes
 pub mod Owing
+pub mod PathsBelow
 pub mod PartMade
 pub mod PartNodes
 pub mod PartTexts
@@ -98,11 +107,12 @@ pub mod Quiet
 pub mod QuietRuns
 pub mod Refused
 pub mod Renaming
+pub mod RenamingThings
 pub mod Renamings
 pub mod Reports
 pub mod Restated
 pub mod Restless
-pub mod RoamingThings
+pub mod RoamingFolders
 pub mod Resting
 pub mod SetFolders
 pub mod SettingModes
@@ -112,6 +122,7 @@ pub mod Stepped
 pub mod StepsKnown
 pub mod SureThings
 pub mod TextSteps
+pub mod ThingRests
 pub mod Tidy
 pub mod TreeBefore
 pub mod TreeBegins

@@ -77,21 +77,21 @@ module _ (told : Said) (dirty dirty_after : List Route) (marks : Marks) (log : C
   pub link_known : IsSureFolder log folder → IsSureFolder log up → ((p : Route) → own p ≡ true → IsCalmFolder marks log p) → Among dirty_after up → ((q : Route) → Among dirty q → Among dirty_after q) → IsKnown (with_part told folder own part) dirty_after marks_then after
   link_known around firm calm listed more =
       firm_known (with_part told folder own part) dirty_after (marks_new marks part n) after n link_clean new_mode
-      (made_known told dirty dirty_after marks log kept.known name up f made m bare new_mode folder own around firm calm listed more)
+      (made_known told dirty dirty_after marks log kept.known name up f made kept.roams m bare new_mode folder own around firm calm listed more)
 
   apart_of : same_path target part ≡ false
   apart_of = false_from_ne_true _ (λ same. apart (sym (same_path-true target part same)))
 
   off : find (current after) target ≡ find (current log) target
-  off = off_part told dirty dirty_after marks log kept.known name up f made m bare new_mode target apart_of
+  off = off_part told dirty dirty_after marks log kept.known name up f made kept.roams m bare new_mode target apart_of
 
   node_made : node (current after) n ≡ made
-  node_made = part_node told dirty dirty_after marks log kept.known name up f made m bare new_mode
+  node_made = part_node told dirty dirty_after marks log kept.known name up f made kept.roams m bare new_mode
 
   pub has_link : HasLink (with_part told folder own part) marks_then (current after) target part made.bytes n
   has_link = record {
     part_is = refl;
-    leads = part_leads told dirty dirty_after marks log kept.known name up f made m bare new_mode;
+    leads = part_leads told dirty dirty_after marks log kept.known name up f made kept.roams m bare new_mode;
     firm = no_more ((n == n) || marks.loose n) (n == n) (eq-eqb n n refl);
     moves = or_left _ _ (eq-eqb n n refl);
     link = ap (λ (x : Node). x.kind) node_made ∙ link;

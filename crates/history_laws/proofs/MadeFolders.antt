@@ -33,7 +33,8 @@ use Rattle.tree_copy.specs.Standing.{Seen, target_name}
 use Rattle.tree_copy.specs.Steps.{TakesFolder, TakesNext, WorksOn, at_end}
 use Rattle.tree_copy.proofs.InPlaces.{leaves_all, pair_moved}
 use Rattle.job_reports.specs.Jobs.{Copies}
-use Rattle.history_laws.specs.Replayed.{copied_folder, made_by, moved_from}
+use Rattle.session_history.specs.Moves.{moved_from}
+use Rattle.history_laws.specs.Replayed.{copied_folder, made_by}
 use Rattle.history_laws.proofs.Moved.{moved_below}
 use Rattle.history_laws.proofs.FoldersMade.{MadeLaw}
 use Rattle.history_laws.proofs.PartMade.{made_is, made_leads}

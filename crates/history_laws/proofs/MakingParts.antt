@@ -20,7 +20,8 @@ use Rattle.crash_law.proofs.Leading.{current_more}
 use Rattle.crash_law.proofs.Making.{making_law}
 use Rattle.crash_law.proofs.Tops.{under_made, none_below}
 use Rattle.job_reports.specs.Paths.{folder_of}
-use Rattle.history_laws.proofs.Knowing.{HasMode, IsCalmFolder, IsKnown, Said, nowhere}
+use Rattle.history_laws.specs.Doubt.{way_waits}
+use Rattle.history_laws.proofs.Knowing.{HasMode, IsCalmFolder, IsKnown, RoamInTransit, Said, nowhere}
 use Rattle.history_laws.proofs.Restless.{unjoined_within}
 use Rattle.history_laws.proofs.Resting.{IsSureFolder}
 use Rattle.history_laws.proofs.Renaming.{in_one_folder, naming_known}
@@ -92,7 +93,7 @@ module _ (told : Said) (dirty : List Route) (marks : Marks) (log : CallLog) (kno
     files = known.files;
     moded = λ i before is unclean. moded_apart i before (known.moded i before is unclean);
     calm = λ p there. let calm = known.calm p there in record { modes = calm.modes; apart = calm.apart };
-    folders = λ i is. let o = older i n (there_folder i is) in let k = known.folders i is in (both_false _ _ o k.0, both_false _ _ o k.1);
+    folders = λ i is. let o = older i n (there_folder i is) in let k = known.folders i is in (elim k.0 [ inl stays ↦ inl (both_false _ _ o stays) | inr renamed ↦ inr renamed ], both_false _ _ o k.1);
     aside = λ p is. elim (either _ _ is) [ inl same ↦ inl (same_path-true p part same) | inr before ↦ inr (known.aside p before) ];
     left = λ p is there. elim (either _ _ is) [
       | inl same ↦ absurd (false≢true (sym (ap is_some (ap (find (current log)) (same_path-true p part same) ∙ free)) ∙ there))
@@ -108,12 +109,20 @@ module _ (told : Said) (dirty : List Route) (marks : Marks) (log : CallLog) (kno
     stand = known.stand;
   }
 
--- A part is made where nothing stands.
+  -- a folder roams only where it did
+  pub marked_transit : RoamInTransit marks log → RoamInTransit new_marks log
+  marked_transit in_transit i folder is = elim (either _ _ is) [
+    | inl same ↦ absurd (both_ways _ (older i n (there_folder i folder)) same)
+    | inr before ↦ in_transit i folder before
+  ]
+
+-- A part is made where nothing stands, in a folder to which nothing waits on the way.
 pub record MakesPart (told : Said) (log : CallLog) (name : List ℕ) (up : Route) (f : ℕ) : Type 0 where
   pub none : told.part ≡ None
   pub at : find (current log) up ≡ Some f
   pub folder : is_folder (node (current log) f) ≡ true
   pub free : lookup (current log).names f name ≡ None
+  pub sure : way_waits log up ≡ false
 
 -- what a history says once it was made, by a job whose item is in this folder, and that may change these folders
 abbrev pub with_part : Said → Route → (Route → Bool) → Route → Said
@@ -125,7 +134,7 @@ with_part told folder own part = record (naming_part told part) {
 }
 
 module _ (told : Said) (dirty dirty_after : List Route) (marks : Marks) (log : CallLog) (known : IsKnown told dirty marks log) (name : List ℕ) (up : Route) (f : ℕ) (made : Node)
-    (m : MakesPart told log name up f) (bare : is_folder made ≡ false) (new_mode : marks.modes (new_node log) ≡ None) where
+    (in_transit : RoamInTransit marks log) (m : MakesPart told log name up f) (bare : is_folder made ≡ false) (new_mode : marks.modes (new_node log) ≡ None) where
   abbrev makes : Change
   makes = Makes f name made
 
@@ -143,7 +152,7 @@ module _ (told : Said) (dirty dirty_after : List Route) (marks : Marks) (log : C
 
   naming : IsNaming (marks_new marks part (new_node log)) log makes
   naming = making_law (marks_new marks part (new_node log)) log up name f made marked.guarded (record {
-    stands = record { at = m.at; anchored = folder_anchored (naming_part told part) dirty (marks_new marks part (new_node log)) log marked up f m.at m.folder };
+    stands = record { at = m.at; anchored = folder_anchored (naming_part told part) dirty (marks_new marks part (new_node log)) log marked (marked_transit told dirty marks log known part was_free in_transit) up f m.at m.folder m.sure };
     folder = m.folder;
     free = m.free;
     was = λ out. absurd (both_ways _ out aside);

@@ -45,7 +45,7 @@ use Rattle.history_laws.proofs.Changing.{seen_nowhere}
 use Rattle.history_laws.proofs.Deleted.{comes_refused, either, put_at, put_off}
 use Rattle.history_laws.proofs.DeletionSteps.{Steps, ends, joined_holds, joined_more, same_dirty, tried}
 use Rattle.tree_deletion.specs.Folders.{joined}
-use Rattle.history_laws.proofs.JobKnows.{HasName, IsUntouched, KnowsAfter, NoneOn, WorkKnows, calm_in, none_waits, untouched_free, way_sure}
+use Rattle.history_laws.proofs.JobKnows.{HasName, IsUntouched, KnowsAfter, NoneOver, WorkKnows, calm_in, none_waits, over_it, untouched_free, way_sure}
 use Rattle.history_laws.proofs.Knowing.{IsCalmFolder, IsKept, IsKnown, Said, nowhere, settled_marks}
 use Rattle.history_laws.proofs.MakingThings.{marks_born, new_node, thing_made_known}
 use Rattle.history_laws.proofs.Resting.{IsSureFolder, folder_at_of, sure_path}
@@ -77,7 +77,7 @@ no_write (thing.Link text) path s left = refl
 
 -- a thing is made
 module _ (told : Said) (dirty dirty_after : List Route) (marks : Marks) (log now : CallLog) (name : List ℕ) (up : Route) (new : NewThing) (work : Work) (kept : IsKept told dirty marks log) (none : told.part ≡ None)
-    (owed : NoneOn (current log) up dirty) (within : folder_changed (item_in work) ≡ up) (own : (p : Route) → may_change (item_in work) p ≡ true → p ≡ up) (said_made : made_by (Some (item_in work)) (name ∷ up) told.tree ≡ value (node_of new)) (listed : Among dirty_after up) (more : (q : Route) → Among dirty q → Among dirty_after q)
+    (owed : NoneOver (current log) up dirty) (within : folder_changed (item_in work) ≡ up) (own : (p : Route) → may_change (item_in work) p ≡ true → p ≡ up) (said_made : made_by (Some (item_in work)) (name ∷ up) told.tree ≡ value (node_of new)) (listed : Among dirty_after up) (more : (q : Route) → Among dirty q → Among dirty_after q)
     (done : Performs {A = Unit {0}} log (making_call new (name ∷ up)) (Ok tt) (Some now)) where
   abbrev made_path : Route
   made_path = name ∷ up
@@ -97,17 +97,17 @@ module _ (told : Said) (dirty dirty_after : List Route) (marks : Marks) (log now
   firm : IsSureFolder log up
   firm = record {
     stands = folder_at_of (current log) up (found (current log) up) passes.folder passes.holds;
-    sure = way_sure told dirty marks log up (found (current log) up) kept.known passes.folder owed;
+    sure = way_sure told dirty marks log up kept.known owed;
   }
 
   calm : (p : Route) → may_change (item_in work) p ≡ true → IsCalmFolder marks log p
-  calm p here = subst (IsCalmFolder marks log) (sym (own p here)) (calm_in told dirty marks log kept up owed)
+  calm p here = subst (IsCalmFolder marks log) (sym (own p here)) (calm_in told dirty marks log kept up (over_it (current log) up dirty owed))
 
   was_free : find (current log) made_path ≡ None
   was_free = ap (option_and_then (λ g. lookup (current log).names g name)) passes.folder ∙ passes.none
 
   untouched : IsUntouched marks (current log) made_path
-  untouched = untouched_free told dirty marks log made_path kept (sure_path log made_path firm.sure (none_waits told dirty marks log up kept.known owed name)) was_free
+  untouched = untouched_free told dirty marks log made_path kept (sure_path log made_path firm.sure (none_waits told dirty marks log up kept.known (over_it (current log) up dirty owed) name)) was_free
 
   no_part : (p : Route) → told.part ≡ Some p → ⊥
   no_part p is = let e : (let o : Option Route = None in o) ≡ Some p = sym none ∙ is in cc
@@ -121,7 +121,7 @@ module _ (told : Said) (dirty dirty_after : List Route) (marks : Marks) (log now
   other p aside = false_from_ne_true _ (λ same. both_ways _ (ap marks.aside (same_path-true p made_path same) ∙ untouched.out) aside)
 
   known_then : IsKnown after dirty_after (marks_born marks (new_node log)) (with_change log (Makes (found (current log) up) name (node_of new)))
-  known_then = thing_made_known told after dirty dirty_after marks log kept.known name up (found (current log) up) (node_of new) (record {
+  known_then = thing_made_known told after dirty dirty_after marks log kept.known kept.roams name up (found (current log) up) (node_of new) (record {
     none = none;
     firm = firm;
     at = passes.folder;
@@ -159,7 +159,7 @@ module _ (told : Said) (dirty dirty_after : List Route) (marks : Marks) (log now
   In did course work new = Steps told dirty dirty_after marks log now kept did course work new
 
   -- the thing was made, by its last name
-  made_at : (w new : Making) (name : HasName w.path) → told.part ≡ None → new ≡ record w { stage = making.Sync } → NoneOn (current log) (folder_of w.path) dirty → dirty_after ≡ joined (folder_of w.path) dirty
+  made_at : (w new : Making) (name : HasName w.path) → told.part ≡ None → new ≡ record w { stage = making.Sync } → NoneOver (current log) (folder_of w.path) dirty → dirty_after ≡ joined (folder_of w.path) dirty
       → Performs {A = Unit {0}} log (making_call w.thing w.path) (Ok tt) (Some now) → In (Made w.path) GoesOn (Make w) (Make new)
   made_at w new name none new_is owed routes done =
       let up = folder_of w.path in
@@ -171,7 +171,7 @@ module _ (told : Said) (dirty dirty_after : List Route) (marks : Marks) (log now
       (λ m. (subst (λ (x : Making). HasName x.path) (sym new_is) name, none)))
 
   pub making_tells : (w new : Making) (did : Did) → WorkKnows told dirty marks log GoesOn (Make w) → Tells w did new → MakingCalls w did log (Some now)
-      → (is_fresh w.stage ≡ true → NoneOn (current log) (folder_of w.path) dirty) → dirty_after ≡ moves_dirty (makings.is_dirty w.stage) (makings.is_dirty new.stage) (folder_of w.path) dirty
+      → (is_fresh w.stage ≡ true → NoneOver (current log) (folder_of w.path) dirty) → dirty_after ≡ moves_dirty (makings.is_dirty w.stage) (makings.is_dirty new.stage) (folder_of w.path) dirty
       → In did (course_after did) (Make w) (Make new)
   making_tells w new (Made path) (name, none) (stage, path_is, new_is) done settled leaves =
       subst (λ q. In (Made q) GoesOn (Make w) (Make new)) (sym path_is) (made_at w new name none new_is (settled (ap is_fresh stage))

@@ -2,7 +2,7 @@
 use Rattle.std.proofs.Common.{◌≡◌, ◌⊎◌, ℕ, ◌<◌, Bool, true, false, not, ◌&&◌, List, [], ◌∷◌, ◌++◌, length, refl, sym, ◌∙◌, ap, subst, inl, inr, Option, Some, None, arith, cond, length-append}
 use Rattle.std.specs.Prelude.{is_some, option_and_then, ◌==◌}
 use Rattle.std.specs.Option.{option_map, option_map_or}
-use Rattle.std.proofs.lemmas.Bool.{false≢true, both_ways, false_from_ne_true, eqb-true, eq-eqb, cases_lt}
+use Rattle.std.proofs.lemmas.Bool.{false≢true, and_parts, both_ways, false_from_ne_true, eqb-true, eq-eqb, cases_lt}
 use Rattle.mc_text.specs.Routes.{Route, same_path}
 use Rattle.tree_trait.specs.declared.file_system.FileSystem.{FileSystem}
 use Rattle.tree_trait.specs.declared.file_system.Mount.{Mount}
@@ -24,10 +24,12 @@ use Rattle.crash_law.proofs.Syncing.{unaltered_law}
 use Rattle.crash_law.proofs.Tops.{under_made, none_below}
 use Rattle.history_laws.specs.Doubt.{is_pending, way_waits, name_waits, is_joint}
 use Rattle.history_laws.proofs.Pending.{pending_less}
-use Rattle.history_laws.proofs.Knowing.{HasMode, HasNoMode, IsCalmFolder, IsCalmIn, IsKnown, IsUnreached, Said, held}
-use Rattle.history_laws.proofs.Quiet.{held_same, kind_same, mount_same, mounts_same, shows_same, starts_same, unclean_before, was_bare}
-use Rattle.history_laws.proofs.Resting.{IsBeside, IsSureFolder, folder_at_of, joint_still, mounted, restless_folder, stands_at, sure_still, unborn_more, unjoined_still}
+use Rattle.history_laws.proofs.InTransit.{WasRenamed}
+use Rattle.history_laws.proofs.Knowing.{HasMode, HasNoMode, IsCalmFolder, IsCalmIn, IsKnown, IsUnreached, RoamInTransit, Said, held}
+use Rattle.history_laws.proofs.Quiet.{held_same, kind_same, mounts_same, shows_same, starts_same, unclean_before, was_bare}
+use Rattle.history_laws.proofs.Resting.{IsBeside, IsSureFolder, folder_at_of, joint_still, restless_folder, stands_at, sure_still, unborn_more, unjoined_still}
 use Rattle.history_laws.proofs.Restless.{IsUnjoined, is_restless, restless_less}
+use Rattle.history_laws.proofs.RoamingFolders.{roaming_still}
 use Rattle.history_laws.proofs.WaitsFor.{names_said}
 use Rattle.history_laws.proofs.Changing.{folder_anchored, off_itself, said_one, some_none, some_is}
 
@@ -54,6 +56,10 @@ module _ (told : Said) (dirty : List Route) (marks : Marks) (log : CallLog) (kno
   unnamed i true same h = let e = eqb-true i n same in inr (λ g k l m first second. let there = known.guarded.named g l i first in absurd (omega (arith, e, there)))
   unnamed i false other h = inl h
 
+  -- a folder roams only where it did
+  pub born_transit : RoamInTransit marks log → RoamInTransit (marks_born marks n) log
+  born_transit in_transit i folder is = in_transit i folder (and_parts (not (i == n)) (marks.roams i) is).1
+
   pub born_known : IsKnown told dirty (marks_born marks n) log
   born_known = record {
     guarded = settle_law marks (marks_born marks n) log known.guarded (record {
@@ -65,7 +71,7 @@ module _ (told : Said) (dirty : List Route) (marks : Marks) (log : CallLog) (kno
     files = known.files;
     moded = λ i before is unclean. let h = known.moded i before is unclean in record { path = h.path; leads = h.leads; out = h.out; listed = h.listed; told = h.told; shown = h.shown };
     calm = λ p there. let calm = known.calm p there in record { modes = calm.modes; apart = calm.apart };
-    folders = λ i is. let k = known.folders i is in (low _ _ k.0, low _ _ k.1);
+    folders = λ i is. let k = known.folders i is in (elim k.0 [ inl stays ↦ inl (low _ _ stays) | inr renamed ↦ inr renamed ], low _ _ k.1);
     aside = known.aside;
     left = known.left;
     was_there = λ p i out is. let t = known.was_there p i out is in (t.0, low _ _ t.1);
@@ -99,7 +105,7 @@ pub record MakesThing (told after : Said) (marks : Marks) (log : CallLog) (name 
   pub calm : (p : Route) → after.calm p ≡ true → (told.calm p ≡ true) ⊎ IsCalmFolder marks log p
   pub new_mode : marks.modes (length (current log).nodes) ≡ None
 
-module _ (told after : Said) (dirty dirty_after : List Route) (marks : Marks) (log : CallLog) (was_known : IsKnown told dirty marks log) (name : List ℕ) (up : Route) (f : ℕ) (made : Node)
+module _ (told after : Said) (dirty dirty_after : List Route) (marks : Marks) (log : CallLog) (was_known : IsKnown told dirty marks log) (in_transit : RoamInTransit marks log) (name : List ℕ) (up : Route) (f : ℕ) (made : Node)
     (m : MakesThing told after marks log name up f made) (listed : Among dirty_after up) (more : (q : Route) → Among dirty q → Among dirty_after q) where
   abbrev makes : Change
   makes = Makes f name made
@@ -121,7 +127,7 @@ module _ (told after : Said) (dirty dirty_after : List Route) (marks : Marks) (l
 
   naming : IsNaming marked log makes
   naming = making_law marked log up name f made known.guarded (record {
-    stands = record { at = m.at; anchored = folder_anchored told dirty marked log known up f m.at m.holds };
+    stands = record { at = m.at; anchored = (let firm = m.firm in folder_anchored told dirty marked log known (born_transit told dirty marks log was_known m.new_mode in_transit) up f m.at m.holds firm.sure) };
     folder = m.holds;
     free = m.free;
     was = λ out. m.was;
@@ -222,10 +228,10 @@ module _ (told after : Said) (dirty dirty_after : List Route) (marks : Marks) (l
       let n = count in
       elim (cases_lt i new) [ inl old ↦ inl old | inr past ↦ inr (omega (arith, there, n, past)) ]
 
-  folder_marks : (i : ℕ) → is_folder (node (current now) i) ≡ true → (marked.roams i ≡ false) × (marked.loose i ≡ false)
+  folder_marks : (i : ℕ) → is_folder (node (current now) i) ≡ true → ((marked.roams i ≡ false) ⊎ WasRenamed now i) × (marked.loose i ≡ false)
   folder_marks i is = elim (older_or_new i is) [
-    | inl old ↦ known.folders i (sym (kind_same log makes i old) ∙ is)
-    | inr here ↦ let same = eq-eqb i new here in (ap (λ b. not b && marks.roams i) same, ap (λ b. not b && marks.loose i) same)
+    | inl old ↦ let k = known.folders i (sym (kind_same log makes i old) ∙ is) in (roaming_still log makes i (marked.roams i) refl k.0, k.1)
+    | inr here ↦ let same = eq-eqb i new here in (inl (ap (λ b. not b && marks.roams i) same), ap (λ b. not b && marks.loose i) same)
   ]
 
   bare_now : (i : ℕ) (k : List ℕ) → is_folder (node (current now) i) ≡ false → is_pending i k now.changes ≡ true → ⊥
@@ -364,22 +370,12 @@ module _ (told after : Said) (dirty dirty_after : List Route) (marks : Marks) (l
   stand : (p : Route) → after.folders p ≡ true → IsSureFolder now p
   stand p there = elim (m.folders p there) [ inl before ↦ firm_still p (known.stand p before) | inr here ↦ firm_still p (subst (λ q. IsSureFolder log q) (sym here) m.firm) ]
 
-  mounts_sure : (p : Route) → (visible_tree (current now) p).is_mount ≡ true → way_waits now p ≡ false
-  mounts_sure p on = elim (where_is p) [
-    | inl here ↦ absurd (both_ways _ (ap (λ q. (visible_tree (current now) q).is_mount) here ∙ ap (λ (s : Spot). s.is_mount) path_shown) on)
-    | inr off ↦
-        let before = sym (mount_same log makes p (off_path p off)) ∙ on in
-        let there = mounted (current log) known.guarded.tree p before in
-        folder_sure p there.i there.at there.folder (known.files.mounts p before)
-  ]
-
   pub thing_made_known : IsKnown after dirty_after marked now
   thing_made_known = record {
     guarded = naming_law marked log makes known.guarded naming;
     files = record {
       bare = λ i k bare. false_from_ne_true _ (bare_now i k bare);
       unborn = unborn_more log makes (λ i past. naming.bytes i) naming.count known.files.unborn;
-      mounts = mounts_sure;
     };
     moded = λ i before is unclean. moded_still i before (known.moded i before is (unclean_before log makes i refl unclean));
     calm = λ p there. elim (m.calm p there) [ inl before ↦ (let calm = was_known.calm p before in calm_was p calm.modes calm.apart) | inr calm ↦ calm_was p calm.modes calm.apart ];

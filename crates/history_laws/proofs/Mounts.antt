@@ -1,10 +1,11 @@
 -- Where a folder's mount begins: at the folder, or at one above it.
-use Rattle.std.proofs.Common.{◌≡◌, ◌⊎◌, ℕ, Bool, true, false, List, [], ◌∷◌, ◌++◌, refl, sym, ◌∙◌, ap, inl, inr, Some, cond}
+use Rattle.std.proofs.Common.{◌≡◌, ◌⊎◌, ℕ, Bool, true, false, List, [], ◌∷◌, ◌++◌, refl, sym, ◌∙◌, ap, inl, inr, Some, cond, append_assoc}
 use Rattle.mc_text.specs.Routes.{Route}
 use Rattle.tree_trait.specs.declared.file_system.FileSystem.{FileSystem}
 use Rattle.tree_trait.specs.FileSystem.{find, lookup, starts_mount}
 use Rattle.tree_trait.specs.Refusals.{mount_here, mount_of}
-use Rattle.tree_trait.proofs.Finding.{and_then-some}
+use Rattle.tree_trait.specs.Shape.{IsTree}
+use Rattle.tree_trait.proofs.Finding.{and_then-some, find-once}
 
 -- a mount begins at the path, or it lies on that of the folder around
 step : (s : FileSystem) (name : List ℕ) (up : Route) (i : ℕ) → find s (name ∷ up) ≡ Some i → (mount_of s (name ∷ up) ≡ i) ⊎ (mount_of s (name ∷ up) ≡ mount_of s up)
@@ -40,4 +41,15 @@ mount_within s thing up (name ∷ rest) i at = elim (step s name (rest ++ thing 
   | inr outer ↦
       let h = and_then-some (find s (rest ++ thing ∷ up)) (λ f. lookup s.names f name) i at in
       elim (mount_within s thing up rest h.0 h.1) [ inl inside ↦ inl (inside.0, inside.1 ∙ ap (λ n. Some n) (sym outer)) | inr same ↦ inr (outer ∙ same) ]
+]
+
+-- A path on the mount of one that lies at or below a thing lies there, too, or that is the mount of the folder that holds the thing.
+pub mount_mates : (s : FileSystem) → IsTree s → (thing : List ℕ) (up rest : Route) (i : ℕ) → find s (rest ++ thing ∷ up) ≡ Some i → (q : Route) (g : ℕ) → find s q ≡ Some g → mount_of s q ≡ mount_of s (rest ++ thing ∷ up)
+    → ((more : Route) × (q ≡ more ++ thing ∷ up)) ⊎ (mount_of s (rest ++ thing ∷ up) ≡ mount_of s up)
+mount_mates s tree thing up rest i at q g there mount = elim (mount_within s thing up rest i at) [
+  | inl inside ↦
+      let above = mount_above s q g there in
+      let root_is = find-once s tree above.root (inside.0 ++ thing ∷ up) (mount_of s q) above.at (inside.1 ∙ ap (λ n. Some n) (sym mount)) in
+      inl (above.rest ++ inside.0, above.path_is ∙ (ap (λ p. above.rest ++ p) root_is ∙ sym (append_assoc above.rest inside.0 (thing ∷ up))))
+  | inr around ↦ inr around
 ]

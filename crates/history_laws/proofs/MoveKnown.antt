@@ -1,10 +1,10 @@
 -- What is known of a move, by where it stands: of what was renamed, both folders.
-use Rattle.std.proofs.Common.{◌≡◌, ◌⊎◌, ℕ, Bool, true, false, List, ◌∷◌, refl, sym, ◌∙◌, ap, subst, inl, inr, Option, Some, None, cond}
-use Rattle.std.specs.Option.{option_map_or}
+use Rattle.std.proofs.Common.{◌≡◌, ◌⊎◌, ℕ, Bool, true, false, List, [], ◌∷◌, ◌++◌, refl, sym, ◌∙◌, ap, subst, inl, inr, Option, Some, None, cond}
+use Rattle.std.specs.Option.{option_and_then, option_map_or}
 use Rattle.std.proofs.lemmas.Bool.{both_ways, false_from_ne_true}
 use Rattle.mc_text.specs.Routes.{Route, same_path}
 use Rattle.tree_trait.specs.declared.file_system.FileSystem.{FileSystem}
-use Rattle.tree_trait.specs.FileSystem.{find}
+use Rattle.tree_trait.specs.FileSystem.{find, lookup}
 use Rattle.tree_trait.specs.Change.{Change, Nothing, Syncs, CallLog, current, with_change}
 use Rattle.tree_trait.specs.CrashImages.{is_clean}
 use Rattle.crash_law.specs.Guarded.{Marks}
@@ -16,6 +16,7 @@ use Rattle.thing_moving.specs.declared.moving.MovingStage.{MovingStage}
 use Rattle.thing_moving.specs.declared.moving.MovingStage.TheVariants.{Take, SyncTarget, SyncSource, Finish, PassedOver}
 use Rattle.thing_moving.specs.Movings.{Moving, is_dirty, owes_target}
 use Rattle.history_laws.specs.Doubt.{is_joint, is_pending, joins, name_waits}
+use Rattle.history_laws.proofs.AtRest.{RestsBelow}
 use Rattle.history_laws.proofs.Knowing.{IsCalmIn, Said, settled_marks}
 use Rattle.history_laws.proofs.KnownParts.{HasName}
 use Rattle.history_laws.proofs.Restless.{is_restless, joint_less, names_in, restless_less}
@@ -30,7 +31,8 @@ is_moved SyncSource = true
 is_moved Finish = true
 is_moved PassedOver = false
 
--- Both folders stand on the disk, no mode waits in either, and renamings wait for them and each other alone. One that is not dirty any more is at rest.
+-- Both folders stand on the disk, no mode waits in either, and renamings wait for them and each other alone. One that is not dirty any more is at rest. Nothing waits
+-- of what was moved, and of what lies in it; and where it was nothing stands.
 pub record IsMovedIn (told : Said) (marks : Marks) (log : CallLog) (m : Moving) : Type 0 where
   pub f : ℕ
   pub g : ℕ
@@ -41,6 +43,8 @@ pub record IsMovedIn (told : Said) (marks : Marks) (log : CallLog) (m : Moving) 
   pub source_rests : is_dirty m.stage ≡ false → is_restless f log.changes ≡ false
   pub calm_from : IsCalmIn marks (current log) (folder_of m.pair.source)
   pub calm_to : IsCalmIn marks (current log) (folder_of m.pair.target)
+  pub rests : RestsBelow marks log m.pair.target
+  pub gone : find (current log) m.pair.source ≡ None
   pub told_from : told.folders (folder_of m.pair.source) ≡ true
   pub told_to : told.folders (folder_of m.pair.target) ≡ true
 
@@ -74,6 +78,8 @@ moved_same told marks log m new pair stage h = record {
   source_rests = λ clean. h.source_rests (sym (ap is_dirty stage) ∙ clean);
   calm_from = subst (λ (p : Pair). IsCalmIn marks (current log) (folder_of p.source)) (sym pair) h.calm_from;
   calm_to = subst (λ (p : Pair). IsCalmIn marks (current log) (folder_of p.target)) (sym pair) h.calm_to;
+  rests = subst (λ (p : Pair). RestsBelow marks log p.target) (sym pair) h.rests;
+  gone = ap (λ (p : Pair). find (current log) p.source) pair ∙ h.gone;
   told_from = ap (λ (p : Pair). told.folders (folder_of p.source)) pair ∙ h.told_from;
   told_to = ap (λ (p : Pair). told.folders (folder_of p.target)) pair ∙ h.told_to;
 }
@@ -96,6 +102,14 @@ module _ (log : CallLog) (marks : Marks) where
   pub calm_settled : (up : Route) → IsCalmIn marks (current log) up → IsCalmIn (settled_marks log marks) (current log) up
   calm_settled up calm name i at = elim (calm name i at) [ inl none ↦ inl (no_mode i (is_clean i log.changes) none) | inr begins ↦ inr begins ]
 
+  pub below_settled : (top : Route) → RestsBelow marks log top → RestsBelow (settled_marks log marks) log top
+  below_settled top h = record {
+    names = h.names;
+    modes = λ rest i at. no_mode i (is_clean i log.changes) (h.modes rest i at);
+    still = h.still;
+    apart = h.apart;
+  }
+
   pub moved_settled : (told : Said) (m : Moving) → IsMovedIn told marks log m → IsMovedIn told (settled_marks log marks) log m
   moved_settled told m h = record {
     f = h.f;
@@ -107,6 +121,8 @@ module _ (log : CallLog) (marks : Marks) where
     source_rests = h.source_rests;
     calm_from = calm_settled (folder_of m.pair.source) h.calm_from;
     calm_to = calm_settled (folder_of m.pair.target) h.calm_to;
+    rests = below_settled m.pair.target h.rests;
+    gone = h.gone;
     told_from = h.told_from;
     told_to = h.told_to;
   }
@@ -125,6 +141,30 @@ module _ (told : Said) (marks : Marks) (log : CallLog) (c : Change) (same : curr
   pub joint_on : (f g : ℕ) → is_joint f g now.changes ≡ true → is_joint f g log.changes ≡ true
   joint_on f g joint = elim (joint_less f g log.changes c joint) [ inl before ↦ before | inr joined ↦ absurd (both_ways _ (no_joins f g) joined) ]
 
+  -- a folder that is at rest, and joined with none, has no name that waits
+  unpending : (f : ℕ) (name : List ℕ) → is_restless f log.changes ≡ false → ((g : ℕ) → is_joint f g log.changes ≡ false) → is_pending f name now.changes ≡ false
+  unpending f name rests apart = false_from_ne_true _ (λ waits. elim (waits_for f name now.changes waits) [
+    | inl own ↦ both_ways _ (rests_on f rests) own
+    | inr other ↦ both_ways _ (apart other.0) (joint_on f other.0 other.1)
+  ])
+
+  pub below_on : (top : Route) → RestsBelow marks log top → RestsBelow marks now top
+  below_on top h = record {
+    names = λ name rest. by name rest (find (current log) (rest ++ top)) refl;
+    modes = λ rest i at. h.modes rest i (found rest i at);
+    still = λ rest i at. rests_on i (h.still rest i (found rest i at));
+    apart = λ rest i other at. false_from_ne_true _ (λ joint. both_ways _ (h.apart rest i other (found rest i at)) (joint_on i other joint));
+  }
+    where
+      found : (rest : Route) (i : ℕ) → find (current now) (rest ++ top) ≡ Some i → find (current log) (rest ++ top) ≡ Some i
+      found rest i at = ap (λ (s : FileSystem). find s (rest ++ top)) (sym same) ∙ at
+
+      by : (name : List ℕ) (rest : Route) (o : Option ℕ) → find (current log) (rest ++ top) ≡ o → name_waits now (name ∷ rest ++ top) ≡ false
+      by name rest None at = ap (λ x. option_map_or (λ f. is_pending f name now.changes) x false) (ap (λ (s : FileSystem). find s (rest ++ top)) same ∙ at)
+      by name rest (Some f) at =
+          ap (λ x. option_map_or (λ g. is_pending g name now.changes) x false) (ap (λ (s : FileSystem). find s (rest ++ top)) same ∙ at)
+          ∙ unpending f name (h.still rest f at) (λ g. h.apart rest f g at)
+
   -- at a later stage, too, where the folders that are then to be at rest are
   pub moved_on : (m new : Moving) → new.pair ≡ m.pair → (h : IsMovedIn told marks log m) → (owes_target new.stage ≡ false → is_restless (let x : IsMovedIn told marks log m = h in x.g) now.changes ≡ false)
       → (is_dirty new.stage ≡ false → is_restless (let x : IsMovedIn told marks log m = h in x.f) now.changes ≡ false) → IsMovedIn told marks now new
@@ -138,6 +178,8 @@ module _ (told : Said) (marks : Marks) (log : CallLog) (c : Change) (same : curr
     source_rests = source_rests;
     calm_from = subst (λ (s : FileSystem). IsCalmIn marks s (folder_of new.pair.source)) (sym same) (subst (λ (p : Pair). IsCalmIn marks (current log) (folder_of p.source)) (sym pair) h.calm_from);
     calm_to = subst (λ (s : FileSystem). IsCalmIn marks s (folder_of new.pair.target)) (sym same) (subst (λ (p : Pair). IsCalmIn marks (current log) (folder_of p.target)) (sym pair) h.calm_to);
+    rests = subst (λ (p : Pair). RestsBelow marks now p.target) (sym pair) (below_on m.pair.target h.rests);
+    gone = ap (λ (s : FileSystem). find s new.pair.source) same ∙ (ap (λ (p : Pair). find (current log) p.source) pair ∙ h.gone);
     told_from = ap (λ (p : Pair). told.folders (folder_of p.source)) pair ∙ h.told_from;
     told_to = ap (λ (p : Pair). told.folders (folder_of p.target)) pair ∙ h.told_to;
   }
@@ -177,6 +219,8 @@ move_said told other part folders marks log course m k = record {
         source_rests = h.source_rests;
         calm_from = h.calm_from;
         calm_to = h.calm_to;
+        rests = h.rests;
+        gone = h.gone;
         told_from = ap (λ (b : Route → Bool). b (folder_of m.pair.source)) folders ∙ h.told_from;
         told_to = ap (λ (b : Route → Bool). b (folder_of m.pair.target)) folders ∙ h.told_to;
       };
@@ -199,3 +243,15 @@ module _ (told : Said) (marks : Marks) (log : CallLog) (m : Moving) (h : IsMoved
 
   pub none_waits_to : (name : List ℕ) → name_waits log (name ∷ folder_of m.pair.target) ≡ false
   none_waits_to name = ap (λ o. option_map_or (λ k. is_pending k name log.changes) o false) h.to ∙ none_pending h.g name (inr refl)
+
+-- Nothing stands below a path where nothing stands, and so no name waits there.
+none_below : (s : FileSystem) (top rest : Route) → find s top ≡ None → find s (rest ++ top) ≡ None
+none_below s top [] gone = gone
+none_below s top (name ∷ rest) gone = ap (option_and_then (λ f. lookup s.names f name)) (none_below s top rest gone)
+
+module _ (told : Said) (marks : Marks) (log : CallLog) (m : Moving) (h : IsMovedIn told marks log m) where
+  pub none_left : (rest : Route) → find (current log) (rest ++ m.pair.source) ≡ None
+  none_left rest = none_below (current log) m.pair.source rest h.gone
+
+  pub none_waits_below : (name : List ℕ) (rest : Route) → name_waits log (name ∷ rest ++ m.pair.source) ≡ false
+  none_waits_below name rest = ap (λ o. option_map_or (λ k. is_pending k name log.changes) o false) (none_left rest)

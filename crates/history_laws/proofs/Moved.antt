@@ -3,7 +3,7 @@ use Rattle.std.proofs.Common.{◌≡◌, ◌++◌, List, [], ◌∷◌, ℕ, fal
 use Rattle.std.proofs.lemmas.Bool.{false_from_ne_true}
 use Rattle.mc_text.specs.Routes.{Route, same_path}
 use Rattle.tree_trait.proofs.Visible.{same_path-self, same_path-true}
-use Rattle.history_laws.specs.Replayed.{moved_from}
+use Rattle.session_history.specs.Moves.{moved_from}
 
 -- of the copied thing itself that is the source
 pub moved_here : (source target : Route) → moved_from source target target ≡ source

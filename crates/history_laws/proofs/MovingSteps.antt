@@ -1,16 +1,16 @@
 -- Each step of a move keeps what is known.
 use Rattle.std.proofs.Common.{◌≡◌, ◌⊎◌, ℕ, Bool, true, false, List, [], ◌∷◌, ◌++◌, refl, sym, ◌∙◌, ap, subst, inl, inr, Option, Some, None, Ok}
-use Rattle.std.specs.Prelude.{◌==◌, if◌then◌else◌, not, unwrap_or}
-use Rattle.std.proofs.lemmas.Bool.{true≢false, false≢true, both_ways, eqb-true, or_cases, or_left, or_right}
+use Rattle.std.specs.Prelude.{if◌then◌else◌, not, unwrap_or}
+use Rattle.std.proofs.lemmas.Bool.{true≢false, false≢true, both_ways}
 use Rattle.mc_text.specs.Routes.{Route, same_path}
 use Rattle.tree_trait.specs.declared.calls.TreeError.{TreeError}
-use Rattle.tree_trait.specs.FileSystem.{find, node, starts_mount}
+use Rattle.tree_trait.specs.FileSystem.{find, node}
 use Rattle.tree_trait.specs.Calls.{Rename, SyncFolder}
-use Rattle.tree_trait.specs.Change.{Change, Moves, Nothing, Syncs, CallLog, current, found, with_change}
+use Rattle.tree_trait.specs.Change.{Nothing, Syncs, CallLog, current, found, with_change}
 use Rattle.tree_trait.specs.Refusals.{folder_kind, is_folder}
 use Rattle.tree_trait.specs.CrashImages.{Among}
-use Rattle.tree_trait.specs.Answers.{Performs, mount_number}
-use Rattle.tree_trait.proofs.Visible.{same_path-self, same_path-true}
+use Rattle.tree_trait.specs.Answers.{Performs}
+use Rattle.tree_trait.proofs.Visible.{same_path-true}
 use Rattle.crash_law.specs.Guarded.{Marks}
 use Rattle.crash_law.proofs.Leading.{current_more}
 use Rattle.job_answers.specs.declared.replies.Replies.{Replies}
@@ -22,11 +22,12 @@ use Rattle.job_reports.specs.declared.report.Ending.TheVariants.{Finished, Abort
 use Rattle.job_reports.specs.declared.report.Did.{Did}
 use Rattle.job_reports.specs.declared.report.Did.TheVariants.{Began, Chunk, Placed, Removed, Made, Set, Kept, Skipped, Cleaned, Barrier, Asked, Merges, Moved, Troubled, Ended}
 use Rattle.job_reports.specs.Paths.{folder_of, without}
-use Rattle.job_reports.proofs.CallAnswers.{IsDoneCall, done_call, some_log}
+use Rattle.job_reports.proofs.PermittedCalls.{stat_missing}
+use Rattle.job_reports.proofs.CallAnswers.{done_call, some_log}
 use Rattle.tree_deletion.specs.Folders.{joined}
 use Rattle.thing_moving.specs.declared.moving.MovingStage.{MovingStage}
 use Rattle.thing_moving.specs.declared.moving.MovingStage.TheVariants.{Take, SyncTarget, SyncSource, Finish, PassedOver}
-use Rattle.thing_moving.specs.Takings.{CanMove}
+use Rattle.thing_moving.specs.Takings.{MayMove}
 use Rattle.thing_moving.specs.Movings.{LastMovingCalls, Moving, MovingCalls, MovingLeaves, Stops, Tells, Winds, after_sync, after_target, is_dirty, is_fresh, owed_folder, owed_in, owes_target, skipped, with_moves}
 use Rattle.copy_move.specs.declared.work.Work.{Work}
 use Rattle.copy_move.specs.declared.work.Work.TheVariants.{Move}
@@ -34,140 +35,21 @@ use Rattle.copy_move.specs.declared.run.Course.{Course}
 use Rattle.copy_move.specs.declared.run.Course.TheVariants.{GoesOn, Ends}
 use Rattle.copy_move.specs.DeletionSteps.{after_try}
 use Rattle.copy_move.specs.Jobs.{course_after}
-use Rattle.history_laws.specs.Doubt.{is_joint, way_waits}
+use Rattle.copy_move.specs.Settling.{NoneOwed}
+use Rattle.history_laws.proofs.AtRest.{RestsBelow}
 use Rattle.history_laws.proofs.Calming.{cleared_known, refused_is}
-use Rattle.history_laws.proofs.Changing.{off_itself, some_is, some_none}
-use Rattle.history_laws.proofs.Deleted.{comes_refused, file_no_mount}
+use Rattle.history_laws.proofs.Changing.{some_is}
+use Rattle.history_laws.proofs.Deleted.{comes_refused}
 use Rattle.history_laws.proofs.DeletionSteps.{Steps, ends, joined_holds, joined_more, stands, tried}
-use Rattle.history_laws.proofs.JobKnows.{NoneOn, WorkKnows, modes_in, none_joint, none_waits, way_sure}
-use Rattle.history_laws.proofs.Knowing.{IsCalmIn, IsKept, IsKnown, Said, settled_marks}
-use Rattle.history_laws.proofs.MoveKnown.{IsMovedIn, MoveKnown, is_moved, move_at, move_course, move_settled, moved_on, moved_same, moved_settled, rests_on}
-use Rattle.history_laws.proofs.MovingFiles.{moved_known, off_both, source_gone, source_stands, target_at, target_stands}
-use Rattle.history_laws.proofs.Quiet.{starts_same}
-use Rattle.history_laws.proofs.Renamings.{IsRenaming, renaming_passes}
-use Rattle.history_laws.proofs.Resting.{sure_path}
-use Rattle.history_laws.proofs.Restless.{is_restless, joint_less, named_both, names_in, restless_synced}
-use Rattle.history_laws.proofs.RoamingThings.{CanMoveFile, marks_roaming, pair_of, said_moved}
+use Rattle.history_laws.proofs.JobKnows.{NoneOver, WorkKnows, none_left, none_over}
+use Rattle.history_laws.proofs.Knowing.{IsKept, IsKnown, Said}
+use Rattle.history_laws.proofs.MoveKnown.{IsMovedIn, MoveKnown, is_moved, move_at, move_course, move_settled, moved_on, moved_same, rests_on}
+use Rattle.history_laws.proofs.MovingThings.{pair_of, said_thing_moved}
+use Rattle.history_laws.proofs.RenamingThings.{thing_moves}
+use Rattle.history_laws.proofs.Restless.{is_restless, restless_synced}
 use Rattle.history_laws.proofs.Stepped.{Comes, comes_one, said_after}
+use Rattle.history_laws.proofs.ThingRests.{source_rests}
 use Rattle.history_laws.proofs.TreeKnown.{is_over}
-
--- A thing that is no folder is renamed, to a folder on whose mount nothing is dirty.
-module _ (told : Said) (dirty dirty_after : List Route) (marks : Marks) (log now : CallLog) (kept : IsKept told dirty marks log) (old : List ℕ) (from : Route) (new : List ℕ) (to : Route) (skips : Skips)
-    (none : told.part ≡ None) (other : same_path (old ∷ from) (new ∷ to) ≡ false) (owed : NoneOn (current log) to dirty) (single : is_folder (node (current log) (found (current log) (old ∷ from))) ≡ false)
-    (listed : Among dirty_after from) (listed_beside : Among dirty_after to) (more : (q : Route) → Among dirty q → Among dirty_after q) (done : Performs {A = Unit {0}} log (Rename (old ∷ from) (new ∷ to)) (Ok tt) (Some now)) where
-  abbrev f : ℕ
-  f = found (current log) from
-
-  abbrev g : ℕ
-  g = found (current log) to
-
-  abbrev i : ℕ
-  i = found (current log) (old ∷ from)
-
-  abbrev r : Option ℕ
-  r = find (current log) (new ∷ to)
-
-  abbrev moves : Change
-  moves = Moves f old g new i r
-
-  abbrev moved_log : CallLog
-  moved_log = with_change log moves
-
-  abbrev after : Said
-  after = said_moved told old from new to
-
-  abbrev roaming : Marks
-  roaming = marks_roaming marks i (old ∷ from) (new ∷ to)
-
-  -- the move then
-  abbrev renamed : Moving
-  renamed = record { pair = pair_of (old ∷ from) (new ∷ to); stage = SyncTarget; skips = skips }
-
-  d : IsDoneCall log (Rename (old ∷ from) (new ∷ to)) now
-  d = done_call log (Rename (old ∷ from) (new ∷ to)) now done
-
-  passes : IsRenaming (current log) old from new to
-  passes = renaming_passes (current log) old from new to other d.permits
-
-  pub now_is : now ≡ moved_log
-  now_is = d.is ∙ ap (λ b. with_change log (if◌then◌else◌ b Nothing moves)) other
-
-  -- the other folder lies on the same mount
-  owed_from : NoneOn (current log) from dirty
-  owed_from path among = elim (owed path among) [ inl gone ↦ inl gone | inr apart ↦ inr (apart.0, apart.1 ∙ ap (mount_number (current log).mounts) passes.mount, apart.2) ]
-
-  sure_at : (name : List ℕ) (up : Route) (k : ℕ) → find (current log) up ≡ Some k → NoneOn (current log) up dirty → way_waits log (name ∷ up) ≡ false
-  sure_at name up k at off = sure_path log (name ∷ up) (way_sure told dirty marks log up k kept.known at off) (none_waits told dirty marks log up kept.known off name)
-
-  no_mode_at : (name : List ℕ) (up : Route) (j : ℕ) → NoneOn (current log) up dirty → find (current log) (name ∷ up) ≡ Some j → is_folder (node (current log) j) ≡ false → marks.modes j ≡ None
-  no_mode_at name up j off at bare = elim (modes_in told dirty marks log kept up off name j at) [
-    | inl calm ↦ calm
-    | inr begins ↦ absurd (both_ways _ (file_no_mount (current log) kept.known.guarded.tree j bare) begins)
-  ]
-
-  pub can : CanMoveFile told marks log old from new to f g i
-  can = record {
-    none = none;
-    from = passes.from_at;
-    to = passes.to_at;
-    folder = passes.holds;
-    leads = passes.leads;
-    file = single;
-    other = λ e. off_itself (old ∷ from) (new ∷ to) e other;
-    bare = passes.bare single;
-    source_sure = sure_at old from f passes.from_at owed_from;
-    target_sure = sure_at new to g passes.to_at owed;
-    no_mode = no_mode_at old from i owed_from passes.leads single;
-    no_mode_there = λ j at. no_mode_at new to j owed at (passes.bare single j at);
-    mount = passes.mount;
-  }
-
-  -- no renaming waited for either folder
-  apart : (h k : ℕ) → (h ≡ f) ⊎ (h ≡ g) → is_joint h k log.changes ≡ false
-  apart h k (inl e) = none_joint told dirty marks log from kept.known owed_from h k (passes.from_at ∙ ap (λ j. Some j) (sym e))
-  apart h k (inr e) = none_joint told dirty marks log to kept.known owed h k (passes.to_at ∙ ap (λ j. Some j) (sym e))
-
-  of_named : (k : ℕ) → names_in k moves ≡ true → (k ≡ f) ⊎ (k ≡ g)
-  of_named k named = elim (or_cases (f == k) (g == k) named) [ inl e ↦ inl (sym (eqb-true f k e)) | inr e ↦ inr (sym (eqb-true g k e)) ]
-
-  -- nor waits a mode in them then
-  calm_then : (up : Route) → IsCalmIn marks (current log) up → IsCalmIn roaming (current moved_log) up
-  calm_then up calm name k at = by (same_path (name ∷ up) (old ∷ from)) refl (same_path (name ∷ up) (new ∷ to)) refl
-    where
-      by : (a : Bool) → same_path (name ∷ up) (old ∷ from) ≡ a → (b : Bool) → same_path (name ∷ up) (new ∷ to) ≡ b → (marks.modes k ≡ None) ⊎ (starts_mount (current moved_log) k ≡ true)
-      by true here b b_is =
-          some_none k (sym at ∙ (ap (find (current moved_log)) (same_path-true (name ∷ up) (old ∷ from) here) ∙ source_gone told dirty marks log kept old from new to f g i r can))
-      by false off true here =
-          let same : k ≡ i = some_is i k (sym (target_at told dirty marks log kept old from new to f g i r can) ∙ (ap (find (current moved_log)) (sym (same_path-true (name ∷ up) (new ∷ to) here)) ∙ at)) in
-          inl (subst (λ j. marks.modes j ≡ None) (sym same) can.no_mode)
-      by false off false away = elim (calm name k (sym (off_both told dirty marks log kept old from new to f g i r can (name ∷ up) off away) ∙ at)) [
-        | inl still ↦ inl still
-        | inr begins ↦ inr (starts_same log moves k ∙ begins)
-      ]
-
-  moved_in : IsMovedIn after roaming moved_log renamed
-  moved_in = record {
-    f = f;
-    g = g;
-    from = source_stands told dirty marks log kept old from new to f g i r can;
-    to = target_stands told dirty marks log kept old from new to f g i r can;
-    joined = λ h k either joint. elim (joint_less h k log.changes moves joint) [
-      | inl before ↦ absurd (both_ways _ (apart h k either) before)
-      | inr joined ↦ of_named k (named_both h k moves joined).1
-    ];
-    target_rests = λ over. absurd (true≢false over);
-    source_rests = λ over. absurd (true≢false over);
-    calm_from = calm_then from (modes_in told dirty marks log kept from owed_from);
-    calm_to = calm_then to (modes_in told dirty marks log kept to owed);
-    told_from = or_right (told.folders from) _ (or_left (same_path from from) (same_path from to) (same_path-self from));
-    told_to = or_right (told.folders to) _ (or_right (same_path to from) (same_path to to) (same_path-self to));
-  }
-
-  pub thing_moves : (knows : Marks → Type 0) → ((m : Marks) → IsMovedIn after m now renamed → knows m) → Comes told after dirty_after log now knows
-  thing_moves knows known_of =
-      comes_one told after dirty dirty_after marks roaming log now moves knows kept now_is
-      (subst (λ (l : CallLog). IsKnown after dirty_after roaming l) (sym now_is) (moved_known told dirty marks log kept old from new to f g i r can dirty_after listed listed_beside more))
-      (known_of (settled_marks now roaming) (moved_settled now roaming after renamed (subst (λ (l : CallLog). IsMovedIn after roaming l renamed) (sym now_is) moved_in)))
 
 -- dirty paths, without one and once more without it
 without_twice : (up : Route) (paths : List Route) → without up (without up paths) ≡ without up paths
@@ -189,17 +71,17 @@ module _ (told : Said) (dirty dirty_after : List Route) (marks : Marks) (log now
 
   abbrev Renames : Pair → Type 0
   Renames pair =
-      (same_path pair.source pair.target ≡ false) × NoneOn (current log) (folder_of pair.target) dirty × (is_folder (node (current log) (found (current log) pair.source)) ≡ false)
-      × (dirty_after ≡ joined (folder_of pair.source) (joined (folder_of pair.target) dirty)) × Performs {A = Unit {0}} log (Rename pair.source pair.target) (Ok tt) (Some now)
+      (same_path pair.source pair.target ≡ false) × NoneOver (current log) (folder_of pair.target) dirty × NoneOver (current log) (folder_of pair.source) dirty × (is_folder (node (current log) (found (current log) pair.source)) ≡ true → find (current log) pair.target ≡ None)
+      × RestsBelow marks log pair.source × (dirty_after ≡ joined (folder_of pair.source) (joined (folder_of pair.target) dirty)) × Performs {A = Unit {0}} log (Rename pair.source pair.target) (Ok tt) (Some now)
 
   renamed_at : (work : Work) (skips : Skips) (old : List ℕ) (from : Route) (new : List ℕ) (to : Route) → told.part ≡ None → Renames (pair_of (old ∷ from) (new ∷ to)) → Renamed work skips (pair_of (old ∷ from) (new ∷ to))
-  renamed_at work skips old from new to none (other, owed, single, routes, done) =
-      thing_moves told dirty dirty_after marks log now kept old from new to skips none other owed single
+  renamed_at work skips old from new to none (other, owed, owed_from, free, rests, routes, done) =
+      thing_moves told dirty dirty_after marks log now kept old from new to skips none other owed owed_from free rests
       (subst (λ xs. Among xs from) (sym routes) (joined_holds from (joined to dirty)))
       (subst (λ xs. Among xs to) (sym routes) (joined_more from to (joined to dirty) (joined_holds to dirty)))
       (λ q among. subst (λ xs. Among xs q) (sym routes) (joined_more from q (joined to dirty) (joined_more to q dirty among)))
       done
-      (λ m. MoveKnown (said_moved told old from new to) m now GoesOn (record { pair = pair_of (old ∷ from) (new ∷ to); stage = SyncTarget; skips = skips }))
+      (λ m. MoveKnown (said_thing_moved told old from new to) m now GoesOn (record { pair = pair_of (old ∷ from) (new ∷ to); stage = SyncTarget; skips = skips }))
       (λ m moved. record { source = record { name = old; is = refl }; target = record { name = new; is = refl }; none = none; other = other; moved = λ on is. moved })
 
   renamed_by : (work : Work) (w : Moving) → MoveKnown told marks log GoesOn w → Renames w.pair → Renamed work w.skips w.pair
@@ -209,9 +91,12 @@ module _ (told : Said) (dirty dirty_after : List Route) (marks : Marks) (log now
       subst (λ p. Renamed work w.skips p) (sym spelled)
       (renamed_at work w.skips k.source.name (folder_of w.pair.source) k.target.name (folder_of w.pair.target) k.none (subst (λ p. Renames p) spelled renames))
 
-  -- what can be moved is no folder
-  no_folder : (pair : Pair) → CanMove (current log) pair → is_folder (node (current log) (found (current log) pair.source)) ≡ false
-  no_folder pair can = ap folder_kind (sym can.stands.is.kind) ∙ can.single
+  -- nothing stands where a folder is moved
+  free_target : (pair : Pair) (replies : Replies) → MayMove (current log) pair replies → is_folder (node (current log) (found (current log) pair.source)) ≡ true → find (current log) pair.target ≡ None
+  free_target pair replies may folder = elim may.free [
+    | inl missing ↦ stat_missing (current log) pair.target missing
+    | inr decided ↦ (let d = decided.1 in absurd (both_ways _ (ap folder_kind (sym d.of_source.is.kind) ∙ d.single) folder))
+  ]
 
   -- one of its folders was synced
   move_synced : (up : Route) (i : ℕ) (new : Moving) → find (current log) up ≡ Some i → Performs {A = Unit {0}} log (SyncFolder up) (Ok tt) (Some now) → dirty_after ≡ without up dirty → MoveKnown told marks (with_change log (Syncs i)) GoesOn new
@@ -311,15 +196,17 @@ module _ (told : Said) (dirty dirty_after : List Route) (marks : Marks) (log now
       subst (λ xs. Comes told told xs log now (λ m. MoveKnown told m now course new)) (sym routes) (comes_refused told dirty marks log now course (Move new) kept k how)
 
   pub moving_tells : (replies : Replies) (w new : Moving) (did : Did) → WorkKnows told dirty marks log GoesOn (Move w) → Tells w did new → MovingCalls replies w did log (Some now)
-      → (is_fresh w.stage ≡ true → NoneOn (current log) (folder_of w.pair.target) dirty) → dirty_after ≡ with_moves w.stage new.stage w.pair dirty
+      → (is_fresh w.stage ≡ true → NoneOwed (current log) (Move w) dirty) → dirty_after ≡ with_moves w.stage new.stage w.pair dirty
       → In did (course_after did) (Move w) (Move new)
   moving_tells replies w new (Moved pair) k (stage, pair_is, new_is) (may, done) settled leaves =
       subst (λ p. In (Moved p) GoesOn (Move w) (Move new)) (sym pair_is)
       (subst (λ (x : Moving). In (Moved w.pair) GoesOn (Move w) (Move x)) (sym new_is)
       (renamed_by (Move w) w k (
         k.other,
-        settled (ap is_fresh stage),
-        no_folder w.pair may.can,
+        none_over (current log) (Move w) dirty (settled (ap is_fresh stage)),
+        none_left (current log) (Move w) dirty (settled (ap is_fresh stage)),
+        free_target w.pair replies may,
+        source_rests told dirty marks log kept w k.source (settled (ap is_fresh stage)),
         leaves ∙ (ap (λ x. with_moves x new.stage w.pair dirty) stage ∙ ap (λ (x : Moving). with_moves Take x.stage w.pair dirty) new_is),
         done,
       )))

@@ -39,6 +39,7 @@ use Rattle.history_laws.proofs.Intact.{own_folder}
 use Rattle.history_laws.proofs.Knowing.{IsKnown, Said, clean_now, mode_waits}
 use Rattle.history_laws.proofs.Prefixes.{calm_told}
 use Rattle.history_laws.proofs.Resting.{IsBeside}
+use Rattle.history_laws.proofs.Untouched.{none_on}
 use Rattle.history_laws.proofs.WaitsFor.{waits_for}
 
 -- a path of which a change waits lies in a folder that is owed
@@ -106,7 +107,7 @@ owed_law = record {
 
 -- where none is owed, each dirty folder lies on another mount, or was removed
 pub apart_from : (s : FileSystem) (work : Work) (dirty : List Route) (q : Route) → Among dirty q → NoneOwed s work dirty → (refusal_of s (Stat q) ≡ Some Missing) ⊎ LiesApart s (changed_folder work) q
-apart_from s work dirty q among none = elim (none q among) [ inl gone ↦ inl gone | inr apart ↦ inr apart.1 ]
+apart_from s work dirty q among none = none_on s work dirty none q among
 
 -- and so does each folder that is owed, since those for which a renaming waits lie on one mount
 pub owed_apart : (told : Said) (dirty : List Route) (marks : Marks) (log : CallLog) (work : Work) (up : Route) → IsKnown told dirty marks log → NoneOwed (current log) work dirty → IsOwed dirty log up → IsApart log (changed_folder work) up
@@ -190,9 +191,9 @@ own_or_before (Make m) next (Make new) did q dirty dirty_after before after t le
     ]
 own_or_before (Move m) next (Move new) did q dirty dirty_after before after t leaves among =
     elim (changed_or_before (movings.is_dirty m.stage) (movings.is_dirty new.stage) (folder_of m.pair.source) q with_target (subst (λ xs. Among xs q) leaves among)) [
-      | inl same ↦ inl (or_left _ _ (subst (λ p. same_path p (folder_of m.pair.source) ≡ true) (sym same) (same_path-self (folder_of m.pair.source))))
+      | inl same ↦ inl (or_left _ _ (or_left _ _ (subst (λ p. same_path p (folder_of m.pair.source) ≡ true) (sym same) (same_path-self (folder_of m.pair.source)))))
       | inr old ↦ elim (changed_or_before (movings.owes_target m.stage) (movings.owes_target new.stage) (folder_of m.pair.target) q dirty old) [
-        | inl same ↦ inl (or_right _ _ (subst (λ p. same_path p (folder_of m.pair.target) ≡ true) (sym same) (same_path-self (folder_of m.pair.target))))
+        | inl same ↦ inl (or_right _ _ (or_left _ _ (subst (λ p. same_path p (folder_of m.pair.target) ≡ true) (sym same) (same_path-self (folder_of m.pair.target)))))
         | inr older ↦ inr older
       ]
     ]

@@ -20,7 +20,8 @@ use Rattle.crash_law.proofs.Syncing.{unaltered_law}
 use Rattle.crash_law.proofs.Tops.{under_moved, none_below}
 use Rattle.history_laws.proofs.Restless.{unjoined_within}
 use Rattle.history_laws.proofs.Resting.{bare_may}
-use Rattle.history_laws.proofs.Knowing.{IsKnown, Said, held}
+use Rattle.history_laws.specs.Doubt.{way_waits}
+use Rattle.history_laws.proofs.Knowing.{IsKnown, RoamInTransit, Said, held}
 use Rattle.history_laws.proofs.Renaming.{in_one_folder, naming_known}
 use Rattle.history_laws.proofs.Changing.{seen_nowhere, none_below_file, folder_anchored, off_itself, said_two, some_none, some_is}
 
@@ -64,11 +65,16 @@ firm_known told dirty marks log i clean no_mode known = record {
   stand = known.stand;
 }
 
--- A part that is to be placed, and what the history says once it is.
+-- a folder roams only where it did
+pub firm_transit : (marks : Marks) (log : CallLog) (i : ℕ) → RoamInTransit marks log → RoamInTransit (marks_firm marks i) log
+firm_transit marks log i in_transit j folder is = in_transit j folder is
+
+-- A part that is to be placed, in a folder to which nothing waits on the way, and what the history says once it is.
 pub record PlacesPart (told after : Said) (marks : Marks) (log : CallLog) (part target : List ℕ) (up : Route) (f i : ℕ) : Type 0 where
   pub part_is : told.part ≡ Some (part ∷ up)
   pub at : find (current log) up ≡ Some f
   pub folder : is_folder (node (current log) f) ≡ true
+  pub sure : way_waits log up ≡ false
   pub leads : find (current log) (part ∷ up) ≡ Some i
   pub apart : part ≡ target → ⊥
   pub moves : marks.roams i ≡ true
@@ -93,7 +99,7 @@ pub record PlacesPart (told after : Said) (marks : Marks) (log : CallLog) (part 
   pub no_mode : marks.modes i ≡ None
   pub doubted : (after.doubt (target ∷ up) ≡ true) × (after.doubt (part ∷ up) ≡ true)
 
-module _ (told after : Said) (dirty dirty_after : List Route) (marks : Marks) (log : CallLog) (known : IsKnown told dirty marks log) (part target : List ℕ) (up : Route) (f i : ℕ) (r : Option ℕ)
+module _ (told after : Said) (dirty dirty_after : List Route) (marks : Marks) (log : CallLog) (known : IsKnown told dirty marks log) (in_transit : RoamInTransit marks log) (part target : List ℕ) (up : Route) (f i : ℕ) (r : Option ℕ)
     (h : PlacesPart told after marks log part target up f i) where
   abbrev moves : Change
   moves = Moves f part f target i r
@@ -121,7 +127,7 @@ module _ (told after : Said) (dirty dirty_after : List Route) (marks : Marks) (l
 
   naming : IsNaming marks log moves
   naming = placing_law marks log up part target f i r known.guarded (record {
-    stands = record { at = h.at; anchored = folder_anchored told dirty marks log known up f h.at h.folder };
+    stands = record { at = h.at; anchored = folder_anchored told dirty marks log known in_transit up f h.at h.folder h.sure };
     folder = h.folder;
     leads = part_name;
     other = other;

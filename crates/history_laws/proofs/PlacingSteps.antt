@@ -33,13 +33,14 @@ use Rattle.job_reports.specs.Paths.{without, folder_of}
 use Rattle.job_reports.proofs.CallAnswers.{IsDoneCall, done_call, some_log}
 use Rattle.file_copy.proofs.FilledParts.{Holds, holds_copy}
 use Rattle.session_history.specs.Named.{changed_by, named_by}
-use Rattle.history_laws.specs.Replayed.{keeping, mode_placed, moved_from, placed_by, placed_copy}
+use Rattle.session_history.specs.Moves.{moved_from}
+use Rattle.history_laws.specs.Replayed.{keeping, mode_placed, placed_by, placed_copy}
 use Rattle.history_laws.proofs.Calming.{moded_known, nothing_known, synced_known, refused_is}
 use Rattle.history_laws.proofs.Deleted.{file_no_mount, put_at, put_off}
 use Rattle.history_laws.proofs.Knowing.{Said, IsKnown, IsKept, held, settled_marks}
 use Rattle.history_laws.proofs.JobKnows.{HasPart, IsAsFound, IsBare, IsFilled, none_of_part, part_settled}
 use Rattle.history_laws.proofs.PartNodes.{moded_node, part_on, part_there}
-use Rattle.history_laws.proofs.PlacingParts.{PlacesPart, firm_known, marks_firm, placed_known}
+use Rattle.history_laws.proofs.PlacingParts.{PlacesPart, firm_known, firm_transit, marks_firm, placed_known}
 use Rattle.history_laws.proofs.Stepped.{Comes, comes_none, comes_one, comes_then, doubt_by}
 
 -- the part that stands, in any tree: what its node holds, once it held these bytes with any mode
@@ -197,7 +198,7 @@ said_placed told source to target = record {
 }
 
 -- it is renamed to a path that lies at or below that target, and holds what stands where this comes from
-module _ (told : Said) (dirty : List Route) (source to target : Route) (tname : List ℕ) (target_is : target ≡ tname ∷ folder_of target) (part : Route) (i : ℕ) (listed : Among dirty (folder_of target)) (calm : told.calm (folder_of target) ≡ true)
+module _ (told : Said) (dirty : List Route) (source to target : Route) (tname : List ℕ) (target_is : target ≡ tname ∷ folder_of target) (part : Route) (i : ℕ) (listed : Among dirty (folder_of target)) (firm : told.folders (folder_of target) ≡ true) (calm : told.calm (folder_of target) ≡ true)
     (marks : Marks) (mid now : CallLog) (kept : IsKept told dirty marks mid) (whole : IsWhole told marks mid target part i)
     (copy : option_map placed_copy (told.tree (moved_from source to target)).value ≡ Some (value (node (current mid) i))) (done : Performs {A = Unit {0}} mid (Rename part target) (Ok tt) (Some now)) where
   abbrev up : Route
@@ -299,6 +300,7 @@ module _ (told : Said) (dirty : List Route) (source to target : Route) (tname : 
     part_is = whole.part_is ∙ ap (λ q. Some q) whole.beside;
     at = stands.0;
     folder = stands.1;
+    sure = (let around = kept.known.stand up firm in around.sure);
     leads = ap (find (current mid)) (sym whole.beside) ∙ whole.leads;
     apart = apart;
     moves = whole.moves;
@@ -336,11 +338,11 @@ module _ (told : Said) (dirty : List Route) (source to target : Route) (tname : 
   whole_placed =
       comes_one told after dirty dirty marks (marks_firm marks i) mid now moved (λ m. after.part ≡ None) kept now_is
       (subst (λ (l : CallLog). IsKnown after dirty (marks_firm marks i) l) (sym now_is)
-      (placed_known told after dirty dirty (marks_firm marks i) mid (firm_known told dirty marks mid i whole.clean (kept.modes i whole.clean) kept.known) whole.name tname up f i r places listed (λ q among. among)))
+      (placed_known told after dirty dirty (marks_firm marks i) mid (firm_known told dirty marks mid i whole.clean (kept.modes i whole.clean) kept.known) (firm_transit marks mid i kept.roams) whole.name tname up f i r places listed (λ q among. among)))
       refl
 
 -- A file's part is placed by the copy of a source to a target, in which the file's target comes from the file's source.
-module _ (told : Said) (dirty : List Route) (source to : Route) (c : Copying) (source_is : moved_from source to c.target ≡ c.source) (tname : List ℕ) (target_is : c.target ≡ tname ∷ folder_of c.target) (part : Route) (i : ℕ) (listed : Among dirty (folder_of c.target)) (calm : told.calm (folder_of c.target) ≡ true) where
+module _ (told : Said) (dirty : List Route) (source to : Route) (c : Copying) (source_is : moved_from source to c.target ≡ c.source) (tname : List ℕ) (target_is : c.target ≡ tname ∷ folder_of c.target) (part : Route) (i : ℕ) (listed : Among dirty (folder_of c.target)) (firm : told.folders (folder_of c.target) ≡ true) (calm : told.calm (folder_of c.target) ≡ true) where
   abbrev said_then : Said
   said_then = said_placed told source to c.target
 
@@ -351,7 +353,7 @@ module _ (told : Said) (dirty : List Route) (source to : Route) (c : Copying) (s
   renamed : (marks : Marks) (mid now : CallLog) → IsKept told dirty marks mid → HasPart told marks (current mid) c.target part i → IsFirm told dirty c.target part i marks mid
       → option_map placed_copy (told.tree c.source).value ≡ Some (value (node (current mid) i)) → Performs {A = Unit {0}} mid (Rename part c.target) (Ok tt) (Some now) → Placing mid now
   renamed marks mid now kept has clean copy done =
-      whole_placed told dirty source to c.target tname target_is part i listed calm marks mid now kept (whole_part told marks mid c.target part i has clean)
+      whole_placed told dirty source to c.target tname target_is part i listed firm calm marks mid now kept (whole_part told marks mid c.target part i has clean)
       (ap (λ q. option_map placed_copy (told.tree q).value) source_is ∙ copy) done
 
   -- the sync and the renaming were done

@@ -20,8 +20,9 @@ use Rattle.crash_law.proofs.Syncing.{unaltered_law}
 use Rattle.history_laws.specs.Doubt.{is_pending, way_waits, name_waits, is_joint}
 use Rattle.history_laws.proofs.Pending.{is_within, pending_less, says_at}
 use Rattle.history_laws.proofs.Knowing.{Said, HasMode, IsCalmFolder, IsKnown, IsUnreached, held}
-use Rattle.history_laws.proofs.Resting.{IsBeside, IsOfFiles, IsSureFolder, folder_at, joint_still, mounted, stands_at, sure_still, unborn_more, unjoined_still}
+use Rattle.history_laws.proofs.Resting.{IsBeside, IsOfFiles, IsSureFolder, folder_at, joint_still, stands_at, sure_still, unborn_more, unjoined_still}
 use Rattle.history_laws.proofs.Restless.{IsUnjoined, is_restless, restless_less}
+use Rattle.history_laws.proofs.RoamingFolders.{renames_none, roaming_still}
 use Rattle.history_laws.proofs.WaitsFor.{names_said}
 
 mounts_after : (s : FileSystem) (c : Change) → (after_change s c).mounts ≡ s.mounts
@@ -83,14 +84,6 @@ module _ (log : CallLog) (c : Change) where
   pub unclean_before : (i : ℕ) → alters i c ≡ false → is_clean i (with_change log c).changes ≡ false → is_clean i log.changes ≡ false
   unclean_before i same unclean = false_from_ne_true _ (λ clean. both_ways _ unclean (clean_more i log.changes c same clean))
 
-  mount_by : (o : Option ℕ) → option_map_or (starts_mount (current (with_change log c))) o false ≡ option_map_or (starts_mount (current log)) o false
-  mount_by None = refl
-  mount_by (Some i) = ap (λ (ms : List Mount). list_any (λ (m : Mount). m.folder == i) ms) mounts_same
-
-  -- a mount begins at a path that leads where it led, if one began there
-  pub mount_same : (p : Route) → find (current (with_change log c)) p ≡ find (current log) p → (visible_tree (current (with_change log c)) p).is_mount ≡ (visible_tree (current log) p).is_mount
-  mount_same p found = ap (λ o. option_map_or (starts_mount (current (with_change log c))) o false) found ∙ mount_by (find (current log) p)
-
   pub held_same : (o : Option ℕ) → ((i : ℕ) → o ≡ Some i → node (current (with_change log c)) i ≡ node (current log) i) → held (current (with_change log c)) o ≡ held (current log) o
   held_same o same = (spot_by o same).0
 
@@ -146,17 +139,10 @@ module _ (said : Said) (dirty : List Route) (marks : Marks) (log : CallLog) (c :
         sure = calm_sure p there.i there.at there.folder firm.sure;
       }
 
-  calm_mounts : (p : Route) → (visible_tree (current now) p).is_mount ≡ true → way_waits now p ≡ false
-  calm_mounts p on =
-      let before = sym (mount_same log c p (same_quiet log c n.names p)) ∙ on in
-      let there = mounted (current log) known.guarded.tree p before in
-      calm_sure p there.i there.at there.folder (known.files.mounts p before)
-
   pub calm_files : IsOfFiles now
   calm_files = record {
     bare = λ i m h. waits_not i m (known.files.bare i m (was_bare log c i h));
     unborn = unborn_more log c n.unborn (let same = n.count in omega (arith, same)) known.files.unborn;
-    mounts = calm_mounts;
   }
 
   pub calm_tracked : (f : ℕ) → is_restless f now.changes ≡ true → ((up : Route) × Among dirty up × (find (current now) up ≡ Some f)) ⊎ IsUnreached now f
@@ -231,7 +217,9 @@ module _ (said : Said) (dirty : List Route) (marks : Marks) (log : CallLog) (c :
     files = calm_files said dirty marks log c known nameless;
     moded = moded_still;
     calm = calm_still;
-    folders = λ i folder. known.folders i (was_folder said dirty marks log c known nameless i folder);
+    folders = λ i folder.
+        let k = known.folders i (was_folder said dirty marks log c known nameless i folder) in
+        (roaming_still log c i (marks.roams i) (renames_none i c (length (current log).nodes) quiet_of.names) k.0, k.1);
     aside = known.aside;
     left = λ p is there. known.left p is (sym (ap is_some (same_quiet log c quiet_of.names p)) ∙ there);
     was_there = λ p i out is. let t = known.was_there p i out is in (subst (λ n. i < n) (sym quiet_of.count) t.0, t.1);

@@ -17,9 +17,11 @@ use Rattle.crash_law.proofs.Syncing.{unaltered_law}
 use Rattle.history_laws.specs.Doubt.{is_pending, way_waits, name_waits, is_joint, joins}
 use Rattle.history_laws.proofs.Pending.{pending_less, says_at}
 use Rattle.history_laws.proofs.Knowing.{HasMode, HasNoMode, IsCalmFolder, IsKnown, IsUnreached, Said, held, nowhere}
-use Rattle.history_laws.proofs.Quiet.{held_same, kind_same, mount_same, shows_same, starts_same, unclean_before, was_bare}
-use Rattle.history_laws.proofs.Resting.{IsBeside, IsSureFolder, folder_at_of, joint_after, joint_folder, mount_still, mounted, restless_folder, stands_at, sure_still, unborn_more, unjoined_after}
+use Rattle.history_laws.proofs.Quiet.{held_same, kind_same, shows_same, starts_same, unclean_before, was_bare}
+use Rattle.history_laws.proofs.Resting.{IsBeside, IsSureFolder, folder_at_of, joint_after, joint_folder, mount_still, restless_folder, stands_at, sure_still, unborn_more, unjoined_after}
 use Rattle.history_laws.proofs.Restless.{is_restless, named_both, names_in, restless_less}
+use Rattle.history_laws.proofs.InTransit.{renames}
+use Rattle.history_laws.proofs.RoamingFolders.{renaming_says, roaming_still}
 use Rattle.history_laws.proofs.WaitsFor.{names_said}
 
 -- Where a call changes names of files: at these two paths alone, each in its folder, which may be the same one; and both folders lie on one mount.
@@ -121,6 +123,13 @@ module _ (said after : Said) (dirty dirty_after : List Route) (marks : Marks) (l
     | inr past ↦ absurd (both_ways _ (n.made i past) h)
   ]
 
+  -- and it isn't renamed
+  not_renamed : (i : ℕ) → is_folder (node (current now) i) ≡ true → renames i c ≡ false
+  not_renamed i folder = false_from_ne_true _ (λ renamed.
+      let s = renaming_says i c (length (current log).nodes) renamed in
+      let leads = Rattle.crash_law.proofs.Guarding.said log c s.0 s.1 (Some i) s.2 in
+      both_ways _ (names.files_now s.0 s.1 i (said_so s.0 s.1 (ap is_some s.2)) leads) folder)
+
   -- a path that leads to a folder goes through no name that is changed
   no_folder_under : (p : Route) (j : ℕ) → IsUnder log c p → find (current log) p ≡ Some j → is_folder (node (current log) j) ≡ true → ⊥
   no_folder_under [] j under at folder = under
@@ -181,14 +190,6 @@ module _ (said after : Said) (dirty dirty_after : List Route) (marks : Marks) (l
         stands = folder_at_of (current now) p there.i (folder_stays p there.i there.at there.folder) (kind_same log c there.i (folder_there (current log).nodes there.i there.folder) ∙ there.folder);
         sure = folder_sure p there.i there.at there.folder firm.sure;
       }
-
-  mounts_sure : (p : Route) → (visible_tree (current now) p).is_mount ≡ true → way_waits now p ≡ false
-  mounts_sure p on =
-      let there = mounted (current now) naming_of.tree p on in
-      elim (find_same log c p) [
-        | inl same ↦ folder_sure p there.i (sym same ∙ there.at) (was_folder there.i there.folder) (known.files.mounts p (sym (mount_same log c p same) ∙ on))
-        | inr under ↦ absurd (no_folder_then p there.i under there.at there.folder)
-      ]
 
   -- a folder to which no path leads stays so
   unreached_stays : (g : ℕ) → is_folder (node (current log) g) ≡ true → IsUnreached log g → IsUnreached now g
@@ -345,11 +346,10 @@ module _ (said after : Said) (dirty dirty_after : List Route) (marks : Marks) (l
     files = record {
       bare = λ i m bare. false_from_ne_true _ (bare_now i m bare);
       unborn = unborn_more log c (λ i past. naming_of.bytes i) naming_of.count known.files.unborn;
-      mounts = mounts_sure;
     };
     moded = λ i before is unclean. moded_still i before is (known.moded i before is (unclean_before log c i (naming_of.bytes i) unclean));
     calm = λ p there. elim (n.calm p there) [ inl before ↦ calm_was p there (known.calm p before) | inr calm ↦ calm_was p there calm ];
-    folders = λ i folder. known.folders i (was_folder i folder);
+    folders = λ i folder. let k = known.folders i (was_folder i folder) in (roaming_still log c i (marks.roams i) (not_renamed i folder) k.0, k.1);
     aside = n.named;
     left = left_then;
     was_there = λ p i out is. let t = known.was_there p i out is in (let k = naming_of.count in let l = t.0 in omega (arith, k, l), t.1);

@@ -40,4 +40,5 @@ module _ (told : Said) (folders calm : Route → Bool) where
         aside = kept.aside;
         was = kept.was;
         modes = kept.modes;
+        roams = kept.roams;
       }

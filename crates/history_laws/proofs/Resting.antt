@@ -6,7 +6,7 @@ use Rattle.std.specs.Option.{option_map_or}
 use Rattle.std.proofs.lemmas.Bool.{true≢false, false≢true, both_ways, false_from_ne_true}
 use Rattle.mc_text.specs.Routes.{Route}
 use Rattle.tree_trait.specs.declared.file_system.FileSystem.{FileSystem}
-use Rattle.tree_trait.specs.FileSystem.{lookup, find, node, starts_mount, visible_tree}
+use Rattle.tree_trait.specs.FileSystem.{lookup, find, node, starts_mount}
 use Rattle.tree_trait.specs.Shape.{IsTree}
 use Rattle.tree_trait.specs.Refusals.{is_folder, mount_here, mount_of}
 use Rattle.tree_trait.specs.Change.{Change, CallLog, current, with_change}
@@ -41,13 +41,12 @@ stands_at s p h = by (find s p) refl h
     by None is h = absurd (false≢true h)
     by (Some i) is h = record { i = i; at = is; folder = h }
 
--- Only folders hold names, and where a mount begins nothing is in doubt.
+-- Only folders hold names, and of what isn't made yet nothing waits.
 pub record IsOfFiles (log : CallLog) : Type 0 where
   -- only folders hold names, and none did otherwise
   pub bare : (i : ℕ) (m : List ℕ) → is_folder (node (current log) i) ≡ false → is_pending i m log.changes ≡ false
   -- of a node that isn't made yet neither bytes nor a mode wait
   pub unborn : (i : ℕ) → length (current log).nodes ≤ i → is_clean i log.changes ≡ true
-  pub mounts : (p : Route) → (visible_tree (current log) p).is_mount ≡ true → way_waits log p ≡ false
 
 -- this node stands at a path on the mount of that one
 pub record IsBeside (log : CallLog) (up : Route) (g : ℕ) : Type 0 where
@@ -59,14 +58,6 @@ pub record IsBeside (log : CallLog) (up : Route) (g : ℕ) : Type 0 where
 pub record IsSureFolder (log : CallLog) (p : Route) : Type 0 where
   pub stands : folder_at (current log) p ≡ true
   pub sure : way_waits log p ≡ false
-
--- where a mount begins a folder stands
-pub mounted : (s : FileSystem) → IsTree s → (p : Route) → (visible_tree s p).is_mount ≡ true → IsFolderAt s p
-mounted s tree p on = by (find s p) refl on
-  where
-    by : (o : Option ℕ) → find s p ≡ o → option_map_or (starts_mount s) o false ≡ true → IsFolderAt s p
-    by None is h = absurd (false≢true h)
-    by (Some i) is h = record { i = i; at = is; folder = tree.mounts i h }
 
 module _ (log : CallLog) (tree : IsTree (current log)) (files : IsOfFiles log) where
   -- what is no folder holds no names

@@ -33,7 +33,8 @@ use Rattle.tree_copy.specs.Reports.{IsToldAs}
 use Rattle.tree_copy.specs.Standing.{Seen}
 use Rattle.tree_copy.specs.Steps.{FolderEnds, TakesNext, WorksOn, at_end}
 use Rattle.tree_copy.proofs.InPlaces.{closed_in_place, leaves_all}
-use Rattle.history_laws.specs.Replayed.{moved_from, set_by, with_mode_of}
+use Rattle.session_history.specs.Moves.{moved_from}
+use Rattle.history_laws.specs.Replayed.{set_by, with_mode_of}
 use Rattle.history_laws.proofs.Deleted.{put_at}
 use Rattle.history_laws.proofs.Moved.{moved_below}
 use Rattle.history_laws.proofs.PartNodes.{moded_node}

@@ -31,6 +31,7 @@ use Rattle.history_laws.proofs.PartNodes.{moded_node}
 use Rattle.history_laws.proofs.Quiet.{IsNameless, calm_apart, calm_files, calm_firm, calm_joint, calm_tracked, held_same, shows_same, starts_same, unclean_before, waits_before, was_folder}
 use Rattle.history_laws.proofs.Resting.{IsSureFolder, settled_unless}
 use Rattle.history_laws.proofs.Restless.{is_restless}
+use Rattle.history_laws.proofs.RoamingFolders.{roaming_still}
 use Rattle.history_laws.proofs.WaitsFor.{waits_for}
 
 -- A mode is to be set where nothing of the path waits, nor another mode of what stands there, and what the history says once it is.
@@ -92,12 +93,12 @@ module _ (told : Said) (dirty : List Route) (marks : Marks) (log : CallLog) (kep
   no_mode p i at = none_unlisted told dirty marks log kept p i at (λ among. some_not_none i (sym (gone p among) ∙ at))
 
 -- A folder that is on the disk is found after any crash at its path or nowhere, so wherever else it is said to have stood nothing waits.
-pub folder_once : (told : Said) (dirty : List Route) (marks : Marks) (log : CallLog) → IsKnown told dirty marks log → (path : Route) (i : ℕ) → find (current log) path ≡ Some i → is_folder (node (current log) i) ≡ true
+pub folder_once : (told : Said) (dirty : List Route) (marks : Marks) (log : CallLog) → IsKept told dirty marks log → (path : Route) (i : ℕ) → find (current log) path ≡ Some i → is_folder (node (current log) i) ≡ true
     → way_waits log path ≡ false → (p : Route) → marks.aside p ≡ false → marks.was p ≡ Some i → IsSettledAt log p
-folder_once told dirty marks log known path i at folder sure p out was x found = elim (known.guarded.twofold p x out found) [
+folder_once told dirty marks log kept path i at folder sure p out was x found = elim (kept.known.guarded.twofold p x out found) [
   | inl now ↦ now
   | inr before ↦
-      let same : p ≡ path = path_once marks log known.guarded path p i (folder_anchored told dirty marks log known path i at folder) at (subst (λ y. MayFind log p y) (before ∙ was) found) in
+      let same : p ≡ path = path_once marks log kept.known.guarded path p i (folder_anchored told dirty marks log kept.known kept.roams path i at folder sure) at (subst (λ y. MayFind log p y) (before ∙ was) found) in
       subst (λ q. IsSettledAt log q) (sym same) (settled_unless log path sure) x found
 ]
 
@@ -389,7 +390,7 @@ module _ (told after : Said) (dirty dirty_after : List Route) (marks : Marks) (l
       calm = calm_then;
       folders = λ j folder.
           let k = kept.known.folders j (was_folder told dirty marks log sets kept.known nameless j folder) in
-          (ap (λ (f : ℕ → Bool). f j) m.roams ∙ k.0, ap (λ (f : ℕ → Bool). f j) m.loose ∙ k.1);
+          (roaming_still log sets j (new.roams j) refl (elim k.0 [ inl stays ↦ inl (ap (λ (f : ℕ → Bool). f j) m.roams ∙ stays) | inr renamed ↦ inr renamed ]), ap (λ (f : ℕ → Bool). f j) m.loose ∙ k.1);
       aside = λ p is. s.named p (m.aside p is);
       left = λ p is there. elim (kept.known.left p (m.aside p is) (sym (ap is_some (same_quiet log sets (λ g n. refl) p)) ∙ there)) [
         | inl part ↦ absurd (let e : (let o : Option Route = None in o) ≡ Some p = sym s.no_part ∙ part in let x : ⊥ = cc in x)

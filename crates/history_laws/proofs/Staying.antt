@@ -35,6 +35,7 @@ use Rattle.history_laws.proofs.JobLeads.{sync_leads, work_leads}
 use Rattle.history_laws.proofs.JobSteps.{gives_up}
 use Rattle.history_laws.proofs.Knowing.{IsKept, Said, waits_there}
 use Rattle.history_laws.proofs.Moments.{prefix_cut, prefix_is, live_part, log_of, traced_count}
+use Rattle.history_laws.proofs.MovedPaths.{off_ends}
 use Rattle.history_laws.proofs.Reports.{JobsKnow}
 use Rattle.history_laws.proofs.Stepped.{AreMids, Comes, cut, doubt_by, mid_at, more, said_after}
 
@@ -70,6 +71,7 @@ module _ (told : Said) (log : CallLog) where
     aside = kept.aside;
     was = kept.was;
     modes = kept.modes;
+    roams = kept.roams;
   }
 
 neither : (a b : Bool) → a ≡ false → b ≡ false → (a || b) ≡ true → ⊥
@@ -96,7 +98,7 @@ unnamed_sure (Made folder) part before path sure unnamed other = untold_facts (b
 unnamed_sure (Kept kept) part before path sure unnamed other = sure
 unnamed_sure (Asked question) part before path sure unnamed other = sure
 unnamed_sure (Merges pair names) part before path sure unnamed other = sure
-unnamed_sure (Moved pair) part before path sure unnamed other = untold_facts (before path) (same_path path pair.source || same_path path pair.target) sure unnamed
+unnamed_sure (Moved pair) part before path sure unnamed other = untold_facts (before path) (same_path path pair.source || same_path path pair.target) sure (off_ends pair path unnamed)
 unnamed_sure (Skipped file cause) part before path sure unnamed other = sure
 unnamed_sure Barrier part before path sure unnamed other = sure
 unnamed_sure (Troubled trouble) part before path sure unnamed other = sure

@@ -11,9 +11,10 @@ use Rattle.job_reports.specs.Paths.{folder_of}
 use Rattle.job_reports.specs.declared.report.Did.{Did}
 use Rattle.job_reports.specs.declared.report.Did.TheVariants.{Began, Chunk, Placed, Removed, Made, Set, Kept, Skipped, Cleaned, Barrier, Asked, Merges, Moved, Troubled, Ended}
 use Rattle.copy_move.specs.declared.work.Work.{Work}
-use Rattle.history_laws.specs.Replayed.{replayed_step, keeping}
+use Rattle.session_history.specs.Moves.{is_of_move}
+use Rattle.history_laws.specs.Replayed.{earlier_step, replayed_step}
 use Rattle.history_laws.specs.Staying.{may_change}
-use Rattle.session_history.specs.Named.{left_by, changed_by, named_by}
+use Rattle.session_history.specs.Named.{left_by, named_by}
 use Rattle.history_laws.proofs.Knowing.{Said, IsKnown, IsKept, settled_kept, settled_marks}
 use Rattle.history_laws.proofs.Sources.{item_in}
 
@@ -95,7 +96,8 @@ doubt_by Barrier part before = before
 doubt_by (Troubled trouble) part before = before
 doubt_by (Ended ending left) part before = before
 
--- the folder of a job's item is on the disk from its first change on, until it is removed, and so is that of each part or thing which a report names; of a move both
+-- the folder of a job's item is on the disk from its first change on, until it is removed or moved, and so is that of each part or thing which a report names; of a
+-- move both
 abbrev pub folders_by : Did → Route → (Route → Bool) → Route → Bool
 folders_by (Began made) folder before = λ p. (same_path p folder || same_path p (folder_of made)) || before p
 folders_by (Removed path) folder before = λ p. (same_path p folder || before p) && not (same_path p path)
@@ -107,7 +109,7 @@ folders_by (Set path) folder before = λ p. (same_path p folder || same_path p (
 folders_by (Kept kept) folder before = before
 folders_by (Asked question) folder before = before
 folders_by (Merges pair names) folder before = before
-folders_by (Moved pair) folder before = λ p. before p || (same_path p (folder_of pair.source) || same_path p (folder_of pair.target))
+folders_by (Moved pair) folder before = λ p. (before p && not (is_of_move pair p)) || (same_path p (folder_of pair.source) || same_path p (folder_of pair.target))
 folders_by (Skipped path cause) folder before = before
 folders_by Barrier folder before = before
 folders_by (Troubled trouble) folder before = before
@@ -143,7 +145,7 @@ calm_by (Chunk count) item before = before
 calm_by (Kept kept) item before = before
 calm_by (Asked question) item before = before
 calm_by (Merges pair names) item before = before
-calm_by (Moved pair) item before = λ p. before p && not (same_path p (folder_of pair.source) || same_path p (folder_of pair.target))
+calm_by (Moved pair) item before = λ p. before p && not (is_of_move pair p || (same_path p (folder_of pair.source) || same_path p (folder_of pair.target)))
 calm_by (Skipped path cause) item before = before
 calm_by Barrier item before = before
 calm_by (Troubled trouble) item before = before
@@ -152,7 +154,7 @@ calm_by (Ended ending left) item before = before
 abbrev pub said_after : CallLog → Did → Work → Said → Said
 said_after now did work told = record {
   tree = replayed_step now did (Some (item_in work)) told.tree;
-  earlier = keeping (changed_by did) told.tree told.earlier;
+  earlier = earlier_step did told.tree told.earlier;
   named = named_by did told.left told.named;
   left = left_by did told.left;
   part = part_after did told.part;

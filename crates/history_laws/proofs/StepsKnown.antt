@@ -148,9 +148,9 @@ met_law log c name names known clean is =
     sure_path log (target_name c name ∷ c.levels.inner.copy.target) firm.sure (filling.calm (target_name c name) (among_next c name names is))
 
 pub standing_law : StandingLaw
-standing_law told dirty marks log c known folders clean =
+standing_law told dirty marks log c kept folders clean =
     let l = folders.0 in
     let filling = filled_inner (is_around_dirty c.levels.around) log c.levels.inner.copy.target (ahead c) clean l.inner in
     let firm = filling.firm in
     let there = stands_at (current log) c.levels.inner.copy.target firm.stands in
-    (there.i, record { at = there.at; anchored = folder_anchored told dirty marks log known c.levels.inner.copy.target there.i there.at there.folder })
+    (there.i, record { at = there.at; anchored = folder_anchored told dirty marks log kept.known kept.roams c.levels.inner.copy.target there.i there.at there.folder firm.sure })

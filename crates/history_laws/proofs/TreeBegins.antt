@@ -44,7 +44,7 @@ use Rattle.history_laws.proofs.TreeKnown.{IsCalmBut, TreeHas, TreeStands}
 use Rattle.history_laws.proofs.TreeKnows.{filled_inner}
 use Rattle.history_laws.proofs.TreeLeads.{first_has, log_has}
 use Rattle.history_laws.proofs.TreeSteps.{next_of}
-use Rattle.history_laws.proofs.Untouched.{NoneOn, none_on, way_sure}
+use Rattle.history_laws.proofs.Untouched.{NoneOn, none_on, none_over, way_sure}
 
 -- a thing that is taken up: it stands, nothing stands at its target, or a file or a link, and the folder that is to hold that stands
 pub record Meets (log : CallLog) (pair : Pair) : Type 0 where
@@ -195,7 +195,7 @@ module _ (told : Said) (dirty : List Route) (marks : Marks) (log : CallLog) (kep
           here = leaves_has top log n c.at mid leaves has;
           firm = record {
             stands = ap (λ q. folder_at (current log) (folder_of q)) (sym target_is) ∙ meets.stands;
-            sure = way_sure told dirty marks log up t.i kept.known t.at none_there;
+            sure = way_sure told dirty marks log up kept.known (none_over (current log) (Copy c) dirty owed);
           };
           calm = λ p own. elim (or_cases (same_path p up) (is_prefix top.target p) own) [
             | inl here ↦ subst (IsCalmFolder marks log) (sym (same_path-true p up here)) (calm_in told dirty marks log kept up none_there)

@@ -43,7 +43,7 @@ use Rattle.history_laws.proofs.TreeGoing.{LogHas, log_goes, steps_stand}
 use Rattle.history_laws.proofs.TreeKnown.{AroundKnows, ItemHas, TreeHas, TreeKnown, TreeStands, copy_known, LiesOutside}
 use Rattle.history_laws.proofs.Resting.{unjoined_below}
 use Rattle.history_laws.proofs.Restless.{IsUnjoined}
-use Rattle.history_laws.proofs.Untouched.{NoneOn, none_joint, none_on, none_waits}
+use Rattle.history_laws.proofs.Untouched.{NoneOn, none_joint, none_on, none_over, none_waits}
 
 -- what is known of the log once something was changed
 pub log_has : (told : Said) (dirty : List Route) (marks : Marks) (log : CallLog) (c : SubtreeCopying) → TreeStands dirty c → TreeHas told marks log c → LogHas c.top log c.at
@@ -73,7 +73,7 @@ module _ (told : Said) (dirty : List Route) (marks : Marks) (log : CallLog) (kep
   begins_levels : (name : List ℕ) (l : Levels) → l.around ≡ [] → l.inner.copy.target ≡ up → LevelsKnow log name l
   begins_levels name l is to = record {
     inner = subst (λ b. InnerKnows b log l.inner.copy.target (coming name l.inner.names l.around)) (sym (ap is_around_dirty is))
-        (subst (λ q. IsFilling log q (coming name l.inner.names l.around)) (sym to) (filling_begins told dirty marks log up f (coming name l.inner.names l.around) kept at folder none));
+        (subst (λ q. IsFilling log q (coming name l.inner.names l.around)) (sym to) (filling_begins told dirty marks log up f (coming name l.inner.names l.around) kept at folder (none_over (current log) (Copy c) dirty owed)));
     around = subst (AroundKnow log name) (sym is) tt;
   }
 

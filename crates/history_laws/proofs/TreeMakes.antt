@@ -200,7 +200,7 @@ module _ (told : Said) (dirty dirty_after : List Route) (marks : Marks) (log now
       inside = within_kept told dirty marks log c mid kept may
 
       known_then : IsKnown after dirty_after (marks_born marks (new_node log)) (with_change log makes)
-      known_then = thing_made_known (within told c) after dirty dirty_after marks log inside.known name up g made (record {
+      known_then = thing_made_known (within told c) after dirty dirty_after marks log inside.known inside.roams name up g made (record {
         none = part_none;
         firm = filling.firm;
         at = passes.folder;

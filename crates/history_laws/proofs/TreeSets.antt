@@ -35,7 +35,8 @@ use Rattle.tree_copy.proofs.InPlaces.{closed_in_place, leaves_all}
 use Rattle.subtree_copy.specs.Standing.{SubtreeCopying}
 use Rattle.copy_move.specs.declared.run.Course.TheVariants.{GoesOn}
 use Rattle.copy_move.specs.declared.work.Work.TheVariants.{Copy}
-use Rattle.history_laws.specs.Replayed.{moved_from, with_mode_of}
+use Rattle.session_history.specs.Moves.{moved_from}
+use Rattle.history_laws.specs.Replayed.{with_mode_of}
 use Rattle.tree_trait.specs.Refusals.{is_folder}
 use Rattle.history_laws.proofs.Calm.{IsCalm, filled_part, was_set}
 use Rattle.history_laws.proofs.CalmLaws.{quiet_modes_law}
@@ -183,7 +184,7 @@ module _ (told : Said) (dirty dirty_after : List Route) (marks : Marks) (log now
       at = stands.at;
       sure = (let firm = filling.firm in firm.sure);
       no_mode = no_mode;
-      once = (let firm = filling.firm in folder_once told dirty marks log kept.known up i stands.at stands.folder firm.sure);
+      once = (let firm = filling.firm in folder_once told dirty marks log kept up i stands.at stands.folder firm.sure);
       no_part = part_none;
       none = part_none;
       listed = subst (λ xs. Among xs up) (sym list) (joined_holds up dirty);

@@ -201,7 +201,7 @@ module _ (told : Said) (dirty dirty_after : List Route) (marks : Marks) (log now
       apart same = (let open_to = first.free in open_to.apart same)
 
       m : MakesPart told log name folder_in g
-      m = record { none = part_none; at = passes.folder; folder = passes.holds; free = passes.none }
+      m = record { none = part_none; at = passes.folder; folder = passes.holds; free = passes.none; sure = firm.sure }
 
       abbrev n : ℕ
       n = new_node log
@@ -219,14 +219,14 @@ module _ (told : Said) (dirty dirty_after : List Route) (marks : Marks) (log now
       after = with_part told (folder_of c.top.target) may_in (name ∷ folder_in)
 
       node_made : node (current (with_change log makes)) n ≡ made
-      node_made = part_node told dirty dirty_after marks log kept.known name folder_in g made m refl new_mode
+      node_made = part_node told dirty dirty_after marks log kept.known name folder_in g made kept.roams m refl new_mode
 
       unread : source ≡ (name ∷ folder_in) → ⊥
       unread same = (let open_to = first.free in open_to.unread (sym same))
 
       source_then : find (current (with_change log makes)) source ≡ Some (found (current log) source)
       source_then =
-          off_part told dirty dirty_after marks log kept.known name folder_in g made m refl new_mode source
+          off_part told dirty dirty_after marks log kept.known name folder_in g made kept.roams m refl new_mode source
           (false_from_ne_true _ (λ same. unread (same_path-true source (name ∷ folder_in) same))) ∙ source_at
 
       source_same : node (current (with_change log makes)) (found (current log) source) ≡ node (current log) (found (current log) source)

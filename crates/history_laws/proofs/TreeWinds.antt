@@ -38,6 +38,7 @@ use Rattle.copy_move.specs.declared.work.Work.TheVariants.{Copy}
 use Rattle.copy_move.specs.declared.run.Course.TheVariants.{Ends}
 use Rattle.copy_move.specs.DeletionSteps.{after_try}
 use Rattle.copy_move.specs.Steps.{LastLeaves}
+use Rattle.history_laws.specs.Doubt.{way_waits}
 use Rattle.history_laws.proofs.Calming.{refused_is}
 use Rattle.history_laws.proofs.Changing.{removed_known}
 use Rattle.history_laws.proofs.Deleted.{IsRemoval, comes_refused, file_unjoined, removal_done, removal_leads}
@@ -101,9 +102,9 @@ over told routes m l ending c new part name top item left = record {
 
 module _ (told : Said) (dirty dirty_after : List Route) (marks : Marks) (log now : CallLog) (kept : IsKept told dirty marks log) where
   -- the part that stands is removed
-  pub part_gone : (part : Route) (work : Work) (knows : Marks → Type 0) → IsLeftPart told (current log) part → Among dirty (folder_of part) → Performs {A = Unit {0}} log (RemoveFile part) (Ok tt) (Some now)
+  pub part_gone : (part : Route) (work : Work) (knows : Marks → Type 0) → IsLeftPart told (current log) part → Among dirty (folder_of part) × (told.folders (folder_of part) ≡ true) → Performs {A = Unit {0}} log (RemoveFile part) (Ok tt) (Some now)
       → ((m : Marks) → knows m) → Comes told (said_after now (Cleaned part) work told) dirty log now knows
-  part_gone part work knows left listed done known_of = at (removal_done log now part kept.known.guarded.tree done)
+  part_gone part work knows left (listed, firm) done known_of = at (removal_done log now part kept.known.guarded.tree done)
     where
       aside : marks.aside part ≡ true
       aside = (kept.known.part part left.part_is).0
@@ -115,6 +116,10 @@ module _ (told : Said) (dirty dirty_after : List Route) (marks : Marks) (log now
 
       same_part : (p : Route) → same_path p part ≡ false → told.part ≡ Some p → ⊥
       same_part p off is = both_ways _ off (subst (λ q. same_path q part ≡ true) (some_route part p (sym left.part_is ∙ is)) (same_path-self part))
+
+      -- nothing waits on the way to the folder
+      way : (it : IsRemoval log now part) → way_waits log it.r.up ≡ false
+      way it = (let sure = kept.known.stand (folder_of part) firm in ap (way_waits log) (sym (ap folder_of it.r.path_is)) ∙ sure.sure)
 
       at : IsRemoval log now part → Comes told (said_after now (Cleaned part) work told) dirty log now knows
       at it =
@@ -130,26 +135,28 @@ module _ (told : Said) (dirty dirty_after : List Route) (marks : Marks) (log now
             modes = λ p h. h;
             calm = λ p h. inl h;
             doubted = or_right _ _ (same_path-self part);
-          }) (λ out. absurd (both_ways _ out aside)) (none_of_part told dirty marks log kept part it.r.i (removal_leads log now part it) aside)
+          }) (λ out. absurd (both_ways _ out aside)) kept.roams (way it) (none_of_part told dirty marks log kept part it.r.i (removal_leads log now part it) aside)
           (file_unjoined log now part it kept.known.guarded.tree kept.known.files (ap (λ o. option_map_or (λ j. is_folder (node (current log) j)) o false) left.leads ∙ left.bare))
           (subst (λ q. Among dirty q) (ap folder_of it.r.path_is) listed) (λ q among off. among) in
           comes_one told (said_after now (Cleaned part) work told) dirty dirty marks marks log now (Removes it.r.f it.r.name it.k) knows kept it.now_is
           (subst (λ (l : CallLog). IsKnown (said_after now (Cleaned part) work told) dirty marks l) (sym it.now_is) known)
           (known_of _)
 
-  -- the folder that holds it is listed
+  -- the folder that holds it is listed, and on the disk
   part_listed : (item : Item) (ending : Ending) (old new : Seen) (last : LastStepResult) (before after : Option CallLog) (f0 f1 : ℕ) (part : Route) → last.did ≡ Cleaned part
-      → ItemHas told dirty marks (current log) (Ends ending) item → IsLeftPart told (current log) part → WindsAt item ending old new last before after f0 f1 → Among dirty (folder_of part)
+      → ItemHas told dirty marks (current log) (Ends ending) item → IsLeftPart told (current log) part → WindsAt item ending old new last before after f0 f1 → Among dirty (folder_of part) × (told.folders (folder_of part) ≡ true)
   part_listed Next ending old new last before after f0 f1 part is k left w = no_removal ending None old new last before after f0 f1 part is w
   part_listed (File f) ending old new last before after f0 f1 part is (name, listed, stage) left w =
       let winds = w.winds in
       let tells = subst (λ d. Winds ending f d w.moved) is winds.tells in
       let r = removed_part told dirty dirty_after marks log now kept f ending part f.stage stage tells.0 in
       let has = r.1.1 in
-      subst (λ q. Among dirty q) (sym (ap folder_of has.beside)) (listed r.0).0
+      let l = listed r.0 in
+      subst (λ q. Among dirty q × (told.folders q ≡ true)) (sym (ap folder_of has.beside)) (l.0, l.1)
   part_listed (Link l) ending old new last before after f0 f1 part is (stands, k) left w =
       let has = k.has in
-      subst (λ q. Among dirty (folder_of q)) (some_route l.part part (sym has.part_is ∙ left.part_is)) (subst (λ q. Among dirty q) (sym (ap folder_of has.beside)) k.listed)
+      subst (λ q. Among dirty (folder_of q) × (told.folders (folder_of q) ≡ true)) (some_route l.part part (sym has.part_is ∙ left.part_is))
+      (subst (λ q. Among dirty q × (told.folders q ≡ true)) (sym (ap folder_of has.beside)) (k.listed, k.folder))
   part_listed (Stays stays) ending old new last before after f0 f1 part is k left w = no_removal ending (Some stays) (idle old) new last before after f0 f1 part is w
 
   module _ (ending : Ending) (c new : SubtreeCopying) (k : TreeKnown told dirty marks log (Ends ending) c) where

@@ -39,7 +39,8 @@ use Rattle.subtree_copy.proofs.Listed.{of_inner}
 use Rattle.copy_move.specs.Jobs.{course_after}
 use Rattle.copy_move.specs.declared.run.Course.TheVariants.{GoesOn}
 use Rattle.copy_move.specs.declared.work.Work.TheVariants.{Copy}
-use Rattle.history_laws.specs.Replayed.{mode_placed, moved_from, placed_by, placed_copy}
+use Rattle.session_history.specs.Moves.{moved_from}
+use Rattle.history_laws.specs.Replayed.{mode_placed, placed_by, placed_copy}
 use Rattle.copy_levels.specs.declared.level.Level.{Level}
 use Rattle.tree_copy.specs.declared.item.Item.{Item as CopyItem}
 use Rattle.file_copy.specs.Copying as file
@@ -271,7 +272,7 @@ module _ (told : Said) (dirty dirty_after : List Route) (marks : Marks) (log now
             | inr outermost ↦ outermost_owes (placed_by (Some (Copies c.top.source c.top.target)) l.target told.tree) outermost (link_progress moved.stage) (Link moved) (Placed l.target) (link.is_dirty moved.folder) new stands
           ];
         })
-        (whole_placed told dirty c.top.source c.top.target l.target name.name name.is l.part k.i k.listed k.calm marks log now kept (whole_link told marks log l.target l.part k.text k.i h (clean_part (k.i) h.leads)) (copy_shown item_moved) (row_done log now (Rename l.part l.target) rows)))
+        (whole_placed told dirty c.top.source c.top.target l.target name.name name.is l.part k.i k.listed k.folder k.calm marks log now kept (whole_link told marks log l.target l.part k.text k.i h (clean_part (k.i) h.leads)) (copy_shown item_moved) (row_done log now (Rename l.part l.target) rows)))
       where
         link_free : ((told.tree l.target).value ≡ None) ⊎ (mid.levels.around ≡ [])
         link_free =
@@ -306,7 +307,7 @@ module _ (told : Said) (dirty dirty_after : List Route) (marks : Marks) (log now
         let h = k.has in
         subst (λ routes. Comes told (said_after now (Cleaned l.part) (Copy c) told) routes log now (Then told routes log now c (Cleaned l.part) new)) (sym (list_same (Cleaned l.part) moved stands list))
         (part_gone told dirty dirty_after marks log now kept l.part (Copy c) (Then told dirty log now c (Cleaned l.part) new) (link_left told marks (current log) l.target l.part k.text k.i h)
-        (subst (λ q. Among dirty q) (sym (ap folder_of h.beside)) k.listed) (row_done log now (RemoveFile l.part) rows)
+        (subst (λ q. Among dirty q × (told.folders q ≡ true)) (sym (ap folder_of h.beside)) (k.listed, k.folder)) (row_done log now (RemoveFile l.part) rows)
         (λ m. record {
           part = subst (λ i. ItemHas (said_after now (Cleaned l.part) (Copy c) told) dirty m (current now) GoesOn i) (sym (nothing_left (Cleaned l.part) moved stands (link.after_clean follows) stage (anew follows))) refl;
           around = λ begun. inl calm_link;

@@ -1,13 +1,12 @@
 -- What the entries of a history say of a path that they don't name: what it shows, what it showed before, and whether it was a part.
 use Rattle.job_reports.specs.Paths.{without}
-use Rattle.std.proofs.Common.{◌≡◌, Bool, true, false, not, ◌||◌, List, [], ◌∷◌, refl, sym, ◌∙◌, ap, subst, inl, inr, Option, Some, None}
-use Rattle.std.proofs.lemmas.Bool.{both_ways, true≢false}
+use Rattle.std.proofs.Common.{◌≡◌, true, false, not, List, [], ◌∷◌, refl, sym, ◌∙◌, ap, subst, inl, inr, Option, Some, None}
+use Rattle.std.proofs.lemmas.Bool.{both_ways}
 use Rattle.mc_text.specs.Routes.{Route, same_path}
-use Rattle.tree_trait.specs.FileSystem.{View, put, value_at}
+use Rattle.tree_trait.specs.FileSystem.{View, value_at}
 use Rattle.tree_trait.specs.Change.{CallLog, current}
 use Rattle.tree_trait.specs.CrashImages.{Among}
 use Rattle.tree_trait.proofs.Visible.{same_path-self}
-use Rattle.job_reports.specs.declared.job.Pair.{Pair}
 use Rattle.job_reports.specs.declared.report.Did.{Did}
 use Rattle.job_reports.specs.declared.report.Did.TheVariants.{Began, Chunk, Placed, Removed, Made, Set, Kept, Skipped, Cleaned, Barrier, Asked, Merges, Moved, Troubled, Ended}
 use Rattle.job_reports.specs.Jobs.{Item, Copies, Moves, Removes, Makes, MakesLink, Sets}
@@ -16,15 +15,13 @@ use Rattle.session_history.specs.declared.history.Event.TheVariants.{Key, Look, 
 use Rattle.session_history.specs.declared.history.Event.TheVariants as event
 use Rattle.session_history.specs.declared.history.Entry.{Entry}
 use Rattle.session_history.specs.LiveJobs.{LiveJob, live_jobs, live_item}
-use Rattle.session_history.specs.Named.{IsUnnamedSince, changed_by, is_among, named_by, named_moved, names, names_path}
-use Rattle.history_laws.specs.Replayed.{keeping, log_prefix, made_by, moved_from, placed_by, placed_copy, replayed_event, replayed_step, replayed_tree, set_by, with_mode, with_mode_of}
+use Rattle.session_history.specs.Named.{IsUnnamedSince, named_by, names, names_path}
+use Rattle.session_history.specs.Moves.{moved_from}
+use Rattle.history_laws.specs.Replayed.{earlier_step, log_prefix, made_by, placed_by, placed_copy, replayed_event, replayed_step, replayed_tree, set_by, with_mode, with_mode_of}
 use Rattle.history_laws.proofs.AmongParts.{if_among_other}
 use Rattle.history_laws.proofs.Deleted.{put_off}
+use Rattle.history_laws.proofs.MovedPaths.{kept_off, moved_off, named_off}
 use Rattle.history_laws.proofs.Owing.{in_filter}
-
-neither : (a b : Bool) → (a || b) ≡ false → (a ≡ false) × (b ≡ false)
-neither true b h = absurd (true≢false h)
-neither false b h = (refl, h)
 
 -- a path that an entry doesn't name has what it had
 placed_unnamed : (item : Option Item) (target : Route) (v : View) (path : Route) → same_path path target ≡ false → placed_by item target v path ≡ v path
@@ -57,9 +54,7 @@ step_unnamed log (Made folder) item v path unnamed = put_off v folder (Some (mad
 step_unnamed log (Kept kept) item v path unnamed = refl
 step_unnamed log (Asked question) item v path unnamed = refl
 step_unnamed log (Merges pair names) item v path unnamed = refl
-step_unnamed log (Moved pair) item v path unnamed =
-    let off = neither (same_path path pair.source) (same_path path pair.target) unnamed in
-    put_off (put v pair.source None) pair.target (v pair.source).value path off.1 ∙ put_off v pair.source None path off.0
+step_unnamed log (Moved pair) item v path unnamed = moved_off pair v path unnamed
 step_unnamed log (Skipped file cause) item v path unnamed = refl
 step_unnamed log (Cleaned part) item v path unnamed = refl
 step_unnamed log Barrier item v path unnamed = refl
@@ -81,12 +76,6 @@ replayed_since opening end older (e ∷ g) path (inl same) = ap (λ x. replayed_
 replayed_since opening end older (e ∷ g) path (inr (unnamed, since)) =
     event_unnamed (log_prefix opening e.calls end) e.what (live_jobs g) (replayed_tree opening end g) path unnamed ∙ replayed_since opening end older g path since
 
--- where something is moved, another path is a named part only if it was one
-moved_named : (b : Bool) (pair : Pair) (left parts : List Route) (path : Route) → same_path path pair.target ≡ false → Among (named_moved b pair left parts) path → Among parts path
-moved_named true pair left parts path off (inl same) = absurd (both_ways _ off (subst (λ q. same_path path q ≡ true) same (same_path-self path)))
-moved_named true pair left parts path off (inr among) = among
-moved_named false pair left parts path off among = in_filter (λ kept. Rattle.std.specs.Prelude.not (same_path kept pair.target)) path parts (if_among_other pair.target path left (without pair.target parts) off among)
-
 -- a path that no entry names is a named part only if it was one
 pub named_step : (did : Did) (left parts : List Route) (path : Route) → names did path ≡ false → Among (named_by did left parts) path → Among parts path
 named_step (Began part) left parts path unnamed (inl same) = absurd (both_ways _ unnamed (subst (λ q. same_path path q ≡ true) same (same_path-self path)))
@@ -99,7 +88,7 @@ named_step (Made folder) left parts path unnamed among = in_filter (λ kept. Rat
 named_step (Kept kept) left parts path unnamed among = among
 named_step (Asked question) left parts path unnamed among = among
 named_step (Merges pair names) left parts path unnamed among = among
-named_step (Moved pair) left parts path unnamed among = moved_named (is_among pair.source left) pair left parts path (neither (same_path path pair.source) (same_path path pair.target) unnamed).1 among
+named_step (Moved pair) left parts path unnamed among = named_off pair left parts path unnamed among
 named_step (Skipped file cause) left parts path unnamed among = among
 named_step (Cleaned part) left parts path unnamed among = among
 named_step Barrier left parts path unnamed among = among
@@ -107,7 +96,7 @@ named_step (Troubled trouble) left parts path unnamed among = among
 named_step (Ended ending part) left parts path unnamed among = among
 
 -- what it showed before its last change stays so, too
-pub earlier_unnamed : (did : Did) (v before : View) (path : Route) → names did path ≡ false → keeping (changed_by did) v before path ≡ before path
+pub earlier_unnamed : (did : Did) (v before : View) (path : Route) → names did path ≡ false → earlier_step did v before path ≡ before path
 earlier_unnamed (Placed target) v before path unnamed = put_off before target (v target).value path unnamed
 earlier_unnamed (Removed file) v before path unnamed = put_off before file (v file).value path unnamed
 earlier_unnamed (Made folder) v before path unnamed = put_off before folder (v folder).value path unnamed
@@ -117,9 +106,7 @@ earlier_unnamed (Set changed) v before path unnamed = put_off before changed (v 
 earlier_unnamed (Kept kept) v before path unnamed = refl
 earlier_unnamed (Asked question) v before path unnamed = refl
 earlier_unnamed (Merges pair names) v before path unnamed = refl
-earlier_unnamed (Moved pair) v before path unnamed =
-    let off = neither (same_path path pair.source) (same_path path pair.target) unnamed in
-    put_off (put before pair.source (v pair.source).value) pair.target (v pair.target).value path off.1 ∙ put_off before pair.source (v pair.source).value path off.0
+earlier_unnamed (Moved pair) v before path unnamed = kept_off pair v before path unnamed
 earlier_unnamed (Skipped file cause) v before path unnamed = refl
 earlier_unnamed (Cleaned part) v before path unnamed = refl
 earlier_unnamed Barrier v before path unnamed = refl

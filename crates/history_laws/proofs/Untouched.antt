@@ -1,5 +1,5 @@
 -- What no job has touched yet: a target at which nothing stands, in a folder on whose mount nothing waits.
-use Rattle.std.proofs.Common.{◌≡◌, ◌⊎◌, ℕ, Bool, true, false, ◌||◌, List, [], ◌∷◌, refl, sym, ◌∙◌, ap, subst, inl, inr, Option, Some, None, cond}
+use Rattle.std.proofs.Common.{◌≡◌, ◌⊎◌, ℕ, Bool, true, false, ◌||◌, List, [], ◌∷◌, refl, sym, ◌∙◌, ap, inl, inr, Option, Some, None}
 use Rattle.std.specs.Prelude.{is_some}
 use Rattle.std.specs.Option.{option_map_or}
 use Rattle.std.proofs.lemmas.Bool.{false≢true, both_ways, false_from_ne_true}
@@ -7,16 +7,16 @@ use Rattle.mc_text.specs.Routes.{Route}
 use Rattle.tree_trait.specs.declared.file_system.FileSystem.{FileSystem}
 use Rattle.tree_trait.specs.declared.calls.TreeError.TheVariants.{Missing}
 use Rattle.tree_trait.specs.Calls.{Stat}
-use Rattle.tree_trait.specs.FileSystem.{find, lookup, node, starts_mount}
-use Rattle.tree_trait.specs.Refusals.{is_folder, mount_here, mount_of, refusal_of}
+use Rattle.tree_trait.specs.FileSystem.{find, node}
+use Rattle.tree_trait.specs.Refusals.{is_folder, mount_of, refusal_of}
 use Rattle.tree_trait.specs.Answers.{mount_number}
 use Rattle.tree_trait.specs.Change.{CallLog, current}
 use Rattle.tree_trait.specs.CrashImages.{Among}
-use Rattle.tree_trait.proofs.Finding.{and_then-some, find-once}
+use Rattle.tree_trait.proofs.Finding.{find-once}
 use Rattle.crash_law.specs.Guarded.{Marks}
 use Rattle.job_reports.proofs.PermittedCalls.{stat_missing}
 use Rattle.copy_move.specs.declared.work.Work.{Work}
-use Rattle.copy_move.specs.Settling.{IsMountOf, LiesApart, NoneOwed, changed_folder}
+use Rattle.copy_move.specs.Settling.{LiesApart, LiesOff, NoneOwed, changed_folder, left_folder}
 use Rattle.history_laws.specs.Doubt.{is_pending, name_waits, way_waits}
 use Rattle.history_laws.proofs.Knowing.{IsKept, IsKnown, Said}
 use Rattle.history_laws.proofs.Restless.{IsUnjoined, is_restless, joint_restless}
@@ -70,9 +70,26 @@ untouched_free told dirty marks log p kept sure free =
 abbrev pub NoneOn : FileSystem → Route → List Route → Type 0
 NoneOn s up dirty = (kept : Route) → Among dirty kept → (refusal_of s (Stat kept) ≡ Some Missing) ⊎ LiesApart s up kept
 
+-- nor on that of a folder on the way to it
+abbrev pub NoneOver : FileSystem → Route → List Route → Type 0
+NoneOver s up dirty = (kept : Route) → Among dirty kept → (refusal_of s (Stat kept) ≡ Some Missing) ⊎ LiesOff s up kept
+
 -- so it is where none is owed
+pub none_over : (s : FileSystem) (work : Work) (dirty : List Route) → NoneOwed s work dirty → NoneOver s (changed_folder work) dirty
+none_over s work dirty none kept among = elim (none kept among) [ inl gone ↦ inl gone | inr apart ↦ inr apart.1 ]
+
+pub none_left : (s : FileSystem) (work : Work) (dirty : List Route) → NoneOwed s work dirty → NoneOver s (left_folder work) dirty
+none_left s work dirty none kept among = elim (none kept among) [ inl gone ↦ inl gone | inr apart ↦ inr apart.2 ]
+
+pub lies_apart : (s : FileSystem) (up kept : Route) → LiesOff s up kept → LiesApart s up kept
+lies_apart s [] kept off = off
+lies_apart s (name ∷ up) kept off = off.0
+
+pub over_it : (s : FileSystem) (up : Route) (dirty : List Route) → NoneOver s up dirty → NoneOn s up dirty
+over_it s up dirty none kept among = elim (none kept among) [ inl gone ↦ inl gone | inr off ↦ inr (lies_apart s up kept off) ]
+
 pub none_on : (s : FileSystem) (work : Work) (dirty : List Route) → NoneOwed s work dirty → NoneOn s (changed_folder work) dirty
-none_on s work dirty none kept among = elim (none kept among) [ inl gone ↦ inl gone | inr apart ↦ inr apart.1 ]
+none_on s work dirty none = over_it s (changed_folder work) dirty (none_over s work dirty none)
 
 -- Where no dirty folder lies on the mount of this one, each folder there is at rest, so nothing waits in it, nor a renaming for it and another folder.
 module _ (told : Said) (dirty : List Route) (marks : Marks) (log : CallLog) (up : Route) (known : IsKnown told dirty marks log) (none : NoneOn (current log) up dirty) where
@@ -109,21 +126,9 @@ module _ (told : Said) (dirty : List Route) (marks : Marks) (log : CallLog) (up 
       by None is = ap (λ x. option_map_or (λ f. is_pending f m log.changes) x false) is
       by (Some f) is = ap (λ x. option_map_or (λ f. is_pending f m log.changes) x false) is ∙ no_more f is
 
--- nor is the folder itself in doubt, nor one above it: those on other mounts never are
-pub way_sure : (told : Said) (dirty : List Route) (marks : Marks) (log : CallLog) (up : Route) (i : ℕ) → IsKnown told dirty marks log → find (current log) up ≡ Some i → NoneOn (current log) up dirty
-    → way_waits log up ≡ false
-way_sure told dirty marks log [] i known at none = refl
-way_sure told dirty marks log (name ∷ up) i known at none =
-    by (starts_mount (current log) i) refl (λ above. way_sure told dirty marks log up h.0 known h.1 above)
-  where
-    h : (g : ℕ) × (find (current log) up ≡ Some g) × (lookup (current log).names g name ≡ Some i)
-    h = and_then-some (find (current log) up) (λ g. lookup (current log).names g name) i at
-
-    by : (b : Bool) → starts_mount (current log) i ≡ b → (NoneOn (current log) up dirty → way_waits log up ≡ false) → way_waits log (name ∷ up) ≡ false
-    by true starts rest = known.files.mounts (name ∷ up) (ap (λ o. option_map_or (starts_mount (current log)) o false) at ∙ starts)
-    by false starts rest =
-        let same : mount_of (current log) (name ∷ up) ≡ mount_of (current log) up =
-        ap (λ o. mount_here (current log) o (mount_of (current log) up)) at ∙ ap (λ b. cond b i (mount_of (current log) up)) starts in
-        let above = subst (λ n. (kept : Route) → Among dirty kept → (refusal_of (current log) (Stat kept) ≡ Some Missing)
-        ⊎ ((number : ℕ) × (number ≡ mount_number (current log).mounts n) × (IsMountOf (current log) kept number → ⊥))) same none in
-        ap (λ b. b || way_waits log up) (none_waits told dirty marks log up known above name) ∙ rest above
+-- nor is the folder itself in doubt, nor one above it, where none lies on the mount of a folder on the way
+pub way_sure : (told : Said) (dirty : List Route) (marks : Marks) (log : CallLog) (up : Route) → IsKnown told dirty marks log → NoneOver (current log) up dirty → way_waits log up ≡ false
+way_sure told dirty marks log [] known none = refl
+way_sure told dirty marks log (name ∷ up) known none =
+    let above : NoneOver (current log) up dirty = λ kept among. elim (none kept among) [ inl gone ↦ inl gone | inr off ↦ inr off.1 ] in
+    ap (λ b. b || way_waits log up) (none_waits told dirty marks log up known (over_it (current log) up dirty above) name) ∙ way_sure told dirty marks log up known above

@@ -1,11 +1,11 @@
--- A small session in which a file is moved to the folder around its own, so what the law of moved files asks for can be met: until both folders were synced a
--- crash may leave it at its source, and it may leave it at its target, and it leaves it at one of them.
-use Rattle.std.proofs.Common.{◌≡◌, pos, false, List, [], ◌∷◌, refl, inl, inr, Some, None, true≢false, sym}
-use Rattle.mc_text.specs.declared.kind.Kind.TheVariants.{File}
+-- Small sessions in which a file is moved to the folder around its own, and a folder with two files gets another name, so what the law of moved things asks for can be
+-- met: until the folders were synced a crash may leave it at its source, and it may leave it at its target, and it leaves it at one of them.
+use Rattle.std.proofs.Common.{◌≡◌, ◌⊎◌, pos, false, List, [], ◌∷◌, refl, inl, inr, Some, None, true≢false, sym}
+use Rattle.mc_text.specs.declared.kind.Kind.TheVariants.{File, Folder}
 use Rattle.mc_text.specs.Routes.{Route}
 use Rattle.tree_trait.specs.declared.calls.Meta.{Meta}
 use Rattle.tree_trait.specs.declared.file_system.FileSystem.{FileSystem}
-use Rattle.tree_trait.specs.FileSystem.{value, value_at}
+use Rattle.tree_trait.specs.FileSystem.{value, value_at, visible_tree}
 use Rattle.tree_trait.specs.Change.{Change, Moves, Syncs, CallLog, after_change, current}
 use Rattle.tree_trait.specs.CrashImages.{IsCrashImage}
 use Rattle.job_answers.specs.Decisions.{no_replies}
@@ -23,8 +23,8 @@ use Rattle.copy_move.specs.declared.work.Work.TheVariants.{Move}
 use Rattle.copy_move.specs.Jobs.{Running}
 use Rattle.history_laws.specs.Traces.{IsTraced, nothing_live}
 use Rattle.history_laws.specs.Whole.{IsWholeAt}
-use Rattle.history_laws.proofs.ExampleParts.{entry, file, own_step, stand}
-use Rattle.history_laws.proofs.FolderExampleSteps.{first, log, small_tree, top}
+use Rattle.history_laws.proofs.ExampleParts.{entry, file, folder, own_step, stand}
+use Rattle.history_laws.proofs.FolderExampleSteps.{first, log, second, small_tree, top}
 use Rattle.history_laws.proofs.WholeMoments.{whole_law}
 
 -- the first of two files goes out of the folder that holds them
@@ -66,7 +66,7 @@ stands : Stands (current (log [])) first meta
 stands = record { there = refl; is = record { kind = refl; size = refl; mode = refl; mtime = refl; mount = refl } }
 
 may : MayMove (current (log [])) pair no_replies
-may = record { can = record { source = meta; stands = stands; single = refl }; free = inl refl }
+may = record { can = record { source = meta; stands = stands }; free = inl refl }
 
 moved_traced : IsTraced (log []) moved_entries (stand (job SyncTarget ∷ []) (root ∷ top ∷ [])) moved_log
 moved_traced =
@@ -105,6 +105,70 @@ at_target : (image : FileSystem) × IsCrashImage half_log 2 image × (value_at i
 at_target = (after_change (current (log [])) renaming, inl (inl refl), refl, refl)
 
 -- and at one of them after any
-pub stays_whole : (image : FileSystem) → IsCrashImage half_log 2 image → IsWholeAt image pair (Some (value file))
+pub stays_whole : (image : FileSystem) → IsCrashImage half_log 2 image → IsWholeAt image pair [] (visible_tree (current (log [])))
 stays_whole image left =
-    whole_law (log []) half_log half_entries begun_entries half_entries half_entries (stand (job SyncSource ∷ []) (top ∷ [])) moving 1 pair 2 image small_tree refl half_traced refl (λ among. among) (inl (refl, refl, refl)) (inr (refl, inl refl)) left
+    whole_law (log []) half_log half_entries (stand (job SyncSource ∷ []) (top ∷ [])) small_tree refl half_traced begun_entries half_entries half_entries moving 1 pair 2 image refl (inl (refl, refl, refl)) (inr (refl, inl refl)) left
+
+-- the folder gets another name in the one around it, and its files go along
+abbrev folder_pair : Pair
+folder_pair = record { source = top; target = out }
+
+abbrev folder_renaming : Change
+folder_renaming = Moves 0 (1 ∷ []) 0 (3 ∷ []) 1 None
+
+abbrev folder_job : MovingStage → Running
+folder_job stage = record { id = 1; work = Move (let m : Moving = record (started folder_pair) { stage = stage } in m); course = GoesOn; replies = no_replies }
+
+abbrev folder_begun : List Entry
+folder_begun = entry 0 (Began 1 (plan.Move (folder_pair ∷ [])) false) ∷ []
+
+folder_begun_traced : IsTraced (log []) folder_begun (stand (folder_job Take ∷ []) []) (log [])
+folder_begun_traced = (nothing_live, log [], (refl, refl), record { after = stand (folder_job Take ∷ []) []; leads = record { none_live = refl; after_is = refl; now_is = refl }; stand_is = refl; counts = refl })
+
+abbrev folder_moving : Entry
+folder_moving = entry 1 (Step 1 (Moved folder_pair))
+
+abbrev folder_moved : List Entry
+folder_moved = folder_moving ∷ folder_begun
+
+abbrev folder_log : CallLog
+folder_log = log (folder_renaming ∷ [])
+
+abbrev folder_meta : Meta
+folder_meta = record { kind = Folder; size = 0; mode = 0o755; mtime = pos 0; mount = 0 }
+
+folder_stands : Stands (current (log [])) top folder_meta
+folder_stands = record { there = refl; is = record { kind = refl; size = refl; mode = refl; mtime = refl; mount = refl } }
+
+folder_may : MayMove (current (log [])) folder_pair no_replies
+folder_may = record { can = record { source = folder_meta; stands = folder_stands }; free = inl refl }
+
+folder_traced : IsTraced (log []) folder_moved (stand (folder_job SyncTarget ∷ []) (root ∷ [])) folder_log
+folder_traced =
+    own_step (log []) 1 1 (Moved folder_pair) folder_begun (stand (folder_job Take ∷ []) []) (stand (folder_job SyncTarget ∷ []) (root ∷ [])) (log []) folder_log (folder_job Take) (folder_job SyncTarget)
+    folder_begun_traced (inl (refl, refl))
+    (record {
+      tells = (Move (let m : Moving = record (started folder_pair) { stage = SyncTarget } in m), (refl, refl, refl), refl);
+      called = (folder_may, (refl, (pos 0, refl)));
+      settled = λ goes fresh kept among. absurd among;
+      leaves = refl;
+      walks = (1, 0, 0, tt);
+    }) refl refl refl
+
+-- before the sync it is at its source after some crash, with both files, and at its target after another
+folder_at_source : (image : FileSystem) × IsCrashImage folder_log 1 image × (value_at image top ≡ Some (value folder)) × (value_at image first ≡ Some (value file)) × (value_at image out ≡ None)
+folder_at_source = (current (log []), inr (refl, (current (log []), refl, refl)), refl, refl, refl)
+
+folder_at_target : (image : FileSystem) × IsCrashImage folder_log 1 image × (value_at image top ≡ None) × (value_at image out ≡ Some (value folder)) × (value_at image ((1 ∷ []) ∷ out) ≡ Some (value file))
+folder_at_target = (after_change (current (log [])) folder_renaming, inl refl, refl, refl, refl)
+
+-- and at one of them after any, with both files
+pub folder_stays_whole : (image : FileSystem) → IsCrashImage folder_log 1 image → IsWholeAt image folder_pair [] (visible_tree (current (log [])))
+folder_stays_whole image left =
+    whole_law (log []) folder_log folder_moved (stand (folder_job SyncTarget ∷ []) (root ∷ [])) small_tree refl folder_traced folder_begun folder_moved folder_moved folder_moving 1 folder_pair 1 image refl (inl (refl, refl, refl)) (inl refl)
+    left
+
+pub file_goes_along : (image : FileSystem) → IsCrashImage folder_log 1 image → (value_at image second ≡ Some (value file)) ⊎ (value_at image ((2 ∷ []) ∷ out) ≡ Some (value file))
+file_goes_along image left =
+    let whole = folder_stays_whole image left in
+    elim whole.stands [ inl here ↦ inl (here ((2 ∷ []) ∷ []) (λ among. among)) | inr there ↦ inr (there ((2 ∷ []) ∷ []) (λ among. among)) ]

@@ -1,13 +1,14 @@
--- A file that was moved is whole in each image at each moment, until another source is taken up.
-use Rattle.std.proofs.Common.{◌≡◌, ◌⊎◌, ℕ, ◌+◌, ◌≤◌, Bool, true, false, List, [], ◌∷◌, ◌++◌, length, sym, ◌∙◌, ap, subst, inl, inr, Option, arith, append_assoc, append-nil, length-append, take}
+-- A thing that was moved is whole in each image at each moment, with all that lies in it, until another source is taken up.
+use Rattle.std.proofs.Common.{◌≡◌, ◌⊎◌, ℕ, ◌+◌, ◌≤◌, Bool, true, false, List, [], ◌∷◌, ◌++◌, length, sym, ◌∙◌, ap, subst, inl, inr, arith, append_assoc, append-nil, length-append, take}
 use Rattle.std.proofs.lemmas.Bool.{cases_lt}
 use Rattle.std.proofs.Math.Seq.{take-append_seam, take-length}
 use Rattle.tree_trait.specs.declared.file_system.FileSystem.{FileSystem}
-use Rattle.tree_trait.specs.FileSystem.{Spot, Value}
+use Rattle.tree_trait.specs.FileSystem.{View}
 use Rattle.tree_trait.specs.Shape.{IsTree}
 use Rattle.tree_trait.specs.Change.{Change, CallLog, current, with_change}
-use Rattle.tree_trait.specs.CrashImages.{Among, all_settled}
+use Rattle.tree_trait.specs.CrashImages.{all_settled}
 use Rattle.crash_law.specs.Possible.{IsImage}
+use Rattle.mc_text.specs.Routes.{Route}
 use Rattle.job_reports.specs.declared.job.Pair.{Pair}
 use Rattle.job_reports.specs.declared.report.Did.TheVariants.{Moved}
 use Rattle.session_history.specs.declared.history.Event.{Event}
@@ -55,12 +56,15 @@ cut_at before now count (inr (c, is)) least most =
     ]
 
 module _ (opening : CallLog) (tree : IsTree (current opening)) (settled : all_settled opening.changes ≡ true) (end : CallLog) (e : Entry) (older : List Entry) (id : ℕ) (pair : Pair)
-    (moved : e.what ≡ Step id (Moved pair)) (unnamed : Among (named_parts older) pair.source → ⊥) where
-  abbrev stood : Option Value
-  stood = (replayed_tree opening end older pair.source).value
+    (moved : e.what ≡ Step id (Moved pair)) where
+  abbrev parts : List Route
+  parts = named_parts older
+
+  abbrev stood : View
+  stood = replayed_tree opening end older
 
   abbrev IsWhole : CallLog → Type 0
-  IsWhole log = (image : FileSystem) → IsImage log image → IsWholeAt image pair stood
+  IsWhole log = (image : FileSystem) → IsImage log image → IsWholeAt image pair parts stood
 
   -- it is whole before an entry and behind it, and the live job is past its renaming
   record WholeBy (before now : CallLog) (stand : Stand) : Type 0 where
@@ -89,12 +93,12 @@ module _ (opening : CallLog) (tree : IsTree (current opening)) (settled : all_se
         tree_same : replayed_tree opening before older ≡ replayed_tree opening end older
         tree_same = sym (ap (λ (l : CallLog). replayed_tree opening l older) end_is ∙ replayed_more opening before rest older r.within)
 
-        steps : IsWholly before now pair.source pair.target (replayed_tree opening before older pair.source).value × ArePast (before_others s.new [])
+        steps : IsWholly before now pair.source pair.target parts (replayed_tree opening before older) × ArePast (before_others s.new [])
         steps = step_whole (told_of opening before older r.part) was.dirty r.marks before now r.kept s.job s.new after.dirty pair
-            (subst (λ js. JobsKnow (told_of opening before older r.part) was.dirty r.marks before js) only.0 r.knows) unnamed s.leads
+            (subst (λ js. JobsKnow (told_of opening before older r.part) was.dirty r.marks before js) only.0 r.knows) s.leads
 
-        w : IsWholly before now pair.source pair.target stood
-        w = subst (λ (v : Option Value). IsWholly before now pair.source pair.target v) (ap (λ t. (let s : Spot = t pair.source in s.value)) tree_same) steps.0
+        w : IsWholly before now pair.source pair.target parts stood
+        w = subst (λ (v : View). IsWholly before now pair.source pair.target parts v) tree_same steps.0
 
         jobs_then : after.jobs ≡ before_others s.new []
         jobs_then = s.jobs_is ∙ (ap (with_job id s.new) only.0 ∙ (ap (λ n. with_job n s.new (s.job ∷ [])) (sym only.1) ∙ with_one s.job s.new))
@@ -138,11 +142,11 @@ module _ (opening : CallLog) (tree : IsTree (current opening)) (settled : all_se
       closed_whole before now (is_closed (x ∷ y ∷ g)) f.after stand f.stand_is (later was before f.after now x.what still h.last h.past f.leads)
 
   module _ (calls : ℕ) (image : FileSystem) (left : IsImage (log_prefix opening calls end) image) where
-    at_log : (log : CallLog) → IsWhole log → log_prefix opening calls end ≡ log → IsWholeAt image pair stood
+    at_log : (log : CallLog) → IsWhole log → log_prefix opening calls end ≡ log → IsWholeAt image pair parts stood
     at_log log whole is = whole image (subst (λ (l : CallLog). IsImage l image) is left)
 
     whole_moment : (newest standing coming : List Entry) (stand : Stand) (now : CallLog) (rest : List Change) → IsTraced opening newest stand now → end ≡ more now rest → IsMoment newest standing coming calls
-        → IsStillSince (e ∷ older) coming → IsWholeAt image pair stood
+        → IsStillSince (e ∷ older) coming → IsWholeAt image pair parts stood
     whole_moment [] standing coming stand now rest traced end_is (standing_is, coming_is, calls_is) since =
         let none : e ∷ older ≡ [] = subst (IsStillSince (e ∷ older)) coming_is since in absurd (let n = ap (λ (xs : List Entry). length xs) none in omega (arith, n))
     whole_moment (x ∷ g) standing coming stand now rest (was, before, traced, f) end_is (inl (standing_is, coming_is, calls_is)) since =
@@ -162,5 +166,5 @@ module _ (opening : CallLog) (tree : IsTree (current opening)) (settled : all_se
         let on = from_before x g was before stand now rest traced f end_is in whole_moment g standing coming was before on.0 traced on.1 before_that since
 
 pub whole_law : WholeLaw
-whole_law opening now newest older standing coming stand e id pair calls image tree settled traced moved unnamed moment since left =
-    whole_moment opening tree settled now e older id pair moved unnamed calls image left newest standing coming stand now [] traced (ap (log_of now) (sym (append-nil now.changes))) moment since
+whole_law opening now newest stand tree settled traced older standing coming e id pair calls image moved moment since left =
+    whole_moment opening tree settled now e older id pair moved calls image left newest standing coming stand now [] traced (ap (log_of now) (sym (append-nil now.changes))) moment since

@@ -1,25 +1,21 @@
--- The step that renames a thing: in each image it is at its source before, and at its source or at its target then.
-use Rattle.std.proofs.Common.{◌≡◌, ◌⊎◌, ℕ, true, false, List, [], ◌∷◌, refl, sym, ◌∙◌, ap, subst, inl, inr, Option, Some, None, Ok}
-use Rattle.std.specs.Prelude.{is_some}
+-- The step that renames a thing: in each image it is at its source before, and at its source or at its target then, with all that lies in it.
+use Rattle.std.proofs.Common.{◌≡◌, ◌⊎◌, ℕ, Bool, true, false, ◌||◌, List, [], ◌∷◌, ◌++◌, refl, sym, ◌∙◌, ap, subst, inl, inr, Option, Some, None, Ok}
+use Rattle.std.specs.Prelude.{if◌then◌else◌, is_some}
 use Rattle.std.specs.Option.{option_map}
-use Rattle.std.proofs.lemmas.Bool.{false_from_ne_true, or_right}
+use Rattle.std.proofs.lemmas.Bool.{false_from_ne_true, true≢false}
 use Rattle.mc_text.specs.Routes.{Route, same_path}
 use Rattle.tree_trait.specs.declared.file_system.FileSystem.{FileSystem}
-use Rattle.tree_trait.specs.FileSystem.{Spot, Value, find, node, value, value_at}
+use Rattle.tree_trait.specs.FileSystem.{Spot, View, find, node, value, value_at}
 use Rattle.tree_trait.specs.Calls.{Rename}
-use Rattle.tree_trait.specs.Change.{Change, Moves, CallLog, current, found, with_change}
-use Rattle.tree_trait.specs.CrashImages.{Among}
-use Rattle.tree_trait.specs.Refusals.{folder_kind, is_folder}
+use Rattle.tree_trait.specs.Change.{Change, Moves, Nothing, CallLog, current, found, with_change}
 use Rattle.tree_trait.specs.Answers.{Performs}
-use Rattle.tree_trait.proofs.Visible.{same_path-self}
 use Rattle.crash_law.specs.Guarded.{Marks}
 use Rattle.crash_law.specs.Possible.{IsImage}
-use Rattle.job_answers.specs.Skipping.{no_skips}
 use Rattle.job_reports.specs.Paths.{folder_of}
 use Rattle.job_reports.specs.declared.job.Pair.{Pair}
 use Rattle.job_reports.specs.declared.report.Did.TheVariants.{Moved}
+use Rattle.job_reports.proofs.CallAnswers.{IsDoneCall, done_call}
 use Rattle.thing_moving.specs.declared.moving.MovingStage.TheVariants.{Take, SyncTarget}
-use Rattle.thing_moving.specs.Takings.{MayMove}
 use Rattle.thing_moving.specs.Movings.{Moving, is_fresh}
 use Rattle.copy_move.specs.declared.run.Course.{Course}
 use Rattle.copy_move.specs.declared.run.Course.TheVariants.{GoesOn, Asking, InTrouble, OwedSyncFailed, Skips, Ends}
@@ -28,30 +24,44 @@ use Rattle.copy_move.specs.declared.work.Work.TheVariants.{Copy, Delete, Make, M
 use Rattle.copy_move.specs.Jobs.{Running, CallsOn, TellsOn, WorkCalls, WorkTells, WorkWinds}
 use Rattle.copy_move.specs.Jobs as jobs
 use Rattle.copy_move.specs.Settling.{NoneOwed}
+use Rattle.history_laws.specs.Doubt.{name_waits, way_waits}
 use Rattle.history_laws.specs.Traces.{IsUnclaimed, StepLeads, before_others}
-use Rattle.history_laws.proofs.JobKnows.{NoneOn, WorkKnows, none_on}
-use Rattle.history_laws.proofs.Knowing.{IsKept, IsKnown, Said, clean_now}
+use Rattle.history_laws.specs.Whole.{StandsAllAt}
+use Rattle.history_laws.proofs.AtRest.{RestsBelow}
+use Rattle.history_laws.proofs.JobKnows.{WorkKnows, none_over, way_sure}
+use Rattle.history_laws.proofs.Knowing.{IsKept, Said, clean_now}
 use Rattle.history_laws.proofs.KnownParts.{HasName}
 use Rattle.history_laws.proofs.MoveKnown.{MoveKnown}
 use Rattle.history_laws.proofs.MovesOn.{ArePast}
-use Rattle.history_laws.proofs.MovingFiles.{moved_known, target_stands}
-use Rattle.history_laws.proofs.MovingSteps.{can, now_is}
-use Rattle.history_laws.proofs.Resting.{IsSureFolder, settled_unless}
-use Rattle.history_laws.proofs.RoamingThings.{CanMoveFile, marks_roaming, said_moved}
-use Rattle.history_laws.proofs.WholeImages.{IsAtRest, renamed_seen, stays_seen}
+use Rattle.history_laws.proofs.PathsBelow.{not_below}
+use Rattle.history_laws.proofs.Renamings.{IsRenaming, renaming_passes}
+use Rattle.history_laws.proofs.Resting.{settled_unless}
+use Rattle.history_laws.proofs.ThingRests.{none_in_moved, source_rests, sure_within}
+use Rattle.history_laws.proofs.WholeImages.{IsAtRest, MayGo, renamed_seen, stays_seen}
 
--- A renaming, before and behind which each image has at one of the paths what stood at the source.
-pub record IsWholly (log now : CallLog) (source target : Route) (stood : Option Value) : Type 0 where
-  pub some : is_some stood ≡ true
-  pub before : (image : FileSystem) → IsImage log image → value_at image source ≡ stood
-  pub behind : (image : FileSystem) → IsImage now image → (value_at image source ≡ stood) ⊎ (value_at image target ≡ stood)
+second_off : (x y : Bool) → (x || y) ≡ false → y ≡ false
+second_off true y h = absurd (true≢false h)
+second_off false y h = h
+
+-- A renaming, before and behind which each image has at one of the paths what stood at the source, with all that lay in it.
+pub record IsWholly (log now : CallLog) (source target : Route) (parts : List Route) (stood : View) : Type 0 where
+  pub some : is_some (stood source).value ≡ true
+  pub before : (image : FileSystem) → IsImage log image → StandsAllAt image source parts stood source
+  pub behind : (image : FileSystem) → IsImage now image → StandsAllAt image source parts stood source ⊎ StandsAllAt image target parts stood source
   pub change : Change
   pub is : now ≡ with_change log change
 
 module _ (told : Said) (dirty : List Route) (marks : Marks) (log now : CallLog) (kept : IsKept told dirty marks log) where
   -- by the last names of both paths
-  module _ (none : told.part ≡ None) (old : List ℕ) (from : Route) (new : List ℕ) (to : Route) (other : same_path (old ∷ from) (new ∷ to) ≡ false) (owed : NoneOn (current log) to dirty)
-      (single : is_folder (node (current log) (found (current log) (old ∷ from))) ≡ false) (unnamed : Among told.named (old ∷ from) → ⊥) (done : Performs {A = Unit {0}} log (Rename (old ∷ from) (new ∷ to)) (Ok tt) (Some now)) where
+  module _ (none : told.part ≡ None) (old : List ℕ) (from : Route) (new : List ℕ) (to : Route) (other : same_path (old ∷ from) (new ∷ to) ≡ false)
+      (rests : RestsBelow marks log (old ∷ from)) (source_sure : way_waits log (old ∷ from) ≡ false) (to_sure : way_waits log to ≡ false)
+      (done : Performs {A = Unit {0}} log (Rename (old ∷ from) (new ∷ to)) (Ok tt) (Some now)) where
+    abbrev source : Route
+    source = old ∷ from
+
+    abbrev target : Route
+    target = new ∷ to
+
     abbrev f : ℕ
     f = found (current log) from
 
@@ -59,79 +69,88 @@ module _ (told : Said) (dirty : List Route) (marks : Marks) (log now : CallLog) 
     g = found (current log) to
 
     abbrev i : ℕ
-    i = found (current log) (old ∷ from)
+    i = found (current log) source
 
     abbrev moves : Change
-    moves = Moves f old g new i (find (current log) (new ∷ to))
+    moves = Moves f old g new i (find (current log) target)
 
-    -- both folders are dirty then
-    abbrev both : List Route
-    both = from ∷ to ∷ dirty
+    d : IsDoneCall log (Rename source target) now
+    d = done_call log (Rename source target) now done
 
-    may : CanMoveFile told marks log old from new to f g i
-    may = can told dirty both marks log now kept old from new to no_skips none other owed single (inl refl) (inr (inl refl)) (λ q among. inr (inr among)) done
+    passes : IsRenaming (current log) old from new to
+    passes = renaming_passes (current log) old from new to other d.permits
 
     is_now : now ≡ with_change log moves
-    is_now = now_is told dirty both marks log now kept old from new to no_skips none other owed single (inl refl) (inr (inl refl)) (λ q among. inr (inr among)) done
+    is_now = d.is ∙ ap (λ b. with_change log (if◌then◌else◌ b Nothing moves)) other
 
-    rest : IsAtRest log (old ∷ from) i
-    rest = record {
-      at = may.leads;
-      settled = settled_unless log (old ∷ from) may.source_sure;
-      clean = clean_now told dirty marks log kept.known (old ∷ from) (false_from_ne_true _ (λ aside. unnamed (kept.known.aside (old ∷ from) aside))) i may.leads may.no_mode;
+    sure_below : (rest : Route) → way_waits log (rest ++ source) ≡ false
+    sure_below [] = source_sure
+    sure_below (name ∷ rest) = ap (λ b. b || way_waits log (rest ++ source)) (rests.names name rest) ∙ sure_below rest
+
+    sure_above : (rest up : Route) → way_waits log (rest ++ up) ≡ false → way_waits log up ≡ false
+    sure_above [] up sure = sure
+    sure_above (name ∷ rest) up sure = sure_above rest up (second_off (name_waits log (name ∷ rest ++ up)) (way_waits log (rest ++ up)) sure)
+
+    at_rest : IsAtRest log told.named source i
+    at_rest = record {
+      at = passes.leads;
+      settled = λ rest. settled_unless log (rest ++ source) (sure_below rest);
+      clean = λ rest j out at.
+          clean_now told dirty marks log kept.known (rest ++ source) (false_from_ne_true _ (λ aside. out (kept.known.aside (rest ++ source) aside))) j at (rests.modes rest j at);
     }
 
-    -- the folder to which it goes is on the disk
-    sure : IsSureFolder (with_change log moves) to
-    sure =
-        let known : IsKnown (said_moved told old from new to) both (marks_roaming marks i (old ∷ from) (new ∷ to)) (with_change log moves) =
-        moved_known told dirty marks log kept old from new to f g i (find (current log) (new ∷ to)) may both (inl refl) (inr (inl refl)) (λ q among. inr (inr among)) in
-        known.stand to (or_right (told.folders to) _ (or_right (same_path to from) _ (same_path-self to)))
+    may : MayGo log told.named old from new to f g i
+    may = record {
+      tree = kept.known.guarded.tree;
+      from_at = passes.from_at;
+      to_at = passes.to_at;
+      rests = at_rest;
+      way = λ rest up is. settled_unless log up (sure_above rest up (subst (λ q. way_waits log q ≡ false) is to_sure));
+      not_into = λ rest is. not_below source target (new ∷ rest) passes.into (ap (λ (q : Route). new ∷ q) is);
+    }
 
-    no_part : told.part ≡ Some (old ∷ from) → ⊥
-    no_part is = let e : (let o : Option Route = None in o) ≡ Some (old ∷ from) = sym none ∙ is in cc
+    no_part : (p : Route) → told.part ≡ Some p → ⊥
+    no_part p is = let e : (let o : Option Route = None in o) ≡ Some p = sym none ∙ is in cc
 
-    shown : (told.tree (old ∷ from)).value ≡ Some (value (node (current log) i))
-    shown = sym (ap (λ (s : Spot). s.value) (kept.known.shows (old ∷ from) no_part)) ∙ ap (option_map (λ k. value (node (current log) k))) may.leads
+    shown : (p : Route) → value_at (current log) p ≡ (told.tree p).value
+    shown p = ap (λ (s : Spot). s.value) (kept.known.shows p (no_part p))
 
-    named_whole : IsWholly log now (old ∷ from) (new ∷ to) (told.tree (old ∷ from)).value
+    named_whole : IsWholly log now source target told.named told.tree
     named_whole = record {
-      some = ap is_some shown;
-      before = λ image left. stays_seen log (old ∷ from) i rest image left ∙ sym shown;
-      behind = λ image left. elim (renamed_seen log (old ∷ from) to old new f g i (find (current log) (new ∷ to)) rest
-          (target_stands told dirty marks log kept old from new to f g i (find (current log) (new ∷ to)) may) (settled_unless (with_change log moves) to sure.sure) image (subst (λ (l : CallLog). IsImage l image) is_now left)) [
-            | inl here ↦ inl (here ∙ sym shown)
-            | inr there ↦ inr (there ∙ sym shown)
-          ];
+      some = ap is_some (sym (shown source) ∙ ap (option_map (λ k. value (node (current log) k))) passes.leads);
+      before = λ image left rest out. stays_seen log told.named source i at_rest image left rest out ∙ shown (rest ++ source);
+      behind = λ image left. elim (renamed_seen log told.named old from new to f g i (find (current log) target) may image (subst (λ (l : CallLog). IsImage l image) is_now left)) [
+        | inl here ↦ inl (λ rest out. here rest out ∙ shown (rest ++ source))
+        | inr there ↦ inr (λ rest out. there rest out ∙ shown (rest ++ source))
+      ];
       change = moves;
       is = is_now;
     }
 
-  moves_whole : (source target : Route) → told.part ≡ None → HasName source → HasName target → same_path source target ≡ false → NoneOn (current log) (folder_of target) dirty
-      → is_folder (node (current log) (found (current log) source)) ≡ false → (Among told.named source → ⊥) → Performs {A = Unit {0}} log (Rename source target) (Ok tt) (Some now)
-      → IsWholly log now source target (told.tree source).value
-  moves_whole [] target none name name_there other owed single unnamed done = let is = name.is in absurd (let e : ⊥ = cc in e)
-  moves_whole (old ∷ from) [] none name name_there other owed single unnamed done = let is = name_there.is in absurd (let e : ⊥ = cc in e)
-  moves_whole (old ∷ from) (new ∷ to) none name name_there other owed single unnamed done = named_whole none old from new to other owed single unnamed done
+  moves_whole : (source target : Route) → told.part ≡ None → HasName source → HasName target → same_path source target ≡ false → RestsBelow marks log source → way_waits log source ≡ false → way_waits log (folder_of target) ≡ false
+      → Performs {A = Unit {0}} log (Rename source target) (Ok tt) (Some now) → IsWholly log now source target told.named told.tree
+  moves_whole [] target none name name_there other rests source_sure to_sure done = let is = name.is in absurd (let e : ⊥ = cc in e)
+  moves_whole (old ∷ from) [] none name name_there other rests source_sure to_sure done = let is = name_there.is in absurd (let e : ⊥ = cc in e)
+  moves_whole (old ∷ from) (new ∷ to) none name name_there other rests source_sure to_sure done = named_whole none old from new to other rests source_sure to_sure done
 
   -- a job tells that it moved this
   abbrev pub WhollyPast : Pair → Option Running → Type 0
-  WhollyPast pair after = IsWholly log now pair.source pair.target (told.tree pair.source).value × ArePast (before_others after [])
+  WhollyPast pair after = IsWholly log now pair.source pair.target told.named told.tree × ArePast (before_others after [])
 
-  module _ (job : Running) (after : Option Running) (dirty_after : List Route) (pair : Pair) (knows : WorkKnows told dirty marks log job.course job.work) (unnamed : Among told.named pair.source → ⊥) where
-    of_move : (m new : Moving) (course : Course) → MoveKnown told marks log course m → m.stage ≡ Take → pair ≡ m.pair → new ≡ record m { stage = SyncTarget } → MayMove (current log) m.pair job.replies
+  module _ (job : Running) (after : Option Running) (dirty_after : List Route) (pair : Pair) (knows : WorkKnows told dirty marks log job.course job.work) where
+    of_move : (m new : Moving) (course : Course) → MoveKnown told marks log course m → m.stage ≡ Take → pair ≡ m.pair → new ≡ record m { stage = SyncTarget }
         → Performs {A = Unit {0}} log (Rename m.pair.source m.pair.target) (Ok tt) (Some now) → NoneOwed (current log) (Move m) dirty → after ≡ Some (record job { work = Move new; course = GoesOn }) → WhollyPast pair after
-    of_move m new course k stage pair_is new_is free done owed after_is = (
-      subst (λ (p : Pair). IsWholly log now p.source p.target (told.tree p.source).value) (sym pair_is)
-          (moves_whole m.pair.source m.pair.target k.none k.source k.target k.other (none_on (current log) (Move m) dirty owed)
-          (ap folder_kind (sym free.can.stands.is.kind) ∙ free.can.single) (subst (λ (p : Pair). Among told.named p.source → ⊥) pair_is unnamed) done),
+    of_move m new course k stage pair_is new_is done owed after_is = (
+      subst (λ (p : Pair). IsWholly log now p.source p.target told.named told.tree) (sym pair_is)
+          (moves_whole m.pair.source m.pair.target k.none k.source k.target k.other (source_rests told dirty marks log kept m k.source owed)
+          (sure_within told dirty marks log kept m.pair.source k.source (none_in_moved (current log) m dirty owed) []) (way_sure told dirty marks log (folder_of m.pair.target) kept.known (none_over (current log) (Move m) dirty owed)) done),
       subst (λ o. ArePast (before_others o [])) (sym after_is) (new, refl, ap (λ (x : Moving). is_fresh x.stage) new_is),
     )
 
     of_work : (old new : Work) → job.work ≡ old → job.course ≡ GoesOn → WorkTells old (Moved pair) new → WorkCalls IsUnclaimed job.replies old (Moved pair) new log (Some now)
         → (jobs.is_fresh old ≡ true → NoneOwed (current log) old dirty) → after ≡ Some (record job { work = new; course = GoesOn }) → WhollyPast pair after
     of_work (Move m) (Move new) is course_is (stage, pair_is, new_is) (free, done) settled after_is =
-        of_move m new job.course (subst (λ w. WorkKnows told dirty marks log job.course w) is knows) stage pair_is new_is free done (settled (ap is_fresh stage)) after_is
+        of_move m new job.course (subst (λ w. WorkKnows told dirty marks log job.course w) is knows) stage pair_is new_is done (settled (ap is_fresh stage)) after_is
     of_work (Move m) (Copy new) is course_is tells calls settled after_is = absurd tells
     of_work (Move m) (Delete new) is course_is tells calls settled after_is = absurd tells
     of_work (Move m) (Make new) is course_is tells calls settled after_is = absurd tells

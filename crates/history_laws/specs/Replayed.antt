@@ -1,14 +1,15 @@
 -- What a history makes of the tree that can be seen, parts of live jobs aside. Histories stand newest first here.
-use Rattle.std.specs.Prelude.{ℕ, ◌+◌, bit_or, if◌then◌else◌, List, [], ◌∷◌, length, take, Option, Some, None}
+use Rattle.std.specs.Prelude.{ℕ, ◌+◌, false, bit_or, if◌then◌else◌, List, [], ◌∷◌, length, take, Option, Some, None}
 use Rattle.std.specs.Option.{option_map}
-use Rattle.mc_text.specs.Routes.{Route, same_path}
+use Rattle.mc_text.specs.Routes.{Route, is_prefix}
 use Rattle.mc_text.specs.declared.kind.Kind.{Kind}
 use Rattle.mc_text.specs.declared.kind.Kind.TheVariants.{File, Folder, Link, Other}
-use Rattle.tree_trait.specs.FileSystem.{Value, View, put, value_at, visible_tree}
+use Rattle.tree_trait.specs.FileSystem.{Spot, Value, View, put, value_at, visible_tree}
 use Rattle.tree_trait.specs.Change.{CallLog, current}
 use Rattle.job_reports.specs.declared.job.Pair.{Pair}
 use Rattle.job_reports.specs.declared.report.Did.{Did}
 use Rattle.job_reports.specs.declared.report.Did.TheVariants.{Began, Chunk, Placed, Removed, Made, Set, Kept, Skipped, Cleaned, Barrier, Asked, Merges, Moved, Troubled, Ended}
+use Rattle.session_history.specs.Moves.{is_of_move, moved_from}
 use Rattle.session_history.specs.Named.{changed_by}
 use Rattle.file_copy.specs.Copied.{copied}
 use Rattle.session_history.specs.declared.history.Event.{Event}
@@ -21,11 +22,6 @@ use Rattle.session_history.specs.LiveJobs.{LiveJob, live_jobs, live_item}
 -- the log as it was when so many calls had been made since the opening
 abbrev pub log_prefix : CallLog → ℕ → CallLog → CallLog
 log_prefix opening calls now = record now { changes = take (length opening.changes + calls) now.changes }
-
--- where the copy of a thing comes from: as far below the source as it lies below the target
-abbrev pub moved_from : Route → Route → Route → Route
-moved_from source target [] = source
-moved_from source target (name ∷ up) = if same_path (name ∷ up) target then source else name ∷ moved_from source target up
 
 -- the mode of what is placed as a copy of a thing: that of the thing, but a link is made with none
 abbrev pub mode_placed : Kind → ℕ → ℕ
@@ -90,9 +86,14 @@ made_by (Some (Removes file)) path v = new_folder
 made_by (Some (Sets thing mode)) path v = new_folder
 made_by None path v = new_folder
 
--- where a thing was that was moved nothing stands any more, and where it went stands what it was
+-- nothing stands there
+abbrev pub nothing_there : Spot
+nothing_there = record { value = None; is_mount = false }
+
+-- where a thing was that was moved, and below, nothing stands any more, and where it went stands what it was, with all that lay in it
 abbrev pub moved_by : Pair → View → View
-moved_by pair v = put (put v pair.source None) pair.target (v pair.source).value
+moved_by pair v path =
+    if is_prefix pair.target path then v (moved_from pair.source pair.target path) else if is_prefix pair.source path then nothing_there else v path
 
 -- What a step makes of the tree, which has this log then: a removed path has nothing any more, one that was made an empty
 -- folder or a link, one that was given a mode has that, and a part that an end names is from then on what it then is.
@@ -134,8 +135,17 @@ abbrev pub keeping : List Route → View → View → View
 keeping [] v before = before
 keeping (path ∷ more) v before = keeping more v (put before path (v path).value)
 
+-- the paths of a move as they are shown, and all others as before
+abbrev pub keeping_moved : Pair → View → View → View
+keeping_moved pair v before path = if is_of_move pair path then v path else before path
+
+-- the paths that a report says were changed as they are shown, and all others as before
+abbrev pub earlier_step : Did → View → View → View
+earlier_step (Moved pair) v before = keeping_moved pair v before
+earlier_step did v before = keeping (changed_by did) v before
+
 abbrev pub earlier_event : Event → View → View → View
-earlier_event (Step id did) v before = keeping (changed_by did) v before
+earlier_event (Step id did) v before = earlier_step did v before
 earlier_event (Key key now refusals lost) v before = before
 earlier_event (Look refusals) v before = before
 earlier_event Sought v before = before

@@ -48,10 +48,11 @@ FinishedStaysLaw = (opening now after : CallLog) (newest older standing coming :
     → value_at image path ≡ (replayed_tree opening now older path).value
 
 -- a folder in which a job may change names: the one that holds what it places, makes or removes; where it copies or deletes, also the
--- thing itself and what lies in it; where it moves, those of both its paths
+-- thing itself and what lies in it; where it moves, so of both its paths
 abbrev pub may_change : Item → Route → Bool
 may_change (Copies source target) folder = same_path folder (folder_of target) || is_prefix target folder
-may_change (Moves source target) folder = same_path folder (folder_of source) || same_path folder (folder_of target)
+may_change (Moves source target) folder =
+    (same_path folder (folder_of source) || is_prefix source folder) || (same_path folder (folder_of target) || is_prefix target folder)
 may_change (Removes path) folder = same_path folder (folder_of path) || is_prefix path folder
 may_change (Makes path) folder = same_path folder (folder_of path)
 may_change (MakesLink path text) folder = same_path folder (folder_of path)

@@ -1,7 +1,8 @@
--- What a crash leaves of a file that is moved: in one and the same image it is whole at its source or at its target. Histories stand newest first here.
-use Rattle.std.specs.Prelude.{◌≡◌, ◌⊎◌, ℕ, ◌+◌, Bool, true, false, is_some, List, [], ◌∷◌, length, Option}
+-- What a crash leaves of a thing that is moved: in one and the same image it is whole at its source or at its target, with all that lies in it. Histories stand newest first here.
+use Rattle.std.specs.Prelude.{◌≡◌, ◌⊎◌, ℕ, ◌+◌, Bool, true, false, is_some, List, [], ◌∷◌, ◌++◌, length}
 use Rattle.tree_trait.specs.declared.file_system.FileSystem.{FileSystem}
-use Rattle.tree_trait.specs.FileSystem.{Value, value_at}
+use Rattle.mc_text.specs.Routes.{Route}
+use Rattle.tree_trait.specs.FileSystem.{View, value_at}
 use Rattle.tree_trait.specs.Shape.{IsTree}
 use Rattle.tree_trait.specs.Change.{CallLog, current}
 use Rattle.tree_trait.specs.CrashImages.{Among, all_settled, IsCrashImage}
@@ -32,17 +33,24 @@ abbrev pub IsStillSince : List Entry → List Entry → Type 0
 IsStillSince first [] = first ≡ []
 IsStillSince first (e ∷ entries) = (first ≡ e ∷ entries) ⊎ ((takes_up e.what ≡ false) × IsStillSince first entries)
 
--- Something stood at the source, and it stands there, with its bytes and its mode, or it stands so at the target.
-pub record IsWholeAt (image : FileSystem) (pair : Pair) (stood : Option Value) : Type 0 where
-  pub some : is_some stood ≡ true
-  pub stands : (value_at image pair.source ≡ stood) ⊎ (value_at image pair.target ≡ stood)
+-- there stands, in this image, what stood elsewhere, with all that lay in it, each thing with its bytes and its mode; but for parts
+abbrev pub StandsAllAt : FileSystem → Route → List Route → View → Route → Type 0
+StandsAllAt image top parts stood source = (rest : Route) → (Among parts (rest ++ source) → ⊥) → value_at image (rest ++ top) ≡ (stood (rest ++ source)).value
 
--- The law of what a crash leaves of a file that is moved. From the entry that tells of the move on, and within it, until another source is taken up, each crash
--- image has at the source or at the target what the history says of the source before that entry, at each moment, inside a call too; but not where an entry
--- named the source as a part. What stays of a source with which the job is done `DoneLaw` says: then the target has it for good.
+-- Something stood at the source, and it stands there, with all that lay in it, or it stands so at the target.
+pub record IsWholeAt (image : FileSystem) (pair : Pair) (parts : List Route) (stood : View) : Type 0 where
+  pub some : is_some (stood pair.source).value ≡ true
+  pub stands : StandsAllAt image pair.source parts stood pair.source ⊎ StandsAllAt image pair.target parts stood pair.source
+
+-- From the entry that tells of a move on, and within it, until another source is taken up, each crash image has at the source or at the target what the history says of
+-- the source before that entry, with all that lay in it, but for parts, at each moment, inside a call too. What stays of a source with which the job is done `DoneLaw`
+-- says: then the target has it for good.
+abbrev pub LeavesWhole : CallLog → CallLog → List Entry → Type 0
+LeavesWhole opening now newest =
+    (older standing coming : List Entry) (e : Entry) (id : ℕ) (pair : Pair) (calls : ℕ) (image : FileSystem)
+    → e.what ≡ Step id (Moved pair) → IsMoment newest standing coming calls → IsStillSince (e ∷ older) coming → IsCrashImage now (length opening.changes + calls) image
+    → IsWholeAt image pair (named_parts older) (replayed_tree opening now older)
+
 abbrev pub WholeLaw : Type 0
-WholeLaw = (opening now : CallLog) (newest older standing coming : List Entry) (stand : Stand) (e : Entry) (id : ℕ) (pair : Pair) (calls : ℕ) (image : FileSystem)
-    → IsTree (current opening) → all_settled opening.changes ≡ true → IsTraced opening newest stand now
-    → e.what ≡ Step id (Moved pair) → (Among (named_parts older) pair.source → ⊥)
-    → IsMoment newest standing coming calls → IsStillSince (e ∷ older) coming → IsCrashImage now (length opening.changes + calls) image
-    → IsWholeAt image pair (replayed_tree opening now older pair.source).value
+WholeLaw = (opening now : CallLog) (newest : List Entry) (stand : Stand)
+    → IsTree (current opening) → all_settled opening.changes ≡ true → IsTraced opening newest stand now → LeavesWhole opening now newest

@@ -57,9 +57,9 @@ pub fn what_was_finished_stays()
     ensures { DoneLaw }
 {}
 
-/// In one and the same crash image a file that is moved is whole at its source or at its target, until its job takes up another source or the next job begins;
-/// what stays then, the law before this one says.
-pub fn what_a_crash_leaves_of_a_moved_file()
+/// In one and the same crash image a thing that is moved is whole at its source or at its target, a folder with all that lies in it, until its job takes up another
+/// source or the next job begins; what stays then, the law before this one says.
+pub fn what_a_crash_leaves_of_a_moved_thing()
     ensures { WholeLaw }
 {}
 
