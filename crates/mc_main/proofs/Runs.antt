@@ -39,11 +39,11 @@ pub safe_to : (o contents : Option CallLog) (newest : List Entry) → IsTracedTo
 safe_to o contents newest traced opening o_is now is tree settled standing coming calls image moment left =
     let t = told_trace o contents newest opening now o_is is traced in session_law opening now newest standing coming (at_rest t.0) calls image tree settled t.1 moment left
 
--- and a file that is moved is whole
+-- and a thing that is moved is whole
 pub whole_to : (o contents : Option CallLog) (newest : List Entry) → IsTracedTo o contents newest → IfKnown o (λ opening. IfKnown contents (λ now. IsWholeRun opening now newest))
-whole_to o contents newest traced opening o_is now is tree settled older standing coming e id pair calls image moved unnamed moment since left =
+whole_to o contents newest traced opening o_is now is tree settled =
     let t = told_trace o contents newest opening now o_is is traced in
-    whole_law opening now newest older standing coming (at_rest t.0) e id pair calls image tree settled t.1 moved unnamed moment since left
+    whole_law opening now newest (at_rest t.0) tree settled t.1
 
 -- what a finished job did stays done
 pub finished_to : (o contents : Option CallLog) (newest : List Entry) → IsTracedTo o contents newest → IfKnown o (λ opening. IfKnown contents (λ now. IsFinishedRun opening now newest))

@@ -6,21 +6,17 @@ use Rattle.tree_trait.specs.declared.file_system.FileSystem.{FileSystem}
 use Rattle.tree_trait.specs.FileSystem.{visible_tree}
 use Rattle.tree_trait.specs.Shape.{IsTree}
 use Rattle.tree_trait.specs.Change.{CallLog, current}
-use Rattle.tree_trait.specs.CrashImages.{Among, all_settled, IsCrashImage}
+use Rattle.tree_trait.specs.CrashImages.{all_settled, IsCrashImage}
 use Rattle.tree_trait.specs.Answers.{HasRisen, IfKnown}
 use Rattle.tree_trait.specs.declared.devices.SourceFault.{SourceFault}
 use Rattle.key_screen.specs.DecodedKeys.{decoded_keys}
-use Rattle.job_reports.specs.declared.job.Pair.{Pair}
-use Rattle.job_reports.specs.declared.report.Did.TheVariants.{Moved}
-use Rattle.session_history.specs.declared.history.Event.TheVariants.{Step}
-use Rattle.session_history.specs.Named.{named_parts}
 use Rattle.session_history.specs.declared.history.Entry.{Entry}
 use Rattle.history_laws.specs.Calmed.{CalmsOthers}
 use Rattle.history_laws.specs.Replayed.{log_prefix, replayed_tree}
 use Rattle.session_history.specs.Entries.{IsMoment}
 use Rattle.history_laws.specs.Safe.{IsSafe}
 use Rattle.history_laws.specs.Staying.{StaysDone}
-use Rattle.history_laws.specs.Whole.{IsStillSince, IsWholeAt}
+use Rattle.history_laws.specs.Whole.{LeavesWhole}
 use Rattle.outcome_laws.specs.AllSources.{LeavesAll}
 use Rattle.outcome_laws.specs.Answered.{FollowsAnswers}
 use Rattle.outcome_laws.specs.Keeps.{LeavesKept}
@@ -138,13 +134,10 @@ IsSafeRun opening now newest =
     → IsMoment newest standing coming calls → IsCrashImage now (length opening.changes + calls) image
     → IsSafe opening now standing (log_prefix opening calls now) image ⊎ IsSafe opening now coming (log_prefix opening calls now) image
 
--- A thing that is moved is whole at its source or at its target in one and the same image, from the entry that tells of it on, and within it, until another source is
--- taken up; but for one that was named as a part.
+-- A thing that is moved is whole at its source or at its target in one and the same image, with all that lies in it, but for parts, from the entry that tells of it on,
+-- and within it, until another source is taken up.
 abbrev pub IsWholeRun : CallLog → CallLog → List Entry → Type 0
-IsWholeRun opening now newest =
-    IsTree (current opening) → all_settled opening.changes ≡ true → (older standing coming : List Entry) (e : Entry) (id : ℕ) (pair : Pair) (calls : ℕ) (image : FileSystem)
-    → e.what ≡ Step id (Moved pair) → (Among (named_parts older) pair.source → ⊥) → IsMoment newest standing coming calls → IsStillSince (e ∷ older) coming
-    → IsCrashImage now (length opening.changes + calls) image → IsWholeAt image pair (replayed_tree opening now older pair.source).value
+IsWholeRun opening now newest = IsTree (current opening) → all_settled opening.changes ≡ true → LeavesWhole opening now newest
 
 -- what a finished job did stays done
 abbrev pub IsFinishedRun : CallLog → CallLog → List Entry → Type 0

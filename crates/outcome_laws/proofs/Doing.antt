@@ -5,11 +5,12 @@ use Rattle.std.specs.Option.{option_map}
 use Rattle.mc_text.specs.Routes.{Route, parent_of, same_path}
 use Rattle.tree_trait.specs.declared.file_system.FileSystem.{FileSystem}
 use Rattle.tree_trait.specs.FileSystem.{Spot, Value, View, node, value}
-use Rattle.tree_trait.specs.Calls.{SetMode as Sets_mode}
+use Rattle.tree_trait.specs.Calls.{Rename, SetMode as Sets_mode}
 use Rattle.tree_trait.specs.Change.{CallLog, current, found}
 use Rattle.crash_law.specs.Guarded.{Marks}
 use Rattle.job_reports.specs.declared.job.Job.{Job}
 use Rattle.job_reports.specs.declared.job.Job.TheVariants as plan
+use Rattle.job_reports.specs.declared.job.Pair.{Pair}
 use Rattle.job_reports.specs.declared.report.Cause.{Cause}
 use Rattle.job_reports.specs.declared.report.Did.{Did}
 use Rattle.job_reports.specs.declared.report.Did.TheVariants.{Began, Chunk, Placed, Removed, Made, Set, Kept, Skipped, Cleaned, Barrier, Asked, Merges, Moved, Troubled, Ended}
@@ -18,13 +19,14 @@ use Rattle.job_reports.specs.declared.answer.Answer.TheVariants.{Yes, No, All, U
 use Rattle.job_answers.specs.declared.skips.Skips.{Skips as SkippedKinds}
 use Rattle.job_reports.specs.Jobs.{is_link_text}
 use Rattle.job_reports.specs.CallRuns.{AllDone}
-use Rattle.job_reports.proofs.CallAnswers.{one_done, some_log}
+use Rattle.job_reports.proofs.CallAnswers.{done_call, one_done, some_log}
 use Rattle.session_history.specs.declared.history.JobOrder.{JobOrder}
 use Rattle.session_history.specs.declared.history.JobOrder.TheVariants.{Answered}
 use Rattle.mode_setting.specs.Settings.{Setting}
 use Rattle.mode_setting.specs.SettingSteps.{SettingCalls}
 use Rattle.job_answers.specs.declared.replies.Replies.{Replies}
 use Rattle.job_reports.specs.Jobs.{Item}
+use Rattle.thing_moving.specs.Movings.{Moving, MovingCalls}
 use Rattle.thing_making.specs.declared.new_thing.NewThing.{NewThing}
 use Rattle.thing_making.specs.declared.new_thing.NewThing.TheVariants as thing
 use Rattle.copy_move.specs.declared.run.Course.{Course}
@@ -42,6 +44,7 @@ use Rattle.history_laws.proofs.Knowing.{IsKept, Said}
 use Rattle.history_laws.proofs.Sources.{item_in, making_item}
 use Rattle.history_laws.proofs.Turns.{Turned}
 use Rattle.outcome_laws.specs.Outcomes.{kept_of, passed_by, passed_in}
+use Rattle.outcome_laws.proofs.ApartPaths.{AreApart, named_apart}
 use Rattle.outcome_laws.proofs.CopyOutcome.{TreeAccounts, tree_begins, tree_passed, tree_steps, tree_taken}
 use Rattle.outcome_laws.proofs.MadeThings.{MakingDone, SettingDone, Unless, making_skips, making_steps, setting_skips, setting_steps, unless_of}
 use Rattle.outcome_laws.proofs.MovedThings.{MovingDone, moving_begins, moving_skips, moving_steps}
@@ -172,6 +175,13 @@ module _ (told : Said) (dirty dirty_after : List Route) (marks : Marks) (log now
             ∙ ap (option_map (λ k. value (node (current log) k))) (mode_finds (current log) s.path s.mode d.permits),
       )
 
+  -- what is moved lies apart from where it goes
+  goes_apart : (replies : Replies) (m : Moving) (did : Did) → WorkKnows told dirty marks log GoesOn (Move m) → MovingCalls replies m did log (Some now) → (pair : Pair) → did ≡ Moved pair → AreApart m.pair
+  goes_apart replies m did knows called pair is =
+      let renamed = subst (λ (x : Did). MovingCalls replies m x log (Some now)) is called in
+      let d = done_call log (Rename m.pair.source m.pair.target) now renamed.1 in
+      named_apart log kept.known.guarded.tree replies m.pair knows.source knows.target knows.other renamed.0 d.permits
+
   work_steps : (replies : Replies) (old new : Work) (did : Did) (calls faults faults_after : ℕ) (passed : List Route) → WorkKnows told dirty marks log GoesOn old → WorkTells old did new → WorkCalls IsUnclaimed replies old did new log (Some now)
       → Walks IsUnclaimed replies old new did calls dirty dirty_after (Some log) (Some now) faults faults_after → WorkDone passed begun told.tree (current log) old → Then passed did old new
   work_steps replies (Copy c) (Copy new) did calls faults faults_after passed knows t called walks k =
@@ -182,7 +192,7 @@ module _ (told : Said) (dirty dirty_after : List Route) (marks : Marks) (log now
   work_steps replies (Make m) (Make new) did calls faults faults_after passed knows t called walks k =
       subst (λ p. Unless did (MakingDone p (replayed_step now did (Some (item_in (Make m))) told.tree) new)) (sym (in_plain (item_in (Make m)) did passed (makes_plain m.thing m.path passed))) (making_steps m new did now passed told.tree t k)
   work_steps replies (Move m) (Move new) did calls faults faults_after passed knows t called walks k =
-      moving_steps m new did now passed begun told.tree knows.other t k
+      moving_steps m new did now passed begun told.tree (goes_apart replies m did knows called) t k
   work_steps replies (SetMode s) (SetMode new) did calls faults faults_after passed knows t called walks k =
       subst (λ p. Unless did (SettingDone p (replayed_step now did (Some (item_in (SetMode s))) told.tree) new)) (sym (in_plain (item_in (SetMode s)) did passed refl)) (setting_steps s new did now passed told.tree t (stands s did knows called) k)
   work_steps replies (Copy c) (Delete new) did calls faults faults_after passed knows t called walks k = absurd t

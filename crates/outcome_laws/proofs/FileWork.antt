@@ -28,7 +28,8 @@ use Rattle.file_copy.specs.declared.stage.Stage.{Stage}
 use Rattle.file_copy.specs.declared.stage.Stage.TheVariants as at
 use Rattle.copy_levels.specs.declared.level.Level.{Level}
 use Rattle.tree_copy.specs.InPlace.{IsMoved}
-use Rattle.history_laws.specs.Replayed.{moved_from, placed_copy, replayed_step}
+use Rattle.session_history.specs.Moves.{moved_from}
+use Rattle.history_laws.specs.Replayed.{placed_copy, replayed_step}
 use Rattle.history_laws.proofs.Changing.{none_below_file}
 use Rattle.history_laws.proofs.Intact.{prefix_append}
 use Rattle.history_laws.proofs.Moved.{moved_below}

@@ -2,7 +2,9 @@ pub mod Accounts
 pub mod Answering
 pub mod AnswersLaw
 pub mod AnswersSaid
+pub mod ApartPaths
 pub mod BegunTrees
+pub mod ChangedPaths
 pub mod CopyOutcome
 pub mod CopyTouches
 pub mod Deciding
@@ -20,6 +22,7 @@ pub mod MadeThings
 pub mod MergedExample
 pub mod MovedAnswers
 pub mod MovedExample
+pub mod MovedFolderExample
 pub mod MovedThings
 pub mod Outcome
 pub mod Owed

@@ -1,5 +1,5 @@
 -- A small session in which a file is moved out of a folder, so the premises can be met: at its end the file stands at its target, and nothing where it was.
-use Rattle.std.proofs.Common.{◌≡◌, pos, true, false, List, [], ◌∷◌, refl, sym, inl, Some, None, true≢false}
+use Rattle.std.proofs.Common.{◌≡◌, pos, false, List, [], ◌∷◌, refl, sym, inl, Some, None, true≢false}
 use Rattle.mc_text.specs.Routes.{Route}
 use Rattle.mc_text.specs.declared.kind.Kind.TheVariants.{File}
 use Rattle.tree_trait.specs.declared.calls.Meta.{Meta}
@@ -66,7 +66,7 @@ meta = (let s = current (log []) in record { kind = File; size = 1; mode = 0o644
 
 may_move : MayMove (current (log [])) pair no_replies
 may_move = record {
-  can = record { source = meta; stands = record { there = refl; is = record { kind = refl; size = refl; mode = refl; mtime = refl; mount = refl } }; single = refl };
+  can = record { source = meta; stands = record { there = refl; is = record { kind = refl; size = refl; mode = refl; mtime = refl; mount = refl } } };
   free = inl refl;
 }
 
@@ -134,4 +134,4 @@ ended_traced =
 pub is_moved : ((replayed_tree (log []) done_log done_entries first).value ≡ None) × ((replayed_tree (log []) done_log done_entries target).value ≡ Some (value file))
 is_moved =
     let law = outcome_law (log []) done_log (end ∷ done_entries) (stand [] []) small_tree refl ended_traced end done_entries 1 (jobs.Moves first target) (record { ended = refl; its = refl }) (inl (refl, refl, refl)) in
-    law.went (λ among. absurd among)
+    law.went (λ among. absurd among) []

@@ -1,34 +1,36 @@
 -- What a move knows of what it leaves: before the renaming both paths are as they were where the job began with it, and then what stood at its source stands at its target.
-use Rattle.std.proofs.Common.{◌≡◌, Bool, true, false, List, [], ◌∷◌, refl, sym, ◌∙◌, ap, subst, inl, inr, Some, None}
+use Rattle.std.proofs.Common.{◌≡◌, Bool, true, false, List, [], ◌∷◌, ◌++◌, refl, sym, ◌∙◌, ap, subst, inl, Some, None}
 use Rattle.std.specs.Prelude.{if◌then◌else◌}
-use Rattle.std.proofs.lemmas.Bool.{or_left, or_right}
-use Rattle.mc_text.specs.Routes.{Route, same_path}
-use Rattle.tree_trait.specs.FileSystem.{Spot, View, put}
+use Rattle.std.proofs.lemmas.Bool.{false_from_ne_true}
+use Rattle.mc_text.specs.Routes.{Route, is_prefix, same_path}
+use Rattle.tree_trait.specs.FileSystem.{Spot, View}
 use Rattle.tree_trait.specs.Change.{CallLog}
 use Rattle.tree_trait.specs.CrashImages.{Among}
-use Rattle.tree_trait.proofs.Visible.{same_path-self}
 use Rattle.job_reports.specs.declared.job.Pair.{Pair}
 use Rattle.job_reports.specs.declared.report.Did.{Did}
 use Rattle.job_reports.specs.declared.report.Did.TheVariants.{Began, Chunk, Placed, Removed, Made, Set, Kept, Skipped, Cleaned, Barrier, Asked, Merges, Moved, Troubled, Ended}
 use Rattle.job_reports.specs.Jobs.{Moves}
 use Rattle.job_reports.specs.Paths.{folder_of}
-use Rattle.session_history.specs.Named.{changed_by}
+use Rattle.session_history.specs.Moves.{is_of_move, moved_from}
 use Rattle.thing_moving.specs.declared.moving.MovingStage.{MovingStage}
 use Rattle.thing_moving.specs.declared.moving.MovingStage.TheVariants.{Take, SyncTarget, SyncSource, Finish, PassedOver}
 use Rattle.thing_moving.specs.Movings.{Moving, Tells, after_sync, at_barrier, is_dirty, is_done, skipped, started}
-use Rattle.history_laws.specs.Replayed.{moved_by, replayed_step}
-use Rattle.history_laws.proofs.Deleted.{put_at, put_off}
+use Rattle.history_laws.specs.Replayed.{moved_by, nothing_there, replayed_step}
+use Rattle.history_laws.proofs.Moved.{moved_below}
+use Rattle.history_laws.proofs.PathsBelow.{below_way, is_below}
 use Rattle.outcome_laws.specs.Outcomes.{IsMoved, passed_in}
 use Rattle.outcome_laws.specs.Untouched.{touches}
+use Rattle.outcome_laws.proofs.ApartPaths.{AreApart}
+use Rattle.outcome_laws.proofs.ChangedPaths.{IsChanged}
 use Rattle.outcome_laws.proofs.MadeThings.{Unless}
 
--- both paths are as they were
+-- both paths, and all below them, are as they were
 abbrev pub IsUnmoved : Pair → View → View → Type 0
-IsUnmoved pair begun v = (v pair.source ≡ begun pair.source) × (v pair.target ≡ begun pair.target)
+IsUnmoved pair begun v = (rest : Route) → (v (rest ++ pair.source) ≡ begun (rest ++ pair.source)) × (v (rest ++ pair.target) ≡ begun (rest ++ pair.target))
 
--- what stood at the source stands at the target
+-- what stood at the source stands at the target, with all that lay in it
 abbrev pub HasGone : Pair → View → View → Type 0
-HasGone pair begun v = ((v pair.source).value ≡ None) × ((v pair.target).value ≡ (begun pair.source).value)
+HasGone pair begun v = (rest : Route) → ((v (rest ++ pair.source)).value ≡ None) × ((v (rest ++ pair.target)).value ≡ (begun (rest ++ pair.source)).value)
 
 abbrev pub MovingAt : MovingStage → Pair → List Route → View → View → Type 0
 MovingAt Take pair passed begun v = (passed ≡ []) × IsUnmoved pair begun v
@@ -42,14 +44,24 @@ MovingDone passed begun v m = MovingAt m.stage m.pair passed begun v
 
 -- a move that begins
 pub moving_begins : (pair : Pair) (v : View) → MovingDone [] v v (started pair)
-moving_begins pair v = (refl, (refl, refl))
+moving_begins pair v = (refl, λ rest. (refl, refl))
 
 -- the renaming
-goes : (pair : Pair) (begun v : View) → same_path pair.source pair.target ≡ false → v pair.source ≡ begun pair.source → HasGone pair begun (moved_by pair v)
-goes pair begun v apart same = (
-  ap (λ (s : Spot). s.value) (put_off (put v pair.source None) pair.target (v pair.source).value pair.source apart ∙ put_at v pair.source None),
-  ap (λ (s : Spot). s.value) (put_at (put v pair.source None) pair.target (v pair.source).value) ∙ ap (λ (s : Spot). s.value) same,
-)
+goes : (pair : Pair) (begun v : View) → AreApart pair → IsUnmoved pair begun v → HasGone pair begun (moved_by pair v)
+goes pair begun v apart same rest = (ap (λ (s : Spot). s.value) empty, ap (λ (s : Spot). s.value) (there ∙ (same rest).0))
+  where
+    off : is_prefix pair.target (rest ++ pair.source) ≡ false
+    off = false_from_ne_true _ (λ below. let w = below_way pair.target (rest ++ pair.source) below in apart rest w.0 w.1)
+
+    empty : moved_by pair v (rest ++ pair.source) ≡ nothing_there
+    empty =
+        ap (λ b. if b then v (moved_from pair.source pair.target (rest ++ pair.source)) else (if is_prefix pair.source (rest ++ pair.source) then nothing_there else v (rest ++ pair.source))) off
+        ∙ ap (λ b. if b then nothing_there else v (rest ++ pair.source)) (is_below pair.source rest)
+
+    there : moved_by pair v (rest ++ pair.target) ≡ v (rest ++ pair.source)
+    there =
+        ap (λ b. if b then v (moved_from pair.source pair.target (rest ++ pair.target)) else (if is_prefix pair.source (rest ++ pair.target) then nothing_there else v (rest ++ pair.target))) (is_below pair.target rest)
+        ∙ ap v (moved_below pair.source pair.target rest)
 
 -- each sync leaves what was renamed
 synced : (pair : Pair) (stage : MovingStage) (passed : List Route) (begun v : View) → is_dirty stage ≡ true → MovingAt stage pair passed begun v → MovingAt (after_sync pair stage) pair passed begun v
@@ -67,12 +79,12 @@ synced pair PassedOver passed begun v dirty k = absurd (let f : ⊥ = cc in f)
 left : (m : Moving) (path : Route) (passed : List Route) (begun v : View) → m.stage ≡ Take → path ≡ m.pair.source → MovingDone passed begun v m → MovingAt PassedOver m.pair (path ∷ passed) begun v
 left m path passed begun v stage path_is k = (inl (sym path_is), (subst (λ st. MovingAt st m.pair passed begun v) stage k).1)
 
-pub moving_steps : (m new : Moving) (did : Did) (log : CallLog) (passed : List Route) (begun v : View) → same_path m.pair.source m.pair.target ≡ false → Tells m did new → MovingDone passed begun v m
+pub moving_steps : (m new : Moving) (did : Did) (log : CallLog) (passed : List Route) (begun v : View) → ((pair : Pair) → did ≡ Moved pair → AreApart m.pair) → Tells m did new → MovingDone passed begun v m
     → Unless did (MovingDone (passed_in (Some (Moves m.pair.source m.pair.target)) did passed) begun (replayed_step log did (Some (Moves m.pair.source m.pair.target)) v) new)
 moving_steps m new (Moved pair) log passed begun v apart (stage, pair_is, new_is) k =
     let before = subst (λ st. MovingAt st m.pair passed begun v) stage k in
     subst (λ (x : Moving). MovingDone passed begun (moved_by pair v) x) (sym new_is)
-    (subst (λ (p : Pair). MovingAt SyncTarget m.pair passed begun (moved_by p v)) (sym pair_is) (before.0, goes m.pair begun v apart before.1.0))
+    (subst (λ (p : Pair). MovingAt SyncTarget m.pair passed begun (moved_by p v)) (sym pair_is) (before.0, goes m.pair begun v (apart pair refl) before.1))
 moving_steps m new (Kept path) log passed begun v apart (stage, path_is, new_is) k =
     subst (λ (x : Moving). MovingDone (m.pair.source ∷ passed) begun v x) (sym new_is) (left m m.pair.source passed begun v stage refl k)
 moving_steps m new (Skipped path cause) log passed begun v apart (stage, path_is, holds, new_is) k =
@@ -115,17 +127,9 @@ moving_ends m passed begun v done k = by m.stage done k
     by Finish e h = record { went = λ reached. h.1; stays = λ among. none_among passed m.pair.source h.0 among }
     by PassedOver e h = record { went = λ reached. absurd (reached h.0); stays = λ among. h.1 }
 
--- and it touches nothing but its two paths
-on_source : (m : Moving) (path : Route) → path ≡ m.pair.source → touches (Moves m.pair.source m.pair.target) path ≡ true
-on_source m path is = or_left _ _ (subst (λ (p : Route). same_path p m.pair.source ≡ true) (sym is) (same_path-self m.pair.source))
-
-on_target : (m : Moving) (path : Route) → path ≡ m.pair.target → touches (Moves m.pair.source m.pair.target) path ≡ true
-on_target m path is = or_right (same_path path m.pair.source) _ (subst (λ (p : Route). same_path p m.pair.target ≡ true) (sym is) (same_path-self m.pair.target))
-
-pub moving_touches : (m new : Moving) (did : Did) (path : Route) → Tells m did new → Among (changed_by did) path → touches (Moves m.pair.source m.pair.target) path ≡ true
-moving_touches m new (Moved pair) path (stage, pair_is, new_is) (inl is) = on_source m path (is ∙ ap (λ (p : Pair). p.source) pair_is)
-moving_touches m new (Moved pair) path (stage, pair_is, new_is) (inr (inl is)) = on_target m path (is ∙ ap (λ (p : Pair). p.target) pair_is)
-moving_touches m new (Moved pair) path (stage, pair_is, new_is) (inr (inr none)) = absurd none
+-- and it touches nothing but its two paths, and what lies below them
+pub moving_touches : (m new : Moving) (did : Did) (path : Route) → Tells m did new → IsChanged did path → touches (Moves m.pair.source m.pair.target) path ≡ true
+moving_touches m new (Moved pair) path (stage, pair_is, new_is) changed = subst (λ (p : Pair). is_of_move p path ≡ true) pair_is changed
 moving_touches m new (Kept p) path t none = absurd none
 moving_touches m new (Skipped p cause) path t none = absurd none
 moving_touches m new Barrier path t none = absurd none

@@ -3,7 +3,7 @@ use Rattle.std.proofs.Common.{◌≡◌, ℕ, Bool, true, false, not, List, [], 
 use Rattle.std.specs.Prelude.{◌==◌, if◌then◌else◌}
 use Rattle.std.specs.Option.{option_map, option_map_or}
 use Rattle.std.proofs.lemmas.Bool.{eq-eqb, eqb-true, false≢true, or_left, or_right}
-use Rattle.mc_text.specs.Routes.{Route, is_prefix, same_path}
+use Rattle.mc_text.specs.Routes.{Route, is_prefix}
 use Rattle.tree_trait.specs.FileSystem.{Spot, View}
 use Rattle.tree_trait.specs.Shape.{IsTree}
 use Rattle.tree_trait.specs.Change.{CallLog, current}
@@ -33,11 +33,11 @@ outcome_same (Copies source target) passed begun v w same k = λ rest off reache
     ap (λ (s : Spot). s.value) (same (rest ++ target) (or_left _ _ (prefix_append target rest)))
     ∙ (k rest off reached ∙ ap (λ (s : Spot). option_map as_copied s.value) (sym (same (rest ++ source) (or_right (is_prefix target (rest ++ source)) _ (prefix_append source rest)))))
 outcome_same (Moves source target) passed begun v w same k =
-    let from = same source (or_left _ _ (or_left _ _ (same_path-self source))) in
-    let to = same target (or_left _ _ (or_right (same_path target source) _ (same_path-self target))) in
+    let from = λ (rest : Route). same (rest ++ source) (or_left _ _ (or_left _ _ (prefix_append source rest))) in
+    let to = λ (rest : Route). same (rest ++ target) (or_left _ _ (or_right (is_prefix source (rest ++ target)) _ (prefix_append target rest))) in
     record {
-      went = λ reached. let h = k.went reached in (ap (λ (s : Spot). s.value) from ∙ h.0, ap (λ (s : Spot). s.value) to ∙ h.1);
-      stays = λ among. let h = k.stays among in (from ∙ h.0, to ∙ h.1);
+      went = λ reached rest. let h = k.went reached rest in (ap (λ (s : Spot). s.value) (from rest) ∙ h.0, ap (λ (s : Spot). s.value) (to rest) ∙ h.1);
+      stays = λ among rest. let h = k.stays among rest in (from rest ∙ h.0, to rest ∙ h.1);
     }
 outcome_same (Removes top) passed begun v w same k = λ rest reached. ap (λ (s : Spot). s.value) (same (rest ++ top) (or_left _ _ (prefix_append top rest))) ∙ k rest reached
 outcome_same (Makes made) passed begun v w same k = λ reached. ap (λ (s : Spot). s.value) (same made (or_left _ _ (same_path-self made))) ∙ k reached

@@ -4,7 +4,7 @@ use Rattle.std.specs.Prelude.{⊤, ◌==◌, if◌then◌else◌, map}
 use Rattle.std.specs.Option.{option_map}
 use Rattle.std.proofs.lemmas.Bool.{both_ways, false_from_ne_true}
 use Rattle.mc_text.specs.Routes.{Route, is_prefix, same_path}
-use Rattle.tree_trait.specs.FileSystem.{View, put}
+use Rattle.tree_trait.specs.FileSystem.{View}
 use Rattle.tree_trait.specs.Change.{CallLog, current}
 use Rattle.tree_trait.specs.CrashImages.{Among}
 use Rattle.tree_trait.proofs.Visible.{same_path-self, same_path-true}
@@ -15,7 +15,6 @@ use Rattle.job_reports.specs.declared.report.Did.TheVariants.{Began, Chunk, Plac
 use Rattle.job_reports.specs.Jobs.{Item, Copies, Moves, Removes, Makes, MakesLink, Sets}
 use Rattle.session_history.specs.declared.history.JobOrder.{JobOrder}
 use Rattle.session_history.specs.declared.history.JobOrder.TheVariants.{Answered}
-use Rattle.session_history.specs.Named.{changed_by}
 use Rattle.mode_setting.specs.Settings as settings
 use Rattle.mode_setting.specs.Settings.{Setting}
 use Rattle.thing_making.specs.declared.new_thing.NewThing.{NewThing}
@@ -30,11 +29,14 @@ use Rattle.thing_making.specs.Makings as makings
 use Rattle.thing_making.specs.Makings.{Making}
 use Rattle.copy_move.specs.Jobs.{Running, TellsOn, WorkTells, answered, answered_on, closed_course, closed_job}
 use Rattle.copy_move.specs.Steps.{Walks, WalksOn}
-use Rattle.history_laws.specs.Replayed.{made_by, moved_from, placed_by, placed_copy, replayed_step, set_by, with_mode, with_mode_of}
+use Rattle.session_history.specs.Moves.{moved_from}
+use Rattle.history_laws.specs.Replayed.{made_by, placed_by, placed_copy, replayed_step, set_by, with_mode, with_mode_of}
 use Rattle.history_laws.specs.Traces.{IsUnclaimed, before_others, ordered, unless_ended}
 use Rattle.history_laws.proofs.Deleted.{put_off}
+use Rattle.history_laws.proofs.MovedPaths.{moved_off}
 use Rattle.history_laws.proofs.Sources.{IsSame, answer_same, item_in, making_item}
 use Rattle.outcome_laws.specs.Untouched.{touches}
+use Rattle.outcome_laws.proofs.ChangedPaths.{IsChanged}
 use Rattle.outcome_laws.proofs.CopyTouches.{tree_touches}
 use Rattle.outcome_laws.proofs.Doing.{CourseDone, WorkDone}
 use Rattle.outcome_laws.proofs.MadeThings.{Unless, unless_of}
@@ -124,7 +126,7 @@ set_off None path v p off = refl
 apart : (item : Item) (path p : Route) → touches item path ≡ true → touches item p ≡ false → same_path p path ≡ false
 apart item path p on off = false_from_ne_true _ (λ same. both_ways _ off (subst (λ q. touches item q ≡ true) (sym (same_path-true p path same)) on))
 
-step_else : (did : Did) (log : CallLog) (item : Item) (v : View) → ((path : Route) → Among (changed_by did) path → touches item path ≡ true) → Unless did (IsAsBegun (replayed_step log did (Some item) v) v item)
+step_else : (did : Did) (log : CallLog) (item : Item) (v : View) → ((path : Route) → IsChanged did path → touches item path ≡ true) → Unless did (IsAsBegun (replayed_step log did (Some item) v) v item)
 step_else (Removed path) log item v on = λ p off. put_off v path None p (apart item path p (on path (inl refl)) off)
 step_else (Placed path) log item v on = λ p off. placed_off (Some item) path v p (apart item path p (on path (inl refl)) off)
 step_else (Made path) log item v on = λ p off. put_off v path (Some (made_by (Some item) path v)) p (apart item path p (on path (inl refl)) off)
@@ -134,9 +136,7 @@ step_else (Chunk count) log item v on = λ p off. refl
 step_else (Kept kept) log item v on = λ p off. refl
 step_else (Asked question) log item v on = λ p off. refl
 step_else (Merges pair names) log item v on = λ p off. refl
-step_else (Moved pair) log item v on = λ p off.
-    put_off (put v pair.source None) pair.target (v pair.source).value p (apart item pair.target p (on pair.target (inr (inl refl))) off)
-    ∙ put_off v pair.source None p (apart item pair.source p (on pair.source (inl refl)) off)
+step_else (Moved pair) log item v on = λ p off. moved_off pair v p (false_from_ne_true _ (λ of. both_ways _ off (on p of)))
 step_else (Skipped path cause) log item v on = λ p off. refl
 step_else (Cleaned part) log item v on = λ p off. refl
 step_else Barrier log item v on = λ p off. refl
@@ -148,7 +148,7 @@ one_path : (a b : Route) → Among (a ∷ []) b → b ≡ a
 one_path a b (inl is) = is
 one_path a b (inr none) = absurd none
 
-deletion_touches : (d new : Deleting) (did : Did) (path : Route) → deletions.Tells d did new → Among (changed_by did) path → is_prefix d.path path ≡ true
+deletion_touches : (d new : Deleting) (did : Did) (path : Route) → deletions.Tells d did new → IsChanged did path → is_prefix d.path path ≡ true
 deletion_touches d new (Removed p) path (off, within, at) is = subst (λ (q : Route). is_prefix d.path q ≡ true) (sym (one_path p path is)) within
 deletion_touches d new (Kept p) path t is = absurd is
 deletion_touches d new (Asked question) path t is = absurd t
@@ -165,7 +165,7 @@ deletion_touches d new (Made p) path t is = absurd t
 deletion_touches d new (Set p) path t is = absurd t
 deletion_touches d new (Cleaned part) path t is = absurd t
 
-making_touches : (m new : Making) (did : Did) (path : Route) → makings.Tells m did new → Among (changed_by did) path → touches (making_item m.thing m.path) path ≡ true
+making_touches : (m new : Making) (did : Did) (path : Route) → makings.Tells m did new → IsChanged did path → touches (making_item m.thing m.path) path ≡ true
 making_touches m new (Made p) path (stage, path_is, new_is) is = by m.thing (subst (λ (q : Route). same_path q m.path ≡ true) (sym path_is ∙ sym (one_path p path is)) (same_path-self m.path))
   where
     by : (new : NewThing) → same_path path m.path ≡ true → touches (making_item new m.path) path ≡ true
@@ -186,7 +186,7 @@ making_touches m new (Moved pair) path t is = absurd t
 making_touches m new (Skipped p why) path t is = absurd t
 making_touches m new (Cleaned part) path t is = absurd t
 
-setting_touches : (s new : Setting) (did : Did) (path : Route) → settings.Tells s did new → Among (changed_by did) path → same_path path s.path ≡ true
+setting_touches : (s new : Setting) (did : Did) (path : Route) → settings.Tells s did new → IsChanged did path → same_path path s.path ≡ true
 setting_touches s new (Set p) path (stage, path_is, new_is) is = subst (λ (q : Route). same_path q s.path ≡ true) (sym path_is ∙ sym (one_path p path is)) (same_path-self s.path)
 setting_touches s new Barrier path t is = absurd is
 setting_touches s new (Troubled trouble) path t is = absurd is
@@ -205,7 +205,7 @@ setting_touches s new (Cleaned part) path t is = absurd t
 
 module _ (dirty dirty_after : List Route) (log now : CallLog) (passed : List Route) (begun v : View) where
   work_touches : (replies : Replies) (old new : Work) (did : Did) (path : Route) (calls faults faults_after : ℕ) → WorkTells old did new → Walks IsUnclaimed replies old new did calls dirty dirty_after (Some log) (Some now) faults faults_after
-      → WorkDone passed begun v (current log) old → Among (changed_by did) path → touches (item_in old) path ≡ true
+      → WorkDone passed begun v (current log) old → IsChanged did path → touches (item_in old) path ≡ true
   work_touches replies (Copy c) (Copy new) did path calls faults faults_after t walks k is =
       tree_touches c new did path walks.free replies calls dirty dirty_after (Some log) (Some now) walks.since faults_after walks.steps k.in_place t.may is
   work_touches replies (Delete d) (Delete new) did path calls faults faults_after t walks k is = deletion_touches d new did path t is
@@ -234,7 +234,7 @@ module _ (dirty dirty_after : List Route) (log now : CallLog) (passed : List Rou
   work_touches replies (SetMode x) (Move new) did path calls faults faults_after t walks k is = absurd t
 
   -- so a step leaves what the job doesn't touch
-  still : (job new : Running) (did : Did) (was : ℕ → View) → IsSame job new → IsAsBegun v (was job.id) (item_in job.work) → ((path : Route) → Among (changed_by did) path → touches (item_in job.work) path ≡ true)
+  still : (job new : Running) (did : Did) (was : ℕ → View) → IsSame job new → IsAsBegun v (was job.id) (item_in job.work) → ((path : Route) → IsChanged did path → touches (item_in job.work) path ≡ true)
       → Unless did (JobKept (replayed_step now did (Some (item_in job.work)) v) was new)
   still job new did was same kept on =
       unless_map did (IsAsBegun (replayed_step now did (Some (item_in job.work)) v) v (item_in job.work)) (JobKept (replayed_step now did (Some (item_in job.work)) v) was new)
@@ -252,9 +252,9 @@ module _ (dirty dirty_after : List Route) (log now : CallLog) (passed : List Rou
   course_touches job new did (OwedSyncFailed cause) calls faults faults_after was is t walks k kept same = absurd t
   course_touches job new did Asking calls faults faults_after was is t walks k kept same = absurd t
   course_touches job new did (Skips cause) calls faults faults_after was is (inl (path, work, did_is, passes, new_is)) walks k kept same =
-      still job new did was same kept (λ p changed. absurd (subst (λ (d : Did). Among (changed_by d) p) did_is changed))
+      still job new did was same kept (λ p changed. absurd (subst (λ (d : Did). IsChanged d p) did_is changed))
   course_touches job new did (Skips cause) calls faults faults_after was is (inr (off, did_is, new_is)) walks k kept same =
-      still job new did was same kept (λ p changed. absurd (subst (λ (d : Did). Among (changed_by d) p) did_is changed))
+      still job new did was same kept (λ p changed. absurd (subst (λ (d : Did). IsChanged d p) did_is changed))
   course_touches job new did (Ends ending) calls faults faults_after was is (work, winds, new_is) walks k kept same =
       subst (λ c. Unless did (UnlessEnding c (IsAsBegun (replayed_step now did (Some (item_in job.work)) v) (was new.id) (item_in new.work)))) (sym (ap (λ (x : Running). x.course) new_is ∙ is)) (unless_of did ⊤ tt)
 

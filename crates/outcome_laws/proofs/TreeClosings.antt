@@ -22,7 +22,8 @@ use Rattle.tree_copy.specs.InPlace.{AreMoved, IsMoved, owed_of}
 use Rattle.tree_copy.specs.Reports.{IsToldAs}
 use Rattle.tree_copy.specs.Standing.{Seen, after_report}
 use Rattle.tree_copy.specs.Steps.{FolderEnds}
-use Rattle.history_laws.specs.Replayed.{moved_from, new_folder, replayed_step, with_mode_of}
+use Rattle.session_history.specs.Moves.{moved_from}
+use Rattle.history_laws.specs.Replayed.{new_folder, replayed_step, with_mode_of}
 use Rattle.outcome_laws.specs.Outcomes.{as_copied}
 use Rattle.outcome_laws.proofs.Accounts.{AreOpened, IsAccounted, IsCopy, IsDue, IsOpened, IsShown, ItemDone, TreeDone, apart_from, passed_at, put_same, put_value}
 use Rattle.outcome_laws.proofs.TreeFolders.{comes_from, folder_copied, on_target}

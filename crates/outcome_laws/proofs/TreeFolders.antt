@@ -35,7 +35,8 @@ use Rattle.tree_copy.specs.Reports.{IsToldAs}
 use Rattle.tree_copy.specs.Standing.{Seen, after_report}
 use Rattle.tree_copy.specs.Steps.{FolderMakes, SyncsAround}
 use Rattle.tree_copy.specs.Taking.{IsTaken}
-use Rattle.history_laws.specs.Replayed.{copied_folder, moved_from, new_folder, replayed_step}
+use Rattle.session_history.specs.Moves.{moved_from}
+use Rattle.history_laws.specs.Replayed.{copied_folder, new_folder, replayed_step}
 use Rattle.history_laws.proofs.Intact.{prefix_append, prefix_way}
 use Rattle.history_laws.proofs.Moved.{moved_below}
 use Rattle.history_laws.proofs.OwedModes.{ShowsTree}

@@ -12,10 +12,10 @@ use Rattle.history_laws.specs.Traces.{IsTraced, Stand}
 use Rattle.outcome_laws.specs.Begun.{tree_begun}
 use Rattle.outcome_laws.specs.Outcomes.{Finishes}
 
--- a path that a job may change: what it makes, deletes or gives a mode; where it copies or deletes, also what lies in that; where it moves, both its paths
+-- a path that a job may change: what it makes, deletes or gives a mode; where it copies or deletes, also what lies in that; where it moves, so of both its paths
 abbrev pub touches : Item → Route → Bool
 touches (Copies source target) path = is_prefix target path
-touches (Moves source target) path = same_path path source || same_path path target
+touches (Moves source target) path = is_prefix source path || is_prefix target path
 touches (Removes top) path = is_prefix top path
 touches (Makes made) path = same_path path made
 touches (MakesLink made text) path = same_path path made
