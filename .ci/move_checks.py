@@ -1,4 +1,4 @@
-"""Checks of F6: files, links and special things are renamed, and what stands at a target is asked about; folders and other mounts are troubles."""
+"""Checks of F6: things are renamed, folders with all that lies in them, and what stands at a target is asked about; a folder onto a folder and other mounts are troubles."""
 import os
 import shutil
 import subprocess
@@ -125,17 +125,40 @@ def check_moved_links(program, base, check):
 
 
 def check_moved_folders(program, base, check):
-    """A folder isn't moved yet: it is asked about, and stays."""
-    for keys, goes in [([b"s", b"s"], "f"), ([b"a"], "f"), ([b"r", b"s", b"a"], "f"), ([b"s", b"b"], ""), ([b"b"], ""), ([ESCAPE], "")]:
-        source, target = place(base, "folders", {"d": {"x": 3}, "e": {}, "f": 5}, {})
-        before = things_in(source)
+    """A folder goes with all that lies in it, and is the same folder still. One that comes onto a folder is asked about, and stays."""
+    source, target = place(base, "folders", {"d": {"x": 70000, "e": {"l": "x", "p": None}}, "e": {}, "f": 5}, {})
+    before = things_in(source)
+    status, _, same = run(program, [source, target], tagged(3) + [F10])
+    check("folders are moved among files, with all that lies in them", status == 0 and same and things_in(source) == {} and things_in(target) == before)
+    status, _, same = run(program, [target, source], [DOWN, F6, ENTER, EMPTY + b"*.old", ENTER, F10])
+    renamed = {"d.old" if name == "d" else name: thing for name, thing in before.items()}
+    check("a folder is renamed where it is", status == 0 and same and things_in(source) == {} and things_in(target) == renamed)
+    status, _, same = run(program, [target, source], [DOWN, F6, ENTER, EMPTY + b"e/", ENTER, F10])
+    check("a folder is moved into the one beside it", status == 0 and same and things_in(os.path.join(target, "e")) == {"d.old": before["d"]})
+
+    for keys, goes in [([b"s"], "ef"), ([b"a"], "ef"), ([b"r", b"s"], "ef"), ([b"b"], ""), ([ESCAPE], "")]:
+        source, target = place(base, "folder onto folder", {"d": {"x": 3}, "e": {}, "f": 5}, {"d": {"y": 5}})
+        before, stands = things_in(source), things_in(target)
         status, told, same = run(program, [source, target], tagged(3) + keys + [F10])
         stays = things_in(source) == {name: thing for name, thing in before.items() if name not in goes}
-        check(f"folders among tagged files are asked about: {keys}", status == 0 and same and stays and things_in(target) == {name: before[name] for name in goes})
-        box = ["is a folder", os.path.join(source, "d"), "r Retry  s Skip  a Skip all  b Abort"]
-        check("the box of a folder names it", shows(told, told.screens[4], box))
+        check(f"a folder that comes onto a folder is asked about: {keys}", status == 0 and same and stays and things_in(target) == {**stands, **{name: before[name] for name in goes}})
+        box = ["already there", os.path.join(target, "d"), "r Retry  s Skip  a Skip all  b Abort"]
+        check("the box of such a folder names the one that stands", shows(told, told.screens[4], box))
         shutil.rmtree(source)
         shutil.rmtree(target)
+
+
+def check_mount_within(program, base, check):
+    """A folder in which another mount begins is moved as any, and the mount goes along."""
+    source, target = place(base, "mount within", {"d": {"m": {}}}, {})
+    mount, moved = os.path.join(source, "d", "m"), os.path.join(target, "d", "m")
+    if subprocess.run(["mount", "-t", "tmpfs", "tmpfs", mount], stderr=subprocess.DEVNULL).returncode != 0:
+        print("no mount can be made: the move of a folder with one in it was not tried")
+        return
+    make_file(os.path.join(mount, "x"), 3, 0o640)
+    status, _, same = run(program, [source, target], MOVE + [F10])
+    check("a mount goes along with the folder in which it begins", status == 0 and same and things_in(source) == {} and os.path.ismount(moved) and os.listdir(moved) == ["x"])
+    subprocess.run(["umount", moved if os.path.ismount(moved) else mount], check=True)
 
 
 def other_mounts(base):
@@ -202,5 +225,6 @@ def check_moves(program, base, check):
     check_moves_over_files(program, base, check)
     check_moved_links(program, base, check)
     check_moved_folders(program, base, check)
+    check_mount_within(program, base, check)
     check_other_mounts(program, base, check)
     check_barred_moves(program, base, check)

@@ -34,6 +34,8 @@ pub fn tell_left<T: Tree>(page: &mut Page, image: &mut T, scene: Scene) {
         Scene::Move => tell_copy(page, image),
         Scene::MoveOver => tell_overwriting(page, image),
         Scene::LeftMove => tell_copy(page, image),
+        Scene::FolderMove => tell_tree(page, image),
+        Scene::LeftFolderMove => tell_tree(page, image),
     }
 }
 
@@ -177,7 +179,7 @@ fn link_at<T: Tree>(page: &mut Page, image: &mut T, path: &Path, text: &str) -> 
     }
 }
 
-/// What stands of a copied folder, and of the one that it is a copy of.
+/// What stands of a folder where it is copied or moved to, and where it was.
 fn tell_tree<T: Tree>(page: &mut Page, image: &mut T) {
     tell_tree_at(page, image, "/t/d", "/t/d/e", "/t/d/l");
     page.put(", beside them ");

@@ -37,6 +37,10 @@ pub enum Scene {
     /// A file is moved. The sync of its new folder is refused, and so are those of both folders in the last steps. The second job, which
     /// deletes the file, makes both before that.
     LeftMove,
+    /// A folder is moved with a file and a link in it.
+    FolderMove,
+    /// It is moved, and the syncs are refused likewise. The second job, which deletes the file in it, makes both before that.
+    LeftFolderMove,
 }
 
 impl Scene {
@@ -59,6 +63,10 @@ impl Scene {
             Scene::Move => "/s/e is moved into /t",
             Scene::MoveOver => "/s/e is moved over /t/e",
             Scene::LeftMove => "/s/e is moved and neither folder synced, then /t/e is deleted",
+            Scene::FolderMove => "/s/d is moved into /t with all that lies in it",
+            Scene::LeftFolderMove => {
+                "/s/d is moved and neither folder synced, then /t/d/e is deleted"
+            }
         }
     }
 
@@ -90,6 +98,8 @@ impl Scene {
             Scene::Move => "folder /s 755\nfolder /t 755\nfile /s/e 640 hello",
             Scene::MoveOver => FILE_OVER_FILE,
             Scene::LeftMove => "folder /s 755\nfolder /t 755\nfile /s/e 640 hello",
+            Scene::FolderMove => FOLDER_TO_MOVE,
+            Scene::LeftFolderMove => FOLDER_TO_MOVE,
             _ => "folder /a 755\nfile /a/x 644 hi\nfile /a/y 644 hi",
         }
     }
@@ -102,6 +112,7 @@ impl Scene {
             Scene::LeftNewFolder => REFUSED_FOLDER_SYNCS,
             Scene::LeftMode => REFUSED_FILE_SYNCS,
             Scene::LeftMove => REFUSED_MOVE_SYNCS,
+            Scene::LeftFolderMove => REFUSED_MOVE_SYNCS,
             _ => &[],
         }
     }
@@ -121,6 +132,8 @@ impl Scene {
             Scene::Move => Some(session("/s", "/t", MOVING)),
             Scene::MoveOver => Some(session("/s", "/t", MOVING_OVER)),
             Scene::LeftMove => Some(session("/s", "/t", MOVING_AND_DELETING)),
+            Scene::FolderMove => Some(session("/s", "/t", MOVING)),
+            Scene::LeftFolderMove => Some(session("/s", "/t", MOVING_AND_DELETING_IN_IT)),
             Scene::NewLink => None,
             Scene::Mode => None,
             Scene::LeftMode => None,
@@ -131,6 +144,10 @@ impl Scene {
 
 /// A file, and one with its name in the folder to which it is to come.
 const FILE_OVER_FILE: &str = "folder /s 755\nfolder /t 755\nfile /s/e 640 hello\nfile /t/e 600 old";
+
+/// A folder with a file and a link in it, and one into which it is to come.
+const FOLDER_TO_MOVE: &str =
+    "folder /s 755\nfolder /t 755\nfolder /s/d 750\nfile /s/d/e 640 hello\nlink /s/d/l e";
 
 /// A session by keys: the folders of its panels, and the bytes of its keys.
 #[derive(Clone, Copy)]
@@ -221,6 +238,9 @@ const MOVING_OVER: &[u8] = b"\x1b[B\x1b[17~\r\ry\x1b[21~";
 
 /// Down, F6, Enter, Enter, b in the box of the refused sync, Tab, Down, F8, Enter, F10.
 const MOVING_AND_DELETING: &[u8] = b"\x1b[B\x1b[17~\r\rb\t\x1b[B\x1b[19~\r\x1b[21~";
+
+/// The same, but before F8 Enter to go into the moved folder, and Down.
+const MOVING_AND_DELETING_IN_IT: &[u8] = b"\x1b[B\x1b[17~\r\rb\t\x1b[B\r\x1b[B\x1b[19~\r\x1b[21~";
 
 /// The calls that are the sync of the target's folder after the renaming, and in the last steps that one again and the sync of the source's
 /// folder. Before them comes what comes before the looks of a copy, eight calls; then two looks of the job, and the renaming.
