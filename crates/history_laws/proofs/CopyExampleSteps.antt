@@ -362,6 +362,7 @@ works old new did calls dirty dirty_after before now done step clean leaves = re
   );
   called = record { calls = calls; dirty = dirty; dirty_after = dirty_after; faults = 0; faults_after = 0; goes = goes old new did calls dirty dirty_after before now step };
   settled = λ on fresh kept among. absurd (subst (λ xs. Among xs kept) (clean fresh) among);
+  cleared = λ on fresh kept among. absurd (subst (λ xs. Among xs kept) (clean fresh) among);
   leaves = leaves;
   walks = (calls, 0, 0, goes old new did calls dirty dirty_after before now step);
 }

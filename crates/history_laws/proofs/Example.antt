@@ -133,6 +133,7 @@ removed_traced =
       tells = (Delete (deletion the_file Sync 0), (refl, refl, record { path_is = refl; stage_is = refl; tried_is = refl; skips_is = refl }), refl);
       called = inl (refl, (pos 0, refl));
       settled = λ goes fresh kept among. absurd among;
+      cleared = λ goes fresh kept among. absurd among;
       leaves = inl (refl, λ known is. subst (λ (l : CallLog). Performs {A = Unit {0}} l (RemoveFile the_file) (Ok tt) (Some (log (removal ∷ [])))) (some_log (log []) known is) (refl, (pos 0, refl)));
       walks = (1, 0, 0, removes_first);
     }) refl refl refl
@@ -186,6 +187,7 @@ troubled_traced =
       tells = (Delete (deletion the_file Sync 0), (refl, record { path_is = refl; stage_is = refl; tried_is = refl; skips_is = refl }), refl);
       called = inr (refused.Fault, inl refl, RefusedSync [] (refl, ([], refl)));
       settled = λ goes fresh. absurd (true≢false (sym fresh));
+      cleared = λ goes fresh. absurd (true≢false (sym fresh));
       leaves = refl;
       walks = (1, 0, 1, sync_refused);
     }) refl refl refl
@@ -234,6 +236,7 @@ tried_traced =
       tells = (Delete (deletion the_file Sync 1), (refl, refl, refl), refl);
       called = ([], Err refused.Fault, (refl, ([], refl)));
       settled = λ goes fresh. absurd (true≢false (sym fresh));
+      cleared = λ goes fresh. absurd (true≢false (sym fresh));
       leaves = record { refusal = Some refused.Fault; folder = []; own = refl; dirty_is = refl; tried = λ known is. subst (λ (l : CallLog). Performs {A = Unit {0}} l (SyncFolder []) (Err refused.Fault) (Some aborted_log)) (some_log (log (removal ∷ Nothing ∷ [])) known is) (refl, ([], refl)) };
       walks = (1, 1, 2, (Some refused.Fault, ((0, tries_first), refl)));
     }) refl refl refl
@@ -245,6 +248,7 @@ aborted_traced =
       tells = (Delete (deletion the_file Sync 1), (refl, refl, refl, refl, refl), refl);
       called = refl;
       settled = λ goes fresh. absurd (true≢false (sym fresh));
+      cleared = λ goes fresh. absurd (true≢false (sym fresh));
       leaves = record { refusal = None; folder = []; own = refl; dirty_is = refl; tried = λ known is. refl };
       walks = (0, 2, 2, (None, ((0, tries_none), refl)));
     }) refl refl refl
@@ -365,6 +369,7 @@ changed_traced =
       tells = (Delete (deletion another Sync 0), (refl, refl, record { path_is = refl; stage_is = refl; tried_is = refl; skips_is = refl }), refl);
       called = inl (refl, (pos 0, refl));
       settled = λ goes fresh kept among. absurd among;
+      cleared = λ goes fresh kept among. absurd among;
       leaves = inl (refl, λ known is. subst (λ (l : CallLog). Performs {A = Unit {0}} l (RemoveFile another) (Ok tt) (Some changed_log)) (some_log settled_log known is) (refl, (pos 0, refl)));
       walks = (1, 2, 2, removes_second);
     }) refl refl refl

@@ -84,6 +84,7 @@ synced_traced =
       tells = (Delete (deletion another Sync 0), (refl, record { path_is = refl; stage_is = refl; tried_is = refl; skips_is = refl }), refl);
       called = ([], (refl, (pos 0, refl)));
       settled = λ goes fresh. absurd (true≢false (sym fresh));
+      cleared = λ goes fresh. absurd (true≢false (sym fresh));
       leaves = (
         [],
         record { dirty = inl refl; is = refl },
@@ -100,6 +101,7 @@ finished_traced =
       tells = (Delete (deletion another Sync 0), (refl, refl, record { path_is = refl; stage_is = refl; tried_is = refl; skips_is = refl }), refl);
       called = refl;
       settled = λ goes fresh. absurd (true≢false (sym fresh));
+      cleared = λ goes fresh. absurd (true≢false (sym fresh));
       leaves = (λ kept among. absurd among, refl);
       walks = (0, 2, 2, finishes_second);
     }) refl refl refl

@@ -1,12 +1,13 @@
 -- Once a job has made its first change, what waits lies in a folder of its own, or apart: a folder on the mount of its own was calm before, and the step leaves it
 -- so, or it is the job's own.
-use Rattle.std.proofs.Common.{◌≡◌, ◌⊎◌, ℕ, Bool, true, false, not, ◌||◌, List, [], ◌∷◌, refl, sym, ◌∙◌, ap, subst, inl, inr, Some}
+use Rattle.std.proofs.Common.{◌≡◌, ◌⊎◌, ℕ, Bool, true, false, not, ◌||◌, List, [], ◌∷◌, refl, sym, ◌∙◌, ap, subst, inl, inr, Option, Some, None}
 use Rattle.std.specs.Prelude.{◌==◌}
 use Rattle.std.proofs.lemmas.Bool.{and_from, both_ways, eq-eqb, eqb-true, false≢true, or_cases, or_right}
 use Rattle.mc_text.specs.Routes.{Route, is_prefix, same_path}
 use Rattle.tree_trait.specs.Shape.{IsTree}
 use Rattle.tree_trait.specs.Answers.{mount_number}
 use Rattle.tree_trait.specs.Calls.{SetMode as Sets_mode}
+use Rattle.tree_trait.specs.FileSystem.{find}
 use Rattle.tree_trait.specs.Change.{Sets, CallLog, current, found}
 use Rattle.tree_trait.specs.CrashImages.{Among, all_settled}
 use Rattle.tree_trait.specs.Refusals.{mount_of}
@@ -25,27 +26,30 @@ use Rattle.session_history.specs.declared.history.Entry.{Entry}
 use Rattle.tree_deletion.specs.Standing.{is_fresh as is_fresh_stage}
 use Rattle.tree_copy.specs.Standing.{is_fresh as is_fresh_tree}
 use Rattle.subtree_copy.specs.Standing.{SubtreeCopying}
+use Rattle.thing_moving.specs.Movings.{Moving}
+use Rattle.thing_moving.specs.declared.moving.MovingStage.TheVariants.{SyncTarget}
 use Rattle.copy_move.specs.declared.run.Course.{Course}
 use Rattle.copy_move.specs.declared.run.Course.TheVariants.{GoesOn}
 use Rattle.copy_move.specs.declared.work.Work.{Work}
 use Rattle.copy_move.specs.declared.work.Work.TheVariants.{Copy, Delete, Make, Move, SetMode}
-use Rattle.copy_move.specs.Jobs.{CallsOn, Running, TellsOn, WorkCalls, WorkTells, is_fresh}
-use Rattle.copy_move.specs.Settling.{NoneOwed, WorkLeaves, changed_folder, is_own}
+use Rattle.copy_move.specs.Jobs.{CallsOn, Running, TellsOn, WorkCalls, WorkTells, course_after, is_fresh}
+use Rattle.copy_move.specs.Settling.{NoneOwed, WorkLeaves, changed_folder}
 use Rattle.copy_move.specs.Steps.{LeavesDirty}
-use Rattle.history_laws.specs.Owed.{FirstChangeLaw, IsApart, IsOwed}
+use Rattle.history_laws.specs.Owed.{FirstChangeLaw, IsApart, IsOwed, waits_in}
 use Rattle.history_laws.specs.Traces.{IsTraced, IsUnclaimed, Stand, WorkLeads}
 use Rattle.history_laws.proofs.Histories.{IsReached, traced_reached}
-use Rattle.history_laws.proofs.JobKnows.{WorkKnows, calm_in, none_on}
+use Rattle.history_laws.proofs.JobKnows.{KnowsAfter, WorkKnows, calm_in, none_on}
 use Rattle.history_laws.proofs.JobLeads.{work_leads}
 use Rattle.history_laws.proofs.Knowing.{IsCalmFolder, IsKept, Said}
-use Rattle.history_laws.proofs.MoveKnown.{move_said}
+use Rattle.history_laws.proofs.MoveKnown.{IsMovedIn, MoveKnown, move_said, none_left}
 use Rattle.history_laws.proofs.Owing.{apart_from, own_or_before, owed_modes, owed_names}
+use Rattle.history_laws.proofs.PathsBelow.{below_way}
 use Rattle.history_laws.proofs.Prefixes.{told_of}
 use Rattle.history_laws.proofs.Reports.{JobsKnow}
 use Rattle.history_laws.proofs.Resting.{unjoined_at}
 use Rattle.history_laws.proofs.Restless.{IsUnjoined}
 use Rattle.history_laws.proofs.Sources.{item_in}
-use Rattle.history_laws.proofs.Stepped.{calm_by}
+use Rattle.history_laws.proofs.Stepped.{calm_by, said_after}
 use Rattle.history_laws.proofs.TreeKnown.{ItemHas, TreeKnown}
 use Rattle.history_laws.proofs.Untouched.{NoneOn}
 
@@ -125,45 +129,49 @@ calms Barrier item before up was = Stays was
 calms (Troubled trouble) item before up was = Stays was
 calms (Ended ending left) item before up was = Stays was
 
--- the folders of a move are its own, and what lies below its paths
-own_either : (source target from to : Bool) → ((source || target) || (from || to)) ≡ true → ((from || source) || (to || target)) ≡ true
-own_either true target true to h = refl
-own_either true target false to h = refl
-own_either false true true to h = refl
-own_either false true false true h = refl
-own_either false true false false h = refl
-own_either false false true to h = refl
-own_either false false false true h = refl
-own_either false false false false h = h
+-- what a move did that was told of: its pair, and where the move stands then
+record HasMoved (old work : Work) (pair : Pair) : Type 0 where
+  pub m : Moving
+  pub is : old ≡ Move m
+  pub pair_is : pair ≡ m.pair
+  pub then : work ≡ Move (record m { stage = SyncTarget })
 
-moved_own : (old new : Work) (pair : Pair) (up : Route) → WorkTells old (Moved pair) new → (is_of_move pair up || (same_path up (folder_of pair.source) || same_path up (folder_of pair.target))) ≡ true → is_own old up ≡ true
-moved_own (Move m) (Move new) pair up (stage, pair_is, new_is) here =
-    own_either (is_prefix m.pair.source up) (is_prefix m.pair.target up) (same_path up (folder_of m.pair.source)) (same_path up (folder_of m.pair.target))
-    (subst (λ (p : Pair). (is_of_move p up || (same_path up (folder_of p.source) || same_path up (folder_of p.target))) ≡ true) pair_is here)
-moved_own (Copy c) (Copy new) pair up t here = absurd t.may
-moved_own (Copy c) (Delete new) pair up t here = absurd t
-moved_own (Copy c) (Make new) pair up t here = absurd t
-moved_own (Copy c) (Move new) pair up t here = absurd t
-moved_own (Copy c) (SetMode new) pair up t here = absurd t
-moved_own (Delete d) (Copy new) pair up t here = absurd t
-moved_own (Delete d) (Delete new) pair up t here = absurd t
-moved_own (Delete d) (Make new) pair up t here = absurd t
-moved_own (Delete d) (Move new) pair up t here = absurd t
-moved_own (Delete d) (SetMode new) pair up t here = absurd t
-moved_own (Make m) (Copy new) pair up t here = absurd t
-moved_own (Make m) (Delete new) pair up t here = absurd t
-moved_own (Make m) (Make new) pair up t here = absurd t
-moved_own (Make m) (Move new) pair up t here = absurd t
-moved_own (Make m) (SetMode new) pair up t here = absurd t
-moved_own (Move m) (Copy new) pair up t here = absurd t
-moved_own (Move m) (Delete new) pair up t here = absurd t
-moved_own (Move m) (Make new) pair up t here = absurd t
-moved_own (Move m) (SetMode new) pair up t here = absurd t
-moved_own (SetMode s) (Copy new) pair up t here = absurd t
-moved_own (SetMode s) (Delete new) pair up t here = absurd t
-moved_own (SetMode s) (Make new) pair up t here = absurd t
-moved_own (SetMode s) (Move new) pair up t here = absurd t
-moved_own (SetMode s) (SetMode new) pair up t here = absurd t
+moved_in : (old work : Work) (pair : Pair) → WorkTells old (Moved pair) work → HasMoved old work pair
+moved_in (Move m) (Move new) pair (stage, pair_is, new_is) = record { m = m; is = refl; pair_is = pair_is; then = ap Move new_is }
+moved_in (Copy c) (Copy new) pair t = absurd t.may
+moved_in (Copy c) (Delete new) pair t = absurd t
+moved_in (Copy c) (Make new) pair t = absurd t
+moved_in (Copy c) (Move new) pair t = absurd t
+moved_in (Copy c) (SetMode new) pair t = absurd t
+moved_in (Delete d) (Copy new) pair t = absurd t
+moved_in (Delete d) (Delete new) pair t = absurd t
+moved_in (Delete d) (Make new) pair t = absurd t
+moved_in (Delete d) (Move new) pair t = absurd t
+moved_in (Delete d) (SetMode new) pair t = absurd t
+moved_in (Make m) (Copy new) pair t = absurd t
+moved_in (Make m) (Delete new) pair t = absurd t
+moved_in (Make m) (Make new) pair t = absurd t
+moved_in (Make m) (Move new) pair t = absurd t
+moved_in (Make m) (SetMode new) pair t = absurd t
+moved_in (Move m) (Copy new) pair t = absurd t
+moved_in (Move m) (Delete new) pair t = absurd t
+moved_in (Move m) (Make new) pair t = absurd t
+moved_in (Move m) (SetMode new) pair t = absurd t
+moved_in (SetMode s) (Copy new) pair t = absurd t
+moved_in (SetMode s) (Delete new) pair t = absurd t
+moved_in (SetMode s) (Make new) pair t = absurd t
+moved_in (SetMode s) (Move new) pair t = absurd t
+moved_in (SetMode s) (SetMode new) pair t = absurd t
+
+-- Below the two paths of a move no folder is joined with another after it: nothing waits of what was moved, and where it was nothing stands.
+moved_unjoined : (told : Said) (marks : Marks) (log : CallLog) (m : Moving) (up : Route) → IsMovedIn told marks log m → is_of_move m.pair up ≡ true → IsUnjoined log up
+moved_unjoined told marks log m up h of_move f g at = elim (or_cases (is_prefix m.pair.source up) (is_prefix m.pair.target up) of_move) [
+  | inl left ↦
+      let w = below_way m.pair.source up left in
+      let none : (let o : Option ℕ = None in o) ≡ Some f = sym (none_left told marks log m h w.0) ∙ (ap (find (current log)) (sym w.1) ∙ at) in
+      absurd (let x : ⊥ = cc in x)
+  | inr below ↦ let w = below_way m.pair.target up below in h.rests.apart w.0 f g (ap (find (current log)) (sym w.1) ∙ at)
+]
 
 -- a mode is set by a call that joins no folders, where no copy does that
 set_unjoined : (replies : Replies) (log now : CallLog) (old work new : Work) (path up : Route) → is_fresh old ≡ true → WorkTells old (Set path) work → WorkCalls IsUnclaimed replies old (Set path) new log (Some now) → IsUnjoined log up → IsUnjoined now up
@@ -205,7 +213,7 @@ module _ (opening log now : CallLog) (older newest : List Entry) (was stand : St
   tells = subst (λ (course : Course). TellsOn course job did new) goes works.tells
 
   -- a path that is dirty then is the job's own, or lies apart
-  own_or_apart : (q : Route) → Among stand.dirty q → (is_own job.work q ≡ true) ⊎ IsApart log (changed_folder job.work) q
+  own_or_apart : (q : Route) → Among stand.dirty q → (waits_in job.work q ≡ true) ⊎ IsApart log (changed_folder job.work) q
   own_or_apart q among =
       let t = tells in
       let leaves : WorkLeaves job.work did new.work was.dirty stand.dirty (Some log) (Some now) =
@@ -240,7 +248,7 @@ module _ (opening log now : CallLog) (older newest : List Entry) (was stand : St
       by false is = inr (inr (number (changed_folder job.work), refl, λ here. both_ways _ is (eq-eqb (number up) (number (changed_folder job.work)) (sym here))))
 
   -- one that was calm is joined with none after it, or is the job's own
-  unjoined_or_own : (up : Route) → IsCalmFolder marks log up → IsUnjoined now up ⊎ (is_own job.work up ≡ true)
+  unjoined_or_own : (up : Route) → IsCalmFolder marks log up → IsUnjoined now up ⊎ (waits_in job.work up ≡ true)
   unjoined_or_own up calm = by (calms did (item_in job.work) (λ p. told.calm p || same_path p up) up (or_right _ _ (same_path-self up)))
     where
       knows : WorkKnows (calming up told) was.dirty marks log job.course job.work
@@ -248,7 +256,7 @@ module _ (opening log now : CallLog) (older newest : List Entry) (was stand : St
           (knows_calming up told was.dirty marks log job.work fresh
           (subst (λ (c : Course). WorkKnows told was.dirty marks log c job.work) goes (subst (λ js. JobsKnow told was.dirty marks log js) jobs_is (let r = reached in r.knows))))
 
-      by : Calms did up (calm_by did (item_in job.work) (λ p. told.calm p || same_path p up) up) → IsUnjoined now up ⊎ (is_own job.work up ≡ true)
+      by : Calms did up (calm_by did (item_in job.work) (λ p. told.calm p || same_path p up) up) → IsUnjoined now up ⊎ (waits_in job.work up ≡ true)
       by (Stays still) =
           let come = work_leads (calming up told) was.dirty stand.dirty marks log now (kept_calming up told was.dirty marks log calm (let r = reached in r.kept)) job new did knows works in
           let then = come.kept.known.calm up still in
@@ -257,9 +265,23 @@ module _ (opening log now : CallLog) (older newest : List Entry) (was stand : St
           let t = tells in
           inl (set_unjoined job.replies log now job.work t.0 new.work path up fresh (subst (λ d. WorkTells job.work d t.0) is t.1)
           (subst (λ d. WorkCalls IsUnclaimed job.replies job.work d new.work log (Some now)) is (subst (λ (c : Course). CallsOn IsUnclaimed c job did new log (Some now)) goes works.called)) calm.apart)
-      by (Moves_in pair is here) = let t = tells in inr (moved_own job.work t.0 pair up (subst (λ d. WorkTells job.work d t.0) is t.1) here)
+      by (Moves_in pair is here) =
+          let t = tells in
+          let moved = moved_in job.work t.0 pair (subst (λ d. WorkTells job.work d t.0) is t.1) in
+          let come = work_leads (calming up told) was.dirty stand.dirty marks log now (kept_calming up told was.dirty marks log calm (let r = reached in r.kept)) job new did knows works in
+          let known : KnowsAfter (Moved pair) (said_after now did job.work (calming up told)) stand.dirty now new.course new.work come.marks =
+          subst (λ d. KnowsAfter d (said_after now did job.work (calming up told)) stand.dirty now new.course new.work come.marks) is come.known_of in
+          let new_is : new ≡ record job { work = Move (record moved.m { stage = SyncTarget }); course = GoesOn } =
+          t.2 ∙ ap (λ d. (let x : Running = record job { work = t.0; course = course_after d } in x)) is ∙ ap (λ w. (let x : Running = record job { work = w; course = GoesOn } in x)) moved.then in
+          let k : MoveKnown (said_after now did job.work (calming up told)) come.marks now GoesOn (record moved.m { stage = SyncTarget }) =
+          subst (λ (x : Running). WorkKnows (said_after now did job.work (calming up told)) stand.dirty come.marks now x.course x.work) new_is known in
+          let h = k.moved refl refl in
+          elim (or_cases (is_of_move pair up) (same_path up (folder_of pair.source) || same_path up (folder_of pair.target)) here) [
+            | inl of_move ↦ inl (moved_unjoined _ come.marks now (record moved.m { stage = SyncTarget }) up h (subst (λ (p : Pair). is_of_move p up ≡ true) moved.pair_is of_move))
+            | inr own ↦ inr (subst (λ w. waits_in w up ≡ true) (sym moved.is) (subst (λ (p : Pair). (same_path up (folder_of p.source) || same_path up (folder_of p.target)) ≡ true) moved.pair_is own))
+          ]
 
-  pub owed_then : (up : Route) → IsOwed stand.dirty now up → (is_own job.work up ≡ true) ⊎ IsApart log (changed_folder job.work) up
+  pub owed_then : (up : Route) → IsOwed stand.dirty now up → (waits_in job.work up ≡ true) ⊎ IsApart log (changed_folder job.work) up
   owed_then up (inl among) = own_or_apart up among
   owed_then up (inr (other, among, joined)) = elim (calm_or_apart up) [
     | inr apart ↦ inr apart

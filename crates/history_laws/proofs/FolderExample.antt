@@ -67,6 +67,7 @@ removed_traced =
       tells = (Delete half_way, (refl, refl, record { path_is = refl; stage_is = refl; tried_is = refl; skips_is = refl }), refl);
       called = inl (refl, (pos 0, refl));
       settled = λ goes fresh kept among. absurd among;
+      cleared = λ goes fresh kept among. absurd among;
       leaves = inl (refl, known_is (log []) (λ l. Performs {A = Unit {0}} l (RemoveFile first) (Ok tt) (Some removed_log)) (refl, (pos 0, refl)));
       walks = (1, 0, 0, removes_first);
     }) refl refl refl
@@ -78,6 +79,7 @@ troubled_traced =
       tells = (Delete half_way, (refl, record { path_is = refl; stage_is = refl; tried_is = refl; skips_is = refl }), refl);
       called = inr (refused.Fault, inl refl, RefusedFile second (refl, ([], refl)));
       settled = λ goes fresh. absurd (true≢false (sym fresh));
+      cleared = λ goes fresh. absurd (true≢false (sym fresh));
       leaves = refl;
       walks = (1, 0, 1, refuses_second);
     }) refl refl refl
@@ -97,6 +99,7 @@ skipped_traced =
       tells = inl (second, Delete left_one, refl, record { path_is = refl; stage_is = refl; tried_is = refl; skips_is = refl }, refl);
       called = refl;
       settled = λ goes fresh. absurd (true≢false (sym fresh));
+      cleared = λ goes fresh. absurd (true≢false (sym fresh));
       leaves = refl;
       walks = (0, 1, 1, passes_second);
     }) refl refl refl
@@ -108,6 +111,7 @@ kept_traced =
       tells = (Delete decided, (refl, record { path_is = refl; stage_is = refl; tried_is = refl; skips_is = refl }), refl);
       called = refl;
       settled = λ goes fresh. absurd (true≢false (sym fresh));
+      cleared = λ goes fresh. absurd (true≢false (sym fresh));
       leaves = refl;
       walks = (0, 1, 1, keeps_top);
     }) refl refl refl
@@ -119,6 +123,7 @@ synced_traced =
       tells = (Delete decided, (refl, record { path_is = refl; stage_is = refl; tried_is = refl; skips_is = refl }), refl);
       called = (top, (refl, (pos 0, refl)));
       settled = λ goes fresh. absurd (true≢false (sym fresh));
+      cleared = λ goes fresh. absurd (true≢false (sym fresh));
       leaves = (top, record { dirty = inl refl; is = refl }, refl, known_is refused_log (λ l. Performs {A = Unit {0}} l (SyncFolder top) (Ok tt) (Some synced_log)) (refl, (pos 0, refl)));
       walks = (1, 1, 1, syncs_top);
     }) refl refl refl
@@ -130,6 +135,7 @@ finished_traced =
       tells = (Delete decided, (refl, refl, record { path_is = refl; stage_is = refl; tried_is = refl; skips_is = refl }), refl);
       called = refl;
       settled = λ goes fresh. absurd (true≢false (sym fresh));
+      cleared = λ goes fresh. absurd (true≢false (sym fresh));
       leaves = (λ kept among. absurd among, refl);
       walks = (0, 1, 1, finishes);
     }) refl refl refl

@@ -6,6 +6,7 @@ pub mod BareSteps
 pub mod BareTargets
 pub mod Beginnings
 pub mod Calm
+pub mod CalmCalls
 pub mod CalmChanges
 pub mod CalmFiles
 pub mod CalmFolders
@@ -78,7 +79,6 @@ pub mod MovableThings
 pub mod Moved
 pub mod MovedPaths
 pub mod MovedTree
-pub mod MovesOn
 pub mod MovingExample
 pub mod MovingSteps
 pub mod MovingThings
@@ -120,6 +120,9 @@ pub mod Sources
 pub mod Staying
 pub mod Stepped
 pub mod StepsKnown
+pub mod StillCopies
+pub mod StillJobs
+pub mod StillWorks
 pub mod SureThings
 pub mod TextSteps
 pub mod ThingRests

@@ -60,6 +60,7 @@ given_traced =
       tells = (SetMode (setting the_file mode Sync), (refl, refl, refl), refl);
       called = (given_log, (refl, (pos 0, refl)), refl);
       settled = λ goes fresh kept among. absurd among;
+      cleared = λ goes fresh kept among. absurd among;
       leaves = refl;
       walks = (1, 0, 0, tt);
     }) refl refl refl
@@ -83,6 +84,7 @@ synced_traced =
       tells = (SetMode (setting the_file mode Done), (refl, refl), refl);
       called = (synced_log, (refl, (pos 0, refl)), refl);
       settled = λ goes fresh. absurd (true≢false (sym fresh));
+      cleared = λ goes fresh. absurd (true≢false (sym fresh));
       leaves = refl;
       walks = (1, 0, 0, tt);
     }) refl refl refl
@@ -108,6 +110,7 @@ turned_traced = (
         tells = (SetMode (setting the_file mode Done), (refl, refl, refl), refl);
         called = refl;
         settled = λ goes fresh. absurd (true≢false (sym fresh));
+        cleared = λ goes fresh. absurd (true≢false (sym fresh));
         leaves = refl;
         walks = (0, 0, 0, tt);
       };

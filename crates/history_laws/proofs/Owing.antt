@@ -30,7 +30,7 @@ use Rattle.tree_trait.specs.Answers.{mount_number}
 use Rattle.tree_trait.specs.Refusals.{mount_of, refusal_of}
 use Rattle.tree_trait.proofs.Visible.{same_path-self}
 use Rattle.history_laws.specs.Doubt.{is_pending, name_waits, node_waits}
-use Rattle.history_laws.specs.Owed.{IsApart, IsOwed, OwedLaw, StepLaw}
+use Rattle.history_laws.specs.Owed.{IsApart, IsOwed, OwedLaw, StepLaw, waits_in}
 use Rattle.history_laws.specs.Traces.{IsTraced, Stand}
 use Rattle.session_history.specs.Named.{named_parts}
 use Rattle.session_history.specs.declared.history.Entry.{Entry}
@@ -151,9 +151,9 @@ changed_or_before true false up q dirty among = inr (in_filter (λ kept. not (sa
 changed_or_before false false up q dirty among = inr among
 changed_or_before true true up q dirty among = inr among
 
--- what is dirty after a step was dirty, or it is the job's own folder
+-- what is dirty after a step was dirty, or it is a folder of the job's own, of a move one of its two
 pub own_or_before : (old next new : Work) (did : Did) (q : Route) (dirty dirty_after : List Route) (before after : Option CallLog) → WorkTells old did next → WorkLeaves old did new dirty dirty_after before after → Among dirty_after q
-    → (is_own old q ≡ true) ⊎ Among dirty q
+    → (waits_in old q ≡ true) ⊎ Among dirty q
 own_or_before (Make m) next (SetMode new) did q dirty dirty_after before after t leaves among = absurd leaves
 own_or_before (Make m) next (Move new) did q dirty dirty_after before after t leaves among = absurd leaves
 own_or_before (Move m) next (SetMode new) did q dirty dirty_after before after t leaves among = absurd leaves
@@ -191,9 +191,9 @@ own_or_before (Make m) next (Make new) did q dirty dirty_after before after t le
     ]
 own_or_before (Move m) next (Move new) did q dirty dirty_after before after t leaves among =
     elim (changed_or_before (movings.is_dirty m.stage) (movings.is_dirty new.stage) (folder_of m.pair.source) q with_target (subst (λ xs. Among xs q) leaves among)) [
-      | inl same ↦ inl (or_left _ _ (or_left _ _ (subst (λ p. same_path p (folder_of m.pair.source) ≡ true) (sym same) (same_path-self (folder_of m.pair.source)))))
+      | inl same ↦ inl (or_left _ _ (subst (λ p. same_path p (folder_of m.pair.source) ≡ true) (sym same) (same_path-self (folder_of m.pair.source))))
       | inr old ↦ elim (changed_or_before (movings.owes_target m.stage) (movings.owes_target new.stage) (folder_of m.pair.target) q dirty old) [
-        | inl same ↦ inl (or_right _ _ (or_left _ _ (subst (λ p. same_path p (folder_of m.pair.target) ≡ true) (sym same) (same_path-self (folder_of m.pair.target)))))
+        | inl same ↦ inl (or_right _ _ (subst (λ p. same_path p (folder_of m.pair.target) ≡ true) (sym same) (same_path-self (folder_of m.pair.target))))
         | inr older ↦ inr older
       ]
     ]
@@ -235,6 +235,7 @@ step_law job new did calls dirty dirty_after log now faults faults_after (inl ow
     tells = let s = own.own in s.tells;
     called = let s = own.own in s.called log refl;
     settled = λ goes fresh. own.settled goes fresh log refl;
+    cleared = λ goes fresh. own.cleared goes fresh log refl;
     leaves = own.leaves;
     walks = (calls, faults, faults_after, own.walks);
   }),

@@ -1,6 +1,6 @@
 -- Small sessions in which a file is moved to the folder around its own, and a folder with two files gets another name, so what the law of moved things asks for can be
 -- met: until the folders were synced a crash may leave it at its source, and it may leave it at its target, and it leaves it at one of them.
-use Rattle.std.proofs.Common.{◌≡◌, ◌⊎◌, pos, false, List, [], ◌∷◌, refl, inl, inr, Some, None, true≢false, sym}
+use Rattle.std.proofs.Common.{◌≡◌, ◌⊎◌, pos, false, List, [], ◌∷◌, refl, inl, inr, Some, None, Ok, true≢false, sym}
 use Rattle.mc_text.specs.declared.kind.Kind.TheVariants.{File, Folder}
 use Rattle.mc_text.specs.Routes.{Route}
 use Rattle.tree_trait.specs.declared.calls.Meta.{Meta}
@@ -8,22 +8,26 @@ use Rattle.tree_trait.specs.declared.file_system.FileSystem.{FileSystem}
 use Rattle.tree_trait.specs.FileSystem.{value, value_at, visible_tree}
 use Rattle.tree_trait.specs.Change.{Change, Moves, Syncs, CallLog, after_change, current}
 use Rattle.tree_trait.specs.CrashImages.{IsCrashImage}
+use Rattle.tree_trait.specs.Answers.{Performs}
 use Rattle.job_answers.specs.Decisions.{no_replies}
 use Rattle.job_reports.specs.declared.job.Job.TheVariants as plan
 use Rattle.job_reports.specs.declared.job.Pair.{Pair}
-use Rattle.job_reports.specs.declared.report.Did.TheVariants.{Barrier, Moved}
+use Rattle.job_reports.specs.declared.report.Did.TheVariants.{Barrier, Moved, Ended}
+use Rattle.job_reports.specs.declared.report.Ending.TheVariants.{NoMemory}
 use Rattle.session_history.specs.declared.history.Event.TheVariants.{Began, Step}
 use Rattle.session_history.specs.declared.history.Entry.{Entry}
+use Rattle.mode_setting.specs.SettingSteps.{sync_of}
+use Rattle.thing_making.specs.declared.new_thing.NewThing.TheVariants as thing
 use Rattle.thing_moving.specs.declared.moving.MovingStage.{MovingStage}
 use Rattle.thing_moving.specs.declared.moving.MovingStage.TheVariants.{Take, SyncTarget, SyncSource}
 use Rattle.thing_moving.specs.Movings.{Moving, started}
 use Rattle.thing_moving.specs.Takings.{MayMove, Stands}
 use Rattle.copy_move.specs.declared.run.Course.TheVariants.{GoesOn}
 use Rattle.copy_move.specs.declared.work.Work.TheVariants.{Move}
-use Rattle.copy_move.specs.Jobs.{Running}
+use Rattle.copy_move.specs.Jobs.{Running, makes}
 use Rattle.history_laws.specs.Traces.{IsTraced, nothing_live}
 use Rattle.history_laws.specs.Whole.{IsWholeAt}
-use Rattle.history_laws.proofs.ExampleParts.{entry, file, folder, own_step, stand}
+use Rattle.history_laws.proofs.ExampleParts.{entry, file, folder, known_is, own_step, stand}
 use Rattle.history_laws.proofs.FolderExampleSteps.{first, log, second, small_tree, top}
 use Rattle.history_laws.proofs.WholeMoments.{whole_law}
 
@@ -33,6 +37,9 @@ root = []
 
 abbrev out : Route
 out = (3 ∷ []) ∷ root
+
+abbrev second_out : Route
+second_out = (4 ∷ []) ∷ root
 
 abbrev pair : Pair
 pair = record { source = first; target = out }
@@ -75,6 +82,7 @@ moved_traced =
       tells = (Move (let m : Moving = record (started pair) { stage = SyncTarget } in m), (refl, refl, refl), refl);
       called = (may, (refl, (pos 0, refl)));
       settled = λ goes fresh kept among. absurd among;
+      cleared = λ goes fresh kept among. absurd among;
       leaves = refl;
       walks = (1, 0, 0, tt);
     }) refl refl refl
@@ -93,6 +101,7 @@ half_traced =
       tells = (Move (let m : Moving = record (started pair) { stage = SyncSource } in m), (refl, refl), refl);
       called = (refl, (pos 0, refl));
       settled = λ goes fresh. absurd (true≢false (sym fresh));
+      cleared = λ goes fresh. absurd (true≢false (sym fresh));
       leaves = refl;
       walks = (1, 0, 0, tt);
     }) refl refl refl
@@ -108,6 +117,80 @@ at_target = (after_change (current (log [])) renaming, inl (inl refl), refl, ref
 pub stays_whole : (image : FileSystem) → IsCrashImage half_log 2 image → IsWholeAt image pair [] (visible_tree (current (log [])))
 stays_whole image left =
     whole_law (log []) half_log half_entries (stand (job SyncSource ∷ []) (top ∷ [])) small_tree refl half_traced begun_entries half_entries half_entries moving 1 pair 2 image refl (inl (refl, refl, refl)) (inr (refl, inl refl)) left
+
+-- The job ends before any sync, for want of memory, and another one is begun, which first syncs the folder of the target: the log is the same, so it may be at either
+-- place still, and it is at one of them.
+abbrev ended_entries : List Entry
+ended_entries = entry 1 (Step 1 (Ended NoMemory None)) ∷ moved_entries
+
+ended_traced : IsTraced (log []) ended_entries (stand [] (root ∷ top ∷ [])) moved_log
+ended_traced = (
+  stand (job SyncTarget ∷ []) (root ∷ top ∷ []),
+  moved_log,
+  moved_traced,
+  record {
+    after = stand [] (root ∷ top ∷ []);
+    leads = record { job = job SyncTarget; its = inl (refl, refl); new = None; leads = inr (record { did_is = refl; same = refl; none = refl }, refl); jobs_is = refl };
+    stand_is = refl;
+    counts = refl;
+  },
+)
+
+abbrev maker : Running
+maker = record { id = 2; work = makes thing.Folder second_out; course = GoesOn; replies = no_replies }
+
+abbrev later_entries : List Entry
+later_entries = entry 1 (Began 2 (plan.MakeFolder second_out) false) ∷ ended_entries
+
+later_traced : IsTraced (log []) later_entries (stand (maker ∷ []) (root ∷ top ∷ [])) moved_log
+later_traced = (
+  stand [] (root ∷ top ∷ []),
+  moved_log,
+  ended_traced,
+  record { after = stand (maker ∷ []) (root ∷ top ∷ []); leads = record { none_live = refl; after_is = refl; now_is = refl }; stand_is = refl; counts = refl },
+)
+
+abbrev owed_entries : List Entry
+owed_entries = entry 2 (Step 2 Barrier) ∷ later_entries
+
+owed_traced : IsTraced (log []) owed_entries (stand (maker ∷ []) (top ∷ [])) half_log
+owed_traced = (
+  stand (maker ∷ []) (root ∷ top ∷ []),
+  moved_log,
+  later_traced,
+  record {
+    after = stand (maker ∷ []) (top ∷ []);
+    leads = record {
+      job = maker;
+      its = inl (refl, refl);
+      new = Some maker;
+      leads = inl (
+        maker,
+        inr (record {
+          goes = refl;
+          fresh = refl;
+          path = root;
+          owed = inl refl;
+          synced = inl (record {
+            did_is = refl;
+            new_is = refl;
+            dirty_is = refl;
+            called = known_is moved_log (λ l. Performs {A = Unit {0}} l (sync_of (current l) root) (Ok tt) (Some half_log)) (refl, (pos 0, refl));
+          });
+        }),
+        refl,
+      );
+      jobs_is = refl;
+    };
+    stand_is = refl;
+    counts = refl;
+  },
+)
+
+pub stays_whole_later : (image : FileSystem) → IsCrashImage half_log 2 image → IsWholeAt image pair [] (visible_tree (current (log [])))
+stays_whole_later image left =
+    whole_law (log []) half_log owed_entries (stand (maker ∷ []) (top ∷ [])) small_tree refl owed_traced begun_entries owed_entries owed_entries moving 1 pair 2 image refl (inl (refl, refl, refl))
+    (inr (refl, inr (refl, inr (refl, inl refl)))) left
 
 -- the folder gets another name in the one around it, and its files go along
 abbrev folder_pair : Pair
@@ -151,6 +234,7 @@ folder_traced =
       tells = (Move (let m : Moving = record (started folder_pair) { stage = SyncTarget } in m), (refl, refl, refl), refl);
       called = (folder_may, (refl, (pos 0, refl)));
       settled = λ goes fresh kept among. absurd among;
+      cleared = λ goes fresh kept among. absurd among;
       leaves = refl;
       walks = (1, 0, 0, tt);
     }) refl refl refl

@@ -1,4 +1,4 @@
--- A thing that was moved is whole in each image at each moment, with all that lies in it, until another source is taken up.
+-- A thing that was moved is whole in each image at each moment, with all that lies in it, until another change is begun.
 use Rattle.std.proofs.Common.{◌≡◌, ◌⊎◌, ℕ, ◌+◌, ◌≤◌, Bool, true, false, List, [], ◌∷◌, ◌++◌, length, sym, ◌∙◌, ap, subst, inl, inr, arith, append_assoc, append-nil, length-append, take}
 use Rattle.std.proofs.lemmas.Bool.{cases_lt}
 use Rattle.std.proofs.Math.Seq.{take-append_seam, take-length}
@@ -18,14 +18,14 @@ use Rattle.session_history.specs.Entries.{IsMoment, is_closed}
 use Rattle.session_history.specs.Named.{named_parts}
 use Rattle.history_laws.specs.Replayed.{log_prefix, replayed_tree}
 use Rattle.history_laws.specs.Traces.{EventLeads, Follows, IsTraced, JobSteps, Stand, before_others, if_closed, with_job}
-use Rattle.history_laws.specs.Whole.{IsStillSince, IsWholeAt, WholeLaw, takes_up}
+use Rattle.history_laws.specs.Whole.{IsStillSince, IsWholeAt, WholeLaw, begins_in}
 use Rattle.history_laws.proofs.Going.{only_job}
 use Rattle.history_laws.proofs.Histories.{IsReached, enters, traced_reached}
 use Rattle.history_laws.proofs.Moments.{log_of, prefix_cut, prefix_is, traced_count}
-use Rattle.history_laws.proofs.MovesOn.{ArePast, closed_past, event_past}
 use Rattle.history_laws.proofs.Prefixes.{replayed_more, told_of}
 use Rattle.history_laws.proofs.Reports.{JobsKnow, with_one}
 use Rattle.history_laws.proofs.Stepped.{cut, more}
+use Rattle.history_laws.proofs.StillJobs.{AreIdle, closed_idle, event_stays}
 use Rattle.history_laws.proofs.WholeImages.{IsCalmCall, calm_images}
 use Rattle.history_laws.proofs.WholeSteps.{IsWholly, step_whole}
 
@@ -66,12 +66,12 @@ module _ (opening : CallLog) (tree : IsTree (current opening)) (settled : all_se
   abbrev IsWhole : CallLog → Type 0
   IsWhole log = (image : FileSystem) → IsImage log image → IsWholeAt image pair parts stood
 
-  -- it is whole before an entry and behind it, and the live job is past its renaming
+  -- it is whole before an entry and behind it, and no part of a live copy stands
   record WholeBy (before now : CallLog) (stand : Stand) : Type 0 where
     first : IsWhole before
     last : IsWhole now
     one : IsOneCall before now
-    past : ArePast stand.jobs
+    idle : AreIdle stand.jobs
 
   -- what came before an entry, in the log of the whole
   earlier : (before now : CallLog) (made rest : List Change) → now ≡ more before made → end ≡ more now rest → end ≡ more before (made ++ rest)
@@ -84,7 +84,7 @@ module _ (opening : CallLog) (tree : IsTree (current opening)) (settled : all_se
       first = λ image left. record { some = w.some; stands = inl (w.before image left) };
       last = λ image left. record { some = w.some; stands = w.behind image left };
       one = inr (w.change, w.is);
-      past = subst ArePast (sym jobs_then) steps.1;
+      idle = subst AreIdle (sym jobs_then) steps.1;
     }
       where
         only : (was.jobs ≡ s.job ∷ []) × (s.job.id ≡ id)
@@ -93,7 +93,7 @@ module _ (opening : CallLog) (tree : IsTree (current opening)) (settled : all_se
         tree_same : replayed_tree opening before older ≡ replayed_tree opening end older
         tree_same = sym (ap (λ (l : CallLog). replayed_tree opening l older) end_is ∙ replayed_more opening before rest older r.within)
 
-        steps : IsWholly before now pair.source pair.target parts (replayed_tree opening before older) × ArePast (before_others s.new [])
+        steps : IsWholly before now pair.source pair.target parts (replayed_tree opening before older) × AreIdle (before_others s.new [])
         steps = step_whole (told_of opening before older r.part) was.dirty r.marks before now r.kept s.job s.new after.dirty pair
             (subst (λ js. JobsKnow (told_of opening before older r.part) was.dirty r.marks before js) only.0 r.knows) s.leads
 
@@ -104,13 +104,13 @@ module _ (opening : CallLog) (tree : IsTree (current opening)) (settled : all_se
         jobs_then = s.jobs_is ∙ (ap (with_job id s.new) only.0 ∙ (ap (λ n. with_job n s.new (s.job ∷ [])) (sym only.1) ∙ with_one s.job s.new))
 
     -- an entry after it
-    later : (after : Stand) (now : CallLog) (what : Event) → takes_up what ≡ false → IsWhole before → ArePast was.jobs → EventLeads was what after before now → WholeBy before now after
-    later after now what still whole past leads =
-        let on = event_past before now was after what still past leads in
-        record { first = whole; last = λ image left. whole image (calm_images before now image on.0 left); one = one_of before now on.0; past = on.1 }
+    later : (after : Stand) (now : CallLog) (what : Event) → begins_in what ≡ false → IsWhole before → AreIdle was.jobs → EventLeads was what after before now → WholeBy before now after
+    later after now what still whole idle leads =
+        let on = event_stays before now was after what still idle leads in
+        record { first = whole; last = λ image left. whole image (calm_images before now image on.0 left); one = one_of before now on.0; idle = on.1 }
 
   closed_whole : (before now : CallLog) (b : Bool) (after stand : Stand) → stand ≡ if_closed b after → WholeBy before now after → WholeBy before now stand
-  closed_whole before now b after stand is w = record { first = w.first; last = w.last; one = w.one; past = subst (λ (x : Stand). ArePast x.jobs) (sym is) (closed_past b after w.past) }
+  closed_whole before now b after stand is w = record { first = w.first; last = w.last; one = w.one; idle = subst (λ (x : Stand). AreIdle x.jobs) (sym is) (closed_idle b after w.idle) }
 
   -- the log goes on from before an entry
   from_before : (x : Entry) (g : List Entry) (was : Stand) (before : CallLog) (stand : Stand) (now : CallLog) (rest : List Change) → IsTraced opening g was before → Follows opening x g was before stand now → end ≡ more now rest
@@ -139,7 +139,7 @@ module _ (opening : CallLog) (tree : IsTree (current opening)) (settled : all_se
   by_entry x (y ∷ g) was before stand now rest (was0, before0, traced0, f0) f end_is (inr (still, since)) =
       let on = from_before x (y ∷ g) was before stand now rest (was0, before0, traced0, f0) f end_is in
       let h = by_entry y g was0 before0 was before on.0 traced0 f0 on.1 since in
-      closed_whole before now (is_closed (x ∷ y ∷ g)) f.after stand f.stand_is (later was before f.after now x.what still h.last h.past f.leads)
+      closed_whole before now (is_closed (x ∷ y ∷ g)) f.after stand f.stand_is (later was before f.after now x.what still h.last h.idle f.leads)
 
   module _ (calls : ℕ) (image : FileSystem) (left : IsImage (log_prefix opening calls end) image) where
     at_log : (log : CallLog) → IsWhole log → log_prefix opening calls end ≡ log → IsWholeAt image pair parts stood

@@ -32,10 +32,10 @@ use Rattle.history_laws.proofs.JobKnows.{WorkKnows, none_over, way_sure}
 use Rattle.history_laws.proofs.Knowing.{IsKept, Said, clean_now}
 use Rattle.history_laws.proofs.KnownParts.{HasName}
 use Rattle.history_laws.proofs.MoveKnown.{MoveKnown}
-use Rattle.history_laws.proofs.MovesOn.{ArePast}
 use Rattle.history_laws.proofs.PathsBelow.{not_below}
 use Rattle.history_laws.proofs.Renamings.{IsRenaming, renaming_passes}
 use Rattle.history_laws.proofs.Resting.{settled_unless}
+use Rattle.history_laws.proofs.StillJobs.{AreIdle}
 use Rattle.history_laws.proofs.ThingRests.{none_in_moved, source_rests, sure_within}
 use Rattle.history_laws.proofs.WholeImages.{IsAtRest, MayGo, renamed_seen, stays_seen}
 
@@ -134,21 +134,21 @@ module _ (told : Said) (dirty : List Route) (marks : Marks) (log now : CallLog) 
   moves_whole (old ∷ from) (new ∷ to) none name name_there other rests source_sure to_sure done = named_whole none old from new to other rests source_sure to_sure done
 
   -- a job tells that it moved this
-  abbrev pub WhollyPast : Pair → Option Running → Type 0
-  WhollyPast pair after = IsWholly log now pair.source pair.target told.named told.tree × ArePast (before_others after [])
+  abbrev pub WhollyMoved : Pair → Option Running → Type 0
+  WhollyMoved pair after = IsWholly log now pair.source pair.target told.named told.tree × AreIdle (before_others after [])
 
   module _ (job : Running) (after : Option Running) (dirty_after : List Route) (pair : Pair) (knows : WorkKnows told dirty marks log job.course job.work) where
     of_move : (m new : Moving) (course : Course) → MoveKnown told marks log course m → m.stage ≡ Take → pair ≡ m.pair → new ≡ record m { stage = SyncTarget }
-        → Performs {A = Unit {0}} log (Rename m.pair.source m.pair.target) (Ok tt) (Some now) → NoneOwed (current log) (Move m) dirty → after ≡ Some (record job { work = Move new; course = GoesOn }) → WhollyPast pair after
+        → Performs {A = Unit {0}} log (Rename m.pair.source m.pair.target) (Ok tt) (Some now) → NoneOwed (current log) (Move m) dirty → after ≡ Some (record job { work = Move new; course = GoesOn }) → WhollyMoved pair after
     of_move m new course k stage pair_is new_is done owed after_is = (
       subst (λ (p : Pair). IsWholly log now p.source p.target told.named told.tree) (sym pair_is)
           (moves_whole m.pair.source m.pair.target k.none k.source k.target k.other (source_rests told dirty marks log kept m k.source owed)
           (sure_within told dirty marks log kept m.pair.source k.source (none_in_moved (current log) m dirty owed) []) (way_sure told dirty marks log (folder_of m.pair.target) kept.known (none_over (current log) (Move m) dirty owed)) done),
-      subst (λ o. ArePast (before_others o [])) (sym after_is) (new, refl, ap (λ (x : Moving). is_fresh x.stage) new_is),
+      subst (λ o. AreIdle (before_others o [])) (sym after_is) tt,
     )
 
     of_work : (old new : Work) → job.work ≡ old → job.course ≡ GoesOn → WorkTells old (Moved pair) new → WorkCalls IsUnclaimed job.replies old (Moved pair) new log (Some now)
-        → (jobs.is_fresh old ≡ true → NoneOwed (current log) old dirty) → after ≡ Some (record job { work = new; course = GoesOn }) → WhollyPast pair after
+        → (jobs.is_fresh old ≡ true → NoneOwed (current log) old dirty) → after ≡ Some (record job { work = new; course = GoesOn }) → WhollyMoved pair after
     of_work (Move m) (Move new) is course_is (stage, pair_is, new_is) (free, done) settled after_is =
         of_move m new job.course (subst (λ w. WorkKnows told dirty marks log job.course w) is knows) stage pair_is new_is done (settled (ap is_fresh stage)) after_is
     of_work (Move m) (Copy new) is course_is tells calls settled after_is = absurd tells
@@ -177,7 +177,7 @@ module _ (told : Said) (dirty : List Route) (marks : Marks) (log now : CallLog) 
     of_work (SetMode s) (SetMode new) is course_is tells calls settled after_is = absurd tells
 
     by_course : (new : Running) (course : Course) → job.course ≡ course → TellsOn course job (Moved pair) new → CallsOn IsUnclaimed course job (Moved pair) new log (Some now)
-        → (course ≡ GoesOn → jobs.is_fresh job.work ≡ true → NoneOwed (current log) job.work dirty) → after ≡ Some new → WhollyPast pair after
+        → (course ≡ GoesOn → jobs.is_fresh job.work ≡ true → NoneOwed (current log) job.work dirty) → after ≡ Some new → WhollyMoved pair after
     by_course new GoesOn is (work, tells, new_is) calls settled after_is =
         of_work job.work work refl is tells (subst (λ (x : Running). WorkCalls IsUnclaimed job.replies job.work (Moved pair) x.work log (Some now)) new_is calls) (settled refl)
         (after_is ∙ ap (λ (x : Running). (let o : Option Running = Some x in o)) new_is)
@@ -215,7 +215,7 @@ module _ (told : Said) (dirty : List Route) (marks : Marks) (log now : CallLog) 
         wound (SetMode s) (Move new) winds = winds
         wound (SetMode s) (SetMode new) winds = winds
 
-    pub step_whole : StepLeads job (Moved pair) after dirty dirty_after log now → WhollyPast pair after
+    pub step_whole : StepLeads job (Moved pair) after dirty dirty_after log now → WhollyMoved pair after
     step_whole (inl (new, inl works, after_is)) = by_course new job.course refl works.tells works.called works.settled after_is
     step_whole (inl (new, inr syncs, after_is)) = absurd (none_synced syncs.synced)
       where

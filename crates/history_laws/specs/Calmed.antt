@@ -1,11 +1,12 @@
 -- Once a job has made its first change, nothing is in doubt on its mount but what that change names; in the words of the
 -- history alone. Histories stand newest first here.
-use Rattle.std.specs.Prelude.{◌≡◌, ◌⊎◌, ℕ, true, false, List, ◌∷◌, Some}
-use Rattle.mc_text.specs.Routes.{Route}
+use Rattle.std.specs.Prelude.{◌≡◌, ◌⊎◌, ℕ, Bool, true, false, ◌||◌, List, ◌∷◌, Some}
+use Rattle.mc_text.specs.Routes.{Route, same_path}
 use Rattle.tree_trait.specs.Shape.{IsTree}
 use Rattle.tree_trait.specs.Change.{CallLog, current}
 use Rattle.tree_trait.specs.CrashImages.{Among, all_settled}
 use Rattle.job_reports.specs.declared.report.Did.{Did}
+use Rattle.job_reports.specs.declared.report.Did.TheVariants.{Moved}
 use Rattle.job_reports.specs.Paths.{folder_of}
 use Rattle.session_history.specs.declared.history.Event.TheVariants.{Step}
 use Rattle.session_history.specs.declared.history.Entry.{Entry}
@@ -13,7 +14,7 @@ use Rattle.job_reports.specs.Jobs.{Item, folder_changed}
 use Rattle.history_laws.specs.Doubt.{name_waits, node_waits}
 use Rattle.session_history.specs.LiveJobs.{live_jobs, live_item}
 use Rattle.history_laws.specs.Owed.{IsApart}
-use Rattle.session_history.specs.Named.{begins_change, has_changed, named_parts, names_path}
+use Rattle.session_history.specs.Named.{begins_change, has_changed, named_parts, names}
 use Rattle.history_laws.specs.Replayed.{log_prefix}
 use Rattle.session_history.specs.Entries.{IsMoment, calls_in}
 use Rattle.history_laws.specs.Traces.{IsTraced, Stand}
@@ -29,15 +30,26 @@ pub record HasBegun (e : Entry) (older : List Entry) (folder : Route) : Type 0 w
   pub its : live_item id (live_jobs older) ≡ Some item
   pub within : folder ≡ folder_changed item
 
--- When such an entry has come to stand, a path of whose name a change isn't on the disk yet is one that this entry names, or its
--- folder lies on another mount, or was removed. One of which a mode isn't, parts aside, is one that it names, or lies itself on another mount.
+-- what is reported changes the name of this path: of a move only one of its two paths, and none below them
+abbrev pub changes_name : Did → Route → Bool
+changes_name (Moved pair) path = same_path path pair.source || same_path path pair.target
+changes_name did path = names did path
+
+-- what is reported changes what stands at this path, or its mode: a move changes nothing of what it moves
+abbrev pub changes_thing : Did → Route → Bool
+changes_thing (Moved pair) path = false
+changes_thing did path = names did path
+
+-- When such an entry has come to stand, a path of whose name a change isn't on the disk yet is one whose name this entry changes, or its
+-- folder lies on another mount, or was removed. One of which a mode isn't, parts aside, is one that it changes, or lies itself on another mount; or a part that an
+-- ended job left lies there now, with what was moved.
 pub record CalmsOthers (opening now : CallLog) (newest : List Entry) : Type 0 where
-  pub names : (e : Entry) (older : List Entry) (folder path : Route)
-      → HasBegun e older folder → IsMoment newest (e ∷ older) (e ∷ older) e.calls → name_waits (log_prefix opening e.calls now) path ≡ true
-      → (names_path e.what path ≡ true) ⊎ IsApart (log_prefix opening (calls_in older) now) folder (folder_of path)
-  pub modes : (e : Entry) (older : List Entry) (folder path : Route)
-      → HasBegun e older folder → IsMoment newest (e ∷ older) (e ∷ older) e.calls → (Among (named_parts older) path → ⊥) → node_waits (log_prefix opening e.calls now) path ≡ true
-      → (names_path e.what path ≡ true) ⊎ IsApart (log_prefix opening (calls_in older) now) folder path
+  pub names : (e : Entry) (older : List Entry) (folder path : Route) (begun : HasBegun e older folder)
+      → IsMoment newest (e ∷ older) (e ∷ older) e.calls → name_waits (log_prefix opening e.calls now) path ≡ true
+      → (changes_name begun.did path ≡ true) ⊎ IsApart (log_prefix opening (calls_in older) now) folder (folder_of path)
+  pub modes : (e : Entry) (older : List Entry) (folder path : Route) (begun : HasBegun e older folder)
+      → IsMoment newest (e ∷ older) (e ∷ older) e.calls → (Among (named_parts older) path → ⊥) → node_waits (log_prefix opening e.calls now) path ≡ true
+      → (changes_thing begun.did path ≡ true) ⊎ (Among (named_parts (e ∷ older)) path ⊎ IsApart (log_prefix opening (calls_in older) now) folder path)
 
 abbrev pub CalmLaw : Type 0
 CalmLaw = (opening now : CallLog) (newest : List Entry) (stand : Stand)

@@ -1,5 +1,5 @@
 -- What waits for a sync lies in a dirty folder, and a job's first change comes only where nothing waits on that mount.
-use Rattle.std.specs.Prelude.{◌≡◌, ◌⊎◌, ℕ, Bool, true, false, List, [], ◌∷◌, Option, Some}
+use Rattle.std.specs.Prelude.{◌≡◌, ◌⊎◌, ℕ, Bool, true, false, ◌||◌, List, [], ◌∷◌, Option, Some}
 use Rattle.mc_text.specs.Routes.{Route, same_path}
 use Rattle.tree_trait.specs.declared.calls.TreeError.TheVariants.{Missing}
 use Rattle.tree_trait.specs.Calls.{Stat}
@@ -15,7 +15,7 @@ use Rattle.session_history.specs.declared.history.Entry.{Entry}
 use Rattle.session_history.specs.Named.{has_changed, named_parts}
 use Rattle.copy_move.specs.declared.run.Course.TheVariants.{GoesOn}
 use Rattle.copy_move.specs.declared.work.Work.{Work}
-use Rattle.copy_move.specs.declared.work.Work.TheVariants.{SetMode}
+use Rattle.copy_move.specs.declared.work.Work.TheVariants.{Move, SetMode}
 use Rattle.copy_move.specs.Jobs.{Running, is_fresh}
 use Rattle.copy_move.specs.Settling.{IsMountOf, changed_folder, is_own}
 use Rattle.copy_move.specs.Steps.{RunStep, step_made}
@@ -39,7 +39,12 @@ abbrev pub IsApart : CallLog → Route → Route → Type 0
 IsApart log folder other =
     (refusal_of (current log) (Stat other) ≡ Some Missing) ⊎ ((number : ℕ) × IsMountOf (current log) folder number × (IsMountOf (current log) other number → ⊥))
 
--- Once the live job has made its first change, each change of a name that isn't on the disk yet is in a folder of its own, on another mount, or in a
+-- a folder in which a change of a job waits from its first on: one of its own, but of a move only the two that hold its names
+abbrev pub waits_in : Work → Route → Bool
+waits_in (Move m) folder = same_path folder (folder_of m.pair.source) || same_path folder (folder_of m.pair.target)
+waits_in work folder = is_own work folder
+
+-- Once the live job has made its first change, each change of a name that isn't on the disk yet is in such a folder, on another mount, or in a
 -- folder that was removed; and each mode that isn't, parts aside, is of such a path itself.
 abbrev pub FirstChange : (Running → Route → CallLog → List Entry → CallLog → Type 0) → Type 0
 FirstChange Holds = (opening log now : CallLog) (older newest : List Entry) (was stand : Stand) (job new : Running) (did : Did) (path : Route)
@@ -47,8 +52,8 @@ FirstChange Holds = (opening log now : CallLog) (older newest : List Entry) (was
     → WorkLeads job did new was.dirty stand.dirty log now → job.course ≡ GoesOn → is_fresh job.work ≡ true → Holds job path log newest now
 
 pub record FirstChangeLaw : Type 0 where
-  pub names : FirstChange (λ job path log newest now. name_waits now path ≡ true → (is_own job.work (folder_of path) ≡ true) ⊎ IsApart log (changed_folder job.work) (folder_of path))
-  pub modes : FirstChange (λ job path log newest now. (Among (named_parts newest) path → ⊥) → node_waits now path ≡ true → (is_own job.work path ≡ true) ⊎ IsApart log (changed_folder job.work) path)
+  pub names : FirstChange (λ job path log newest now. name_waits now path ≡ true → (waits_in job.work (folder_of path) ≡ true) ⊎ IsApart log (changed_folder job.work) (folder_of path))
+  pub modes : FirstChange (λ job path log newest now. (Among (named_parts newest) path → ⊥) → node_waits now path ≡ true → (waits_in job.work path ≡ true) ⊎ IsApart log (changed_folder job.work) path)
 
 -- a path of a job's own: one in a folder of its own, of a copy also one below its target, or the thing to which it gives a mode
 abbrev pub is_own_path : Work → Route → Bool

@@ -18,7 +18,7 @@ use Rattle.session_history.specs.declared.history.Entry.{Entry}
 use Rattle.copy_move.specs.declared.run.Course.TheVariants.{GoesOn}
 use Rattle.copy_move.specs.Jobs.{Running, JobTells, JobCalls, answered, begun_work, closed_job, is_fresh, part_of}
 use Rattle.job_reports.specs.Reports.{ends}
-use Rattle.copy_move.specs.Settling.{NoneOwed}
+use Rattle.copy_move.specs.Settling.{NoneForFolder, NoneOwed}
 use Rattle.copy_move.specs.Steps.{LeavesDirty, SyncsOwed, WalksOn}
 use Rattle.session_history.specs.Entries.{is_closed}
 use Rattle.copy_move.specs.Told.{running, turned}
@@ -47,12 +47,13 @@ with_job id new (job ∷ jobs) = if job.id == id then before_others new jobs els
 abbrev pub IsUnclaimed : Route → Type 0
 IsUnclaimed path = true ≡ true
 
--- A step of a job's own work. The first change comes only where no dirty folder is owed, and a deletion does what its machine does:
--- on its way, where it passes something over, and in its last steps.
+-- A step of a job's own work. The first change comes only where no dirty folder is owed, and that of the move of a folder only where nothing that stands is dirty;
+-- a deletion does what its machine does: on its way, where it passes something over, and in its last steps.
 pub record WorkLeads (job : Running) (did : Did) (new : Running) (dirty dirty_after : List Route) (log now : CallLog) : Type 0 where
   pub tells : JobTells job did new
   pub called : JobCalls IsUnclaimed job did new log (Some now)
   pub settled : job.course ≡ GoesOn → is_fresh job.work ≡ true → NoneOwed (current log) job.work dirty
+  pub cleared : job.course ≡ GoesOn → is_fresh job.work ≡ true → NoneForFolder (current log) job.work dirty
   pub leaves : LeavesDirty job.course job.work did new.work dirty dirty_after (Some log) (Some now)
   pub walks : (calls : ℕ) × (faults : ℕ) × (faults_after : ℕ) × WalksOn IsUnclaimed job.replies job.course job.work new.work did calls dirty dirty_after (Some log) (Some now) faults faults_after
 

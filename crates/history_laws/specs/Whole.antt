@@ -13,25 +13,25 @@ use Rattle.session_history.specs.declared.history.Event.TheVariants.{Key, Look, 
 use Rattle.session_history.specs.declared.history.Event.TheVariants as event
 use Rattle.session_history.specs.declared.history.Entry.{Entry}
 use Rattle.session_history.specs.Entries.{IsMoment}
-use Rattle.session_history.specs.Named.{named_parts}
+use Rattle.session_history.specs.Named.{begins_change, named_parts}
 use Rattle.history_laws.specs.Replayed.{replayed_tree}
 use Rattle.history_laws.specs.Traces.{IsTraced, Stand}
 
--- the event takes up a source: the first one of a job that begins, or the next one of a job
-abbrev pub takes_up : Event → Bool
-takes_up (event.Began id plan background) = true
-takes_up (Next id plan) = true
-takes_up (Step id did) = false
-takes_up (Order id order) = false
-takes_up (Key key now refusals lost) = false
-takes_up (Look refusals) = false
-takes_up Sought = false
-takes_up Closed = false
+-- the event tells that a change of the tree is begun: a part or a folder is made, a thing is removed or moved, or a mode is given
+abbrev pub begins_in : Event → Bool
+begins_in (Step id did) = begins_change did
+begins_in (event.Began id plan background) = false
+begins_in (Next id plan) = false
+begins_in (Order id order) = false
+begins_in (Key key now refusals lost) = false
+begins_in (Look refusals) = false
+begins_in Sought = false
+begins_in Closed = false
 
--- these entries are the first ones with more on top, of which none takes up another source
+-- these entries are the first ones with more on top, of which none tells that a change is begun
 abbrev pub IsStillSince : List Entry → List Entry → Type 0
 IsStillSince first [] = first ≡ []
-IsStillSince first (e ∷ entries) = (first ≡ e ∷ entries) ⊎ ((takes_up e.what ≡ false) × IsStillSince first entries)
+IsStillSince first (e ∷ entries) = (first ≡ e ∷ entries) ⊎ ((begins_in e.what ≡ false) × IsStillSince first entries)
 
 -- there stands, in this image, what stood elsewhere, with all that lay in it, each thing with its bytes and its mode; but for parts
 abbrev pub StandsAllAt : FileSystem → Route → List Route → View → Route → Type 0
@@ -42,9 +42,10 @@ pub record IsWholeAt (image : FileSystem) (pair : Pair) (parts : List Route) (st
   pub some : is_some (stood pair.source).value ≡ true
   pub stands : StandsAllAt image pair.source parts stood pair.source ⊎ StandsAllAt image pair.target parts stood pair.source
 
--- From the entry that tells of a move on, and within it, until another source is taken up, each crash image has at the source or at the target what the history says of
--- the source before that entry, with all that lay in it, but for parts, at each moment, inside a call too. What stays of a source with which the job is done `DoneLaw`
--- says: then the target has it for good.
+-- From the entry that tells of a move on, and within it, until another one tells that a change is begun, each crash image has at the source or at the target what the
+-- history says of the source before that entry, with all that lay in it, but for parts, at each moment, inside a call too: whether the move was finished, or aborted
+-- before its folders were synced, and whatever other jobs look at, ask, or sync since. What stays of a source with which the job is done `DoneLaw` says: then the target
+-- has it for good.
 abbrev pub LeavesWhole : CallLog → CallLog → List Entry → Type 0
 LeavesWhole opening now newest =
     (older standing coming : List Entry) (e : Entry) (id : ℕ) (pair : Pair) (calls : ℕ) (image : FileSystem)

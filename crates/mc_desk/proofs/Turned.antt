@@ -36,6 +36,7 @@ own_leads job new made dirty dirty_after log before after own = record {
   tells = let s = own.own in s.tells;
   called = let s = own.own in s.called log refl;
   settled = λ goes fresh. own.settled goes fresh log refl;
+  cleared = λ goes fresh. own.cleared goes fresh log refl;
   leaves = own.leaves;
   walks = (made, before, after, own.walks);
 }

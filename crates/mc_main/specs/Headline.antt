@@ -135,7 +135,7 @@ IsSafeRun opening now newest =
     → IsSafe opening now standing (log_prefix opening calls now) image ⊎ IsSafe opening now coming (log_prefix opening calls now) image
 
 -- A thing that is moved is whole at its source or at its target in one and the same image, with all that lies in it, but for parts, from the entry that tells of it on,
--- and within it, until another source is taken up.
+-- and within it, until another one tells that a change is begun.
 abbrev pub IsWholeRun : CallLog → CallLog → List Entry → Type 0
 IsWholeRun opening now newest = IsTree (current opening) → all_settled opening.changes ≡ true → LeavesWhole opening now newest
 

@@ -70,7 +70,7 @@ pub fn mc_run<N: Tag, T: Tree, K: Source, S: Sink, P: Spawner, C: Clock, G: Gate
         IsSafeRun opening now (reverse result.history.entries))) }
 
     // A thing that is moved is whole at its source or at its target, in one and the same image, at each moment from its renaming on, inside that too, until
-    // another source is taken up; but for one that was named as a part.
+    // another change is begun; but for one that was named as a part.
     ensures whole { IfKnown (T.contents tree) (λ opening. IfKnown (T.contents result.tree) (λ now.
         IsWholeRun opening now (reverse result.history.entries))) }
 

@@ -80,6 +80,7 @@ works replies course old new did calls dirty dirty_after before now tells on ste
   tells = (Copy new, tells, ap (λ c. job replies c new) (sym on));
   called = record { calls = calls; dirty = dirty; dirty_after = dirty_after; faults = 0; faults_after = 0; goes = goes };
   settled = λ way fresh kept among. absurd (subst (λ xs. Among xs kept) (clean fresh) among);
+  cleared = λ way fresh kept among. absurd (subst (λ xs. Among xs kept) (clean fresh) among);
   leaves = leaves;
   walks = (calls, 0, 0, goes);
 }

@@ -1,11 +1,11 @@
 -- A small session in which a file is moved out of a folder, so the premises can be met: at its end the file stands at its target, and nothing where it was.
-use Rattle.std.proofs.Common.{◌≡◌, pos, false, List, [], ◌∷◌, refl, sym, inl, Some, None, true≢false}
+use Rattle.std.proofs.Common.{◌≡◌, pos, false, List, [], ◌∷◌, refl, sym, ap, inl, Some, None, true≢false}
 use Rattle.mc_text.specs.Routes.{Route}
 use Rattle.mc_text.specs.declared.kind.Kind.TheVariants.{File}
 use Rattle.tree_trait.specs.declared.calls.Meta.{Meta}
 use Rattle.tree_trait.specs.Answers.{mount_number}
 use Rattle.tree_trait.specs.Change.{Change, Moves, Syncs, CallLog, current}
-use Rattle.tree_trait.specs.FileSystem.{value}
+use Rattle.tree_trait.specs.FileSystem.{Spot, value}
 use Rattle.tree_trait.specs.Refusals.{mount_of}
 use Rattle.job_reports.specs.declared.job.Job.TheVariants as plan
 use Rattle.job_reports.specs.declared.job.Pair.{Pair}
@@ -77,6 +77,7 @@ moved_traced =
       tells = (Move (at SyncTarget), (refl, refl, refl), refl);
       called = (may_move, (refl, (pos 0, refl)));
       settled = λ goes fresh kept among. absurd among;
+      cleared = λ goes fresh kept among. absurd among;
       leaves = refl;
       walks = (1, 0, 0, tt);
     }) refl refl refl
@@ -95,6 +96,7 @@ target_traced =
       tells = (Move (at SyncSource), (refl, refl), refl);
       called = (refl, (pos 0, refl));
       settled = λ goes fresh. absurd (true≢false (sym fresh));
+      cleared = λ goes fresh. absurd (true≢false (sym fresh));
       leaves = refl;
       walks = (1, 0, 0, tt);
     }) refl refl refl
@@ -112,6 +114,7 @@ done_traced =
       tells = (Move (at Finish), (refl, refl), refl);
       called = (refl, (pos 0, refl));
       settled = λ goes fresh. absurd (true≢false (sym fresh));
+      cleared = λ goes fresh. absurd (true≢false (sym fresh));
       leaves = refl;
       walks = (1, 0, 0, tt);
     }) refl refl refl
@@ -126,6 +129,7 @@ ended_traced =
       tells = (Move (at Finish), (refl, refl, refl), refl);
       called = refl;
       settled = λ goes fresh. absurd (true≢false (sym fresh));
+      cleared = λ goes fresh. absurd (true≢false (sym fresh));
       leaves = refl;
       walks = (0, 0, 0, tt);
     }) refl refl refl
@@ -134,4 +138,5 @@ ended_traced =
 pub is_moved : ((replayed_tree (log []) done_log done_entries first).value ≡ None) × ((replayed_tree (log []) done_log done_entries target).value ≡ Some (value file))
 is_moved =
     let law = outcome_law (log []) done_log (end ∷ done_entries) (stand [] []) small_tree refl ended_traced end done_entries 1 (jobs.Moves first target) (record { ended = refl; its = refl }) (inl (refl, refl, refl)) in
-    law.went (λ among. absurd among) []
+    let went = law.went (λ among. absurd among) [] in
+    (ap (λ (s : Spot). s.value) went.0, ap (λ (s : Spot). s.value) went.1)

@@ -1,11 +1,11 @@
 -- A small session in which a folder with two files in it is moved, so the premises can be met: at its end it stands at its target, with both, and nothing where it was.
-use Rattle.std.proofs.Common.{◌≡◌, pos, false, List, [], ◌∷◌, ◌++◌, refl, sym, inl, Some, None, true≢false}
+use Rattle.std.proofs.Common.{◌≡◌, pos, false, List, [], ◌∷◌, ◌++◌, refl, sym, ap, inl, Some, None, true≢false}
 use Rattle.mc_text.specs.Routes.{Route}
 use Rattle.mc_text.specs.declared.kind.Kind.TheVariants.{Folder}
 use Rattle.tree_trait.specs.declared.calls.Meta.{Meta}
 use Rattle.tree_trait.specs.Answers.{mount_number}
 use Rattle.tree_trait.specs.Change.{Change, Moves, Syncs, CallLog, current}
-use Rattle.tree_trait.specs.FileSystem.{value}
+use Rattle.tree_trait.specs.FileSystem.{Spot, value}
 use Rattle.tree_trait.specs.Refusals.{mount_of}
 use Rattle.job_reports.specs.declared.job.Job.TheVariants as plan
 use Rattle.job_reports.specs.declared.job.Pair.{Pair}
@@ -78,6 +78,7 @@ moved_traced =
       tells = (Move (at SyncTarget), (refl, refl, refl), refl);
       called = (may_move, (refl, (pos 0, refl)));
       settled = λ goes fresh kept among. absurd among;
+      cleared = λ goes fresh kept among. absurd among;
       leaves = refl;
       walks = (1, 0, 0, tt);
     }) refl refl refl
@@ -96,6 +97,7 @@ done_traced =
       tells = (Move (at Finish), (refl, refl), refl);
       called = (refl, (pos 0, refl));
       settled = λ goes fresh. absurd (true≢false (sym fresh));
+      cleared = λ goes fresh. absurd (true≢false (sym fresh));
       leaves = refl;
       walks = (1, 0, 0, tt);
     }) refl refl refl
@@ -110,6 +112,7 @@ ended_traced =
       tells = (Move (at Finish), (refl, refl, refl), refl);
       called = refl;
       settled = λ goes fresh. absurd (true≢false (sym fresh));
+      cleared = λ goes fresh. absurd (true≢false (sym fresh));
       leaves = refl;
       walks = (0, 0, 0, tt);
     }) refl refl refl
@@ -118,7 +121,8 @@ went : (rest : Route)
     → ((replayed_tree (log []) done_log done_entries (rest ++ top)).value ≡ None) × ((replayed_tree (log []) done_log done_entries (rest ++ target)).value ≡ (tree_begun (log []) done_log 1 done_entries (rest ++ top)).value)
 went rest =
     let law = outcome_law (log []) done_log (end ∷ done_entries) (stand [] []) small_tree refl ended_traced end done_entries 1 (jobs.Moves top target) (record { ended = refl; its = refl }) (inl (refl, refl, refl)) in
-    law.went (λ among. absurd among) rest
+    let went = law.went (λ among. absurd among) rest in
+    (ap (λ (s : Spot). s.value) went.0, ap (λ (s : Spot). s.value) went.1)
 
 -- so the folder stands at its target
 pub is_moved : ((replayed_tree (log []) done_log done_entries top).value ≡ None) × ((replayed_tree (log []) done_log done_entries target).value ≡ Some (value folder))

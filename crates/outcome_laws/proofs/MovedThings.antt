@@ -3,7 +3,7 @@ use Rattle.std.proofs.Common.{◌≡◌, Bool, true, false, List, [], ◌∷◌,
 use Rattle.std.specs.Prelude.{if◌then◌else◌}
 use Rattle.std.proofs.lemmas.Bool.{false_from_ne_true}
 use Rattle.mc_text.specs.Routes.{Route, is_prefix, same_path}
-use Rattle.tree_trait.specs.FileSystem.{Spot, View}
+use Rattle.tree_trait.specs.FileSystem.{View}
 use Rattle.tree_trait.specs.Change.{CallLog}
 use Rattle.tree_trait.specs.CrashImages.{Among}
 use Rattle.job_reports.specs.declared.job.Pair.{Pair}
@@ -30,7 +30,7 @@ IsUnmoved pair begun v = (rest : Route) → (v (rest ++ pair.source) ≡ begun (
 
 -- what stood at the source stands at the target, with all that lay in it
 abbrev pub HasGone : Pair → View → View → Type 0
-HasGone pair begun v = (rest : Route) → ((v (rest ++ pair.source)).value ≡ None) × ((v (rest ++ pair.target)).value ≡ (begun (rest ++ pair.source)).value)
+HasGone pair begun v = (rest : Route) → (v (rest ++ pair.source) ≡ nothing_there) × (v (rest ++ pair.target) ≡ begun (rest ++ pair.source))
 
 abbrev pub MovingAt : MovingStage → Pair → List Route → View → View → Type 0
 MovingAt Take pair passed begun v = (passed ≡ []) × IsUnmoved pair begun v
@@ -48,7 +48,7 @@ moving_begins pair v = (refl, λ rest. (refl, refl))
 
 -- the renaming
 goes : (pair : Pair) (begun v : View) → AreApart pair → IsUnmoved pair begun v → HasGone pair begun (moved_by pair v)
-goes pair begun v apart same rest = (ap (λ (s : Spot). s.value) empty, ap (λ (s : Spot). s.value) (there ∙ (same rest).0))
+goes pair begun v apart same rest = (empty, there ∙ (same rest).0)
   where
     off : is_prefix pair.target (rest ++ pair.source) ≡ false
     off = false_from_ne_true _ (λ below. let w = below_way pair.target (rest ++ pair.source) below in apart rest w.0 w.1)

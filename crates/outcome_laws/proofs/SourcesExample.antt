@@ -47,6 +47,7 @@ given_traced =
       tells = (SetMode (setting another mode Sync), (refl, refl, refl), refl);
       called = (given_log, (refl, (pos 0, refl)), refl);
       settled = λ goes fresh kept among. absurd among;
+      cleared = λ goes fresh kept among. absurd among;
       leaves = refl;
       walks = (1, 0, 0, tt);
     }) refl refl refl
@@ -58,6 +59,7 @@ synced_traced =
       tells = (SetMode (setting another mode Done), (refl, refl), refl);
       called = (synced_log, (refl, (pos 0, refl)), refl);
       settled = λ goes fresh. absurd (true≢false (sym fresh));
+      cleared = λ goes fresh. absurd (true≢false (sym fresh));
       leaves = refl;
       walks = (1, 0, 0, tt);
     }) refl refl refl
@@ -69,6 +71,7 @@ ended_traced =
       tells = (SetMode (setting another mode Done), (refl, refl, refl), refl);
       called = refl;
       settled = λ goes fresh. absurd (true≢false (sym fresh));
+      cleared = λ goes fresh. absurd (true≢false (sym fresh));
       leaves = refl;
       walks = (0, 0, 0, tt);
     }) refl refl refl

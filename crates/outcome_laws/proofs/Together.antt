@@ -36,7 +36,7 @@ outcome_same (Moves source target) passed begun v w same k =
     let from = λ (rest : Route). same (rest ++ source) (or_left _ _ (or_left _ _ (prefix_append source rest))) in
     let to = λ (rest : Route). same (rest ++ target) (or_left _ _ (or_right (is_prefix source (rest ++ target)) _ (prefix_append target rest))) in
     record {
-      went = λ reached rest. let h = k.went reached rest in (ap (λ (s : Spot). s.value) (from rest) ∙ h.0, ap (λ (s : Spot). s.value) (to rest) ∙ h.1);
+      went = λ reached rest. let h = k.went reached rest in (from rest ∙ h.0, to rest ∙ h.1);
       stays = λ among rest. let h = k.stays among rest in (from rest ∙ h.0, to rest ∙ h.1);
     }
 outcome_same (Removes top) passed begun v w same k = λ rest reached. ap (λ (s : Spot). s.value) (same (rest ++ top) (or_left _ _ (prefix_append top rest))) ∙ k rest reached

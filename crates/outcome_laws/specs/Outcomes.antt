@@ -19,7 +19,7 @@ use Rattle.session_history.specs.declared.history.Entry.{Entry}
 use Rattle.session_history.specs.Entries.{IsMoment}
 use Rattle.session_history.specs.LiveJobs.{live_jobs, live_item}
 use Rattle.session_history.specs.Sources.{IsDoneWith}
-use Rattle.history_laws.specs.Replayed.{new_folder, new_link, placed_copy, replayed_tree}
+use Rattle.history_laws.specs.Replayed.{new_folder, new_link, nothing_there, placed_copy, replayed_tree}
 use Rattle.history_laws.specs.Traces.{IsTraced, Stand}
 use Rattle.outcome_laws.specs.Begun.{tree_begun}
 
@@ -122,10 +122,10 @@ IsMade path made passed v = IsReached passed path → (v path).value ≡ Some ma
 abbrev pub IsSet : Route → ℕ → List Route → View → Type 0
 IsSet path mode passed v = IsReached passed path → option_map (λ x. x.mode) (v path).value ≡ Some mode
 
--- What stood at the source where the job began with it stands at the target, with all that lay in it, and nothing at the source; but where it was passed over both
--- are as they were.
+-- What stood at the source where the job began with it stands at the target, with all that lay in it, also mounts that began there, and nothing at the source; but
+-- where it was passed over both are as they were.
 pub record IsMoved (source target : Route) (passed : List Route) (begun v : View) : Type 0 where
-  pub went : (Among passed source → ⊥) → (rest : Route) → ((v (rest ++ source)).value ≡ None) × ((v (rest ++ target)).value ≡ (begun (rest ++ source)).value)
+  pub went : (Among passed source → ⊥) → (rest : Route) → (v (rest ++ source) ≡ nothing_there) × (v (rest ++ target) ≡ begun (rest ++ source))
   pub stays : Among passed source → (rest : Route) → (v (rest ++ source) ≡ begun (rest ++ source)) × (v (rest ++ target) ≡ begun (rest ++ target))
 
 -- All that a job was to do with its item is done in this tree, which was another one where it began with that; but for what it passed over.
