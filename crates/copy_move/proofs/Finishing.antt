@@ -45,7 +45,7 @@ work_stays (Copy c) (Copy new) part t = (let a = t.after in (t.may, a.part, a.sk
 work_stays (Delete d) (Delete new) part (stage, none, at) = (none, refl, at.skips_is)
 work_stays (Make m) (Make new) part (done, none, is) = (none, refl, refl)
 work_stays (Move m) (Move new) part (done, none, is) = (none, refl, ap (λ (k : movings.Moving). k.skips) is)
-work_stays (SetMode s) (SetMode new) part (stage, none, is) = (none, refl, refl)
+work_stays (SetMode s) (SetMode new) part (stage, none, is) = (none, refl, ap (λ (k : settings.Setting). k.skips) is)
 work_stays (Copy c) (Delete new) part h = absurd h
 work_stays (Copy c) (Make new) part h = absurd h
 work_stays (Copy c) (Move new) part h = absurd h

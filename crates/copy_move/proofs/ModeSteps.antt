@@ -17,18 +17,18 @@ use Rattle.job_reports.proofs.Runs.{no_more}
 use Rattle.mode_setting.specs.declared.setting.Stage.{Stage}
 use Rattle.mode_setting.specs.declared.setting.Stage.TheVariants.{Give, Sync, Done}
 use Rattle.mode_setting.specs.Settings.{Setting, Tells, at_barrier, is_dirty, is_fresh, skipped}
-use Rattle.mode_setting.specs.SettingSteps.{SettingStops, Skips, StepsOn, SyncTried, Winds}
+use Rattle.mode_setting.specs.SettingSteps.{SettingSkips, SettingStops, StepsOn, SyncTried, TellsFault, Winds}
 use Rattle.job_answers.specs.declared.replies.Replies.{Replies}
 use Rattle.copy_move.specs.declared.work.Work.TheVariants.{SetMode}
 use Rattle.copy_move.specs.declared.run.Course.TheVariants.{GoesOn, InTrouble}
 use Rattle.copy_move.specs.DeletionSteps.{after_try}
+use Rattle.copy_move.specs.Faults.{MeetsFault}
 use Rattle.copy_move.specs.Jobs.{course_after, unreported_skip}
 use Rattle.copy_move.specs.ModeSettings.{LastSettingCalls, SettingLeaves}
 use Rattle.copy_move.specs.ModeSettings as modes
 use Rattle.copy_move.specs.Ranks.{last_rank, last_setting_steps, rank_on, setting_rank, tries_left, work_rank}
 use Rattle.copy_move.specs.Settling.{with_change}
 use Rattle.copy_move.specs.Steps.{WorkSkips, WorkSteps, WorkWindsUp}
-use Rattle.copy_move.proofs.DeletionRuns.{met_by}
 use Rattle.copy_move.proofs.Falling.{setting_tried_low, waiting_falls}
 use Rattle.copy_move.proofs.FolderSteps.{one_more, tried_more, tries_after, weighs_less}
 use Rattle.thing_making.proofs.MakingRuns.{same_log}
@@ -37,7 +37,7 @@ use Rattle.thing_making.proofs.MakingRuns.{same_log}
 pub setting_stays : (s new : Setting) (did : Did) → Tells s did new → new.path ≡ s.path
 setting_stays s new (Set path) (at, path_is, is) = ap (λ (n : Setting). n.path) is
 setting_stays s new Barrier (at, is) = ap (λ (n : Setting). n.path) is
-setting_stays s new (Troubled trouble) t = ap (λ (n : Setting). n.path) t.1
+setting_stays s new (Troubled trouble) (barrier, told, is) = ap (λ (n : Setting). n.path) is
 setting_stays s new (Ended Finished part) (at, none, is) = ap (λ (n : Setting). n.path) is
 setting_stays s new (Ended Aborted part) t = absurd t
 setting_stays s new (Ended Killed part) t = absurd t
@@ -51,7 +51,7 @@ setting_stays s new (Placed path) t = absurd t
 setting_stays s new (Removed path) t = absurd t
 setting_stays s new (Made path) t = absurd t
 setting_stays s new (Kept path) t = absurd t
-setting_stays s new (Skipped path cause) t = absurd t
+setting_stays s new (Skipped path cause) (at, path_is, passes, is) = ap (λ (n : Setting). n.path) is
 setting_stays s new (Cleaned part) t = absurd t
 
 pub setting_winds_there : (ending : Ending) (s new : Setting) (last : LastStepResult) (before after : Option CallLog) (f0 f1 : ℕ) → Winds ending s new last before after f0 f1 → new.path ≡ s.path
@@ -62,7 +62,7 @@ setting_winds_there ending s new last before after f0 f1 (inr w) = ap (λ (n : S
 pub clean_setting : (s new : Setting) (did : Did) → Tells s did new → is_fresh s.stage ≡ false → is_dirty s.stage ≡ false → is_dirty new.stage ≡ false
 clean_setting s new (Set path) (at, path_is, is) changed clean = absurd (true≢false (sym (ap is_fresh at) ∙ changed))
 clean_setting s new Barrier (at, is) changed clean = ap (λ (n : Setting). is_dirty n.stage) is
-clean_setting s new (Troubled trouble) t changed clean = ap (λ (n : Setting). is_dirty n.stage) t.1 ∙ clean
+clean_setting s new (Troubled trouble) (barrier, told, is) changed clean = ap (λ (n : Setting). is_dirty n.stage) is ∙ clean
 clean_setting s new (Ended Finished part) (at, none, is) changed clean = ap (λ (n : Setting). is_dirty n.stage) is ∙ clean
 clean_setting s new (Ended Aborted part) t changed clean = absurd t
 clean_setting s new (Ended Killed part) t changed clean = absurd t
@@ -76,7 +76,7 @@ clean_setting s new (Placed path) t changed clean = absurd t
 clean_setting s new (Removed path) t changed clean = absurd t
 clean_setting s new (Made path) t changed clean = absurd t
 clean_setting s new (Kept path) t changed clean = absurd t
-clean_setting s new (Skipped path cause) t changed clean = absurd t
+clean_setting s new (Skipped path cause) (at, path_is, passes, is) changed clean = ap (λ (n : Setting). is_dirty n.stage) is
 clean_setting s new (Cleaned part) t changed clean = absurd t
 
 -- one that has given no mode has left nothing dirty
@@ -96,7 +96,7 @@ setting_falls old new (Set path) (at, path_is, is) h =
     subst (λ (n : Setting). setting_rank n.stage < setting_rank old.stage) (sym is) (subst (λ s. 5 < setting_rank s) (sym at) (omega arith))
 setting_falls old new Barrier (at, is) h =
     subst (λ (n : Setting). setting_rank n.stage < setting_rank old.stage) (sym is) (subst (λ s. 4 < setting_rank s) (sym at) (omega arith))
-setting_falls old new (Troubled trouble) (at, is) h =
+setting_falls old new (Troubled trouble) (at, told, is) h =
     subst (λ (n : Setting). last_setting_steps n.stage < setting_rank old.stage) (sym is) (setting_tried_low old.stage)
 setting_falls old new (Ended ending part) t h = absurd (true≢false h)
 setting_falls old new (Began part) t h = absurd t
@@ -108,7 +108,8 @@ setting_falls old new (Placed path) t h = absurd t
 setting_falls old new (Removed path) t h = absurd t
 setting_falls old new (Made path) t h = absurd t
 setting_falls old new (Kept path) t h = absurd t
-setting_falls old new (Skipped path cause) t h = absurd t
+setting_falls old new (Skipped path cause) (at, path_is, passes, is) h =
+    subst (λ (n : Setting). setting_rank n.stage < setting_rank old.stage) (sym is) (subst (λ s. 4 < setting_rank s) (sym at) (omega arith))
 setting_falls old new (Cleaned part) t h = absurd t
 
 -- so does one that keeps its mode
@@ -116,6 +117,24 @@ unset_falls : (stage : Stage) → setting_rank (skipped stage) < 10
 unset_falls Give = omega arith
 unset_falls Sync = omega arith
 unset_falls Done = omega arith
+
+-- a fault that a job meets is one of which the setting tells
+fault_so : (did : Did) → MeetsFault GoesOn did → TellsFault did
+fault_so (Troubled trouble) h = h
+fault_so (Skipped path cause) h = h
+fault_so (Began part) h = h
+fault_so (Chunk count) h = h
+fault_so (Asked question) h = h
+fault_so (Merges pair names) h = h
+fault_so (Moved pair) h = h
+fault_so (Set path) h = h
+fault_so (Placed path) h = h
+fault_so (Removed path) h = h
+fault_so (Made path) h = h
+fault_so (Kept path) h = h
+fault_so (Cleaned part) h = h
+fault_so Barrier h = h
+fault_so (Ended ending part) h = h
 
 -- a step
 module _ (unclaimed : Route → Type 0) (replies : Replies) (s new : Setting) (did : Did) (calls : ℕ) (dirty dirty_after : List Route) (before after : Option CallLog) (f0 f1 : ℕ) where
@@ -130,7 +149,7 @@ module _ (unclaimed : Route → Type 0) (replies : Replies) (s new : Setting) (d
     few = let few = made.few in omega (arith, few);
     unknown = made.unknown;
     later = made.later;
-    fault = λ h. made.fault (met_by GoesOn (λ d. Tells s d new) did (λ path cause x. x) made.tells h);
+    fault = λ h. made.fault (fault_so did h);
     falls = λ going.
         let low = setting_falls s new did made.tells going in
         let more = subst (λ xs. length xs ≤ length dirty + 1) (sym leaves) (one_more (is_dirty s.stage) (is_dirty new.stage) s.path dirty) in
@@ -142,7 +161,7 @@ pub none_given : (s : Setting) (did : Did) (calls : ℕ) (contents : Option Call
 none_given s did calls contents f fresh is count =
     subst (λ d. StepsOn s s d calls contents contents f f) (sym is)
     (subst (λ n. StepsOn s s (Troubled (out_of_memory_at false)) n contents contents f f) (sym count) (record {
-      tells = (barred s.stage fresh, refl);
+      tells = (barred s.stage fresh, inr refl, refl);
       called = λ log known. stops log s.stage fresh known;
       counted = λ log known now has. same_log log now contents known has;
       few = omega arith;
@@ -212,7 +231,7 @@ module _ (ending : Ending) (s new : Setting) (last : LastStepResult) (dirty dirt
       subst WindsUp (sym last_is) (ends_at_once clean is same faults (leaves ∙ ap (λ (l : LastStepResult). after_try l.did l.left s.path dirty) last_is))
 
 -- a skip
-pub setting_skips : (cause : Cause) (s new : Setting) (did : Did) → Skips cause s did new → at_barrier s.stage ≡ false → WorkSkips cause (SetMode s) did (SetMode new)
+pub setting_skips : (cause : Cause) (s new : Setting) (did : Did) → SettingSkips cause s did new → at_barrier s.stage ≡ false → WorkSkips cause (SetMode s) did (SetMode new)
 setting_skips cause s new did (inl (did_is, new_is)) apart = record {
   walks = tt;
   skips = inl (s.path, did_is, (refl, new_is));

@@ -186,7 +186,7 @@ setting_tells s (Placed path) log after h = absurd h
 setting_tells s (Removed path) log after h = absurd h
 setting_tells s (Made path) log after h = absurd h
 setting_tells s (Kept path) log after h = absurd h
-setting_tells s (Skipped path cause) log after h = absurd h
+setting_tells s (Skipped path cause) log after (named, h) = setting_stop_tells s s.stage cause named log after h
 setting_tells s (Cleaned part) log after h = absurd h
 
 try_tells : (path : Route) (left : Option TreeError) (log : CallLog) (after : Option CallLog) → TellsTried path left log after → StillTells after

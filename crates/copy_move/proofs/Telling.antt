@@ -224,7 +224,7 @@ setting_told : (id : ℕ) (replies : Replies) (old new : Setting) (did : Did) �
     → after_step did (told (job_of id replies (SetMode old) GoesOn)) ≡ Some (told (job_of id replies (SetMode new) (course_after did)))
 setting_told id replies old new (Set path) (from, path_is, is) h = rw is refl
 setting_told id replies old new Barrier (from, is) h = rw is (ap (λ stage. Some (job_of id replies (SetMode (record old { stage = modes.after_sync stage })) GoesOn)) from)
-setting_told id replies old new (Troubled trouble) (barrier, is) h =
+setting_told id replies old new (Troubled trouble) (barrier, cause, is) h =
     rw is (ap (λ course. Some (job_of id replies (SetMode old) course)) (in_trouble id (SetMode old) trouble (setting_bars old.stage trouble.barrier barrier)))
 setting_told id replies old new (Ended ending part) t h = absurd cc
 setting_told id replies old new (Began part) t h = absurd t
@@ -236,7 +236,8 @@ setting_told id replies old new (Placed path) t h = absurd t
 setting_told id replies old new (Removed path) t h = absurd t
 setting_told id replies old new (Made path) t h = absurd t
 setting_told id replies old new (Kept path) t h = absurd t
-setting_told id replies old new (Skipped path cause) t h = absurd t
+setting_told id replies old new (Skipped path cause) (from, path_is, passes, is) h =
+    rw is (ap (λ stage. Some (job_of id replies (SetMode (record old { stage = settings.skipped stage })) GoesOn)) from)
 setting_told id replies old new (Cleaned part) t h = absurd t
 
 -- a copy that goes on

@@ -155,13 +155,13 @@ taken_anew (Make m) = Make m
 taken_anew (Move m) = Move m
 taken_anew (SetMode s) = SetMode s
 
--- The work once troubles of this kind are passed over without a question. One that makes one thing, or sets its mode, comes to no later one.
+-- The work once troubles of this kind are passed over without a question. One that makes one thing comes to no later one.
 abbrev pub with_skips : Cause → Work → Work
 with_skips cause (Copy c) = Copy (record c { skips = with_kind (kind_in cause) c.skips })
 with_skips cause (Delete d) = Delete (record d { skips = with_kind (kind_in cause) d.skips })
 with_skips cause (Make m) = Make m
 with_skips cause (Move m) = Move (record m { skips = with_kind (kind_in cause) m.skips })
-with_skips cause (SetMode s) = SetMode s
+with_skips cause (SetMode s) = SetMode (record s { skips = with_kind (kind_in cause) s.skips })
 
 -- the work after an answer by which what stands next is left as it is
 abbrev pub skipping_by : Answer → Cause → Work → Work
@@ -182,7 +182,7 @@ skips_of (Copy c) = c.skips
 skips_of (Delete d) = d.skips
 skips_of (Make m) = no_skips
 skips_of (Move m) = m.skips
-skips_of (SetMode s) = no_skips
+skips_of (SetMode s) = s.skips
 
 -- the work where these kinds are passed over
 abbrev pub passing_over : SkippedKinds → Work → Work
@@ -190,7 +190,7 @@ passing_over skips (Copy c) = Copy (record c { skips = skips })
 passing_over skips (Delete d) = Delete (record d { skips = skips })
 passing_over skips (Make m) = Make m
 passing_over skips (Move m) = Move (record m { skips = skips })
-passing_over skips (SetMode s) = SetMode s
+passing_over skips (SetMode s) = SetMode (record s { skips = skips })
 
 -- the part that stands
 abbrev pub part_of : Work → Option Route

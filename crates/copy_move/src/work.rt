@@ -81,7 +81,7 @@ impl Work {
             Work::Delete(deletion) => deletion.skip_all(cause),
             Work::Make(_) => {}
             Work::Move(moving) => moving.skip_all(cause),
-            Work::SetMode(_) => {}
+            Work::SetMode(setting) => setting.skip_all(cause),
         }
     }
 
@@ -109,7 +109,7 @@ impl Work {
             Work::Delete(deletion) => deletion.skips(),
             Work::Make(_) => Skips::new(),
             Work::Move(moving) => moving.skips(),
-            Work::SetMode(_) => Skips::new(),
+            Work::SetMode(setting) => setting.skips(),
         }
     }
 
@@ -124,7 +124,7 @@ impl Work {
             Work::Delete(deletion) => deletion.pass_over(skips),
             Work::Make(_) => {}
             Work::Move(moving) => moving.pass_over(skips),
-            Work::SetMode(_) => {}
+            Work::SetMode(setting) => setting.pass_over(skips),
         }
     }
 

@@ -34,11 +34,10 @@ use Rattle.job_reports.specs.Jobs as jobs
 use Rattle.job_reports.specs.Stops.{trouble_at}
 use Rattle.copy_move.specs.Jobs.{Running, halt_of}
 use Rattle.mode_setting.specs.SettingSteps.{sync_of}
-use Rattle.history_laws.specs.Calmed.{HasBegun}
+use Rattle.history_laws.specs.Calmed.{HasBegun, changes_name}
 use Rattle.history_laws.specs.Doubt.{is_unsettled, name_waits}
 use Rattle.history_laws.specs.Owed.{IsApart}
 use Rattle.history_laws.specs.Replayed.{earlier_tree, log_prefix, replayed_tree}
-use Rattle.session_history.specs.Named.{names_path}
 use Rattle.history_laws.specs.Traces.{IsTraced, nothing_live}
 use Rattle.history_laws.proofs.Calmed.{calm_law}
 use Rattle.history_laws.proofs.ExampleParts.{deleting_job, entry, file, known_is, more_known, no_step, own_step, some_log, some_weight, stand}
@@ -374,7 +373,7 @@ changed_traced =
       walks = (1, 2, 2, removes_second);
     }) refl refl refl
 
-first_change : HasBegun change settled_entries []
+abbrev first_change : HasBegun change settled_entries []
 first_change = record {
   id = 2;
   did = Removed another;
@@ -390,7 +389,7 @@ first_change = record {
 calmed : name_waits (log_prefix (log []) 5 changed_log) the_file ≡ true → ⊥
 calmed waits = by ((calm_law (log []) changed_log changed_entries (stand (changed ∷ []) ([] ∷ [])) small_tree refl changed_traced).names change settled_entries [] the_file first_change (inl (refl, refl, refl)) waits)
   where
-    by : (names_path change.what the_file ≡ true) ⊎ IsApart (log_prefix (log []) 4 changed_log) [] [] → ⊥
+    by : (changes_name (Removed another) the_file ≡ true) ⊎ IsApart (log_prefix (log []) 4 changed_log) [] [] → ⊥
     by (inl named) = true≢false (sym named)
     by (inr (inl missing)) = cc
     by (inr (inr (number, here, elsewhere))) = elsewhere here

@@ -161,10 +161,16 @@ module _ (told : Said) (dirty dirty_after : List Route) (marks : Marks) (log now
   setting_tells s new Barrier (has, none) (stage, new_is) done settled leaves =
       thing_tried s.path None GoesOn (SetMode new) (λ routes. (subst (λ (x : Setting). HasName x.path) (sym new_is) has, none)) (synced_done s.path done)
       (leaves ∙ (ap (λ x. moves_dirty (is_dirty x) (is_dirty new.stage) s.path dirty) stage ∙ ap (λ (x : Setting). moves_dirty true (is_dirty x.stage) s.path dirty) new_is))
-  setting_tells s new (Troubled trouble) (has, none) (barrier, new_is) stop settled leaves =
+  setting_tells s new (Troubled trouble) (has, none) (barrier, why, new_is) stop settled leaves =
       subst (λ (x : Setting). Comes told told dirty_after log now (λ m. WorkKnows told dirty_after m now (course_after (Troubled trouble)) (SetMode x))) (sym new_is)
       (subst (λ routes. Comes told told routes log now (λ m. WorkKnows told routes m now (course_after (Troubled trouble)) (SetMode s))) (sym (leaves_same s new new_is leaves))
       (comes_refused told dirty marks log now (course_after (Troubled trouble)) (SetMode s) kept (has, none) (stops s trouble.cause trouble.path s.stage stop)))
+  setting_tells s new (Skipped path cause) (has, none) (stage, path_is, passes, new_is) (named, stop) settled leaves =
+      let same : dirty_after ≡ dirty =
+      leaves ∙ (ap (λ x. moves_dirty (is_dirty x) (is_dirty new.stage) s.path dirty) stage ∙ ap (λ (x : Setting). moves_dirty false (is_dirty x.stage) s.path dirty) new_is) in
+      subst (λ (x : Setting). Comes told told dirty_after log now (λ m. WorkKnows told dirty_after m now GoesOn (SetMode x))) (sym new_is)
+      (subst (λ routes. Comes told told routes log now (λ m. WorkKnows told routes m now GoesOn (SetMode (record s { stage = setting.Done })))) (sym same)
+      (comes_refused told dirty marks log now GoesOn (SetMode (record s { stage = setting.Done })) kept (has, none) (stops s cause named s.stage stop)))
   setting_tells s new (Ended Finished part) (has, none) (stage, part_is, new_is) done settled leaves =
       subst (λ o. In (Ended Finished o) GoesOn (SetMode s) (SetMode new)) (sym part_is) (ends told dirty dirty_after marks log now kept (SetMode s) none (leaves_same s new new_is leaves) (some_log now log done))
   setting_tells s new (Ended Aborted part) knows tells done settled leaves = absurd tells
@@ -179,7 +185,6 @@ module _ (told : Said) (dirty dirty_after : List Route) (marks : Marks) (log now
   setting_tells s new (Asked question) knows tells done settled leaves = absurd tells
   setting_tells s new (Merges pair names) knows tells done settled leaves = absurd tells
   setting_tells s new (Moved pair) knows tells done settled leaves = absurd tells
-  setting_tells s new (Skipped path cause) knows tells done settled leaves = absurd tells
   setting_tells s new (Cleaned part) knows tells done settled leaves = absurd tells
 
   pub setting_winds : (s new : Setting) (ending : Ending) (did : Did) (left : Option TreeError) → WorkKnows told dirty marks log (Ends ending) (SetMode s) → Winds ending s did new

@@ -180,7 +180,7 @@ making_winds ending m new (Troubled trouble) t = absurd t
 setting_paths : (s new : Setting) (did : Did) → settings.Tells s did new → item_in (SetMode new) ≡ item_in (SetMode s)
 setting_paths s new (Set path) (stage, path_is, new_is) = ap (λ (x : Setting). item_in (SetMode x)) new_is
 setting_paths s new Barrier (stage, new_is) = ap (λ (x : Setting). item_in (SetMode x)) new_is
-setting_paths s new (Troubled trouble) (at, new_is) = ap (λ (x : Setting). item_in (SetMode x)) new_is
+setting_paths s new (Troubled trouble) (at, told, new_is) = ap (λ (x : Setting). item_in (SetMode x)) new_is
 setting_paths s new (Ended Finished part) (is_done, part_is, new_is) = ap (λ (x : Setting). item_in (SetMode x)) new_is
 setting_paths s new (Ended Aborted part) t = absurd t
 setting_paths s new (Ended Killed part) t = absurd t
@@ -194,7 +194,7 @@ setting_paths s new (Kept kept) t = absurd t
 setting_paths s new (Asked question) t = absurd t
 setting_paths s new (Merges pair names) t = absurd t
 setting_paths s new (Moved pair) t = absurd t
-setting_paths s new (Skipped path why) t = absurd t
+setting_paths s new (Skipped path why) (stage, path_is, passes, new_is) = ap (λ (x : Setting). item_in (SetMode x)) new_is
 setting_paths s new (Cleaned part) t = absurd t
 
 setting_winds : (ending : Ending) (s new : Setting) (did : Did) → modes.Winds ending s did new → item_in (SetMode new) ≡ item_in (SetMode s)

@@ -195,7 +195,7 @@ module _ (log now : CallLog) where
   setting_calm s (Asked question) still calls = absurd calls
   setting_calm s (Merges pair names) still calls = absurd calls
   setting_calm s (Moved pair) still calls = absurd calls
-  setting_calm s (Skipped path cause) still calls = absurd calls
+  setting_calm s (Skipped path cause) still (named, stops) = setting_stops s s.stage cause named stops
   setting_calm s (Cleaned part) still calls = absurd calls
 
   pub setting_last : (s : Setting) (did : Did) → LastSettingCalls s did log (Some now) → Calm

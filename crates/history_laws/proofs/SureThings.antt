@@ -59,7 +59,7 @@ told_unnamed s new (Kept kept) path t none = absurd t
 told_unnamed s new (Asked question) path t none = absurd t
 told_unnamed s new (Merges pair within) path t none = absurd t
 told_unnamed s new (Moved pair) path t none = absurd t
-told_unnamed s new (Skipped skipped why) path t none = absurd t
+told_unnamed s new (Skipped skipped why) path t none = refl
 told_unnamed s new (Cleaned part) path t none = absurd t
 
 wound_unnamed : (ending : Ending) (s new : Setting) (did : Did) (path : Route) → modes.Winds ending s did new → names did path ≡ false

@@ -75,7 +75,7 @@ making_synced m new (Cleaned part) t was now = absurd t
 setting_synced : (s new : settings.Setting) (did : Did) → settings.Tells s did new → settings.is_dirty s.stage ≡ true → settings.is_dirty new.stage ≡ false → did ≡ Barrier
 setting_synced s new Barrier t was now = refl
 setting_synced s new (Set path) t was now = absurd (true≢false (sym was ∙ ap settings.is_dirty t.0))
-setting_synced s new (Troubled trouble) t was now = absurd (true≢false (sym was ∙ (sym (ap (λ (n : settings.Setting). settings.is_dirty n.stage) t.1) ∙ now)))
+setting_synced s new (Troubled trouble) t was now = absurd (true≢false (sym was ∙ (sym (ap (λ (n : settings.Setting). settings.is_dirty n.stage) t.2) ∙ now)))
 setting_synced s new (Ended ending part) t was now = absurd (true≢false (sym was ∙ (setting_finishes s new ending part t).1))
 setting_synced s new (Began part) t was now = absurd t
 setting_synced s new (Chunk count) t was now = absurd t
@@ -86,7 +86,7 @@ setting_synced s new (Placed path) t was now = absurd t
 setting_synced s new (Removed path) t was now = absurd t
 setting_synced s new (Made path) t was now = absurd t
 setting_synced s new (Kept path) t was now = absurd t
-setting_synced s new (Skipped path cause) t was now = absurd t
+setting_synced s new (Skipped path cause) t was now = absurd (true≢false (sym was ∙ ap settings.is_dirty t.0))
 setting_synced s new (Cleaned part) t was now = absurd t
 
 module _ (job : Option Running) (newest older : List Entry) (dirty dirty_after : List Route) (seat calls count shown number : ℕ) (did : Did) (more : newest ≡ entry seat calls count shown (Step number did) ∷ older) where

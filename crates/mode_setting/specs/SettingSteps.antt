@@ -11,7 +11,7 @@ use Rattle.tree_trait.specs.FileSystem.{node}
 use Rattle.tree_trait.specs.Change.{CallLog, current, found}
 use Rattle.tree_trait.specs.Answers.{IfKnown, HasRisen, Performs}
 use Rattle.job_reports.specs.declared.report.Cause.{Cause}
-use Rattle.job_reports.specs.declared.report.Cause.TheVariants.{Tree}
+use Rattle.job_reports.specs.declared.report.Cause.TheVariants.{Memory as NoMemory, Tree}
 use Rattle.job_reports.specs.declared.report.Ending.{Ending}
 use Rattle.job_reports.specs.declared.report.Did.{Did}
 use Rattle.job_reports.specs.declared.report.Did.TheVariants.{Set, Skipped, Barrier, Troubled, Ended}
@@ -19,8 +19,8 @@ use Rattle.job_reports.specs.declared.report.LastStepResult.{LastStepResult}
 use Rattle.job_reports.specs.declared.stop.Stop.{Stop}
 use Rattle.job_reports.specs.CallRuns.{AllDone, RunStops, HasMore}
 use Rattle.job_reports.specs.Reading.{IsRefusedWith, StatStops}
-use Rattle.job_reports.specs.Reports.{IsFault}
 use Rattle.job_reports.specs.Stops.{calls_made_for, calls_of, out_of_memory_at, refusal_in}
+use Rattle.job_answers.specs.Skipping.{is_passed_over}
 use Rattle.mode_setting.specs.declared.setting.Stage.{Stage}
 use Rattle.mode_setting.specs.declared.setting.Stage.TheVariants.{Give, Sync, Done}
 use Rattle.mode_setting.specs.declared.work.AfterStep.{AfterStep}
@@ -60,16 +60,24 @@ SettingStops s Give cause named log after = RunStops (SetMode s.path s.mode ∷ 
 SettingStops s Sync cause named log after = SyncStops s.path cause named log after
 SettingStops s Done cause named log after = ⊥
 
--- What a step says of the tree's calls: a mode that was given and a sync were done; a trouble is the refusal of the next call.
+-- What a step says of the tree's calls: a mode that was given and a sync were done; a trouble is the refusal of the next call, and so is what was
+-- passed over.
 abbrev pub SettingCalls : Setting → Did → CallLog → Option CallLog → Type 0
 SettingCalls s (Set path) log after = AllDone log (SetMode s.path s.mode ∷ []) after
 SettingCalls s Barrier log after = AllDone log (sync_of (current log) s.path ∷ []) after
+SettingCalls s (Skipped path cause) log after = (named : Option Route) × SettingStops s s.stage cause named log after
 SettingCalls s (Troubled trouble) log after = SettingStops s s.stage trouble.cause trouble.path log after
 SettingCalls s (Ended ending part) log after = after ≡ Some log
 SettingCalls s did log after = ⊥
 
+-- the report tells of a fault: as a trouble, or as why the thing was passed over
+abbrev pub TellsFault : Did → Type 0
+TellsFault (Troubled trouble) = trouble.cause ≡ Tree Fault
+TellsFault (Skipped path cause) = cause ≡ Tree Fault
+TellsFault did = ⊥
+
 -- A step: what it reports is allowed, the setting is then as it says, it made the call of the tree that it says, and it
--- reports a fault only where the tree's count has risen. It counts the changing calls that it made.
+-- tells of a fault only where the tree's count has risen. It counts the changing calls that it made.
 pub record StepsOn (old new : Setting) (did : Did) (calls : ℕ) (before after : Option CallLog) (faults faults_after : ℕ) : Type 0 where
   pub tells : Tells old did new
   pub called : IfKnown before (λ log. SettingCalls old did log after)
@@ -77,7 +85,7 @@ pub record StepsOn (old new : Setting) (did : Did) (calls : ℕ) (before after :
   pub few : calls ≤ 1
   pub unknown : before ≡ None → after ≡ None
   pub later : faults ≤ faults_after
-  pub fault : IsFault did → HasRisen faults faults_after
+  pub fault : TellsFault did → HasRisen faults faults_after
 
 -- a step that says where it left the setting
 abbrev pub MovesOn : Setting → AfterStep → Option CallLog → Option CallLog → ℕ → ℕ → Type 0
@@ -87,9 +95,15 @@ MovesOn old moved before after faults faults_after = StepsOn old (record old { s
 abbrev pub moved_by : Stop → Stage → AfterStep
 moved_by stop stage = record { did = Troubled stop.trouble; calls = stop.calls; stage = stage }
 
+-- The mode wasn't given: that is told, or the thing keeps its mode, where troubles of that kind are passed over. Want of memory is always told.
+abbrev pub NotGiven : Setting → Stop → AfterStep → Type 0
+NotGiven s stop moved =
+    (((is_passed_over s.skips stop.trouble ≡ false) ⊎ (stop.trouble.cause ≡ NoMemory)) × (moved ≡ moved_by stop Give))
+    ⊎ ((is_passed_over s.skips stop.trouble ≡ true) × (moved ≡ record { did = Skipped s.path stop.trouble.cause; calls = stop.calls; stage = Done }))
+
 -- a skip reports the thing as skipped, or that there is no memory for the report, and then it changes nothing
-abbrev pub Skips : Cause → Setting → Did → Setting → Type 0
-Skips cause old did new =
+abbrev pub SettingSkips : Cause → Setting → Did → Setting → Type 0
+SettingSkips cause old did new =
     ((did ≡ Skipped old.path cause) × (new ≡ record old { stage = skipped old.stage }))
     ⊎ ((did ≡ Troubled (out_of_memory_at (at_barrier old.stage))) × (new ≡ old))
 

@@ -153,7 +153,7 @@ setting_steps s new (Set path) log passed v (stage, path_is, new_is) stands k =
     (subst (λ (p : Route). HasMode s.path s.mode (set_by (Some (Sets s.path s.mode)) p v)) (sym path_is) (given s.path s.mode v there.0 there.1))
 setting_steps s new Barrier log passed v (stage, new_is) stands k =
     subst (λ (x : Setting). SettingDone passed v x) (sym new_is) (inl (subst (λ st. SettingAt st s.path s.mode passed v) stage k))
-setting_steps s new (Troubled trouble) log passed v (barrier, new_is) stands k = subst (λ (x : Setting). SettingDone passed v x) (sym new_is) k
+setting_steps s new (Troubled trouble) log passed v (barrier, told, new_is) stands k = subst (λ (x : Setting). SettingDone passed v x) (sym new_is) k
 setting_steps s new (Ended ending part) log passed v t stands k = tt
 setting_steps s new (Began part) log passed v t stands k = absurd t
 setting_steps s new (Chunk count) log passed v t stands k = absurd t
@@ -164,7 +164,8 @@ setting_steps s new (Kept kept) log passed v t stands k = absurd t
 setting_steps s new (Asked question) log passed v t stands k = absurd t
 setting_steps s new (Merges pair names) log passed v t stands k = absurd t
 setting_steps s new (Moved pair) log passed v t stands k = absurd t
-setting_steps s new (Skipped path why) log passed v t stands k = absurd t
+setting_steps s new (Skipped path why) log passed v (stage, path_is, passes, new_is) stands k =
+    subst (λ (x : Setting). SettingDone (path ∷ passed) v x) (sym new_is) (inr (inl (sym path_is)))
 setting_steps s new (Cleaned part) log passed v t stands k = absurd t
 
 pub setting_skips : (s new : Setting) (path : Route) (passed : List Route) (v : View) → path ≡ s.path → new ≡ record s { stage = settings.skipped s.stage } → SettingDone passed v s → SettingDone (path ∷ passed) v new

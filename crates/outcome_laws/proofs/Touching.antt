@@ -200,7 +200,7 @@ setting_touches s new (Kept kept) path t is = absurd t
 setting_touches s new (Asked question) path t is = absurd t
 setting_touches s new (Merges pair names) path t is = absurd t
 setting_touches s new (Moved pair) path t is = absurd t
-setting_touches s new (Skipped p why) path t is = absurd t
+setting_touches s new (Skipped p why) path t is = absurd is
 setting_touches s new (Cleaned part) path t is = absurd t
 
 module _ (dirty dirty_after : List Route) (log now : CallLog) (passed : List Route) (begun v : View) where

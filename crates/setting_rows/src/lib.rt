@@ -8,7 +8,8 @@ mod telling;
 use row_page::Page;
 
 /// Each row with what comes of it: what stands at `/a/x` (`file`, `folder`, `link` or `none`), its mode, the mode that it is given, the numbers of
-/// the tree's calls that fault, and what is answered to a trouble (`retry`, `skip` or `abort`).
+/// the tree's calls that fault, and what is answered to a trouble (`retry`, `skip`, `abort`, or `all`: the step is made again, and passes over
+/// what meets a trouble of the same kind).
 pub fn tell_rows(page: &mut Page, rows: &str) {
     for row in rows.lines() {
         page.put(row);

@@ -65,6 +65,7 @@ fn answer_of(word: &str) -> Answer {
     match word {
         "retry" => Answer::Retry,
         "abort" => Answer::Abort,
+        "all" => Answer::PassOver,
         _ => Answer::Skip,
     }
 }

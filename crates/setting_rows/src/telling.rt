@@ -18,6 +18,8 @@ pub enum Answer {
     Skip,
     Retry,
     Abort,
+    /// Troubles of this kind are passed over from now on, and the step is made again.
+    PassOver,
 }
 
 /// How a setting goes on after a step.
@@ -86,6 +88,10 @@ fn answer_trouble(
         }
         Answer::Retry => Then::Step,
         Answer::Abort => Then::WindUp,
+        Answer::PassOver => {
+            setting.skip_all(cause);
+            Then::Step
+        }
     }
 }
 
