@@ -292,7 +292,7 @@ module _ (opening : CallLog) (tree : IsTree (current opening)) (settled : all_se
   named_of : (path : Route) → names h.did path ≡ false → names_path e.what path ≡ false
   named_of path unnamed = ap (λ what. names_path what path) h.reports ∙ unnamed
 
-  pub names_calm : (path : Route) → name_waits f.now path ≡ true → (changes_name h.did path ≡ true) ⊎ IsApart f.before folder (folder_of path)
+  pub names_calm : (path : Route) → name_waits f.now path ≡ true → (changes_name h.did path ≡ true) ⊎ ((name_waits f.before path ≡ true) × IsApart f.before folder (folder_of path))
   names_calm path waits = by (name_waits f.before path) refl
     where
       still : changes_name h.did path ≡ false → name_waits f.before path ≡ false → name_waits f.now path ≡ false
@@ -303,24 +303,24 @@ module _ (opening : CallLog) (tree : IsTree (current opening)) (settled : all_se
             (event_still opening older f.was f.before r path sure (no_route r.part path b.no_part) e.what f.after f.now f.leads (named_of path (sym (named.name_is path) ∙ off))).after
       ]
 
-      of_did : (b : Bool) → changes_name h.did path ≡ b → name_waits f.before path ≡ false → (changes_name h.did path ≡ true) ⊎ IsApart f.before folder (folder_of path)
+      of_did : (b : Bool) → changes_name h.did path ≡ b → name_waits f.before path ≡ false → (changes_name h.did path ≡ true) ⊎ ((name_waits f.before path ≡ true) × IsApart f.before folder (folder_of path))
       of_did true changed sure = inl changed
       of_did false off sure = absurd (both_ways _ (still off sure) waits)
 
-      by : (waited : Bool) → name_waits f.before path ≡ waited → (changes_name h.did path ≡ true) ⊎ IsApart f.before folder (folder_of path)
-      by true waited = inr (apart_folder (folder_of path) (owed_names opening f.before older f.was path tree settled f.traced waited))
+      by : (waited : Bool) → name_waits f.before path ≡ waited → (changes_name h.did path ≡ true) ⊎ ((name_waits f.before path ≡ true) × IsApart f.before folder (folder_of path))
+      by true waited = inr (waited, apart_folder (folder_of path) (owed_names opening f.before older f.was path tree settled f.traced waited))
       by false sure = of_did (changes_name h.did path) refl sure
 
   pub modes_calm : (path : Route) → (Among (named_parts older) path → ⊥) → node_waits f.now path ≡ true
-      → (changes_thing h.did path ≡ true) ⊎ (Among (named_parts (e ∷ older)) path ⊎ IsApart f.before folder path)
+      → (changes_thing h.did path ≡ true) ⊎ (Among (named_parts (e ∷ older)) path ⊎ ((node_waits f.before path ≡ true) × IsApart f.before folder path))
   modes_calm path unnamed waits = by (node_waits f.before path) refl
     where
-      of_named : IsAsNamed h.did → node_waits f.before path ≡ false → (b : Bool) → names h.did path ≡ b → (changes_thing h.did path ≡ true) ⊎ (Among (named_parts (e ∷ older)) path ⊎ IsApart f.before folder path)
+      of_named : IsAsNamed h.did → node_waits f.before path ≡ false → (b : Bool) → names h.did path ≡ b → (changes_thing h.did path ≡ true) ⊎ (Among (named_parts (e ∷ older)) path ⊎ ((node_waits f.before path ≡ true) × IsApart f.before folder path))
       of_named named sure true is = inl (named.thing_is path ∙ is)
       of_named named sure false is = absurd (both_ways _ (mode_still opening older f.was f.before r path sure unnamed e.what f.after f.now f.leads (named_of path is)).after waits)
 
-      by : (waited : Bool) → node_waits f.before path ≡ waited → (changes_thing h.did path ≡ true) ⊎ (Among (named_parts (e ∷ older)) path ⊎ IsApart f.before folder path)
-      by true waited = inr (inr (apart path (owed_modes opening f.before older f.was path tree settled f.traced unnamed waited)))
+      by : (waited : Bool) → node_waits f.before path ≡ waited → (changes_thing h.did path ≡ true) ⊎ (Among (named_parts (e ∷ older)) path ⊎ ((node_waits f.before path ≡ true) × IsApart f.before folder path))
+      by true waited = inr (inr (waited, apart path (owed_modes opening f.before older f.was path tree settled f.traced unnamed waited)))
       by false sure = elim (moves_or_names h.did) [
         | inl m ↦ inr (inl (moved_modes m.0 m.1 path sure waits))
         | inr named ↦ of_named named sure (names h.did path) refl
@@ -340,17 +340,17 @@ module _ (opening now : CallLog) (newest : List Entry) (stand : Stand) (tree : I
   apart_then : (q : Route) → IsApart f.before folder q → IsApart (log_prefix opening (calls_in older) now) folder q
   apart_then q apart = subst (λ (l : CallLog). IsApart l folder q) (sym at_start) apart
 
-  calms_names : name_waits (log_prefix opening e.calls now) path ≡ true → (changes_name h.did path ≡ true) ⊎ IsApart (log_prefix opening (calls_in older) now) folder (folder_of path)
+  calms_names : name_waits (log_prefix opening e.calls now) path ≡ true → (changes_name h.did path ≡ true) ⊎ ((name_waits (log_prefix opening (calls_in older) now) path ≡ true) × IsApart (log_prefix opening (calls_in older) now) folder (folder_of path))
   calms_names waits = elim (names_calm opening tree settled now e older folder h f path (subst (λ (l : CallLog). name_waits l path ≡ true) at_end waits)) [
     | inl changed ↦ inl changed
-    | inr apart ↦ inr (apart_then (folder_of path) apart)
+    | inr (waited, apart) ↦ inr (subst (λ (l : CallLog). name_waits l path ≡ true) (sym at_start) waited, apart_then (folder_of path) apart)
   ]
 
   calms_modes : (Among (named_parts older) path → ⊥) → node_waits (log_prefix opening e.calls now) path ≡ true
-      → (changes_thing h.did path ≡ true) ⊎ (Among (named_parts (e ∷ older)) path ⊎ IsApart (log_prefix opening (calls_in older) now) folder path)
+      → (changes_thing h.did path ≡ true) ⊎ (Among (named_parts (e ∷ older)) path ⊎ ((node_waits (log_prefix opening (calls_in older) now) path ≡ true) × IsApart (log_prefix opening (calls_in older) now) folder path))
   calms_modes unnamed waits = elim (modes_calm opening tree settled now e older folder h f path unnamed (subst (λ (l : CallLog). node_waits l path ≡ true) at_end waits)) [
     | inl changed ↦ inl changed
-    | inr rest ↦ elim rest [ inl part ↦ inr (inl part) | inr apart ↦ inr (inr (apart_then path apart)) ]
+    | inr rest ↦ elim rest [ inl part ↦ inr (inl part) | inr (waited, apart) ↦ inr (inr (subst (λ (l : CallLog). node_waits l path ≡ true) (sym at_start) waited, apart_then path apart)) ]
   ]
 
 pub calm_law : CalmLaw

@@ -389,7 +389,7 @@ first_change = record {
 calmed : name_waits (log_prefix (log []) 5 changed_log) the_file ≡ true → ⊥
 calmed waits = by ((calm_law (log []) changed_log changed_entries (stand (changed ∷ []) ([] ∷ [])) small_tree refl changed_traced).names change settled_entries [] the_file first_change (inl (refl, refl, refl)) waits)
   where
-    by : (changes_name (Removed another) the_file ≡ true) ⊎ IsApart (log_prefix (log []) 4 changed_log) [] [] → ⊥
+    by : (changes_name (Removed another) the_file ≡ true) ⊎ ((name_waits (log_prefix (log []) 4 changed_log) the_file ≡ true) × IsApart (log_prefix (log []) 4 changed_log) [] []) → ⊥
     by (inl named) = true≢false (sym named)
-    by (inr (inl missing)) = cc
-    by (inr (inr (number, here, elsewhere))) = elsewhere here
+    by (inr (waited, inl missing)) = cc
+    by (inr (waited, inr (number, here, elsewhere))) = elsewhere here

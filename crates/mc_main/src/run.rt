@@ -69,7 +69,7 @@ pub fn mc_run<N: Tag, T: Tree, K: Source, S: Sink, P: Spawner, C: Clock, G: Gate
     ensures safe { IfKnown (T.contents tree) (λ opening. IfKnown (T.contents result.tree) (λ now.
         IsSafeRun opening now (reverse result.history.entries))) }
 
-    // A thing that is moved is whole at its source or at its target, in one and the same image, at each moment from its renaming on, inside that too, until
+    // A thing that is moved is whole at its source or at its target, in one and the same image, with all that lies in it, at each moment from its renaming on, inside that too, until
     // another change is begun; but for one that was named as a part.
     ensures whole { IfKnown (T.contents tree) (λ opening. IfKnown (T.contents result.tree) (λ now.
         IsWholeRun opening now (reverse result.history.entries))) }
