@@ -107,7 +107,7 @@ Tells c (Made made) new = ⊥
 Tells c (Set path) new = ⊥
 Tells c (Kept path) new = ⊥
 Tells c (Asked question) new = ⊥
-Tells c (Merges pair names) new = ⊥
+Tells c (Merges transfer pair names) new = ⊥
 Tells c (Moved pair) new = ⊥
 Tells c (Skipped path cause) new = ⊥
 

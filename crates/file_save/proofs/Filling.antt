@@ -140,7 +140,7 @@ module _ (c : Copying) (bytes : List ℕ) (own : IsOwn (saving c bytes)) (done :
     writes_on (Made path) new calls before after f0 f1 stays w = absurd w.tells
     writes_on (Kept path) new calls before after f0 f1 stays w = absurd w.tells
     writes_on (Asked question) new calls before after f0 f1 stays w = absurd w.tells
-    writes_on (Merges pair names) new calls before after f0 f1 stays w = absurd w.tells
+    writes_on (Merges transfer pair names) new calls before after f0 f1 stays w = absurd w.tells
     writes_on (Moved pair) new calls before after f0 f1 stays w = absurd w.tells
     writes_on (Skipped path cause) new calls before after f0 f1 stays w = absurd w.tells
     writes_on (Ended ending part) new calls before after f0 f1 stays w = absurd w.tells

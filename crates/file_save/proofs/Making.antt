@@ -105,7 +105,7 @@ module _ (unclaimed : Route → Type 0) (c : Copying) (bytes : List ℕ) (own : 
     makes (Made path) new calls before mid after f0 f1 f2 takes p m = absurd m.tells
     makes (Kept path) new calls before mid after f0 f1 f2 takes p m = absurd m.tells
     makes (Asked question) new calls before mid after f0 f1 f2 takes p m = absurd m.tells
-    makes (Merges pair names) new calls before mid after f0 f1 f2 takes p m = absurd m.tells
+    makes (Merges transfer pair names) new calls before mid after f0 f1 f2 takes p m = absurd m.tells
     makes (Moved pair) new calls before mid after f0 f1 f2 takes p m = absurd m.tells
     makes (Skipped path cause) new calls before mid after f0 f1 f2 takes p m = absurd m.tells
     makes (Ended ending part) new calls before mid after f0 f1 f2 takes p m = absurd m.tells

@@ -63,7 +63,7 @@ module _ (unclaimed : Route → Type 0) (c : Copying) (bytes : List ℕ) (own : 
     settled_own (Set path) new h = absurd h
     settled_own (Kept path) new h = absurd h
     settled_own (Asked question) new h = absurd h
-    settled_own (Merges pair names) new h = absurd h
+    settled_own (Merges transfer pair names) new h = absurd h
     settled_own (Moved pair) new h = absurd h
     settled_own (Skipped path cause) new h = absurd h
 
@@ -90,7 +90,7 @@ module _ (unclaimed : Route → Type 0) (c : Copying) (bytes : List ℕ) (own : 
     settled_calls (Set path) new log after tells h = h
     settled_calls (Kept path) new log after tells h = h
     settled_calls (Asked question) new log after tells h = h
-    settled_calls (Merges pair names) new log after tells h = h
+    settled_calls (Merges transfer pair names) new log after tells h = h
     settled_calls (Moved pair) new log after tells h = h
     settled_calls (Skipped path cause) new log after tells h = h
 
@@ -156,7 +156,7 @@ module _ (unclaimed : Route → Type 0) (c : Copying) (bytes : List ℕ) (own : 
   wound_own ending (Made path) new h = absurd h
   wound_own ending (Kept path) new h = absurd h
   wound_own ending (Asked question) new h = absurd h
-  wound_own ending (Merges pair names) new h = absurd h
+  wound_own ending (Merges transfer pair names) new h = absurd h
   wound_own ending (Moved pair) new h = absurd h
   wound_own ending (Skipped path cause) new h = absurd h
   wound_own ending (Troubled t) new h = absurd h

@@ -3,7 +3,7 @@ use Rattle.std.specs.Prelude.{ℕ, Bool, false, not, ◌&&◌, ◌==◌, nat_le,
 use Rattle.std.specs.List.{list_any}
 use Rattle.mc_text.specs.Routes.{Route, parent_of, same_path}
 use Rattle.job_reports.specs.declared.job.Job.{Job}
-use Rattle.job_reports.specs.declared.job.Job.TheVariants.{Copy, Move, Delete, MakeFolder, MakeLink, SetMode}
+use Rattle.job_reports.specs.declared.job.Job.TheVariants.{Copy, Move, Delete, MakeFolder, MakeLink, SetMode, RemoveEmptied}
 use Rattle.job_reports.specs.Paths.{folder_of}
 
 -- a link may say this: 1 to 4,095 bytes and no NUL (`IsLinkText` as a test)
@@ -27,9 +27,10 @@ is_workable (MakeLink path text) = is_some (parent_of path) && is_link_text text
 is_workable (SetMode [] mode) = false
 is_workable (SetMode (path ∷ []) mode) = is_some (parent_of path) && nat_le mode 0o7777
 is_workable (SetMode (path ∷ more ∷ paths) mode) = false
+is_workable (RemoveEmptied path) = is_some (parent_of path)
 
--- what a job works on: a thing with all that lies in it that is copied to a target, a thing that is moved to one, a thing that is removed, a folder or a link that
--- is made, or a thing that is given a mode
+-- what a job works on: a thing with all that lies in it that is copied or moved to a target, or removed, a folder or a link that is made, a thing that is given a
+-- mode, or a folder that is removed once it was emptied
 pub data Item : Type 0 where
   Copies : (source : Route) → (target : Route) → Item
   Moves : (source : Route) → (target : Route) → Item
@@ -37,6 +38,7 @@ pub data Item : Type 0 where
   Makes : (path : Route) → Item
   MakesLink : (path : Route) → (text : List ℕ) → Item
   Sets : (path : Route) → (mode : ℕ) → Item
+  RemovesEmptied : (path : Route) → Item
 
 -- the item of a job of one path or pair
 abbrev pub only_item : Job → Option Item
@@ -54,6 +56,7 @@ only_item (MakeLink path text) = Some (MakesLink path text)
 only_item (SetMode [] mode) = None
 only_item (SetMode (path ∷ []) mode) = Some (Sets path mode)
 only_item (SetMode (path ∷ more ∷ paths) mode) = None
+only_item (RemoveEmptied path) = Some (RemovesEmptied path)
 
 -- the item of a job that can be worked
 abbrev pub item_of : Job → Option Item
@@ -71,3 +74,4 @@ folder_changed (Removes path) = folder_of path
 folder_changed (Makes path) = folder_of path
 folder_changed (MakesLink path text) = folder_of path
 folder_changed (Sets path mode) = folder_of path
+folder_changed (RemovesEmptied path) = folder_of path

@@ -21,7 +21,7 @@ ends (Skipped path cause) = false
 ends (Cleaned part) = false
 ends Barrier = false
 ends (Asked question) = false
-ends (Merges pair names) = false
+ends (Merges transfer pair names) = false
 ends (Moved pair) = false
 ends (Troubled trouble) = false
 

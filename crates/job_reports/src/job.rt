@@ -42,7 +42,7 @@ impl Model for Pairs {
 pub enum Job {
     /// Copies each source, with all that lies in it, to its target.
     Copy(Pairs),
-    /// Moves each source, a file, a link or a special thing, to its target on the same mount.
+    /// Moves each source, with all that lies in it, to its target on the same mount.
     Move(Pairs),
     /// Deletes these.
     Delete(Paths),
@@ -52,4 +52,7 @@ pub enum Job {
     MakeLink(Path, Text),
     /// Gives each of these this mode, of twelve bits, and nothing that lies below them.
     SetMode(Paths, u16),
+    /// Removes this folder, out of which a merge has moved what lay in it; one in which something stayed is kept. No key begins it: it
+    /// is the last of the sources that the merge leaves.
+    RemoveEmptied(Path),
 }

@@ -14,7 +14,7 @@ pub use answer::{Answer, AnswerError};
 pub use calls::{remove_part, rename_thing, set_mode, sync_names};
 pub use job::{Job, Pair, Pairs};
 pub use question::Question;
-pub use report::{Cause, Did, Ending, LastStepResult, StepResult, Trouble, is_end};
+pub use report::{Cause, Did, Ending, LastStepResult, StepResult, Transfer, Trouble, is_end};
 pub use row::{JobKind, JobRow, JobRows, JobState};
 pub use stop::{
     Stop, after_calls, calls_made, made_or_stopped, missing_or_trouble, out_of_memory,

@@ -72,6 +72,15 @@ pub enum Ending {
     NoMemory,
 }
 
+/// How what lies in a folder comes to the folder at its target, with which it is merged.
+#[derive(Clone, Copy, Debug, Drop, PartialEq, Eq)]
+pub enum Transfer {
+    /// It is copied.
+    ByCopy,
+    /// It is moved, and then the folder, which is empty where nothing stayed, is removed.
+    ByMove,
+}
+
 /// What a step did.
 #[derive(Debug, Drop)]
 pub enum Did {
@@ -97,9 +106,9 @@ pub enum Did {
     Barrier,
     /// It waits for an answer: is what stands at the target to be replaced?
     Asked(Question),
-    /// Both source and target are folders, and that at the target stays: what lies in the source, by these names, is copied into it next.
-    Merges(Pair, Names),
-    /// The source was renamed to the target: what stood there stands here.
+    /// Both source and target are folders, and that at the target stays: what lies in the source, by these names, comes to it next.
+    Merges(Transfer, Pair, Names),
+    /// The source was renamed to the target: what stood there stands here, with all that lies in it.
     Moved(Pair),
     Troubled(Trouble),
     /// The job ended; `part` is a part file that it could not remove.

@@ -30,7 +30,7 @@ pub fn tell_report(page: &mut Page, did: &Did) {
         Did::Cleaned(part) => tell_of(page, "Cleaned", part),
         Did::Barrier => page.put("Barrier"),
         Did::Asked(question) => tell_question(page, question),
-        Did::Merges(pair, names) => {
+        Did::Merges(_, pair, names) => {
             tell_of(page, "Merges", &pair.source);
             tell_of(page, " onto", &pair.target);
             page.tell(format_args!(", names {}", names.as_slice().len()));

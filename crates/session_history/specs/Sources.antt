@@ -2,11 +2,13 @@
 use Rattle.std.specs.Prelude.{◌≡◌, ℕ, ⊤, Bool, true, false, List, [], ◌∷◌, ◌++◌, map, Option, None, if◌then◌else◌}
 use Rattle.std.specs.List.{list_all}
 use Rattle.job_reports.specs.declared.job.Job.{Job}
-use Rattle.job_reports.specs.declared.job.Job.TheVariants.{Copy, Move, Delete, MakeFolder, MakeLink, SetMode}
+use Rattle.job_reports.specs.declared.job.Job.TheVariants.{Copy, Move, Delete, MakeFolder, MakeLink, SetMode, RemoveEmptied}
 use Rattle.job_reports.specs.declared.job.Pair.{Pair}
 use Rattle.job_reports.specs.declared.report.Did.{Did}
 use Rattle.job_reports.specs.declared.report.Did.TheVariants.{Ended, Merges}
 use Rattle.job_reports.specs.declared.report.Ending.TheVariants.{Finished}
+use Rattle.job_reports.specs.declared.report.Transfer.{Transfer}
+use Rattle.job_reports.specs.declared.report.Transfer.TheVariants.{ByCopy, ByMove}
 use Rattle.job_reports.specs.Jobs.{Item, is_workable, item_of}
 use Rattle.job_reports.specs.Reports.{ends}
 use Rattle.session_history.specs.declared.history.Event.{Event}
@@ -22,6 +24,7 @@ sources_of (Delete paths) = map (λ path. Delete (path ∷ [])) paths
 sources_of (MakeFolder path) = MakeFolder path ∷ []
 sources_of (MakeLink path text) = MakeLink path text ∷ []
 sources_of (SetMode paths mode) = map (λ path. SetMode (path ∷ []) mode) paths
+sources_of (RemoveEmptied path) = RemoveEmptied path ∷ []
 
 -- there are some, and each can be worked
 abbrev pub are_some_workable : List Job → Bool
@@ -45,13 +48,24 @@ abbrev pub later : List Job → List Job
 later [] = []
 later (source ∷ more) = more
 
--- what lies in a folder that is merged with the one at its target, by these names, is copied next, each with all that lies in it
-abbrev pub children_in : Pair → List (List ℕ) → List Job
-children_in pair names = map (λ name. Copy (record { source = name ∷ pair.source; target = name ∷ pair.target } ∷ [])) names
+-- what lies in a folder that is merged has this name there, and comes to the same name in the folder at its target
+abbrev pub pair_within : Pair → List ℕ → Pair
+pair_within pair name = record { source = name ∷ pair.source; target = name ∷ pair.target }
+
+-- it is copied or moved, with all that lies in it
+abbrev pub child_in : Transfer → Pair → List ℕ → Job
+child_in ByCopy pair name = Copy (pair_within pair name ∷ [])
+child_in ByMove pair name = Move (pair_within pair name ∷ [])
+
+-- What lies in a folder that is merged with the one at its target, by these names, is copied or moved next, one thing after another. Behind what is moved comes the
+-- removal of the folder itself, which is kept where something stayed in it.
+abbrev pub children_in : Transfer → Pair → List (List ℕ) → List Job
+children_in ByCopy pair names = map (child_in ByCopy pair) names
+children_in ByMove pair names = map (child_in ByMove pair) names ++ RemoveEmptied pair.source ∷ []
 
 -- the sources that are left once a step has reported this
 abbrev pub left_by : Did → List Job → List Job
-left_by (Merges pair names) left = children_in pair names ++ left
+left_by (Merges transfer pair names) left = children_in transfer pair names ++ left
 left_by did left = if ends did then [] else left
 
 -- the sources that the live job is yet to take up, after an event

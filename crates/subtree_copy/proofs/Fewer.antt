@@ -146,7 +146,7 @@ file_fits most enough f m (Made path) t sound h = absurd t
 file_fits most enough f m (Set path) t sound h = absurd t
 file_fits most enough f m (Kept path) t sound h = absurd t
 file_fits most enough f m (Asked question) t sound h = absurd t
-file_fits most enough f m (Merges pair names) t sound h = absurd t
+file_fits most enough f m (Merges transfer pair names) t sound h = absurd t
 file_fits most enough f m (Moved pair) t sound h = absurd t
 file_fits most enough f m (Skipped path cause) t sound h = absurd t
 
@@ -170,7 +170,7 @@ link_fits most l m (Made path) t h = absurd t
 link_fits most l m (Set path) t h = absurd t
 link_fits most l m (Kept path) t h = absurd t
 link_fits most l m (Asked question) t h = absurd t
-link_fits most l m (Merges pair names) t h = absurd t
+link_fits most l m (Merges transfer pair names) t h = absurd t
 link_fits most l m (Moved pair) t h = absurd t
 link_fits most l m (Skipped path cause) t h = absurd t
 

@@ -10,6 +10,7 @@ use Rattle.job_reports.specs.declared.report.Did.TheVariants as common
 use Rattle.job_reports.specs.declared.report.Did.TheVariants.{Ended}
 use Rattle.job_reports.specs.declared.report.Ending.TheVariants.{Finished}
 use Rattle.job_reports.specs.declared.report.StepResult.{StepResult}
+use Rattle.job_reports.specs.declared.report.Transfer.TheVariants.{ByCopy}
 use Rattle.file_copy.specs.Copying as file
 use Rattle.file_copy.specs.Copying.{Copying}
 use Rattle.file_copy.specs.declared.stage.Stage.TheVariants as at
@@ -76,7 +77,7 @@ takes_stays unclaimed replies old new part before after (inl s) around = absurd 
 takes_stays unclaimed replies old new part before after (inr (inl t)) around = (let w = t.works in absurd w.tells)
 takes_stays unclaimed replies old new part before after (inr (inr (inl t))) around = (let w = t.works in absurd w.tells)
 takes_stays unclaimed replies old new part before after (inr (inr (inr (inl t)))) around = (let w = t.works in told_no_end w.report part w.says)
-takes_stays unclaimed replies old new part before after (inr (inr (inr (inr (inl t))))) around = absurd (let e : Ended Finished part ≡ common.Merges t.pair t.names = t.says in let f : ⊥ = cc in f)
+takes_stays unclaimed replies old new part before after (inr (inr (inr (inr (inl t))))) around = absurd (let e : Ended Finished part ≡ common.Merges ByCopy t.pair t.names = t.says in let f : ⊥ = cc in f)
 takes_stays unclaimed replies old new part before after (inr (inr (inr (inr (inr (inl t)))))) around = absurd (let e : Ended Finished part ≡ common.Kept t.pair.target = t.says in let f : ⊥ = cc in f)
 takes_stays unclaimed replies old new part before after (inr (inr (inr (inr (inr (inr (inl t))))))) around = absurd (let e : Ended Finished part ≡ common.Asked t.question = t.says in let f : ⊥ = cc in f)
 takes_stays unclaimed replies old new part before after (inr (inr (inr (inr (inr (inr (inr (due, inl (debt, e))))))))) around = told_no_end e.report part e.says

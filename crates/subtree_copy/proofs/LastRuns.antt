@@ -103,7 +103,7 @@ file_told ending f m last (Made path) folder log after is w called synced can th
 file_told ending f m last (Set path) folder log after is w called synced can there = absurd w
 file_told ending f m last (Kept path) folder log after is w called synced can there = absurd w
 file_told ending f m last (Asked question) folder log after is w called synced can there = absurd w
-file_told ending f m last (Merges pair names) folder log after is w called synced can there = absurd w
+file_told ending f m last (Merges transfer pair names) folder log after is w called synced can there = absurd w
 file_told ending f m last (Moved pair) folder log after is w called synced can there = absurd w
 file_told ending f m last (Skipped path cause) folder log after is w called synced can there = absurd w
 file_told ending f m last (Troubled trouble) folder log after is w called synced can there = absurd w

@@ -9,6 +9,7 @@ use Rattle.job_reports.specs.declared.job.Pair.{Pair}
 use Rattle.job_reports.specs.declared.report.Did.{Did}
 use Rattle.job_reports.specs.declared.report.Did.TheVariants.{Merges}
 use Rattle.job_reports.specs.declared.report.StepResult.{StepResult}
+use Rattle.job_reports.specs.declared.report.Transfer.TheVariants.{ByCopy}
 use Rattle.folder_copy.specs.FolderCopying.{is_dirty}
 use Rattle.copy_levels.specs.Levels.{Levels, is_around_dirty}
 use Rattle.tree_copy.specs.Standing.{Seen}
@@ -37,24 +38,24 @@ brings_dirty (Link k) l h = absurd (false≢true h)
 brings_dirty (Stays part) l h = absurd (false≢true h)
 
 module _ (free : Route → Bool) (replies : Replies) (old new : SubtreeCopying) (pair : Pair) (names : List (List ℕ)) (calls : ℕ) (dirty dirty_after : List Route) (before after : Option CallLog) (f0 f1 : ℕ)
-    (s : SubtreeSteps free replies old new (Merges pair names) calls dirty dirty_after before after f0 f1) where
+    (s : SubtreeSteps free replies old new (Merges ByCopy pair names) calls dirty dirty_after before after f0 f1) where
   -- the list, and the tree's log
   abbrev pub IsStill : Type 0
   IsStill = (dirty_after ≡ dirty) × ((log : CallLog) → before ≡ Some log → after ≡ Some log)
 
-  list_is : ListSteps free replies s.mid s.moved s.worked dirty dirty_after before after f0 f1 → (let w = s.worked in w.did) ≡ Merges pair names
-      → dirty_after ≡ with_change (was_dirty s.mid) (is_dirty_after s.mid (Merges pair names) s.moved) (folder_worked s.mid) dirty
+  list_is : ListSteps free replies s.mid s.moved s.worked dirty dirty_after before after f0 f1 → (let w = s.worked in w.did) ≡ Merges ByCopy pair names
+      → dirty_after ≡ with_change (was_dirty s.mid) (is_dirty_after s.mid (Merges ByCopy pair names) s.moved) (folder_worked s.mid) dirty
   list_is (inl short) is = absurd (let e = sym is ∙ ap (λ (r : StepResult). r.did) short.says in let f : ⊥ = cc in f)
   list_is (inr m) is = m.list ∙ ap (λ d. with_change (was_dirty s.mid) (is_dirty_after s.mid d s.moved) (folder_worked s.mid) dirty) is
 
-  worked : (let w = s.worked in w.did) ≡ Merges pair names → IsStill
+  worked : (let w = s.worked in w.did) ≡ Merges ByCopy pair names → IsStill
   worked is =
       let mid : Seen = s.mid in
       let moved : Seen = s.moved in
       let t = list_merged free replies mid moved s.worked pair names dirty dirty_after before after f0 f1 s.works s.settled is in
       let around : is_around_dirty moved.levels.around ≡ is_around_dirty mid.levels.around = ap (λ (c : Seen). is_around_dirty c.levels.around) t.stands in
       let inner : is_dirty moved.levels.inner.copy.names ≡ is_dirty mid.levels.inner.copy.names = ap (λ (c : Seen). is_dirty c.levels.inner.copy.names) t.stands in
-      let now : is_dirty_after mid (Merges pair names) moved ≡ was_dirty mid =
+      let now : is_dirty_after mid (Merges ByCopy pair names) moved ≡ was_dirty mid =
       ap (λ d. if brings_made mid then is_around_dirty moved.levels.around else d) inner
       ∙ same_mark (brings_made mid) (is_around_dirty moved.levels.around) (is_dirty mid.levels.inner.copy.names) (λ brings. around ∙ brings_dirty mid.item mid.levels brings) in (
         list_is s.works is ∙ (ap (λ b. with_change (was_dirty mid) b (folder_worked mid) dirty) now ∙ no_change (was_dirty mid) (folder_worked mid) dirty),
@@ -64,6 +65,6 @@ module _ (free : Route → Bool) (replies : Replies) (old new : SubtreeCopying) 
   pub merge_is_still : IsStill
   merge_is_still = by s.passes
     where
-      by : OrPassedOver old.skips s.worked s.moved new.at (step_result (Merges pair names) calls) → IsStill
+      by : OrPassedOver old.skips s.worked s.moved new.at (step_result (Merges ByCopy pair names) calls) → IsStill
       by (inl p) = worked (ap (λ (r : StepResult). r.did) (sym p.1))
       by (inr p) = (let m : Seen = s.moved in absurd (skip_no_merge m.item p.0 m new.at pair names p.3))

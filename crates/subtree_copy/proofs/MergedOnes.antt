@@ -12,6 +12,7 @@ use Rattle.job_reports.specs.declared.report.Cause.{Cause}
 use Rattle.job_reports.specs.declared.report.Did.{Did}
 use Rattle.job_reports.specs.declared.report.Did.TheVariants.{Asked, Kept, Merges}
 use Rattle.job_reports.specs.declared.report.StepResult.{StepResult}
+use Rattle.job_reports.specs.declared.report.Transfer.TheVariants.{ByCopy}
 use Rattle.folder_copy.specs.FolderCopying.{FolderCopying, closing, is_dirty}
 use Rattle.folder_copy.specs.declared.stage.FolderDid.{FolderDid}
 use Rattle.folder_copy.specs.declared.stage.FolderDid.TheVariants as folder_did
@@ -121,7 +122,7 @@ step_over free replies old new did calls dirty dirty_after before after f0 f1 s 
     by (inr p) = skip_over p.0 s.moved new.at did p.3 moved.0
 
 -- Nothing else reports that it merges.
-folder_no_merge : (report : FolderDid) (pair : Pair) (names : List (List ℕ)) → IsToldAs report (Merges pair names) → ⊥
+folder_no_merge : (report : FolderDid) (pair : Pair) (names : List (List ℕ)) → IsToldAs report (Merges ByCopy pair names) → ⊥
 folder_no_merge (folder_did.Made path) pair names told = let g : ⊥ = cc in g
 folder_no_merge (folder_did.Set path) pair names told = let g : ⊥ = cc in g
 folder_no_merge folder_did.Barrier pair names told = let g : ⊥ = cc in g
@@ -130,9 +131,9 @@ folder_no_merge (folder_did.Troubled trouble) pair names told = let g : ⊥ = cc
 
 module _ (unclaimed : Route → Type 0) (replies : Replies) (old new : Seen) (pair : Pair) (names : List (List ℕ)) (before after : Option CallLog) where
   abbrev Merged : Type 0
-  Merged = TakesMerged replies old new (Merges pair names) before after
+  Merged = TakesMerged replies old new (Merges ByCopy pair names) before after
 
-  takes_merged : TakesNext unclaimed replies old new (Merges pair names) before after → Merged
+  takes_merged : TakesNext unclaimed replies old new (Merges ByCopy pair names) before after → Merged
   takes_merged (inl s) = absurd (let e = s.says in let g : ⊥ = cc in g)
   takes_merged (inr (inl t)) = (let w = t.works in absurd w.tells)
   takes_merged (inr (inr (inl t))) = (let w = t.works in absurd w.tells)
@@ -143,7 +144,7 @@ module _ (unclaimed : Route → Type 0) (replies : Replies) (old new : Seen) (pa
   takes_merged (inr (inr (inr (inr (inr (inr (inr (next, inl (debt, e))))))))) = absurd (folder_no_merge e.report pair names e.says)
   takes_merged (inr (inr (inr (inr (inr (inr (inr (next, inr (debt, f, same))))))))) = absurd (let e = f.says in let g : ⊥ = cc in g)
 
-  works_merged : (item : Item) → WorksOn item unclaimed replies old new (Merges pair names) before after → Merged
+  works_merged : (item : Item) → WorksOn item unclaimed replies old new (Merges ByCopy pair names) before after → Merged
   works_merged Next (inl s) = absurd (folder_no_merge s.report pair names s.says)
   works_merged Next (inr t) = takes_merged t.1
   works_merged (File f) w = absurd w.tells
@@ -151,14 +152,14 @@ module _ (unclaimed : Route → Type 0) (replies : Replies) (old new : Seen) (pa
   works_merged (Stays part) w = absurd w
 
 pub list_merged : (free : Route → Bool) (replies : Replies) (old new : Seen) (worked : StepResult) (pair : Pair) (names : List (List ℕ)) (dirty dirty_after : List Route) (before after : Option CallLog) (f0 f1 : ℕ)
-    → ListSteps free replies old new worked dirty dirty_after before after f0 f1 → may_leave old ≡ false → worked.did ≡ Merges pair names → TakesMerged replies old new (Merges pair names) before after
+    → ListSteps free replies old new worked dirty dirty_after before after f0 f1 → may_leave old ≡ false → worked.did ≡ Merges ByCopy pair names → TakesMerged replies old new (Merges ByCopy pair names) before after
 list_merged free replies old new worked pair names dirty dirty_after before after f0 f1 (inl s) settled is = absurd (let e = sym is ∙ ap (λ (r : StepResult). r.did) s.says in let g : ⊥ = cc in g)
 list_merged free replies old new worked pair names dirty dirty_after before after f0 f1 (inr s) settled is =
     works_merged (IsPartPlace free old) replies old new pair names before after old.item
     (subst (λ (d : Did). WorksOn old.item (IsPartPlace free old) replies old new d before after) is (works_at_once free replies old new worked.did worked.calls before after f0 f1 s.steps settled))
 
 -- nor is it told of what is passed over
-named_no_merge : (names : List (List ℕ)) (cause : Cause) (old new : Seen) (pair : Pair) (met : List (List ℕ)) → machine.SkipsNamed names cause old (Merges pair met) new → ⊥
+named_no_merge : (names : List (List ℕ)) (cause : Cause) (old new : Seen) (pair : Pair) (met : List (List ℕ)) → machine.SkipsNamed names cause old (Merges ByCopy pair met) new → ⊥
 named_no_merge [] cause old new pair met (moved, inl s, stands) = let e = s.0 in let g : ⊥ = cc in g
 named_no_merge [] cause old new pair met (moved, inr s, stands) = let e = s.0 in let g : ⊥ = cc in g
 named_no_merge (name ∷ names) cause old new pair met (inl s) = let e = s.0 in let g : ⊥ = cc in g
@@ -166,7 +167,7 @@ named_no_merge (name ∷ names) cause old new pair met (inr (inl (long, inl s)))
 named_no_merge (name ∷ names) cause old new pair met (inr (inl (long, inr s))) = let e = s.0 in let g : ⊥ = cc in g
 named_no_merge (name ∷ names) cause old new pair met (inr (inr s)) = let e = s.0 in let g : ⊥ = cc in g
 
-pub skip_no_merge : (item : Item) (cause : Cause) (old new : Seen) (pair : Pair) (names : List (List ℕ)) → machine.SkipsAt item cause old (Merges pair names) new → ⊥
+pub skip_no_merge : (item : Item) (cause : Cause) (old new : Seen) (pair : Pair) (names : List (List ℕ)) → machine.SkipsAt item cause old (Merges ByCopy pair names) new → ⊥
 skip_no_merge Next cause old new pair names s = named_no_merge old.levels.inner.names.names cause old new pair names s
 skip_no_merge (File f) cause old new pair names (moved, inl s, stands) = let e = s.0 in let g : ⊥ = cc in g
 skip_no_merge (File f) cause old new pair names (moved, inr s, stands) = let e = s.0 in let g : ⊥ = cc in g
@@ -196,10 +197,10 @@ none_more (name ∷ []) one = refl
 none_more (name ∷ next ∷ names) one = absurd (omega (arith, one))
 
 merges_top : (free : Route → Bool) (replies : Replies) (old new : SubtreeCopying) (pair : Pair) (names : List (List ℕ)) (calls : ℕ) (dirty dirty_after : List Route) (before after : Option CallLog) (f0 f1 : ℕ)
-    → SubtreeSteps free replies old new (Merges pair names) calls dirty dirty_after before after f0 f1 → IsInPlace old.top old.at → IsUnbegun old.at → MergesTop old pair names new
+    → SubtreeSteps free replies old new (Merges ByCopy pair names) calls dirty dirty_after before after f0 f1 → IsInPlace old.top old.at → IsUnbegun old.at → MergesTop old pair names new
 merges_top free replies old new pair names calls dirty dirty_after before after f0 f1 s place unbegun = by s.passes
   where
-    merged : (let w = s.worked in w.did) ≡ Merges pair names → new.at ≡ s.moved → MergesTop old pair names new
+    merged : (let w = s.worked in w.did) ≡ Merges ByCopy pair names → new.at ≡ s.moved → MergesTop old pair names new
     merged is stays =
         let l = s.leaves in
         let t = list_merged free replies s.mid s.moved s.worked pair names dirty dirty_after before after f0 f1 s.works s.settled is in
@@ -216,7 +217,7 @@ merges_top free replies old new pair names calls dirty dirty_after before after 
           over = subst IsOver (sym (stays ∙ t.stands)) record { none = o.none; around = o.around; names = none_more (let m = s.mid in m.levels.inner.names.names) o.one; owes = o.owes; clean = o.clean };
         }
 
-    by : OrPassedOver old.skips s.worked s.moved new.at (step_result (Merges pair names) calls) → MergesTop old pair names new
+    by : OrPassedOver old.skips s.worked s.moved new.at (step_result (Merges ByCopy pair names) calls) → MergesTop old pair names new
     by (inl p) = merged (ap (λ (r : StepResult). r.did) (sym p.1)) p.2
     by (inr p) = (let m : Seen = s.moved in absurd (skip_no_merge m.item p.0 m new.at pair names p.3))
 

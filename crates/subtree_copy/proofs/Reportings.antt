@@ -16,6 +16,7 @@ use Rattle.job_reports.specs.declared.report.Ending.{Ending}
 use Rattle.job_reports.specs.declared.report.Ending.TheVariants.{Finished, Aborted, Killed, NoMemory}
 use Rattle.job_reports.specs.declared.report.LastStepResult.{LastStepResult}
 use Rattle.job_reports.specs.declared.report.StepResult.{StepResult}
+use Rattle.job_reports.specs.declared.report.Transfer.TheVariants.{ByCopy, ByMove}
 use Rattle.job_reports.specs.Paths.{folder_of}
 use Rattle.file_copy.specs.Copying as file
 use Rattle.file_copy.specs.Copying.{Copying, part_at}
@@ -64,7 +65,8 @@ file_may f m (Ended NoMemory part) t = t
 file_may f m (Removed path) t = t
 file_may f m (Kept path) t = tt
 file_may f m (Asked question) t = tt
-file_may f m (Merges pair names) t = tt
+file_may f m (Merges ByCopy pair names) t = tt
+file_may f m (Merges ByMove pair names) t = t
 file_may f m (Moved pair) t = t
 file_may f m (Began part) t = tt
 file_may f m (Chunk count) t = tt
@@ -81,7 +83,8 @@ link_may l m (Ended ending part) t = absurd t
 link_may l m (Removed path) t = t
 link_may l m (Kept path) t = tt
 link_may l m (Asked question) t = tt
-link_may l m (Merges pair names) t = tt
+link_may l m (Merges ByCopy pair names) t = tt
+link_may l m (Merges ByMove pair names) t = t
 link_may l m (Moved pair) t = absurd t
 link_may l m (Began part) t = tt
 link_may l m (Chunk count) t = tt
@@ -160,7 +163,7 @@ file_not f m (Ended ending part) t = tt
 file_not f m (Removed path) t = tt
 file_not f m (Kept path) t = tt
 file_not f m (Asked question) t = tt
-file_not f m (Merges pair names) t = tt
+file_not f m (Merges transfer pair names) t = tt
 file_not f m (Moved pair) t = tt
 file_not f m (Began part) t = tt
 file_not f m (Chunk count) t = tt
@@ -177,7 +180,7 @@ link_not l m (Ended ending part) t = tt
 link_not l m (Removed path) t = tt
 link_not l m (Kept path) t = tt
 link_not l m (Asked question) t = tt
-link_not l m (Merges pair names) t = tt
+link_not l m (Merges transfer pair names) t = tt
 link_not l m (Moved pair) t = tt
 link_not l m (Began part) t = tt
 link_not l m (Chunk count) t = tt
@@ -314,7 +317,7 @@ file_wound ending f m old new (Made path) w can stage now = absurd w
 file_wound ending f m old new (Set path) w can stage now = absurd w
 file_wound ending f m old new (Kept path) w can stage now = absurd w
 file_wound ending f m old new (Asked question) w can stage now = absurd w
-file_wound ending f m old new (Merges pair names) w can stage now = absurd w
+file_wound ending f m old new (Merges transfer pair names) w can stage now = absurd w
 file_wound ending f m old new (Moved pair) w can stage now = absurd w
 file_wound ending f m old new (Skipped path cause) w can stage now = absurd w
 file_wound ending f m old new (Troubled trouble) w can stage now = absurd w

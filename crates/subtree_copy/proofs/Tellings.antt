@@ -93,7 +93,7 @@ file_after f moved (Made path) t = absurd t
 file_after f moved (Set path) t = absurd t
 file_after f moved (Kept path) t = absurd t
 file_after f moved (Asked question) t = absurd t
-file_after f moved (Merges pair names) t = absurd t
+file_after f moved (Merges transfer pair names) t = absurd t
 file_after f moved (Moved pair) t = absurd t
 file_after f moved (Skipped path cause) t = absurd t
 
@@ -117,7 +117,7 @@ link_after l moved (Made path) t = absurd t
 link_after l moved (Set path) t = absurd t
 link_after l moved (Kept path) t = absurd t
 link_after l moved (Asked question) t = absurd t
-link_after l moved (Merges pair names) t = absurd t
+link_after l moved (Merges transfer pair names) t = absurd t
 link_after l moved (Moved pair) t = absurd t
 link_after l moved (Skipped path cause) t = absurd t
 

@@ -119,7 +119,7 @@ quiet_file f m (Ended Killed part) begin t quiet = absurd t
 quiet_file f m (Ended NoMemory part) begin t quiet = absurd t
 quiet_file f m (Kept path) begin t quiet = absurd t
 quiet_file f m (Asked question) begin t quiet = absurd t
-quiet_file f m (Merges pair names) begin t quiet = absurd t
+quiet_file f m (Merges transfer pair names) begin t quiet = absurd t
 quiet_file f m (Moved pair) begin t quiet = absurd t
 quiet_file f m (Skipped path cause) begin t quiet = absurd t
 quiet_file f m (Began part) begin t quiet = absurd (true≢false quiet)
@@ -136,7 +136,7 @@ quiet_link l m (Troubled trouble) t quiet = t.1
 quiet_link l m (Ended ending part) t quiet = absurd t
 quiet_link l m (Kept path) t quiet = absurd t
 quiet_link l m (Asked question) t quiet = absurd t
-quiet_link l m (Merges pair names) t quiet = absurd t
+quiet_link l m (Merges transfer pair names) t quiet = absurd t
 quiet_link l m (Moved pair) t quiet = absurd t
 quiet_link l m (Skipped path cause) t quiet = absurd t
 quiet_link l m (Began part) t quiet = absurd (true≢false quiet)
@@ -163,7 +163,7 @@ begins_file f m (Removed path) begin t = t
 begins_file f m (Set path) begin t = t
 begins_file f m (Kept path) begin t = tt
 begins_file f m (Asked question) begin t = tt
-begins_file f m (Merges pair names) begin t = tt
+begins_file f m (Merges transfer pair names) begin t = tt
 begins_file f m (Moved pair) begin t = t
 
 begins_link : (l m : LinkCopying) (did : Did) → l.stage ≡ link_stage.Make → link.Tells l did m → MayBegin did
@@ -180,7 +180,7 @@ begins_link l m (Removed path) make t = t
 begins_link l m (Set path) make t = t
 begins_link l m (Kept path) make t = tt
 begins_link l m (Asked question) make t = tt
-begins_link l m (Merges pair names) make t = tt
+begins_link l m (Merges transfer pair names) make t = tt
 begins_link l m (Moved pair) make t = absurd t
 
 begins_folder : (pair : Pair) (mode : ℕ) (m : FolderCopying) (report : FolderDid) (did : Did) → IsToldAs report did → folder.Tells (folder.copying pair.source pair.target (Make mode) marks.Synced) report m → MayBegin did

@@ -9,6 +9,7 @@ use Rattle.job_reports.specs.declared.question.Question.{Question}
 use Rattle.job_reports.specs.declared.report.Cause.{Cause}
 use Rattle.job_reports.specs.declared.report.Did.{Did}
 use Rattle.job_reports.specs.declared.report.Did.TheVariants.{Asked, Kept, Merges}
+use Rattle.job_reports.specs.declared.report.Transfer.TheVariants.{ByCopy}
 use Rattle.folder_copy.specs.FolderCopying.{is_dirty}
 use Rattle.tree_copy.specs.declared.item.Item.TheVariants.{Next}
 use Rattle.tree_copy.specs.InPlace.{IsInPlace}
@@ -62,7 +63,7 @@ pub record AsksTop (old new : SubtreeCopying) : Type 0 where
 
 pub record MergedLaw : Type 0 where
   pub merges : (free : Route → Bool) (replies : Replies) (old new : SubtreeCopying) (pair : Pair) (names : List (List ℕ)) (calls : ℕ) (dirty dirty_after : List Route) (before after : Option CallLog) (faults faults_after : ℕ)
-      → SubtreeSteps free replies old new (Merges pair names) calls dirty dirty_after before after faults faults_after → IsInPlace old.top old.at → IsUnbegun old.at → MergesTop old pair names new
+      → SubtreeSteps free replies old new (Merges ByCopy pair names) calls dirty dirty_after before after faults faults_after → IsInPlace old.top old.at → IsUnbegun old.at → MergesTop old pair names new
   pub keeps : (free : Route → Bool) (replies : Replies) (old new : SubtreeCopying) (path : Route) (calls : ℕ) (dirty dirty_after : List Route) (before after : Option CallLog) (faults faults_after : ℕ)
       → SubtreeSteps free replies old new (Kept path) calls dirty dirty_after before after faults faults_after → IsInPlace old.top old.at → IsUnbegun old.at → KeepsTop old path new
   pub asks : (free : Route → Bool) (replies : Replies) (old new : SubtreeCopying) (question : Question) (calls : ℕ) (dirty dirty_after : List Route) (before after : Option CallLog) (faults faults_after : ℕ)

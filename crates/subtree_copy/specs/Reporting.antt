@@ -10,6 +10,7 @@ use Rattle.job_reports.specs.declared.report.Did.TheVariants.{Began, Chunk, Plac
 use Rattle.job_reports.specs.declared.report.Ending.{Ending}
 use Rattle.job_reports.specs.declared.report.Ending.TheVariants.{Finished, Aborted, Killed, NoMemory}
 use Rattle.job_reports.specs.declared.report.LastStepResult.{LastStepResult}
+use Rattle.job_reports.specs.declared.report.Transfer.TheVariants.{ByCopy, ByMove}
 use Rattle.tree_deletion.specs.Folders.{with_change}
 use Rattle.tree_copy.specs.Ending.{IsWindable}
 use Rattle.tree_copy.specs.InPlace.{IsInPlace}
@@ -21,7 +22,8 @@ abbrev pub MayTell : Did → Type 0
 MayTell (Removed path) = ⊥
 MayTell (Kept path) = ⊤
 MayTell (Asked question) = ⊤
-MayTell (Merges pair names) = ⊤
+MayTell (Merges ByCopy pair names) = ⊤
+MayTell (Merges ByMove pair names) = ⊥
 MayTell (Moved pair) = ⊥
 MayTell (Ended Finished part) = part ≡ None
 MayTell (Ended Aborted part) = ⊥
@@ -50,7 +52,7 @@ MayWind ending stands (Made path) = ⊥
 MayWind ending stands (Set path) = ⊥
 MayWind ending stands (Kept path) = ⊥
 MayWind ending stands (Asked question) = ⊥
-MayWind ending stands (Merges pair names) = ⊥
+MayWind ending stands (Merges transfer pair names) = ⊥
 MayWind ending stands (Moved pair) = ⊥
 MayWind ending stands (Skipped path cause) = ⊥
 MayWind ending stands (Troubled trouble) = ⊥

@@ -133,7 +133,7 @@ module _ (top : Pair) (job : ℕ) where
   file_makes unclaimed f new (Made made) log after by is beside t c = absurd t
   file_makes unclaimed f new (Kept path) log after by is beside t c = absurd t
   file_makes unclaimed f new (Asked question) log after by is beside t c = absurd t
-  file_makes unclaimed f new (Merges pair names) log after by is beside t c = absurd t
+  file_makes unclaimed f new (Merges transfer pair names) log after by is beside t c = absurd t
   file_makes unclaimed f new (Moved pair) log after by is beside t c = absurd t
   file_makes unclaimed f new (Skipped path cause) log after by is beside t c = absurd t
 
@@ -162,7 +162,7 @@ module _ (top : Pair) (job : ℕ) where
   part_makes unclaimed facts f new (Cleaned part) log after by is beside t c = absurd t
   part_makes unclaimed facts f new Barrier log after by is beside t c = absurd t
   part_makes unclaimed facts f new (Asked question) log after by is beside t c = absurd t
-  part_makes unclaimed facts f new (Merges pair names) log after by is beside t c = absurd t
+  part_makes unclaimed facts f new (Merges transfer pair names) log after by is beside t c = absurd t
   part_makes unclaimed facts f new (Moved pair) log after by is beside t c = absurd t
   part_makes unclaimed facts f new (Ended ending part) log after by is beside t c = absurd t
 
@@ -204,7 +204,7 @@ module _ (top : Pair) (job : ℕ) where
   link_makes l new (Made made) log after is beside t c = absurd t
   link_makes l new (Kept path) log after is beside t c = absurd t
   link_makes l new (Asked question) log after is beside t c = absurd t
-  link_makes l new (Merges pair names) log after is beside t c = absurd t
+  link_makes l new (Merges transfer pair names) log after is beside t c = absurd t
   link_makes l new (Moved pair) log after is beside t c = absurd t
   link_makes l new (Skipped path cause) log after is beside t c = absurd t
   link_makes l new (Ended ending part) log after is beside t c = absurd t
@@ -272,7 +272,7 @@ module _ (top : Pair) (job : ℕ) where
   file_winds ending f new (Made made) log after is beside t c = absurd t
   file_winds ending f new (Kept kept) log after is beside t c = absurd t
   file_winds ending f new (Asked question) log after is beside t c = absurd t
-  file_winds ending f new (Merges pair names) log after is beside t c = absurd t
+  file_winds ending f new (Merges transfer pair names) log after is beside t c = absurd t
   file_winds ending f new (Moved pair) log after is beside t c = absurd t
   file_winds ending f new (Skipped path cause) log after is beside t c = absurd t
   file_winds ending f new (Troubled trouble) log after is beside t c = absurd t

@@ -55,7 +55,7 @@ file_paths f new (Removed path) t = absurd t
 file_paths f new (Made made) t = absurd t
 file_paths f new (Kept path) t = absurd t
 file_paths f new (Asked question) t = absurd t
-file_paths f new (Merges pair names) t = absurd t
+file_paths f new (Merges transfer pair names) t = absurd t
 file_paths f new (Moved pair) t = absurd t
 file_paths f new (Skipped path cause) t = absurd t
 
@@ -71,7 +71,7 @@ link_paths l new (Removed path) t = absurd t
 link_paths l new (Made made) t = absurd t
 link_paths l new (Kept path) t = absurd t
 link_paths l new (Asked question) t = absurd t
-link_paths l new (Merges pair names) t = absurd t
+link_paths l new (Merges transfer pair names) t = absurd t
 link_paths l new (Moved pair) t = absurd t
 link_paths l new (Skipped path cause) t = absurd t
 link_paths l new (Ended ending part) t = absurd t
@@ -165,7 +165,7 @@ module _ (top : Pair) where
   names_file f new (Removed path) t m = tt
   names_file f new (Kept path) t m = tt
   names_file f new (Asked question) t m = tt
-  names_file f new (Merges pair names) t m = tt
+  names_file f new (Merges transfer pair names) t m = tt
   names_file f new (Moved pair) t m = tt
   names_file f new (Skipped path cause) t m = tt
   names_file f new (Cleaned part) t m = tt
@@ -182,7 +182,7 @@ module _ (top : Pair) where
   names_link l new (Removed path) t m = tt
   names_link l new (Kept path) t m = tt
   names_link l new (Asked question) t m = tt
-  names_link l new (Merges pair names) t m = tt
+  names_link l new (Merges transfer pair names) t m = tt
   names_link l new (Moved pair) t m = tt
   names_link l new (Skipped path cause) t m = tt
   names_link l new (Cleaned part) t m = tt

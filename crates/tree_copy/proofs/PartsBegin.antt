@@ -27,7 +27,7 @@ tells_part facts f moved (Skipped path cause) begin t = absurd t
 tells_part facts f moved (Cleaned part) begin t = absurd t
 tells_part facts f moved Barrier begin t = absurd t
 tells_part facts f moved (Asked question) begin t = absurd t
-tells_part facts f moved (Merges pair names) begin t = absurd t
+tells_part facts f moved (Merges transfer pair names) begin t = absurd t
 tells_part facts f moved (Moved pair) begin t = absurd t
 tells_part facts f moved (Ended ending part) begin t = absurd t
 
@@ -44,7 +44,7 @@ falls_part facts f moved (Skipped path cause) t = absurd t
 falls_part facts f moved (Cleaned part) t = absurd t
 falls_part facts f moved Barrier t = absurd t
 falls_part facts f moved (Asked question) t = absurd t
-falls_part facts f moved (Merges pair names) t = absurd t
+falls_part facts f moved (Merges transfer pair names) t = absurd t
 falls_part facts f moved (Moved pair) t = absurd t
 falls_part facts f moved (Ended ending part) t = absurd t
 

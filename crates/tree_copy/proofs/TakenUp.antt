@@ -22,6 +22,7 @@ use Rattle.tree_copy.specs.declared.item.Item.{Item}
 use Rattle.tree_copy.specs.declared.item.Item.TheVariants.{Next}
 use Rattle.job_reports.specs.declared.report.Did.{Did}
 use Rattle.job_reports.specs.declared.report.StepResult.{StepResult}
+use Rattle.job_reports.specs.declared.report.Transfer.TheVariants.{ByCopy}
 use Rattle.tree_copy.specs.Parts.{IsPartPlace}
 use Rattle.tree_copy.specs.Standing.{Seen, due}
 use Rattle.tree_copy.specs.Steps.{Advances, AdvancesNext, FileBegins, FolderMakes, GoesOn, Leaves, LinkWorks, RunsOut, TakesNext, WhyStopped, WorksOn, is_top, link_begun}
@@ -64,7 +65,7 @@ module _ (unclaimed : Route → Type 0) (replies : Replies) (old new : Seen) (di
     })))
 
     pub took_merged : (names : List (List ℕ)) → old.stage ≡ Begin → IfKnown before (λ log. IsTaken (current log) (is_top old) replies pair (taken.Merged names)) → AreShort pair names → IsAscending names → length names ≤ 2 ^ 64
-        → new ≡ record old { levels = passed false old.levels } → did ≡ common.Merges pair names → after ≡ mid → TakesNext unclaimed replies old new did before after
+        → new ≡ record old { levels = passed false old.levels } → did ≡ common.Merges ByCopy pair names → after ≡ mid → TakesNext unclaimed replies old new did before after
     took_merged names fresh is short order few stands says made = inr (inr (inr (inr (inl record {
       pair = pair;
       names = names;

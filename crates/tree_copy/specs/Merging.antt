@@ -17,10 +17,8 @@ use Rattle.tree_copy.specs.declared.copy.Stage.{Stage}
 use Rattle.tree_copy.specs.declared.copy.Stage.TheVariants.{Begin, Going}
 use Rattle.tree_copy.specs.declared.looking.Onto.{Onto}
 use Rattle.tree_copy.specs.declared.looking.Onto.TheVariants as onto
-use Rattle.tree_copy.specs.declared.looking.Taken.{Taken}
-use Rattle.tree_copy.specs.declared.looking.Taken.TheVariants as taken
 use Rattle.tree_copy.specs.Asking.{IsFree}
-use Rattle.tree_copy.specs.Taking.{AreShort, ChildStops, IsOnFolder, IsShort}
+use Rattle.tree_copy.specs.Taking.{AreShort, ChildStops, FolderStops, IsOnFolder, IsShort, Lists}
 
 -- a copy that has changed nothing yet merges a folder with a folder
 abbrev pub joins_folders : Stage → Kind → Bool
@@ -63,7 +61,10 @@ abbrev pub AreChildrenOr : Pair → List (List ℕ) → Result (Unit {0}) Troubl
 AreChildrenOr pair names (Ok it) = AreShort pair names
 AreChildrenOr pair names (Err t) = ((name : List ℕ) × Among names name × ChildStops pair name t) ⊎ (t ≡ out_of_memory_at false)
 
--- the same, and it is merged
-abbrev pub IsMergedOr : Pair → List (List ℕ) → Result Taken Trouble → Type 0
-IsMergedOr pair names (Ok what) = (what ≡ taken.Merged names) × AreShort pair names
-IsMergedOr pair names (Err t) = ((name : List ℕ) × Among names name × ChildStops pair name t) ⊎ (t ≡ out_of_memory_at false)
+-- The trouble of a folder whose names are wanted for a merge: it can't be listed, or not all its names can be shown; or something in it has too long a path, or would
+-- at its target; or there is no memory.
+abbrev pub NamesStop : FileSystem → Pair → Trouble → Type 0
+NamesStop s pair t =
+    FolderStops s pair.source t
+    ⊎ ((name : List ℕ) × (names : List (List ℕ)) × Lists s pair.source names × Among names name × ChildStops pair name t)
+    ⊎ (t ≡ out_of_memory_at false)

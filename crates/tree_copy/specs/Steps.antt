@@ -46,6 +46,7 @@ use Rattle.tree_copy.specs.declared.looking.Taken.TheVariants as taken
 use Rattle.tree_copy.specs.declared.progress.Progress.{Progress}
 use Rattle.tree_copy.specs.declared.progress.Progress.TheVariants.{UnderWay, Decided, Anew}
 use Rattle.job_reports.specs.declared.report.StepResult.{StepResult}
+use Rattle.job_reports.specs.declared.report.Transfer.TheVariants.{ByCopy}
 use Rattle.copy_levels.specs.Levels.{IsLeft, closed, dirtied, is_around_dirty, level, made_levels, owes, passed, with_copy}
 use Rattle.tree_copy.specs.Parts.{IsPartPlace, IsShortPart}
 use Rattle.tree_copy.specs.Progress.{link_progress, progress}
@@ -179,7 +180,7 @@ pub record TakesMerged (replies : Replies) (old new : Seen) (did : Did) (before 
   pub short : AreShort pair names
   pub few : length names ≤ 2 ^ 64
   pub in_order : IsAscending names
-  pub says : did ≡ common.Merges pair names
+  pub says : did ≡ common.Merges ByCopy pair names
   pub same : after ≡ before
   pub stands : new ≡ record old { levels = passed false old.levels }
 

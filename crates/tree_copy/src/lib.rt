@@ -25,5 +25,5 @@ pub use laws::{
     each_decision_leaves_fewer_things, skips_and_last_steps_keep_a_copy_in_its_place,
     what_is_at_work_lies_in_the_folder_that_is_worked,
 };
-pub use looking::Taken;
+pub use looking::{Taken, names_to_merge};
 pub use progress::Progress;

@@ -9,8 +9,8 @@ ghost use Rattle.tree_trait.specs.FileSystem.{node};
 ghost use Rattle.tree_trait.specs.Change.{found};
 ghost use Rattle.job_reports.specs.Reading.{Peeks};
 ghost use Rattle.tree_copy.specs.Judging.{IsNoFolder};
-ghost use Rattle.tree_copy.specs.Taking.{FolderStops, IsShort, IsShown, IsSound, Lists, Looks, MayTake, SourceIs};
-ghost use Rattle.tree_copy.specs.Merging.{AreChildrenOr, IsChildOr, IsFreshOnto, IsMergedOr, IsOnto, IsOntoKind, OntoStops, joins_folders};
+ghost use Rattle.tree_copy.specs.Taking.{AreShort, FolderStops, IsShort, IsShown, IsSound, Lists, Looks, MayTake, SourceIs};
+ghost use Rattle.tree_copy.specs.Merging.{AreChildrenOr, IsChildOr, IsFreshOnto, IsOnto, IsOntoKind, NamesStop, OntoStops, joins_folders};
 
 use crate::asking::{Asks, judge};
 use crate::copy::Stage;
@@ -194,22 +194,32 @@ fn list_folder<T: Tree>(
     ensures may { IfOk result (MayTake stage asks.top pair.now) }
     ensures peeks { Peeks result (T.contents tree.old) (T.contents tree.new) (T.fault_count tree.old) (T.fault_count tree.new) }
 {
+    match onto {
+        Onto::Nothing => match names_in(alloc, tree, &pair.source) {
+            Ok(names) => Ok(Taken::Folder { names, mode }),
+            Err(trouble) => Err(trouble),
+        },
+        Onto::Folder => match names_to_merge(alloc, tree, pair) {
+            Ok(names) => Ok(Taken::Merged { names }),
+            Err(trouble) => Err(trouble),
+        },
+    }
+}
+
+/// The names in a folder that is to be merged with the one at its target: all can be shown, and the paths of what has them can be told, and so can
+/// those of their targets.
+pub fn names_to_merge<T: Tree>(alloc: Global, tree: &mut T, pair: &Pair) -> Result<Names, Trouble>
+    ensures known { IfKnown (T.contents tree.old) (λ log. MatchResult result (Lists (current log) pair.now.source) (NamesStop (current log) pair.now)) }
+    ensures short { IfOk result (AreShort pair.now) }
+    ensures in_order { IfOk result IsAscending }
+    ensures peeks { Peeks result (T.contents tree.old) (T.contents tree.new) (T.fault_count tree.old) (T.fault_count tree.new) }
+{
     let names = match names_in(alloc, tree, &pair.source) {
         Ok(names) => names,
         Err(trouble) => return Err(trouble),
     };
-    match onto {
-        Onto::Nothing => Ok(Taken::Folder { names, mode }),
-        Onto::Folder => merged(alloc, pair, names),
-    }
-}
-
-/// A folder of these names, all of which are to have paths that can be told, and so are their targets.
-fn merged(alloc: Global, pair: &Pair, names: Names) -> Result<Taken, Trouble>
-    ensures { IsMergedOr pair.now names result }
-{
     match children(alloc, pair, names.as_slice()) {
-        Ok(()) => Ok(Taken::Merged { names }),
+        Ok(()) => Ok(names),
         Err(trouble) => Err(trouble),
     }
 }

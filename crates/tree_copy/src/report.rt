@@ -45,7 +45,7 @@ fn is_change(did: &Did) -> bool
         Did::Began(_) | Did::Chunk(_) | Did::Placed(_) | Did::Cleaned(_) => true,
         Did::Made(_) | Did::Set(_) | Did::Removed(_) | Did::Barrier => true,
         Did::Kept(_) | Did::Skipped(_, _) | Did::Asked(_) => false,
-        Did::Merges(_, _) => false,
+        Did::Merges(_, _, _) => false,
         Did::Moved(_) => true,
         Did::Troubled(_) | Did::Ended { .. } => false,
     }

@@ -20,7 +20,7 @@ use crate::parts::{PartPlaces, see_part, see_path};
 use crate::report::stopped;
 use file_copy::{FileCopy, Item as Places, PartTest, SourceFacts, choose_part};
 use job_answers::Replies;
-use job_reports::{Did, Pair, Question, StepResult, out_of_memory};
+use job_reports::{Did, Pair, Question, StepResult, Transfer, out_of_memory};
 use link_copy::LinkCopy;
 use mc_text::{Names, NoMemory, Path};
 use std::alloc::Global;
@@ -149,13 +149,13 @@ impl TreeCopy {
     fn merge(&mut self, pair: Pair, names: Names) -> StepResult
         requires next { due (seen self.old) ≡ Due.Thing pair }
         ensures passed { seen self.new ≡ record (seen self.old) { levels = passed false self.old.stack.levels } }
-        ensures told { result ≡ record { did = Did.Merges pair names; calls = 0 } }
+        ensures told { result ≡ record { did = Did.Merges Transfer.ByCopy pair names; calls = 0 } }
         ensures few { length names ≤ 2 ^ 64 }
     {
         let _count = names.as_slice().len();
         self.stack.pass(false);
         StepResult {
-            did: Did::Merges(pair, names),
+            did: Did::Merges(Transfer::ByCopy, pair, names),
             calls: 0,
         }
     }

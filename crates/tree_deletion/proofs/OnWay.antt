@@ -77,7 +77,7 @@ progress_falls old new (Skipped path cause) going w h = absurd (false≢true h)
 progress_falls old new (Cleaned part) going w h = absurd (false≢true h)
 progress_falls old new Barrier going w h = absurd (false≢true h)
 progress_falls old new (Asked question) going w h = absurd (false≢true h)
-progress_falls old new (Merges pair names) going w h = absurd (false≢true h)
+progress_falls old new (Merges transfer pair names) going w h = absurd (false≢true h)
 progress_falls old new (Moved pair) going w h = absurd (false≢true h)
 progress_falls old new (Troubled trouble) going w h = absurd (false≢true h)
 progress_falls old new (Ended ending part) going w h = absurd (false≢true h)
@@ -110,7 +110,7 @@ works_no_more old new (Skipped path cause) going w = absurd w
 works_no_more old new (Cleaned part) going w = absurd w
 works_no_more old new Barrier going w = absurd w
 works_no_more old new (Asked question) going w = absurd w
-works_no_more old new (Merges pair names) going w = absurd w
+works_no_more old new (Merges transfer pair names) going w = absurd w
 works_no_more old new (Moved pair) going w = absurd w
 works_no_more old new (Ended ending part) going w = absurd w
 

@@ -95,7 +95,7 @@ works_inside old new (Skipped path cause) w h = absurd w
 works_inside old new (Cleaned part) w h = absurd w
 works_inside old new Barrier w h = absurd w
 works_inside old new (Asked question) w h = absurd w
-works_inside old new (Merges pair names) w h = absurd w
+works_inside old new (Merges transfer pair names) w h = absurd w
 works_inside old new (Moved pair) w h = absurd w
 works_inside old new (Ended ending part) w h = absurd w
 
