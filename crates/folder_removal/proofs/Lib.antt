@@ -1,0 +1,2 @@
+pub mod RemovalFolders
+pub mod RemovalRuns
