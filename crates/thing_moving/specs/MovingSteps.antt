@@ -1,5 +1,5 @@
 -- What a step of a move does: its report, the move after it, its call of the tree, and how many changing calls that was.
-use Rattle.std.specs.Prelude.{◌≡◌, ◌⊎◌, ℕ, ◌≤◌, true, false, Option, Some, None}
+use Rattle.std.specs.Prelude.{◌≡◌, ◌⊎◌, ℕ, ◌≤◌, true, false, List, Option, Some, None}
 use Rattle.mc_text.specs.Routes.{Route}
 use Rattle.tree_trait.specs.declared.calls.TreeError.{TreeError}
 use Rattle.tree_trait.specs.declared.calls.TreeError.TheVariants.{Fault, Memory}
@@ -9,14 +9,15 @@ use Rattle.job_reports.specs.declared.report.Cause.{Cause}
 use Rattle.job_reports.specs.declared.report.Cause.TheVariants.{Tree}
 use Rattle.job_reports.specs.declared.report.Ending.{Ending}
 use Rattle.job_reports.specs.declared.report.Did.{Did}
-use Rattle.job_reports.specs.declared.report.Did.TheVariants.{Kept, Skipped, Troubled}
+use Rattle.job_reports.specs.declared.report.Did.TheVariants.{Kept, Merges, Skipped, Troubled}
+use Rattle.job_reports.specs.declared.report.Transfer.TheVariants.{ByMove}
 use Rattle.job_reports.specs.declared.report.Trouble.{Trouble}
 use Rattle.job_reports.specs.CallRuns.{HasMore}
 use Rattle.job_reports.specs.Stops.{out_of_memory_at, trouble_at}
 use Rattle.job_answers.specs.declared.replies.Replies.{Replies}
 use Rattle.job_answers.specs.Skipping.{is_passed_over}
 use Rattle.thing_moving.specs.declared.moving.MovingStage.TheVariants as stage
-use Rattle.thing_moving.specs.Movings.{LastMovingCalls, Moving, MovingCalls, MovingLeaves, Tells, Winds, at_barrier, skipped}
+use Rattle.thing_moving.specs.Movings.{LastMovingCalls, MayMerge, Moving, MovingCalls, MovingLeaves, Tells, Winds, at_barrier, skipped}
 
 -- the report tells of a fault: as a trouble, or as why something was passed over
 abbrev pub TellsFault : Did → Type 0
@@ -72,3 +73,9 @@ NotTaken old trouble did new =
 abbrev pub Keeps : Moving → Did → Moving → Type 0
 Keeps old did new =
     ((did ≡ Kept old.pair.target) × (new ≡ record old { stage = stage.PassedOver })) ⊎ ((did ≡ Troubled (out_of_memory_at false)) × (new ≡ old))
+
+-- what lies in the source, by these names, is moved by others, or there was no memory for the report
+abbrev pub IsMergedOr : Moving → List (List ℕ) → Did → Moving → Type 0
+IsMergedOr old names did new =
+    ((did ≡ Merges ByMove old.pair names) × MayMerge old.pair ByMove old.pair names × (new ≡ record old { stage = stage.PassedOver }))
+    ⊎ ((did ≡ Troubled (out_of_memory_at false)) × (new ≡ old))

@@ -1,7 +1,7 @@
 -- The order in which a thing is moved: it is renamed, the target's folder is synced, then the folder in which it was, and only then is the move
 -- finished. What a step may report where the move stands, and where it stands then; and what a report says of the tree's calls.
-use Rattle.std.specs.Prelude.{◌≡◌, ◌⊎◌, Bool, true, false, if◌then◌else◌, List, Option, Some, None, Result, Ok, Err}
-use Rattle.mc_text.specs.Routes.{Route, same_path}
+use Rattle.std.specs.Prelude.{◌≡◌, ◌⊎◌, ℕ, ◌≤◌, ◌^◌, Bool, true, false, if◌then◌else◌, is_some, List, length, Option, Some, None, Result, Ok, Err}
+use Rattle.mc_text.specs.Routes.{Route, parent_of, same_path}
 use Rattle.tree_trait.specs.Calls.{Rename, SyncFolder}
 use Rattle.tree_trait.specs.Change.{CallLog, current}
 use Rattle.tree_trait.specs.Answers.{Performs}
@@ -12,17 +12,20 @@ use Rattle.job_reports.specs.declared.report.Cause.TheVariants.{Memory}
 use Rattle.job_reports.specs.declared.report.Ending.{Ending}
 use Rattle.job_reports.specs.declared.report.Ending.TheVariants.{Finished}
 use Rattle.job_reports.specs.declared.report.Did.{Did}
-use Rattle.job_reports.specs.declared.report.Did.TheVariants.{Moved, Kept, Skipped, Barrier, Asked, Troubled, Ended}
+use Rattle.job_reports.specs.declared.report.Did.TheVariants.{Moved, Kept, Skipped, Barrier, Asked, Merges, Troubled, Ended}
+use Rattle.job_reports.specs.declared.report.Transfer.{Transfer}
+use Rattle.job_reports.specs.declared.report.Transfer.TheVariants.{ByMove}
 use Rattle.job_reports.specs.Paths.{folder_of}
 use Rattle.job_reports.specs.Stops.{sync_answer, cause_of, named_path}
 use Rattle.job_answers.specs.declared.replies.Decision.TheVariants.{Ask}
 use Rattle.job_answers.specs.declared.replies.Replies.{Replies}
 use Rattle.job_answers.specs.declared.skips.Skips.{Skips}
 use Rattle.job_answers.specs.Skipping.{holds, is_passed_over, kind_in, no_skips}
+use Rattle.tree_copy.specs.Taking.{AreShort}
 use Rattle.tree_deletion.specs.Folders.{with_change}
 use Rattle.thing_moving.specs.declared.moving.MovingStage.{MovingStage}
 use Rattle.thing_moving.specs.declared.moving.MovingStage.TheVariants.{Take, SyncTarget, SyncSource, Finish, PassedOver}
-use Rattle.thing_moving.specs.Takings.{IsDecided, IsKept, LooksStop, MayMove}
+use Rattle.thing_moving.specs.Takings.{IsDecided, IsKept, IsMerged, LooksStop, MayMove}
 
 -- the move of a thing, as it stands: what is moved, and where to, what is to be done next, and the kinds of troubles that are passed over
 pub record Moving : Type 0 where
@@ -107,13 +110,25 @@ abbrev pub with_moves : MovingStage → MovingStage → Pair → List Route → 
 with_moves old new pair dirty =
     with_change (is_dirty old) (is_dirty new) (folder_of pair.source) (with_change (owes_target old) (owes_target new) (folder_of pair.target) dirty)
 
--- What a step may report that goes on, and where the move stands then. A trouble is told of whose kind none is to be passed over, or there was no memory.
+-- A folder is merged with the one at its target: what lies in it, by these names, is moved, and can be told, with its targets. It is no root, and neither of the two
+-- is the other.
+pub record MayMerge (moved : Pair) (transfer : Transfer) (pair : Pair) (names : List (List ℕ)) : Type 0 where
+  pub by_move : transfer ≡ ByMove
+  pub its : pair ≡ moved
+  pub held : is_some (parent_of pair.source) ≡ true
+  pub apart : same_path pair.source pair.target ≡ false
+  pub short : AreShort pair names
+  pub few : length names ≤ 2 ^ 64
+
+-- What a step may report that goes on, and where the move stands then. Once two folders are merged nothing is left to be done: what lies in the source are sources of
+-- their own. A trouble is told of whose kind none is to be passed over, or there was no memory.
 abbrev pub Tells : Moving → Did → Moving → Type 0
 Tells m (Moved pair) new = (m.stage ≡ Take) × (pair ≡ m.pair) × (new ≡ record m { stage = SyncTarget })
 Tells m (Kept path) new = (m.stage ≡ Take) × (path ≡ m.pair.target) × (new ≡ record m { stage = PassedOver })
 Tells m (Skipped path cause) new = (m.stage ≡ Take) × (path ≡ m.pair.source) × (holds m.skips (kind_in cause) ≡ true) × (new ≡ record m { stage = PassedOver })
 Tells m Barrier new = (is_dirty m.stage ≡ true) × (new ≡ record m { stage = after_sync m.pair m.stage })
 Tells m (Asked question) new = (m.stage ≡ Take) × (new ≡ m)
+Tells m (Merges transfer pair names) new = (m.stage ≡ Take) × MayMerge m.pair transfer pair names × (new ≡ record m { stage = PassedOver })
 Tells m (Troubled trouble) new =
     (trouble.barrier ≡ at_barrier m.stage) × (is_done m.stage ≡ false) × ((is_passed_over m.skips trouble ≡ false) ⊎ (trouble.cause ≡ Memory)) × (new ≡ m)
 Tells m (Ended Finished part) new = (is_done m.stage ≡ true) × (part ≡ None) × (new ≡ m)
@@ -146,13 +161,14 @@ Stops m replies Take cause path log after = (LooksStop (current log) m.pair caus
 Stops m replies stage cause path log after = SyncStops m cause path log after
 
 -- What a step says of the tree's calls, where this was answered. A renaming was done that may be, and so was a sync; a trouble is the refusal of the
--- next call, or of a look before it; a question, what is kept and an end make no call.
+-- next call, or of a look before it; a question, what is kept or merged and an end make no call.
 abbrev pub MovingCalls : Replies → Moving → Did → CallLog → Option CallLog → Type 0
 MovingCalls replies m (Moved pair) log after = MayMove (current log) m.pair replies × Performs {A = Unit {0}} log (Rename m.pair.source m.pair.target) (Ok tt) after
 MovingCalls replies m (Kept path) log after = IsKept (current log) m.pair replies × (after ≡ Some log)
 MovingCalls replies m (Skipped path cause) log after = (named : Option Route) × Stops m replies m.stage cause named log after
 MovingCalls replies m Barrier log after = Performs {A = Unit {0}} log (SyncFolder (owed_folder m)) (Ok tt) after
 MovingCalls replies m (Asked question) log after = IsDecided (current log) m.pair replies question Ask × (after ≡ Some log)
+MovingCalls replies m (Merges transfer pair names) log after = IsMerged (current log) m.pair names × (after ≡ Some log)
 MovingCalls replies m (Troubled trouble) log after = Stops m replies m.stage trouble.cause trouble.path log after
 MovingCalls replies m (Ended ending part) log after = after ≡ Some log
 MovingCalls replies m did log after = ⊥

@@ -1,11 +1,12 @@
 -- What comes of a thing that is to be moved: the looks at it and at its target, and what the answers that stand decide.
-use Rattle.std.specs.Prelude.{◌≡◌, ◌⊎◌, ⊤, false, Option, Some, None, Result, Ok, Err}
+use Rattle.std.specs.Prelude.{◌≡◌, ◌⊎◌, ℕ, ⊤, false, List, Option, Some, None, Result, Ok, Err}
 use Rattle.mc_text.specs.Routes.{Route}
 use Rattle.mc_text.specs.declared.kind.Kind.{Kind}
 use Rattle.tree_trait.specs.declared.file_system.FileSystem.{FileSystem}
 use Rattle.tree_trait.specs.declared.calls.Meta.{Meta}
 use Rattle.tree_trait.specs.declared.calls.TreeError.TheVariants as refused
 use Rattle.tree_trait.specs.Answers.{IsMeta}
+use Rattle.tree_trait.specs.CrashImages.{Among}
 use Rattle.tree_trait.specs.Calls.{Stat}
 use Rattle.tree_trait.specs.Refusals.{folder_kind, refusal_of}
 use Rattle.job_reports.specs.declared.job.Pair.{Pair}
@@ -15,7 +16,7 @@ use Rattle.job_reports.specs.declared.report.Cause.TheVariants as why
 use Rattle.job_reports.specs.declared.report.Trouble.{Trouble}
 use Rattle.job_reports.specs.Questions.{question_on}
 use Rattle.job_reports.specs.Reading.{StatStops, TargetStops}
-use Rattle.job_reports.specs.Stops.{IsTroubleWithPath, out_of_memory_at}
+use Rattle.job_reports.specs.Stops.{out_of_memory_at}
 use Rattle.job_answers.specs.declared.placing.Origin.TheVariants.{Moved}
 use Rattle.job_answers.specs.declared.placing.Placing.TheVariants.{Asks, Merges, TargetKind}
 use Rattle.job_answers.specs.declared.replies.Decision.{Decision}
@@ -23,6 +24,7 @@ use Rattle.job_answers.specs.declared.replies.Decision.TheVariants.{Replace, Kee
 use Rattle.job_answers.specs.declared.replies.Replies.{Replies}
 use Rattle.job_answers.specs.Decisions.{decided}
 use Rattle.job_answers.specs.Questions.{placing_at}
+use Rattle.tree_copy.specs.Taking.{AreShort, ChildStops, FolderStops, Lists}
 use Rattle.thing_moving.specs.declared.taking.Taking.{Taking}
 use Rattle.thing_moving.specs.declared.taking.Taking.TheVariants as taking
 
@@ -57,21 +59,41 @@ pub record MayMove (s : FileSystem) (pair : Pair) (replies : Replies) : Type 0 w
 abbrev pub IsKept : FileSystem → Pair → Replies → Type 0
 IsKept s pair replies = (question : Question) × IsDecided s pair replies question Keep
 
--- what comes of it
-abbrev pub Takes : FileSystem → Pair → Replies → Taking → Type 0
-Takes s pair replies taking.Moves = MayMove s pair replies
-Takes s pair replies taking.Keeps = IsKept s pair replies
-Takes s pair replies (taking.Asks question) = IsDecided s pair replies question Ask
-
--- a folder comes onto a folder, and the two are not merged yet
-pub record IsToBeMerged (s : FileSystem) (pair : Pair) (cause : Cause) (path : Option Route) : Type 0 where
-  pub cause_is : cause ≡ why.Tree refused.Exists
-  pub path_is : path ≡ Some pair.target
+-- A folder comes onto a folder.
+pub record MeetsFolder (s : FileSystem) (pair : Pair) : Type 0 where
   pub source : Meta
   pub target : Meta
   pub of_source : Stands s pair.source source
   pub of_target : Stands s pair.target target
   pub meets : placing_at (Moved source.kind) (Some target.kind) ≡ Merges
+
+-- The two are merged: what lies in the source, by these names, is moved into the one at the target, each thing by a move of its own.
+pub record IsMerged (s : FileSystem) (pair : Pair) (names : List (List ℕ)) : Type 0 where
+  pub meets : MeetsFolder s pair
+  pub lists : Lists s pair.source names
+
+-- what comes of it
+abbrev pub Takes : FileSystem → Pair → Replies → Taking → Type 0
+Takes s pair replies taking.Moves = MayMove s pair replies
+Takes s pair replies taking.Keeps = IsKept s pair replies
+Takes s pair replies (taking.Asks question) = IsDecided s pair replies question Ask
+Takes s pair replies (taking.Merges names) = IsMerged s pair names
+
+-- all that lies in a folder that is merged can be told, and so can its target
+abbrev pub IsTold : Pair → Taking → Type 0
+IsTold pair taking.Moves = ⊤
+IsTold pair taking.Keeps = ⊤
+IsTold pair (taking.Asks question) = ⊤
+IsTold pair (taking.Merges names) = AreShort pair names
+
+-- The trouble of a folder that comes onto a folder: it can't be listed, or not all its names can be shown; or something in it has too long a path, or would at its
+-- target.
+pub record MergeStops (s : FileSystem) (pair : Pair) (cause : Cause) (path : Option Route) : Type 0 where
+  pub meets : MeetsFolder s pair
+  pub trouble : Trouble
+  pub cause_is : cause ≡ trouble.cause
+  pub path_is : path ≡ trouble.path
+  pub stops : FolderStops s pair.source trouble ⊎ ((name : List ℕ) × (names : List (List ℕ)) × Lists s pair.source names × Among names name × ChildStops pair name trouble)
 
 -- what stands at the target can't be replaced: a folder, or something special, or what comes there is a folder
 pub record StandsInTheWay (s : FileSystem) (pair : Pair) (cause : Cause) (path : Option Route) : Type 0 where
@@ -84,11 +106,11 @@ pub record StandsInTheWay (s : FileSystem) (pair : Pair) (cause : Cause) (path :
   pub of_target : Stands s pair.target target
   pub meets : placing_at (Moved source.kind) (Some target.kind) ≡ TargetKind kind
 
--- the trouble before a thing is renamed: a look was refused, a folder comes onto a folder, something stands in the way, or there was no memory
+-- the trouble before a thing is renamed: a look was refused, a folder can't be merged, something stands in the way, or there was no memory
 abbrev pub LooksStop : FileSystem → Pair → Cause → Option Route → Type 0
 LooksStop s pair cause path =
     (StatStops s pair.source cause path ⊎ TargetStops s pair.target cause path)
-    ⊎ ((IsToBeMerged s pair cause path ⊎ StandsInTheWay s pair cause path) ⊎ ((cause ≡ why.Memory) × (path ≡ None)))
+    ⊎ ((MergeStops s pair cause path ⊎ StandsInTheWay s pair cause path) ⊎ ((cause ≡ why.Memory) × (path ≡ None)))
 
 -- what is decided of what comes onto something
 abbrev pub Decides : Pair → Replies → Meta → Meta → Result Taking Trouble → Type 0
@@ -96,16 +118,5 @@ Decides pair replies source target (Ok taking.Moves) = decided replies (question
 Decides pair replies source target (Ok taking.Keeps) = decided replies (question_on pair.source source pair.target target) ≡ Keep
 Decides pair replies source target (Ok (taking.Asks question)) =
     (question ≡ question_on pair.source source pair.target target) × (decided replies question ≡ Ask)
+Decides pair replies source target (Ok (taking.Merges names)) = ⊥
 Decides pair replies source target (Err trouble) = trouble ≡ out_of_memory_at false
-
--- what is decided of what was seen
-abbrev pub Judges : Pair → Replies → Meta → Option Meta → Result Taking Trouble → Type 0
-Judges pair replies source None (Ok taking.Moves) = ⊤
-Judges pair replies source None (Ok taken) = ⊥
-Judges pair replies source None (Err trouble) = ⊥
-Judges pair replies source (Some target) (Ok taken) =
-    (folder_kind source.kind ≡ false) × (placing_at (Moved source.kind) (Some target.kind) ≡ Asks) × Decides pair replies source target (Ok taken)
-Judges pair replies source (Some target) (Err trouble) =
-    ((placing_at (Moved source.kind) (Some target.kind) ≡ Merges) × IsTroubleWithPath (why.Tree refused.Exists) pair.target trouble)
-    ⊎ (((kind : Kind) × (placing_at (Moved source.kind) (Some target.kind) ≡ TargetKind kind) × IsTroubleWithPath (why.TargetKind kind) pair.target trouble)
-    ⊎ (trouble ≡ out_of_memory_at false))

@@ -3,6 +3,7 @@
 
 mod dirty_moving;
 mod moving;
+mod stages;
 mod taking;
 
 pub use dirty_moving::{step_moving, wind_up_moving};

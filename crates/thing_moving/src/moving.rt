@@ -1,21 +1,25 @@
 //! The move of one thing, of a folder with all that lies in it, a call of the tree at each step: it is looked at and renamed, the folder of its
 //! target is synced, then the one in which it was, and only then is it finished, so that a thing whose move is finished is on the disk where it
 //! went.
-ghost use Rattle.std.specs.Prelude.{◌≡◌, false, true, Some, Err, if◌then◌else◌};
+ghost use Rattle.std.specs.Prelude.{◌≡◌, false, true, Some, Err};
 ghost use Rattle.mc_text.specs.Routes.{parent_of, same_path};
 ghost use Rattle.tree_trait.specs.Change.{current};
 ghost use Rattle.tree_trait.specs.Answers.{IfKnown};
 ghost use Rattle.job_reports.specs.Paths.{folder_of};
 ghost use Rattle.job_reports.specs.Stops.{calls_made_for};
 ghost use Rattle.job_answers.specs.Skipping.{kind_in, with_kind};
-ghost use Rattle.thing_moving.specs.Movings.{after_sync as synced_to, at_barrier, is_dirty, is_fresh, owed_folder, owes_target, skipped as skipped_to, started};
-ghost use Rattle.thing_moving.specs.MovingSteps.{Keeps, LastMovingStep, MovingSkips, MovingStep, NotRenamed, NotTaken, PassesOver};
+ghost use Rattle.tree_copy.specs.Taking.{AreShort};
+ghost use Rattle.thing_moving.specs.Movings.{after_sync as synced_to, at_barrier, is_dirty, is_fresh, owed_folder, owes_target, started};
+ghost use Rattle.thing_moving.specs.MovingSteps.{IsMergedOr, Keeps, LastMovingStep, MovingSkips, MovingStep, NotRenamed, NotTaken, PassesOver};
 ghost use Rattle.thing_moving.specs.Takings.{MayMove};
 
+use crate::stages::{after_target, skipped};
 use crate::taking::{Taking, take_up};
 use job_answers::{Replies, Skips, kind_of};
-use job_reports::{Cause, Did, Ending, LastStepResult, Pair, StepResult, Trouble, out_of_memory};
-use mc_text::Path;
+use job_reports::{
+    Cause, Did, Ending, LastStepResult, Pair, StepResult, Transfer, Trouble, out_of_memory,
+};
+use mc_text::{Names, Path};
 use std::alloc::Global;
 use std::marker::Model;
 use tree_deletion::{ended, last_report, refused, tried, with_call, without_call};
@@ -33,7 +37,7 @@ pub enum MovingStage {
     SyncSource,
     /// The thing stands at its target for good. Nothing is left to be done.
     Finish,
-    /// The thing stays where it is. Nothing is left to be done.
+    /// The thing stays where it is, or is a folder that is merged with one, and what lies in it is moved by others. Nothing is left to be done.
     PassedOver,
 }
 
@@ -48,22 +52,24 @@ pub struct ThingMoving {
 }
 
 impl Model for ThingMoving {
-    ghost use Rattle.std.specs.Prelude.{◌≡◌, Some};
-    ghost use Rattle.mc_text.specs.Routes.{parent_of};
+    ghost use Rattle.std.specs.Prelude.{◌≡◌, false, Some};
+    ghost use Rattle.mc_text.specs.Routes.{parent_of, same_path};
     ghost use Rattle.thing_moving.specs.Movings.{Moving};
 
     ghost Value = { Moving };
 
     ghost view = { λ m. record { pair = m.pair; stage = m.stage; skips = m.skips } };
 
-    ghost invariant = { λ m. (parent_of m.pair.source ≡ Some m.source_folder) × (parent_of m.pair.target ≡ Some m.folder) };
+    ghost invariant = { λ m. (parent_of m.pair.source ≡ Some m.source_folder) × (parent_of m.pair.target ≡ Some m.folder)
+        × (same_path m.pair.source m.pair.target ≡ false) };
 }
 
 impl ThingMoving {
-    /// The move of a thing, where these folders hold its source and its target.
+    /// The move of a thing to another path, where these folders hold its source and its target.
     pub fn new(pair: Pair, source_folder: Path, folder: Path) -> ThingMoving
         requires from { parent_of pair.source ≡ Some source_folder }
         requires to { parent_of pair.target ≡ Some folder }
+        requires apart { same_path pair.source pair.target ≡ false }
         ensures { result ≡ started pair }
     {
         ThingMoving {
@@ -219,6 +225,7 @@ impl ThingMoving {
             Ok(Taking::Moves) => self.rename(alloc, tree, replies),
             Ok(Taking::Keeps) => self.keep(alloc),
             Ok(Taking::Asks(question)) => without_call(Did::Asked(question)),
+            Ok(Taking::Merges(names)) => self.merge(alloc, names),
             Err(trouble) => self.passed_or_troubled(alloc, trouble),
         }
     }
@@ -273,6 +280,21 @@ impl ThingMoving {
         };
         self.stage = MovingStage::PassedOver;
         without_call(Did::Kept(target))
+    }
+
+    /// The two folders are merged: what lies in the source, by these names, are sources of their own, so the move is done with it. The paths of
+    /// the report come first, as those of a renaming do.
+    fn merge(&mut self, alloc: Global, names: Names) -> StepResult
+        requires told { AreShort self.old.pair names }
+        ensures did { IsMergedOr self.old names result.did self.new }
+        ensures calls { result.calls ≡ 0 }
+    {
+        let Ok(pair) = self.pair().copy(alloc) else {
+            return without_call(Did::Troubled(out_of_memory(false)));
+        };
+        let _count = names.as_slice().len();
+        self.stage = MovingStage::PassedOver;
+        without_call(Did::Merges(Transfer::ByMove, pair, names))
     }
 
     /// A look at the thing was refused, or it can't be moved.
@@ -359,28 +381,5 @@ impl ThingMoving {
             return after_target(self.folder(), self.source_folder());
         }
         MovingStage::Finish
-    }
-}
-
-/// Where a move stands once this folder, its target's, was synced.
-fn after_target(folder: &Path, source_folder: &Path) -> MovingStage
-    ensures { result ≡ if same_path folder.now source_folder.now then MovingStage.Finish else MovingStage.SyncSource }
-{
-    if folder.same(source_folder) {
-        return MovingStage::Finish;
-    }
-    MovingStage::SyncSource
-}
-
-/// Where a move stands whose thing stays.
-fn skipped(stage: MovingStage) -> MovingStage
-    ensures { result ≡ skipped_to stage }
-{
-    match stage {
-        MovingStage::Take => MovingStage::PassedOver,
-        MovingStage::SyncTarget => MovingStage::SyncTarget,
-        MovingStage::SyncSource => MovingStage::SyncSource,
-        MovingStage::Finish => MovingStage::Finish,
-        MovingStage::PassedOver => MovingStage::PassedOver,
     }
 }

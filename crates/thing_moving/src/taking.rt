@@ -1,15 +1,17 @@
 //! What comes of a thing that is to be moved: the looks at it and at its target, and what the answers that stand decide.
-ghost use Rattle.std.specs.Prelude.{◌≡◌, MatchResult, IfSome};
+ghost use Rattle.std.specs.Prelude.{IfOk, MatchResult};
 ghost use Rattle.tree_trait.specs.Change.{current};
 ghost use Rattle.tree_trait.specs.Answers.{IfKnown};
 ghost use Rattle.job_reports.specs.Reading.{Peeks};
-ghost use Rattle.thing_moving.specs.Takings.{Decides, Judges, LooksStop, Takes};
+ghost use Rattle.thing_moving.specs.Takings.{Decides, IsTold, LooksStop, Stands, Takes};
 
 use file_copy::{look, look_at_target};
 use job_answers::{Decision, Origin, Placing, Replies, placing_of};
 use job_reports::{Cause, Pair, Question, Trouble, out_of_memory, trouble_with_path};
+use mc_text::Names;
 use std::alloc::Global;
-use tree_trait::{Meta, Tree, TreeError};
+use tree_copy::names_to_merge;
+use tree_trait::{Meta, Tree};
 
 /// What comes of a thing that is to be moved.
 #[derive(Debug, Drop)]
@@ -20,6 +22,8 @@ pub(crate) enum Taking {
     Keeps,
     /// It is to be asked whether that is replaced.
     Asks(Question),
+    /// A folder comes onto a folder: what lies in it, by these names, is moved, each thing by a move of its own.
+    Merges(Names),
 }
 
 /// Looks at the thing and at its target, and says what comes of it.
@@ -32,6 +36,7 @@ pub(crate) fn take_up<T: Tree>(
     ensures known { IfKnown (T.contents tree.old) (λ log. MatchResult result
         (λ taking. Takes (current log) pair.now replies taking)
         (λ trouble. LooksStop (current log) pair.now trouble.cause trouble.path)) }
+    ensures told { IfOk result (IsTold pair.now) }
     ensures peeks { Peeks result (T.contents tree.old) (T.contents tree.new)
         (T.fault_count tree.old) (T.fault_count tree.new) }
 {
@@ -39,46 +44,36 @@ pub(crate) fn take_up<T: Tree>(
         Ok(meta) => meta,
         Err(trouble) => return Err(trouble),
     };
-    let target = match look_at_target(alloc, tree, &pair.target) {
-        Ok(found) => found,
-        Err(trouble) => return Err(trouble),
-    };
-    judge(alloc, pair, replies, source, target)
-}
-
-/// What the looks come to.
-fn judge(
-    alloc: Global,
-    pair: &Pair,
-    replies: Replies,
-    source: Meta,
-    target: Option<Meta>,
-) -> Result<Taking, Trouble>
-    ensures { Judges pair.now replies source target result }
-{
-    match target {
-        None => Ok(Taking::Moves),
-        Some(target) => onto(alloc, pair, replies, source, target),
+    match look_at_target(alloc, tree, &pair.target) {
+        Ok(None) => Ok(Taking::Moves),
+        Ok(Some(target)) => onto(alloc, tree, pair, replies, source, target),
+        Err(trouble) => Err(trouble),
     }
 }
 
-/// Something stands at the target. A folder isn't merged with another yet.
-fn onto(
+/// Something stands at the target.
+fn onto<T: Tree>(
     alloc: Global,
+    tree: &mut T,
     pair: &Pair,
     replies: Replies,
     source: Meta,
     target: Meta,
 ) -> Result<Taking, Trouble>
-    ensures { Judges pair.now replies source (Some target) result }
+    requires stand { IfKnown (T.contents tree.old) (λ log. Stands (current log) pair.now.source source × Stands (current log) pair.now.target target) }
+    ensures known { IfKnown (T.contents tree.old) (λ log. MatchResult result
+        (λ taking. Takes (current log) pair.now replies taking)
+        (λ trouble. LooksStop (current log) pair.now trouble.cause trouble.path)) }
+    ensures told { IfOk result (IsTold pair.now) }
+    ensures peeks { Peeks result (T.contents tree.old) (T.contents tree.new)
+        (T.fault_count tree.old) (T.fault_count tree.new) }
 {
     match placing_of(Origin::Moved(source.kind), Some(target.kind)) {
         Placing::Asks => by_answer(alloc, pair, replies, source, target),
-        Placing::Merges => Err(trouble_with_path(
-            alloc,
-            Cause::Tree(TreeError::Exists),
-            &pair.target,
-        )),
+        Placing::Merges => match names_to_merge(alloc, tree, pair) {
+            Ok(names) => Ok(Taking::Merges(names)),
+            Err(trouble) => Err(trouble),
+        },
         Placing::TargetKind(kind) => Err(trouble_with_path(
             alloc,
             Cause::TargetKind(kind),
