@@ -9,12 +9,14 @@ use Rattle.tree_deletion.specs.Standing as standing
 use Rattle.thing_making.specs.declared.making.MakingStage.{MakingStage}
 use Rattle.thing_making.specs.declared.making.MakingStage.TheVariants as making
 use Rattle.copy_move.specs.declared.work.Work.{Work}
-use Rattle.copy_move.specs.declared.work.Work.TheVariants.{Copy, Delete, Make, Move, SetMode}
+use Rattle.copy_move.specs.declared.work.Work.TheVariants.{Copy, Delete, Make, Move, SetMode, RemoveEmptied}
 use Rattle.copy_move.specs.Jobs.{WorkTells, at_barrier}
 use Rattle.thing_making.specs.Makings.{Making}
 use Rattle.thing_making.specs.Makings as makings
 use Rattle.thing_moving.specs.Movings.{Moving}
 use Rattle.thing_moving.specs.Movings as movings
+use Rattle.folder_removal.specs.Removals.{Removing}
+use Rattle.folder_removal.specs.Removals as removals
 
 -- the trouble of a making is at a barrier where its next call is
 making_barrier : (stage : MakingStage) (path : Route) (trouble : Trouble) → makings.IsTroubleAt stage path trouble → trouble.barrier ≡ makings.at_barrier stage
@@ -30,23 +32,5 @@ work_barrier (Delete d) (Delete new) trouble t = t.0 ∙ sym (ap standing.at_bar
 work_barrier (Make m) (Make new) trouble t = making_barrier m.stage m.path trouble t.0 ∙ sym (ap (λ (x : Making). makings.at_barrier x.stage) t.1)
 work_barrier (Move m) (Move new) trouble (barrier, undone, cause, is) = barrier ∙ sym (ap (λ (x : Moving). movings.at_barrier x.stage) is)
 work_barrier (SetMode s) (SetMode new) trouble (barrier, cause, is) = barrier ∙ sym (ap (λ (x : Setting). settings.at_barrier x.stage) is)
-work_barrier (Copy c) (Delete new) trouble t = absurd t
-work_barrier (Copy c) (Make new) trouble t = absurd t
-work_barrier (Copy c) (Move new) trouble t = absurd t
-work_barrier (Copy c) (SetMode new) trouble t = absurd t
-work_barrier (Delete d) (Copy new) trouble t = absurd t
-work_barrier (Delete d) (Make new) trouble t = absurd t
-work_barrier (Delete d) (Move new) trouble t = absurd t
-work_barrier (Delete d) (SetMode new) trouble t = absurd t
-work_barrier (Make m) (Copy new) trouble t = absurd t
-work_barrier (Move m) (Copy new) trouble t = absurd t
-work_barrier (Make m) (Delete new) trouble t = absurd t
-work_barrier (Move m) (Delete new) trouble t = absurd t
-work_barrier (Make m) (SetMode new) trouble t = absurd t
-work_barrier (Make m) (Move new) trouble t = absurd t
-work_barrier (Move m) (SetMode new) trouble t = absurd t
-work_barrier (SetMode s) (Copy new) trouble t = absurd t
-work_barrier (SetMode s) (Delete new) trouble t = absurd t
-work_barrier (SetMode s) (Make new) trouble t = absurd t
-work_barrier (Move s) (Make new) trouble t = absurd t
-work_barrier (SetMode s) (Move new) trouble t = absurd t
+work_barrier (RemoveEmptied r) (RemoveEmptied new) trouble (barrier, undone, cause, is) = barrier ∙ sym (ap (λ (x : Removing). removals.at_barrier x.stage) is)
+work_barrier old new trouble t = absurd t

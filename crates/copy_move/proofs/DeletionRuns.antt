@@ -88,7 +88,7 @@ met_by course P (Skipped path cause) none p h = absurd (none path cause p)
 met_by course P (Began part) none p h = h
 met_by course P (Chunk count) none p h = h
 met_by course P (Asked question) none p h = h
-met_by course P (Merges pair names) none p h = h
+met_by course P (Merges transfer pair names) none p h = h
 met_by course P (Moved pair) none p h = h
 met_by course P (Set path) none p h = h
 met_by course P (Placed path) none p h = h
@@ -111,7 +111,7 @@ module _ (m : Deletion) (tried : ℕ) (skips : Kinds) (holds : parent_of m.path 
   sync_tells (Began part) s = absurd s
   sync_tells (Chunk count) s = absurd s
   sync_tells (Asked question) s = absurd s
-  sync_tells (Merges pair names) s = absurd s
+  sync_tells (Merges transfer pair names) s = absurd s
   sync_tells (Moved pair) s = absurd s
   sync_tells (Set path) s = absurd s
   sync_tells (Placed path) s = absurd s
@@ -128,7 +128,7 @@ module _ (m : Deletion) (tried : ℕ) (skips : Kinds) (holds : parent_of m.path 
   sync_calls (Began part) s log known = absurd s
   sync_calls (Chunk count) s log known = absurd s
   sync_calls (Asked question) s log known = absurd s
-  sync_calls (Merges pair names) s log known = absurd s
+  sync_calls (Merges transfer pair names) s log known = absurd s
   sync_calls (Moved pair) s log known = absurd s
   sync_calls (Set path) s log known = absurd s
   sync_calls (Placed path) s log known = absurd s
@@ -148,7 +148,7 @@ module _ (m : Deletion) (tried : ℕ) (skips : Kinds) (holds : parent_of m.path 
   sync_leaves (Began part) s = absurd s
   sync_leaves (Chunk count) s = absurd s
   sync_leaves (Asked question) s = absurd s
-  sync_leaves (Merges pair names) s = absurd s
+  sync_leaves (Merges transfer pair names) s = absurd s
   sync_leaves (Moved pair) s = absurd s
   sync_leaves (Set path) s = absurd s
   sync_leaves (Placed path) s = absurd s
@@ -167,7 +167,7 @@ module _ (m : Deletion) (tried : ℕ) (skips : Kinds) (holds : parent_of m.path 
   no_progress (Began part) s h = s
   no_progress (Chunk count) s h = s
   no_progress (Asked question) s h = s
-  no_progress (Merges pair names) s h = s
+  no_progress (Merges transfer pair names) s h = s
   no_progress (Moved pair) s h = s
   no_progress (Set path) s h = s
   no_progress (Placed path) s h = s
@@ -236,7 +236,7 @@ module _ (m new : Deletion) (tried : ℕ) (skips : Kinds) (holds : parent_of m.p
     work_tells (Began part) w = absurd w
     work_tells (Chunk count) w = absurd w
     work_tells (Asked question) w = absurd w
-    work_tells (Merges pair names) w = absurd w
+    work_tells (Merges transfer pair names) w = absurd w
     work_tells (Moved pair) w = absurd w
     work_tells (Set path) w = absurd w
     work_tells (Placed path) w = absurd w
@@ -253,7 +253,7 @@ module _ (m new : Deletion) (tried : ℕ) (skips : Kinds) (holds : parent_of m.p
     work_keeps (Began part) w = absurd w
     work_keeps (Chunk count) w = absurd w
     work_keeps (Asked question) w = absurd w
-    work_keeps (Merges pair names) w = absurd w
+    work_keeps (Merges transfer pair names) w = absurd w
     work_keeps (Moved pair) w = absurd w
     work_keeps (Set path) w = absurd w
     work_keeps (Placed path) w = absurd w
@@ -271,7 +271,7 @@ module _ (m new : Deletion) (tried : ℕ) (skips : Kinds) (holds : parent_of m.p
     work_calls (Began part) log after w h = absurd w
     work_calls (Chunk count) log after w h = absurd w
     work_calls (Asked question) log after w h = absurd w
-    work_calls (Merges pair names) log after w h = absurd w
+    work_calls (Merges transfer pair names) log after w h = absurd w
     work_calls (Moved pair) log after w h = absurd w
     work_calls (Set path) log after w h = absurd w
     work_calls (Placed path) log after w h = absurd w
@@ -289,7 +289,7 @@ module _ (m new : Deletion) (tried : ℕ) (skips : Kinds) (holds : parent_of m.p
     work_leaves (Began part) dirty dirty_after before after w leaves called = absurd w
     work_leaves (Chunk count) dirty dirty_after before after w leaves called = absurd w
     work_leaves (Asked question) dirty dirty_after before after w leaves called = absurd w
-    work_leaves (Merges pair names) dirty dirty_after before after w leaves called = absurd w
+    work_leaves (Merges transfer pair names) dirty dirty_after before after w leaves called = absurd w
     work_leaves (Moved pair) dirty dirty_after before after w leaves called = absurd w
     work_leaves (Set path) dirty dirty_after before after w leaves called = absurd w
     work_leaves (Placed path) dirty dirty_after before after w leaves called = absurd w
@@ -322,7 +322,7 @@ module _ (m new : Deletion) (tried : ℕ) (skips : Kinds) (holds : parent_of m.p
     fewer_worked (Began part) falls w h = falls h
     fewer_worked (Chunk count) falls w h = falls h
     fewer_worked (Asked question) falls w h = falls h
-    fewer_worked (Merges pair names) falls w h = falls h
+    fewer_worked (Merges transfer pair names) falls w h = falls h
     fewer_worked (Moved pair) falls w h = falls h
     fewer_worked (Set path) falls w h = falls h
     fewer_worked (Placed path) falls w h = falls h
@@ -402,7 +402,7 @@ passed_is skips (Made path) cause is = absurd (let f : ⊥ = cc in f)
 passed_is skips (Began part) cause is = absurd (let f : ⊥ = cc in f)
 passed_is skips (Chunk count) cause is = absurd (let f : ⊥ = cc in f)
 passed_is skips (Asked question) cause is = absurd (let f : ⊥ = cc in f)
-passed_is skips (Merges pair names) cause is = absurd (let f : ⊥ = cc in f)
+passed_is skips (Merges transfer pair names) cause is = absurd (let f : ⊥ = cc in f)
 passed_is skips (Moved pair) cause is = absurd (let f : ⊥ = cc in f)
 passed_is skips (Set path) cause is = absurd (let f : ⊥ = cc in f)
 passed_is skips (Placed path) cause is = absurd (let f : ⊥ = cc in f)
@@ -592,7 +592,7 @@ module _ (ending : Ending) (m : Deletion) (from next : ℕ) (skips : Kinds) (hol
   by_did (Began part) s t = absurd t
   by_did (Chunk count) s t = absurd t
   by_did (Asked question) s t = absurd t
-  by_did (Merges pair names) s t = absurd t
+  by_did (Merges transfer pair names) s t = absurd t
   by_did (Moved pair) s t = absurd t
   by_did (Set path) s t = absurd t
   by_did (Placed path) s t = absurd t

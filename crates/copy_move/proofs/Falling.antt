@@ -7,7 +7,7 @@ use Rattle.job_reports.specs.declared.report.Did.TheVariants.{Began, Chunk, Plac
 use Rattle.thing_making.specs.declared.making.MakingStage.{MakingStage}
 use Rattle.thing_making.specs.declared.making.MakingStage.TheVariants as making
 use Rattle.copy_move.specs.declared.work.Work.{Work}
-use Rattle.copy_move.specs.declared.work.Work.TheVariants.{Copy, Delete, Make, Move, SetMode}
+use Rattle.copy_move.specs.declared.work.Work.TheVariants.{Copy, Delete, Make, Move, SetMode, RemoveEmptied}
 use Rattle.thing_making.specs.Makings.{Making}
 use Rattle.thing_making.specs.Makings as makings
 use Rattle.copy_move.specs.Jobs.{IsGoing, course_after}
@@ -18,6 +18,7 @@ use Rattle.copy_move.specs.Ranks.{last_making_steps, last_rank, last_setting_ste
 use Rattle.mode_setting.specs.declared.setting.Stage.{Stage as SettingStage}
 use Rattle.mode_setting.specs.declared.setting.Stage.TheVariants as setting
 use Rattle.copy_move.proofs.MovingFalls.{moving_low, moving_tried_low}
+use Rattle.copy_move.proofs.RemovalFalls.{removal_low, removal_tried_low}
 
 tried_low : (stage : MakingStage) → last_making_steps stage < making_rank stage
 tried_low making.Make = omega arith
@@ -44,6 +45,7 @@ trouble_falls (Delete d) g = omega arith
 trouble_falls (Make m) g = tried_low m.stage
 trouble_falls (Move m) g = moving_tried_low m.stage
 trouble_falls (SetMode s) g = setting_tried_low s.stage
+trouble_falls (RemoveEmptied r) g = removal_tried_low r.stage
 
 pub making_falls : (old new : Making) (did : Did) → makings.Tells old did new → ends did ≡ false → rank_on (course_after did) (Make new) < work_rank (Make old)
 making_falls old new (Made path) (at, path_is, is) h =
@@ -59,7 +61,7 @@ making_falls old new (Ended NoMemory part) t h = absurd t
 making_falls old new (Began part) t h = absurd t
 making_falls old new (Chunk count) t h = absurd t
 making_falls old new (Asked question) t h = absurd t
-making_falls old new (Merges pair names) t h = absurd t
+making_falls old new (Merges transfer pair names) t h = absurd t
 making_falls old new (Moved pair) t h = absurd t
 making_falls old new (Set path) t h = absurd t
 making_falls old new (Placed path) t h = absurd t
@@ -75,7 +77,7 @@ last_making_falls ending old new (Ended how part) w h = absurd cc
 last_making_falls ending old new (Began part) w h = absurd w
 last_making_falls ending old new (Chunk count) w h = absurd w
 last_making_falls ending old new (Asked question) w h = absurd w
-last_making_falls ending old new (Merges pair names) w h = absurd w
+last_making_falls ending old new (Merges transfer pair names) w h = absurd w
 last_making_falls ending old new (Moved pair) w h = absurd w
 last_making_falls ending old new (Set path) w h = absurd w
 last_making_falls ending old new (Placed path) w h = absurd w
@@ -111,3 +113,4 @@ waiting_falls (Make m) g = by m.stage
     by making.Finish = omega arith
     by making.PassedOver = omega arith
 waiting_falls (Move m) g = moving_low m.stage
+waiting_falls (RemoveEmptied r) g = removal_low r.stage

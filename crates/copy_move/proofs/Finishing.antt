@@ -16,10 +16,11 @@ use Rattle.subtree_copy.proofs.Finishes.{finish_is_still}
 use Rattle.tree_deletion.specs.Folders as folders
 use Rattle.thing_making.specs.Makings as makings
 use Rattle.thing_moving.specs.Movings as movings
+use Rattle.folder_removal.specs.Removals as removals
 use Rattle.copy_move.specs.declared.run.Course.{Course}
 use Rattle.copy_move.specs.declared.run.Course.TheVariants.{GoesOn, Asking, InTrouble, OwedSyncFailed, Skips, Ends}
 use Rattle.copy_move.specs.declared.work.Work.{Work}
-use Rattle.copy_move.specs.declared.work.Work.TheVariants.{Copy, Delete, Make, Move, SetMode}
+use Rattle.copy_move.specs.declared.work.Work.TheVariants.{Copy, Delete, Make, Move, SetMode, RemoveEmptied}
 use Rattle.copy_move.specs.Jobs.{CallsOn, Running, TellsOn, WorkCalls, WorkTells, WorkWinds, first_work, part_of, passing_over, skips_of}
 use Rattle.copy_move.specs.Ranks.{work_rank}
 use Rattle.copy_move.specs.Settling.{WorkLeaves}
@@ -46,26 +47,8 @@ work_stays (Delete d) (Delete new) part (stage, none, at) = (none, refl, at.skip
 work_stays (Make m) (Make new) part (done, none, is) = (none, refl, refl)
 work_stays (Move m) (Move new) part (done, none, is) = (none, refl, ap (λ (k : movings.Moving). k.skips) is)
 work_stays (SetMode s) (SetMode new) part (stage, none, is) = (none, refl, ap (λ (k : settings.Setting). k.skips) is)
-work_stays (Copy c) (Delete new) part h = absurd h
-work_stays (Copy c) (Make new) part h = absurd h
-work_stays (Copy c) (Move new) part h = absurd h
-work_stays (Copy c) (SetMode new) part h = absurd h
-work_stays (Delete d) (Copy new) part h = absurd h
-work_stays (Delete d) (Make new) part h = absurd h
-work_stays (Delete d) (Move new) part h = absurd h
-work_stays (Delete d) (SetMode new) part h = absurd h
-work_stays (Make m) (Copy new) part h = absurd h
-work_stays (Move m) (Copy new) part h = absurd h
-work_stays (Make m) (Delete new) part h = absurd h
-work_stays (Move m) (Delete new) part h = absurd h
-work_stays (Make m) (SetMode new) part h = absurd h
-work_stays (Make m) (Move new) part h = absurd h
-work_stays (Move m) (SetMode new) part h = absurd h
-work_stays (SetMode s) (Copy new) part h = absurd h
-work_stays (SetMode s) (Delete new) part h = absurd h
-work_stays (SetMode s) (Make new) part h = absurd h
-work_stays (Move s) (Make new) part h = absurd h
-work_stays (SetMode s) (Move new) part h = absurd h
+work_stays (RemoveEmptied r) (RemoveEmptied new) part (done, none, is) = (none, refl, ap (λ (k : removals.Removing). k.skips) is)
+work_stays old new part h = absurd h
 
 -- it makes no call
 work_calls : (unclaimed : Route → Type 0) (replies : Replies) (old new : Work) (part : Option Route) (log : CallLog) (after : Option CallLog) → WorkCalls unclaimed replies old (Ended Finished part) new log after → after ≡ Some log
@@ -75,10 +58,8 @@ work_calls unclaimed replies (Delete d) new part log after h = h
 work_calls unclaimed replies (Make m) new part log after h = h
 work_calls unclaimed replies (Move m) new part log after h = h
 work_calls unclaimed replies (SetMode s) new part log after h = h
-work_calls unclaimed replies (Copy c) (Delete new) part log after h = absurd h
-work_calls unclaimed replies (Copy c) (Make new) part log after h = absurd h
-work_calls unclaimed replies (Copy c) (Move new) part log after h = absurd h
-work_calls unclaimed replies (Copy c) (SetMode new) part log after h = absurd h
+work_calls unclaimed replies (RemoveEmptied r) new part log after h = h
+work_calls unclaimed replies old new part log after h = absurd h
 
 no_change : (b : Bool) (folder : Route) (dirty : List Route) → folders.with_change b b folder dirty ≡ dirty
 no_change true folder dirty = refl
@@ -97,26 +78,10 @@ module _ (unclaimed : Route → Type 0) (part : Option Route) (calls : ℕ) (dir
       leaves ∙ (ap (λ (k : movings.Moving). movings.with_moves m.stage k.stage m.pair dirty) is ∙ no_moves m.stage m.pair dirty)
   work_list replies (SetMode s) (SetMode new) (stage, none, is) leaves walks =
       leaves ∙ (ap (λ (k : settings.Setting). folders.with_change (settings.is_dirty s.stage) (settings.is_dirty k.stage) s.path dirty) is ∙ no_change (settings.is_dirty s.stage) s.path dirty)
-  work_list replies (Copy c) (Delete new) tells leaves walks = absurd tells
-  work_list replies (Copy c) (Make new) tells leaves walks = absurd tells
-  work_list replies (Copy c) (Move new) tells leaves walks = absurd tells
-  work_list replies (Copy c) (SetMode new) tells leaves walks = absurd tells
-  work_list replies (Delete d) (Copy new) tells leaves walks = absurd tells
-  work_list replies (Delete d) (Make new) tells leaves walks = absurd tells
-  work_list replies (Delete d) (Move new) tells leaves walks = absurd tells
-  work_list replies (Delete d) (SetMode new) tells leaves walks = absurd tells
-  work_list replies (Make m) (Copy new) tells leaves walks = absurd tells
-  work_list replies (Move m) (Copy new) tells leaves walks = absurd tells
-  work_list replies (Make m) (Delete new) tells leaves walks = absurd tells
-  work_list replies (Move m) (Delete new) tells leaves walks = absurd tells
-  work_list replies (Make m) (SetMode new) tells leaves walks = absurd tells
-  work_list replies (Make m) (Move new) tells leaves walks = absurd tells
-  work_list replies (Move m) (SetMode new) tells leaves walks = absurd tells
-  work_list replies (SetMode s) (Copy new) tells leaves walks = absurd tells
-  work_list replies (SetMode s) (Delete new) tells leaves walks = absurd tells
-  work_list replies (SetMode s) (Make new) tells leaves walks = absurd tells
-  work_list replies (Move s) (Make new) tells leaves walks = absurd tells
-  work_list replies (SetMode s) (Move new) tells leaves walks = absurd tells
+  work_list replies (RemoveEmptied r) (RemoveEmptied new) (done, none, is) leaves walks =
+      leaves ∙ (ap (λ (k : removals.Removing). folders.with_change (removals.is_dirty r.stage) (removals.is_dirty k.stage) (folder_of r.path) dirty) is
+      ∙ no_change (removals.is_dirty r.stage) (folder_of r.path) dirty)
+  work_list replies old new tells leaves walks = absurd tells
 
 -- last steps end as was ordered
 wound_as : (ending how : Ending) (old new : Work) (part : Option Route) → WorkWinds ending old (Ended how part) new → how ≡ ending
@@ -125,26 +90,8 @@ wound_as ending how (Delete d) (Delete new) part w = w.0
 wound_as ending how (Make m) (Make new) part (apart, is, none, stands) = is
 wound_as ending how (Move m) (Move new) part (clean, is, none, stands) = is
 wound_as ending how (SetMode s) (SetMode new) part (clean, is, none, stands) = is
-wound_as ending how (Copy c) (Delete new) part h = absurd h
-wound_as ending how (Copy c) (Make new) part h = absurd h
-wound_as ending how (Copy c) (Move new) part h = absurd h
-wound_as ending how (Copy c) (SetMode new) part h = absurd h
-wound_as ending how (Delete d) (Copy new) part h = absurd h
-wound_as ending how (Delete d) (Make new) part h = absurd h
-wound_as ending how (Delete d) (Move new) part h = absurd h
-wound_as ending how (Delete d) (SetMode new) part h = absurd h
-wound_as ending how (Make m) (Copy new) part h = absurd h
-wound_as ending how (Move m) (Copy new) part h = absurd h
-wound_as ending how (Make m) (Delete new) part h = absurd h
-wound_as ending how (Move m) (Delete new) part h = absurd h
-wound_as ending how (Make m) (SetMode new) part h = absurd h
-wound_as ending how (Make m) (Move new) part h = absurd h
-wound_as ending how (Move m) (SetMode new) part h = absurd h
-wound_as ending how (SetMode s) (Copy new) part h = absurd h
-wound_as ending how (SetMode s) (Delete new) part h = absurd h
-wound_as ending how (SetMode s) (Make new) part h = absurd h
-wound_as ending how (Move s) (Make new) part h = absurd h
-wound_as ending how (SetMode s) (Move new) part h = absurd h
+wound_as ending how (RemoveEmptied r) (RemoveEmptied new) part (clean, is, none, stands) = is
+wound_as ending how old new part h = absurd h
 
 module _ (unclaimed : Route → Type 0) (job new : Running) (part : Option Route) (calls : ℕ) (dirty dirty_after : List Route) (before after : Option CallLog) (f0 f1 : ℕ) (never : job.course ≡ Ends Finished → ⊥) where
   owed : (path : Route) → SyncsOwed job path (Ended Finished part) new dirty dirty_after before after → Finishes job new part dirty dirty_after before after
@@ -187,6 +134,7 @@ passing_rank skips (Delete d) = refl
 passing_rank skips (Make m) = refl
 passing_rank skips (Move m) = refl
 passing_rank skips (SetMode s) = refl
+passing_rank skips (RemoveEmptied r) = refl
 
 -- What a history tells of a job that goes on with its next source.
 skips_kept : (id : ℕ) (work : Work) → skips_of (work_told id work) ≡ skips_of work
@@ -195,6 +143,7 @@ skips_kept id (Delete d) = refl
 skips_kept id (Make m) = refl
 skips_kept id (Move m) = refl
 skips_kept id (SetMode s) = refl
+skips_kept id (RemoveEmptied r) = refl
 
 passing_told : (id : ℕ) (skips : SkippedKinds) (work : Work) → work_told id (passing_over skips work) ≡ passing_over skips (work_told id work)
 passing_told id skips (Copy c) = refl
@@ -202,6 +151,7 @@ passing_told id skips (Delete d) = refl
 passing_told id skips (Make m) = refl
 passing_told id skips (Move m) = refl
 passing_told id skips (SetMode s) = refl
+passing_told id skips (RemoveEmptied r) = refl
 
 -- the job with this number that begins so, and keeps of what was answered what holds for all items
 abbrev next_job : ℕ → Replies → Work → Running

@@ -19,7 +19,7 @@ use Rattle.job_reports.specs.Stops.{out_of_memory_at}
 use Rattle.tree_deletion.specs.Folders.{is_one_of, joined}
 use Rattle.tree_deletion.specs.Standing.{at_barrier as deletion_barrier}
 use Rattle.copy_move.specs.declared.work.Work.{Work}
-use Rattle.copy_move.specs.declared.work.Work.TheVariants.{Copy, Delete, Make, Move, SetMode}
+use Rattle.copy_move.specs.declared.work.Work.TheVariants.{Copy, Delete, Make, Move, SetMode, RemoveEmptied}
 use Rattle.copy_move.specs.declared.run.Course.{Course}
 use Rattle.copy_move.specs.declared.run.Course.TheVariants.{GoesOn, Skips, Ends}
 use Rattle.copy_move.specs.Deletions.{Deleting, left_in}
@@ -54,7 +54,7 @@ tries_after (Troubled trouble) work dirty = refl
 tries_after (Began part) work dirty = refl
 tries_after (Chunk count) work dirty = refl
 tries_after (Asked question) work dirty = refl
-tries_after (Merges pair names) work dirty = refl
+tries_after (Merges transfer pair names) work dirty = refl
 tries_after (Moved pair) work dirty = refl
 tries_after (Set path) work dirty = refl
 tries_after (Placed path) work dirty = refl
@@ -76,7 +76,7 @@ tried_more Barrier (Some e) folder dirty = omega arith
 tried_more (Began part) left folder dirty = omega arith
 tried_more (Chunk bytes) left folder dirty = omega arith
 tried_more (Asked question) left folder dirty = omega arith
-tried_more (Merges pair names) left folder dirty = omega arith
+tried_more (Merges transfer pair names) left folder dirty = omega arith
 tried_more (Moved pair) left folder dirty = omega arith
 tried_more (Set path) left folder dirty = omega arith
 tried_more (Placed path) left folder dirty = omega arith
@@ -108,7 +108,7 @@ module _ (unclaimed : Route → Type 0) (replies : Replies) (d new : Deleting) (
   falls_by (Began part) t h less going = absurd t
   falls_by (Chunk count) t h less going = absurd t
   falls_by (Asked question) t h less going = absurd t
-  falls_by (Merges pair names) t h less going = absurd t
+  falls_by (Merges transfer pair names) t h less going = absurd t
   falls_by (Moved pair) t h less going = absurd t
   falls_by (Set path) t h less going = absurd t
   falls_by (Placed path) t h less going = absurd t
@@ -266,16 +266,9 @@ walks_later : (unclaimed : Route → Type 0) (replies : Replies) (old new : Work
 walks_later unclaimed replies (Make m) new did calls dirty dirty_after before after f0 f1 f2 later w = tt
 walks_later unclaimed replies (Move m) new did calls dirty dirty_after before after f0 f1 f2 later w = tt
 walks_later unclaimed replies (SetMode s) new did calls dirty dirty_after before after f0 f1 f2 later w = tt
-walks_later unclaimed replies (Delete d) (Make new) did calls dirty dirty_after before after f0 f1 f2 later w = absurd w
-walks_later unclaimed replies (Delete d) (Move new) did calls dirty dirty_after before after f0 f1 f2 later w = absurd w
-walks_later unclaimed replies (Delete d) (SetMode new) did calls dirty dirty_after before after f0 f1 f2 later w = absurd w
-walks_later unclaimed replies (Copy c) (Delete new) did calls dirty dirty_after before after f0 f1 f2 later w = absurd w
-walks_later unclaimed replies (Copy c) (Make new) did calls dirty dirty_after before after f0 f1 f2 later w = absurd w
-walks_later unclaimed replies (Copy c) (Move new) did calls dirty dirty_after before after f0 f1 f2 later w = absurd w
-walks_later unclaimed replies (Copy c) (SetMode new) did calls dirty dirty_after before after f0 f1 f2 later w = absurd w
+walks_later unclaimed replies (RemoveEmptied r) new did calls dirty dirty_after before after f0 f1 f2 later w = tt
 walks_later unclaimed replies (Copy c) (Copy new) did calls dirty dirty_after before after f0 f1 f2 later w =
     record { free = w.free; allows = w.allows; since = w.since; later = let more = w.later in omega (arith, later, more); steps = w.steps }
-walks_later unclaimed replies (Delete d) (Copy new) did calls dirty dirty_after before after f0 f1 f2 later w = absurd w
 walks_later unclaimed replies (Delete d) (Delete new) did calls dirty dirty_after before after f0 f1 f2 later (inl (worked, mid, spare, spare_after, s, passed)) = inl (
   worked,
   mid,
@@ -312,6 +305,7 @@ walks_later unclaimed replies (Delete d) (Delete new) did calls dirty dirty_afte
   },
   same,
 )
+walks_later unclaimed replies old new did calls dirty dirty_after before after f0 f1 f2 later w = absurd w
 
 -- a step of a job that goes on, after such looks
 pub own_later : (unclaimed : Route → Type 0) (job new : Running) (did : Did) (calls : ℕ) (dirty dirty_after : List Route) (first before after : Option CallLog) (f0 f1 f2 : ℕ) → job.course ≡ GoesOn → before ≡ first → f0 ≤ f1

@@ -39,6 +39,7 @@ pub moving_told : (id : ℕ) (replies : Replies) (old new : Moving) (did : Did) 
     → after_step did (told (moves_on id replies old GoesOn)) ≡ Some (told (moves_on id replies new (course_after did)))
 moving_told id replies old new (Moved pair) (at, pair_is, is) h = rw is refl
 moving_told id replies old new (Kept path) (at, path_is, is) h = rw is refl
+moving_told id replies old new (Merges transfer pair names) (at, merges, is) h = rw is refl
 moving_told id replies old new (Skipped path cause) (at, path_is, passes, is) h =
     rw is (ap (λ stage. Some (moves_on id replies (record old { stage = movings.skipped stage }) GoesOn)) at)
 moving_told id replies old new Barrier (dirty, is) h = rw is refl
@@ -50,7 +51,6 @@ moving_told id replies old new (Ended Killed part) t h = absurd t
 moving_told id replies old new (Ended NoMemory part) t h = absurd t
 moving_told id replies old new (Began part) t h = absurd t
 moving_told id replies old new (Chunk count) t h = absurd t
-moving_told id replies old new (Merges pair names) t h = absurd t
 moving_told id replies old new (Set path) t h = absurd t
 moving_told id replies old new (Placed path) t h = absurd t
 moving_told id replies old new (Removed path) t h = absurd t
@@ -65,7 +65,7 @@ moving_winds id replies ending old new (Ended how part) t h = absurd cc
 moving_winds id replies ending old new (Began part) t h = absurd t
 moving_winds id replies ending old new (Chunk count) t h = absurd t
 moving_winds id replies ending old new (Asked question) t h = absurd t
-moving_winds id replies ending old new (Merges pair names) t h = absurd t
+moving_winds id replies ending old new (Merges transfer pair names) t h = absurd t
 moving_winds id replies ending old new (Moved pair) t h = absurd t
 moving_winds id replies ending old new (Set path) t h = absurd t
 moving_winds id replies ending old new (Placed path) t h = absurd t

@@ -106,6 +106,8 @@ moving_falls m new (Moved pair) dirty (at, pair_is, is) h =
     subst (λ (n : Moving). Falls m.stage (moving_rank n.stage) n.stage m.pair dirty) (sym is) (subst (λ s. Falls s 6 SyncTarget m.pair dirty) (sym at) (renamed_low m.pair dirty))
 moving_falls m new (Kept path) dirty (at, path_is, is) h =
     subst (λ (n : Moving). Falls m.stage (moving_rank n.stage) n.stage m.pair dirty) (sym is) (subst (λ s. Falls s 4 PassedOver m.pair dirty) (sym at) (passed_low m.pair dirty))
+moving_falls m new (Merges transfer pair names) dirty (at, merges, is) h =
+    subst (λ (n : Moving). Falls m.stage (moving_rank n.stage) n.stage m.pair dirty) (sym is) (subst (λ s. Falls s 4 PassedOver m.pair dirty) (sym at) (passed_low m.pair dirty))
 moving_falls m new (Skipped path cause) dirty (at, path_is, passes, is) h =
     subst (λ (n : Moving). Falls m.stage (moving_rank n.stage) n.stage m.pair dirty) (sym is) (subst (λ s. Falls s 4 PassedOver m.pair dirty) (sym at) (passed_low m.pair dirty))
 moving_falls m new Barrier dirty (owed, is) h =
@@ -120,7 +122,6 @@ moving_falls m new (Ended Killed part) dirty t h = absurd t
 moving_falls m new (Ended NoMemory part) dirty t h = absurd t
 moving_falls m new (Began part) dirty t h = absurd t
 moving_falls m new (Chunk count) dirty t h = absurd t
-moving_falls m new (Merges pair names) dirty t h = absurd t
 moving_falls m new (Set path) dirty t h = absurd t
 moving_falls m new (Placed path) dirty t h = absurd t
 moving_falls m new (Removed path) dirty t h = absurd t
@@ -137,7 +138,7 @@ fault_so (Skipped path cause) h = h
 fault_so (Began part) h = h
 fault_so (Chunk count) h = h
 fault_so (Asked question) h = h
-fault_so (Merges pair names) h = h
+fault_so (Merges transfer pair names) h = h
 fault_so (Moved pair) h = h
 fault_so (Set path) h = h
 fault_so (Placed path) h = h

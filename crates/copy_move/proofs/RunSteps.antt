@@ -8,7 +8,7 @@ use Rattle.job_reports.specs.declared.report.Did.{Did}
 use Rattle.job_reports.specs.declared.report.Did.TheVariants.{Began, Chunk, Placed, Removed, Made, Set, Kept, Skipped, Cleaned, Barrier, Asked, Merges, Moved, Troubled, Ended}
 use Rattle.job_reports.specs.Reports.{IsFault}
 use Rattle.copy_move.specs.declared.work.Work.{Work}
-use Rattle.copy_move.specs.declared.work.Work.TheVariants.{Copy, Delete, Make, Move, SetMode}
+use Rattle.copy_move.specs.declared.work.Work.TheVariants.{Copy, Delete, Make, Move, SetMode, RemoveEmptied}
 use Rattle.copy_move.specs.declared.run.Course.TheVariants.{GoesOn, Ends}
 use Rattle.copy_move.specs.Jobs.{Running, TellsOn, CallsOn, WorkWinds, course_after}
 use Rattle.copy_move.specs.Faults.{MeetsFault}
@@ -17,35 +17,16 @@ use Rattle.copy_move.proofs.DeletionRuns.{met_by}
 
 -- no last step reports a fault
 quiet_end : (ending : Ending) (old new : Work) (did : Did) → WorkWinds ending old did new → IsFault did → ⊥
-quiet_end ending (Delete d) (Make new) (Troubled trouble) w h = w
-quiet_end ending (Delete d) (Move new) (Troubled trouble) w h = w
-quiet_end ending (Make m) (Delete new) (Troubled trouble) w h = w
-quiet_end ending (Move m) (Delete new) (Troubled trouble) w h = w
+quiet_end ending (Copy c) (Copy new) (Troubled trouble) w h = w.may
 quiet_end ending (Delete d) (Delete new) (Troubled trouble) w h = w
 quiet_end ending (Make m) (Make new) (Troubled trouble) w h = w
 quiet_end ending (Move m) (Move new) (Troubled trouble) w h = w
-quiet_end ending (Delete d) (SetMode new) (Troubled trouble) w h = w
-quiet_end ending (Make m) (SetMode new) (Troubled trouble) w h = w
-quiet_end ending (Make m) (Move new) (Troubled trouble) w h = w
-quiet_end ending (Move m) (SetMode new) (Troubled trouble) w h = w
-quiet_end ending (SetMode s) (Delete new) (Troubled trouble) w h = w
-quiet_end ending (SetMode s) (Make new) (Troubled trouble) w h = w
-quiet_end ending (Move s) (Make new) (Troubled trouble) w h = w
-quiet_end ending (SetMode s) (Move new) (Troubled trouble) w h = w
 quiet_end ending (SetMode s) (SetMode new) (Troubled trouble) w h = w
-quiet_end ending (Delete d) (Copy new) (Troubled trouble) w h = w
-quiet_end ending (Make m) (Copy new) (Troubled trouble) w h = w
-quiet_end ending (Move m) (Copy new) (Troubled trouble) w h = w
-quiet_end ending (SetMode s) (Copy new) (Troubled trouble) w h = w
-quiet_end ending (Copy c) (Delete new) (Troubled trouble) w h = w
-quiet_end ending (Copy c) (Make new) (Troubled trouble) w h = w
-quiet_end ending (Copy c) (Move new) (Troubled trouble) w h = w
-quiet_end ending (Copy c) (SetMode new) (Troubled trouble) w h = w
-quiet_end ending (Copy c) (Copy new) (Troubled trouble) w h = w.may
+quiet_end ending (RemoveEmptied r) (RemoveEmptied new) (Troubled trouble) w h = w
 quiet_end ending old new (Began part) w h = h
 quiet_end ending old new (Chunk count) w h = h
 quiet_end ending old new (Asked question) w h = h
-quiet_end ending old new (Merges pair names) w h = h
+quiet_end ending old new (Merges transfer pair names) w h = h
 quiet_end ending old new (Moved pair) w h = h
 quiet_end ending old new (Set path) w h = h
 quiet_end ending old new (Placed path) w h = h
@@ -56,6 +37,7 @@ quiet_end ending old new (Skipped path cause) w h = h
 quiet_end ending old new (Cleaned part) w h = h
 quiet_end ending old new Barrier w h = h
 quiet_end ending old new (Ended how part) w h = h
+quiet_end ending old new (Troubled trouble) w h = w
 
 module _ (unclaimed : Route → Type 0) (job new : Running) (did : Did) (calls : ℕ) (dirty dirty_after : List Route) (before after : Option CallLog) (faults faults_after : ℕ) where
   pub run_goes : (own work : Work) → own ≡ job.work → job.course ≡ GoesOn → WorkSteps unclaimed job.replies own work did calls dirty dirty_after before after faults faults_after

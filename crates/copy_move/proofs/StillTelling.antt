@@ -2,6 +2,7 @@
 use Rattle.std.proofs.Common.{[], ◌∷◌, inl, inr, Option, Some, None, Result, Ok, Err}
 use Rattle.mc_text.specs.Routes.{Route}
 use Rattle.tree_trait.specs.declared.calls.TreeError.{TreeError}
+use Rattle.tree_trait.specs.declared.calls.TreeError.TheVariants.{NotEmpty}
 use Rattle.tree_trait.specs.Calls.{Call, RemoveFile, RemoveFolder, SyncFolder}
 use Rattle.tree_trait.specs.Calls as calls
 use Rattle.tree_trait.specs.Change.{CallLog, current}
@@ -14,9 +15,10 @@ use Rattle.subtree_copy.specs.Known as known
 use Rattle.subtree_copy.specs.LastCalls.{LastCalls as LastTreeCalls}
 use Rattle.subtree_copy.specs.Standing.{part_of}
 use Rattle.subtree_copy.proofs.StillTelling.{known_law, performs_tells, run_tells}
+use Rattle.job_reports.specs.Paths.{folder_of}
 use Rattle.job_reports.specs.Stops.{sync_answer}
 use Rattle.copy_move.specs.declared.work.Work.{Work}
-use Rattle.copy_move.specs.declared.work.Work.TheVariants.{Copy, Delete, Make, Move, SetMode}
+use Rattle.copy_move.specs.declared.work.Work.TheVariants.{Copy, Delete, Make, Move, SetMode, RemoveEmptied}
 use Rattle.copy_move.specs.declared.run.Course.{Course}
 use Rattle.copy_move.specs.declared.run.Course.TheVariants.{GoesOn, Asking, InTrouble, OwedSyncFailed, Skips, Ends}
 use Rattle.copy_move.specs.Deletions.{DeletionCalls, IsRefused, LastCalls}
@@ -27,6 +29,10 @@ use Rattle.thing_making.specs.NewThings.{making_call}
 use Rattle.thing_moving.specs.declared.moving.MovingStage.{MovingStage}
 use Rattle.thing_moving.specs.declared.moving.MovingStage.TheVariants as moving
 use Rattle.thing_moving.specs.Movings.{LastMovingCalls, Moving, MovingCalls, Stops, owed_folder}
+use Rattle.folder_removal.specs.declared.removal.RemovalStage.{RemovalStage}
+use Rattle.folder_removal.specs.declared.removal.RemovalStage.TheVariants as removal
+use Rattle.folder_removal.specs.Removals.{LastRemovalCalls, Removing, RemovalCalls}
+use Rattle.folder_removal.specs.Removals as removals
 use Rattle.copy_move.specs.ModeSettings.{LastSettingCalls}
 use Rattle.mode_setting.specs.declared.setting.Stage.{Stage as SettingStage}
 use Rattle.mode_setting.specs.declared.setting.Stage.TheVariants as setting
@@ -57,7 +63,7 @@ deletion_tells (Ended ending part) log after h = (log, h)
 deletion_tells (Began part) log after h = absurd h
 deletion_tells (Chunk count) log after h = absurd h
 deletion_tells (Asked question) log after h = absurd h
-deletion_tells (Merges pair names) log after h = absurd h
+deletion_tells (Merges transfer pair names) log after h = absurd h
 deletion_tells (Moved pair) log after h = absurd h
 deletion_tells (Set path) log after h = absurd h
 deletion_tells (Placed path) log after h = absurd h
@@ -76,7 +82,7 @@ making_tells m (Ended ending part) log after h = (log, h)
 making_tells m (Began part) log after h = absurd h
 making_tells m (Chunk count) log after h = absurd h
 making_tells m (Asked question) log after h = absurd h
-making_tells m (Merges pair names) log after h = absurd h
+making_tells m (Merges transfer pair names) log after h = absurd h
 making_tells m (Moved pair) log after h = absurd h
 making_tells m (Set path) log after h = absurd h
 making_tells m (Placed path) log after h = absurd h
@@ -91,7 +97,7 @@ last_tells (Ended ending part) log after h = (log, h)
 last_tells (Began part) log after h = absurd h
 last_tells (Chunk count) log after h = absurd h
 last_tells (Asked question) log after h = absurd h
-last_tells (Merges pair names) log after h = absurd h
+last_tells (Merges transfer pair names) log after h = absurd h
 last_tells (Moved pair) log after h = absurd h
 last_tells (Set path) log after h = absurd h
 last_tells (Placed path) log after h = absurd h
@@ -108,7 +114,7 @@ last_making_tells m (Ended ending part) log after h = (log, h)
 last_making_tells m (Began part) log after h = absurd h
 last_making_tells m (Chunk count) log after h = absurd h
 last_making_tells m (Asked question) log after h = absurd h
-last_making_tells m (Merges pair names) log after h = absurd h
+last_making_tells m (Merges transfer pair names) log after h = absurd h
 last_making_tells m (Moved pair) log after h = absurd h
 last_making_tells m (Set path) log after h = absurd h
 last_making_tells m (Placed path) log after h = absurd h
@@ -134,11 +140,11 @@ moving_tells replies m (Kept path) log after (kept, is) = (log, is)
 moving_tells replies m (Skipped path cause) log after h = moving_stop_tells replies m m.stage cause h.0 log after h.1
 moving_tells replies m Barrier log after h = performs_tells log (SyncFolder (owed_folder m)) (Ok tt) after h
 moving_tells replies m (Asked question) log after (asks, is) = (log, is)
+moving_tells replies m (Merges transfer pair names) log after (merged, is) = (log, is)
 moving_tells replies m (Troubled trouble) log after h = moving_stop_tells replies m m.stage trouble.cause trouble.path log after h
 moving_tells replies m (Ended ending part) log after h = (log, h)
 moving_tells replies m (Began part) log after h = absurd h
 moving_tells replies m (Chunk count) log after h = absurd h
-moving_tells replies m (Merges pair names) log after h = absurd h
 moving_tells replies m (Set path) log after h = absurd h
 moving_tells replies m (Placed path) log after h = absurd h
 moving_tells replies m (Removed path) log after h = absurd h
@@ -151,7 +157,7 @@ last_moving_tells m (Ended ending part) log after h = (log, h)
 last_moving_tells m (Began part) log after h = absurd h
 last_moving_tells m (Chunk count) log after h = absurd h
 last_moving_tells m (Asked question) log after h = absurd h
-last_moving_tells m (Merges pair names) log after h = absurd h
+last_moving_tells m (Merges transfer pair names) log after h = absurd h
 last_moving_tells m (Moved pair) log after h = absurd h
 last_moving_tells m (Set path) log after h = absurd h
 last_moving_tells m (Placed path) log after h = absurd h
@@ -161,6 +167,28 @@ last_moving_tells m (Kept path) log after h = absurd h
 last_moving_tells m (Skipped path cause) log after h = absurd h
 last_moving_tells m (Cleaned part) log after h = absurd h
 last_moving_tells m (Troubled trouble) log after h = absurd h
+
+-- the removal of an emptied folder
+removal_stop_tells : (r : Removing) (stage : RemovalStage) (cause : Cause) (named : Option Route) (log : CallLog) (after : Option CallLog) → removals.Stops r stage cause named log after → StillTells after
+removal_stop_tells r removal.Remove cause named log after (inl (cause_is, path_is, is)) = (log, is)
+removal_stop_tells r removal.Remove cause named log after (inr s) = performs_tells log (RemoveFolder r.path) (Err s.error) after s.called
+removal_stop_tells r removal.Sync cause named log after s = performs_tells log (SyncFolder (folder_of r.path)) (Err s.error) after s.called
+removal_stop_tells r removal.Finish cause named log after s = performs_tells log (SyncFolder (folder_of r.path)) (Err s.error) after s.called
+removal_stop_tells r removal.PassedOver cause named log after s = performs_tells log (SyncFolder (folder_of r.path)) (Err s.error) after s.called
+
+removal_tells : (r : Removing) (did : Did) (log : CallLog) (after : Option CallLog) → RemovalCalls r did log after → StillTells after
+removal_tells r (Removed path) log after h = performs_tells log (RemoveFolder r.path) (Ok tt) after h
+removal_tells r (Kept path) log after h = performs_tells log (RemoveFolder r.path) (Err NotEmpty) after h
+removal_tells r (Skipped path cause) log after (named, h) = removal_stop_tells r r.stage cause named log after h
+removal_tells r Barrier log after h = performs_tells log (SyncFolder (folder_of r.path)) (Ok tt) after h
+removal_tells r (Troubled trouble) log after h = removal_stop_tells r r.stage trouble.cause trouble.path log after h
+removal_tells r (Ended ending part) log after h = (log, h)
+removal_tells r did log after h = absurd h
+
+last_removal_tells : (r : Removing) (did : Did) (log : CallLog) (after : Option CallLog) → LastRemovalCalls r did log after → StillTells after
+last_removal_tells r Barrier log after (answer, h) = performs_tells log (SyncFolder (folder_of r.path)) answer after h
+last_removal_tells r (Ended ending part) log after h = (log, h)
+last_removal_tells r did log after h = absurd h
 
 -- a setting
 pub sync_stop_tells : (path : Route) (cause : Cause) (named : Option Route) (log : CallLog) (after : Option CallLog) → SyncStops path cause named log after → StillTells after
@@ -180,7 +208,7 @@ setting_tells s (Ended ending part) log after h = (log, h)
 setting_tells s (Began part) log after h = absurd h
 setting_tells s (Chunk count) log after h = absurd h
 setting_tells s (Asked question) log after h = absurd h
-setting_tells s (Merges pair names) log after h = absurd h
+setting_tells s (Merges transfer pair names) log after h = absurd h
 setting_tells s (Moved pair) log after h = absurd h
 setting_tells s (Placed path) log after h = absurd h
 setting_tells s (Removed path) log after h = absurd h
@@ -200,7 +228,7 @@ last_setting_tells s (Ended ending part) log after h = (log, h)
 last_setting_tells s (Began part) log after h = absurd h
 last_setting_tells s (Chunk count) log after h = absurd h
 last_setting_tells s (Asked question) log after h = absurd h
-last_setting_tells s (Merges pair names) log after h = absurd h
+last_setting_tells s (Merges transfer pair names) log after h = absurd h
 last_setting_tells s (Moved pair) log after h = absurd h
 last_setting_tells s (Set path) log after h = absurd h
 last_setting_tells s (Placed path) log after h = absurd h
@@ -219,7 +247,7 @@ last_tree_tells part (Ended ending stays) log after (mid, leaves, is) = (mid, is
 last_tree_tells part (Began path) log after h = absurd h
 last_tree_tells part (Chunk count) log after h = absurd h
 last_tree_tells part (Asked question) log after h = absurd h
-last_tree_tells part (Merges pair names) log after h = absurd h
+last_tree_tells part (Merges transfer pair names) log after h = absurd h
 last_tree_tells part (Moved pair) log after h = absurd h
 last_tree_tells part (Set path) log after h = absurd h
 last_tree_tells part (Placed path) log after h = absurd h
@@ -231,15 +259,13 @@ last_tree_tells part (Troubled trouble) log after h = absurd h
 
 -- any job
 work_tells : (unclaimed : Route → Type 0) (replies : Replies) (work : Work) (did : Did) (new : Work) (log : CallLog) (after : Option CallLog) → WorkCalls unclaimed replies work did new log after → StillTells after
-work_tells unclaimed replies (Copy c) did (Delete new) log after h = absurd h
-work_tells unclaimed replies (Copy c) did (Make new) log after h = absurd h
-work_tells unclaimed replies (Copy c) did (Move new) log after h = absurd h
-work_tells unclaimed replies (Copy c) did (SetMode new) log after h = absurd h
 work_tells unclaimed replies (Copy c) did (Copy new) log after h = (let g = h.goes in known_law g.free replies c new did h.calls h.dirty h.dirty_after log after g.since h.faults_after g.steps)
 work_tells unclaimed replies (Delete d) did new log after h = deletion_tells did log after h
 work_tells unclaimed replies (Make m) did new log after h = making_tells m did log after h
 work_tells unclaimed replies (Move m) did new log after h = moving_tells replies m did log after h
 work_tells unclaimed replies (SetMode s) did new log after h = setting_tells s did log after h
+work_tells unclaimed replies (RemoveEmptied r) did new log after h = removal_tells r did log after h
+work_tells unclaimed replies old did new log after h = absurd h
 
 last_work_tells : (work : Work) (did : Did) (log : CallLog) (after : Option CallLog) → WorkLastCalls work did log after → StillTells after
 last_work_tells (Copy c) did log after h = last_tree_tells (part_of c.at.item) did log after h
@@ -247,6 +273,7 @@ last_work_tells (Delete d) did log after h = last_tells did log after h
 last_work_tells (Make m) did log after h = last_making_tells m did log after h
 last_work_tells (Move m) did log after h = last_moving_tells m did log after h
 last_work_tells (SetMode s) did log after h = last_setting_tells s did log after h
+last_work_tells (RemoveEmptied r) did log after h = last_removal_tells r did log after h
 
 calls_tell : (unclaimed : Route → Type 0) (course : Course) (job : Running) (did : Did) (new : Running) (log : CallLog) (after : Option CallLog) → CallsOn unclaimed course job did new log after → StillTells after
 calls_tell unclaimed GoesOn job did new log after h = work_tells unclaimed job.replies job.work did new.work log after h

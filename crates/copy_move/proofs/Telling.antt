@@ -16,7 +16,7 @@ use Rattle.job_reports.specs.declared.job.Job.TheVariants as plan
 use Rattle.job_reports.specs.declared.answer.Answer.{Answer}
 use Rattle.job_reports.specs.declared.answer.Answer.TheVariants.{Yes, No, All, Update, Nothing, SizeDiffers, Retry, Skip, SkipAll, Abort}
 use Rattle.copy_move.specs.declared.work.Work.{Work}
-use Rattle.copy_move.specs.declared.work.Work.TheVariants.{Copy, Delete, Make, Move, SetMode}
+use Rattle.copy_move.specs.declared.work.Work.TheVariants.{Copy, Delete, Make, Move, SetMode, RemoveEmptied}
 use Rattle.copy_move.specs.declared.run.Course.{Course}
 use Rattle.copy_move.specs.declared.run.Course.TheVariants.{GoesOn, Asking, InTrouble, OwedSyncFailed, Skips, Ends}
 use Rattle.subtree_walk.specs.Places.{unopened}
@@ -38,7 +38,7 @@ use Rattle.mode_setting.specs.declared.setting.Stage.{Stage as SettingStage}
 use Rattle.mode_setting.specs.declared.setting.Stage.TheVariants as setting
 use Rattle.mode_setting.specs.Settings.{Setting}
 use Rattle.mode_setting.specs.Settings as settings
-use Rattle.copy_move.specs.Jobs.{Running, JobTells, TellsOn, WorkTells, WorkWinds, answered, answered_on, copies, course_after, deletes, first_work, halt_of, is_fresh, makes, moves, sets, PassesOver, taken_anew, unreported_skip, with_skips}
+use Rattle.copy_move.specs.Jobs.{Running, JobTells, TellsOn, WorkTells, WorkWinds, answered, answered_on, copies, course_after, deletes, first_work, halt_of, is_fresh, makes, moves, removes_emptied, sets, PassesOver, taken_anew, unreported_skip, with_skips}
 use Rattle.job_reports.specs.Reports.{ends}
 use Rattle.job_answers.specs.declared.replies.Replies.{Replies}
 use Rattle.job_answers.specs.declared.skips.Skips.{Skips as Kinds}
@@ -54,6 +54,7 @@ use Rattle.subtree_copy.proofs.Tellings.{told_law}
 use Rattle.copy_move.specs.TreeCopies as trees
 use Rattle.copy_move.specs.Told.{after_step, course_told, if_closed, running, skipped, synced, told, work_told}
 use Rattle.copy_move.proofs.MovingTold.{moving_told, moving_winds, synced_moving}
+use Rattle.copy_move.proofs.RemovalTold.{removal_told, removal_winds, synced_removal}
 
 -- a job, by its parts
 abbrev job_of : ℕ → Replies → Work → Course → Running
@@ -87,30 +88,12 @@ told_so id c new did a part stage = told_is id c new c.at.stage (tree.part_of c.
 
 skipped_told : (id : ℕ) (work new : Work) (path : Route) → PassesOver work path new → skipped path (work_told id work) ≡ work_told id new
 skipped_told id (Copy c) (Copy new) path (cause, a) = told_so id c new (Skipped path cause) a refl refl
-skipped_told id (Copy c) (Delete new) path h = absurd h
-skipped_told id (Copy c) (Make new) path h = absurd h
-skipped_told id (Copy c) (Move new) path h = absurd h
-skipped_told id (Copy c) (SetMode new) path h = absurd h
-skipped_told id (Delete d) (Copy new) path h = absurd h
-skipped_told id (Make m) (Copy new) path h = absurd h
-skipped_told id (Move m) (Copy new) path h = absurd h
-skipped_told id (SetMode s) (Copy new) path h = absurd h
 skipped_told id (Delete d) (Delete new) path at = stage_is_told id d new (after_item d.path path d.stage) at
-skipped_told id (Delete d) (Make new) path h = absurd h
-skipped_told id (Delete d) (Move new) path h = absurd h
-skipped_told id (Make m) (Delete new) path h = absurd h
-skipped_told id (Move m) (Delete new) path h = absurd h
 skipped_told id (Make m) (Make new) path (path_is, new_is) = ap Make (sym new_is)
 skipped_told id (Move m) (Move new) path (path_is, new_is) = ap Move (sym new_is)
-skipped_told id (Delete d) (SetMode new) path h = absurd h
-skipped_told id (Make m) (SetMode new) path h = absurd h
-skipped_told id (Make m) (Move new) path h = absurd h
-skipped_told id (Move m) (SetMode new) path h = absurd h
-skipped_told id (SetMode s) (Delete new) path h = absurd h
-skipped_told id (SetMode s) (Make new) path h = absurd h
-skipped_told id (Move s) (Make new) path h = absurd h
-skipped_told id (SetMode s) (Move new) path h = absurd h
 skipped_told id (SetMode s) (SetMode new) path (path_is, new_is) = ap SetMode (sym new_is)
+skipped_told id (RemoveEmptied r) (RemoveEmptied new) path (path_is, new_is) = ap RemoveEmptied (sym new_is)
+skipped_told id old new path h = absurd h
 
 retries_told : (id : ℕ) (top : Pair) (stage : TreeStage) (part : Option Route) (skips : Kinds) → tree.retries (trees.told_at id top stage part skips) ≡ trees.told_at id top stage part skips
 retries_told id top stage None skips = refl
@@ -125,6 +108,7 @@ anew_told id (Delete d) = refl
 anew_told id (Make m) = refl
 anew_told id (Move m) = refl
 anew_told id (SetMode s) = refl
+anew_told id (RemoveEmptied r) = refl
 
 -- before the first change no trouble of the work is at a barrier
 deletion_bars : (stage : DeletionStage) (barrier : Bool) → barrier ≡ standing.at_barrier stage → (standing.is_fresh stage && barrier) ≡ false
@@ -157,6 +141,7 @@ fresh_told id (Delete d) = refl
 fresh_told id (Make m) = refl
 fresh_told id (Move m) = refl
 fresh_told id (SetMode s) = refl
+fresh_told id (RemoveEmptied r) = refl
 
 -- then the job is in trouble, as its history tells it
 in_trouble : (id : ℕ) (work : Work) (trouble : Trouble) → (is_fresh work && trouble.barrier) ≡ false → course_told (work_told id work) trouble ≡ InTrouble (halt_of trouble)
@@ -189,7 +174,7 @@ deletion_told id replies old new (Ended NoMemory part) t h = absurd t
 deletion_told id replies old new (Began part) t h = absurd t
 deletion_told id replies old new (Chunk count) t h = absurd t
 deletion_told id replies old new (Asked question) t h = absurd t
-deletion_told id replies old new (Merges pair names) t h = absurd t
+deletion_told id replies old new (Merges transfer pair names) t h = absurd t
 deletion_told id replies old new (Moved pair) t h = absurd t
 deletion_told id replies old new (Set path) t h = absurd t
 deletion_told id replies old new (Placed path) t h = absurd t
@@ -210,7 +195,7 @@ making_told id replies old new (Ended NoMemory part) t h = absurd t
 making_told id replies old new (Began part) t h = absurd t
 making_told id replies old new (Chunk count) t h = absurd t
 making_told id replies old new (Asked question) t h = absurd t
-making_told id replies old new (Merges pair names) t h = absurd t
+making_told id replies old new (Merges transfer pair names) t h = absurd t
 making_told id replies old new (Moved pair) t h = absurd t
 making_told id replies old new (Set path) t h = absurd t
 making_told id replies old new (Placed path) t h = absurd t
@@ -230,7 +215,7 @@ setting_told id replies old new (Ended ending part) t h = absurd cc
 setting_told id replies old new (Began part) t h = absurd t
 setting_told id replies old new (Chunk count) t h = absurd t
 setting_told id replies old new (Asked question) t h = absurd t
-setting_told id replies old new (Merges pair names) t h = absurd t
+setting_told id replies old new (Merges transfer pair names) t h = absurd t
 setting_told id replies old new (Moved pair) t h = absurd t
 setting_told id replies old new (Placed path) t h = absurd t
 setting_told id replies old new (Removed path) t h = absurd t
@@ -263,7 +248,7 @@ tree_told id replies old new (Troubled trouble) t h =
     ap (λ course. Some (job_of id replies (work_told id (Copy old)) course)) (in_trouble id (Copy old) trouble (bars_apart (is_tree_fresh old.at.stage) trouble.barrier (t.apart trouble refl)))
     ∙ ap (λ w. Some (job_of id replies w (InTrouble (halt_of trouble)))) (told_so id old new (Troubled trouble) t.after refl refl)
 tree_told id replies old new (Asked question) t h = ap (λ w. Some (job_of id replies w Asking)) (told_so id old new (Asked question) t.after refl refl)
-tree_told id replies old new (Merges pair names) t h = ap (λ w. Some (job_of id replies w GoesOn)) (told_so id old new (Merges pair names) t.after refl refl)
+tree_told id replies old new (Merges transfer pair names) t h = ap (λ w. Some (job_of id replies w GoesOn)) (told_so id old new (Merges transfer pair names) t.after refl refl)
 tree_told id replies old new (Moved pair) t h = absurd t.may
 tree_told id replies old new (Removed path) t h = absurd t.may
 tree_told id replies old new (Kept path) t h = ap (λ w. Some (job_of id replies w GoesOn)) (told_so id old new (Kept path) t.after refl refl)
@@ -277,7 +262,7 @@ tree_winds id replies ending old new (Ended how part) w h = absurd cc
 tree_winds id replies ending old new (Began part) w h = absurd w.may
 tree_winds id replies ending old new (Chunk count) w h = absurd w.may
 tree_winds id replies ending old new (Asked question) w h = absurd w.may
-tree_winds id replies ending old new (Merges pair names) w h = absurd w.may
+tree_winds id replies ending old new (Merges transfer pair names) w h = absurd w.may
 tree_winds id replies ending old new (Moved pair) w h = absurd w.may
 tree_winds id replies ending old new (Set path) w h = absurd w.may
 tree_winds id replies ending old new (Placed path) w h = absurd w.may
@@ -295,7 +280,7 @@ deletion_winds id replies ending old new (Ended how part) t h = absurd cc
 deletion_winds id replies ending old new (Began part) t h = absurd t
 deletion_winds id replies ending old new (Chunk count) t h = absurd t
 deletion_winds id replies ending old new (Asked question) t h = absurd t
-deletion_winds id replies ending old new (Merges pair names) t h = absurd t
+deletion_winds id replies ending old new (Merges transfer pair names) t h = absurd t
 deletion_winds id replies ending old new (Moved pair) t h = absurd t
 deletion_winds id replies ending old new (Set path) t h = absurd t
 deletion_winds id replies ending old new (Placed path) t h = absurd t
@@ -313,7 +298,7 @@ making_winds id replies ending old new (Ended how part) t h = absurd cc
 making_winds id replies ending old new (Began part) t h = absurd t
 making_winds id replies ending old new (Chunk count) t h = absurd t
 making_winds id replies ending old new (Asked question) t h = absurd t
-making_winds id replies ending old new (Merges pair names) t h = absurd t
+making_winds id replies ending old new (Merges transfer pair names) t h = absurd t
 making_winds id replies ending old new (Moved pair) t h = absurd t
 making_winds id replies ending old new (Set path) t h = absurd t
 making_winds id replies ending old new (Placed path) t h = absurd t
@@ -331,7 +316,7 @@ setting_winds id replies ending old new (Ended how part) t h = absurd cc
 setting_winds id replies ending old new (Began part) t h = absurd t
 setting_winds id replies ending old new (Chunk count) t h = absurd t
 setting_winds id replies ending old new (Asked question) t h = absurd t
-setting_winds id replies ending old new (Merges pair names) t h = absurd t
+setting_winds id replies ending old new (Merges transfer pair names) t h = absurd t
 setting_winds id replies ending old new (Moved pair) t h = absurd t
 setting_winds id replies ending old new (Set path) t h = absurd t
 setting_winds id replies ending old new (Placed path) t h = absurd t
@@ -345,58 +330,22 @@ setting_winds id replies ending old new (Troubled trouble) t h = absurd t
 goes_told : (id : ℕ) (replies : Replies) (old new : Work) (did : Did) → WorkTells old did new → ends did ≡ false
     → after_step did (told (job_of id replies old GoesOn)) ≡ Some (told (job_of id replies new (course_after did)))
 goes_told id replies (Copy c) (Copy new) did t h = tree_told id replies c new did t h
-goes_told id replies (Copy c) (Delete new) did t h = absurd t
-goes_told id replies (Copy c) (Make new) did t h = absurd t
-goes_told id replies (Copy c) (Move new) did t h = absurd t
-goes_told id replies (Copy c) (SetMode new) did t h = absurd t
-goes_told id replies (Delete d) (Copy new) did t h = absurd t
-goes_told id replies (Make m) (Copy new) did t h = absurd t
-goes_told id replies (Move m) (Copy new) did t h = absurd t
-goes_told id replies (SetMode s) (Copy new) did t h = absurd t
-goes_told id replies (Delete d) (Make new) did t h = absurd t
-goes_told id replies (Delete d) (Move new) did t h = absurd t
-goes_told id replies (Make m) (Delete new) did t h = absurd t
-goes_told id replies (Move m) (Delete new) did t h = absurd t
 goes_told id replies (Delete d) (Delete new) did t h = deletion_told id replies d new did t h
 goes_told id replies (Make m) (Make new) did t h = making_told id replies m new did t h
 goes_told id replies (Move m) (Move new) did t h = moving_told id replies m new did t h
-goes_told id replies (Delete d) (SetMode new) did t h = absurd t
-goes_told id replies (Make m) (SetMode new) did t h = absurd t
-goes_told id replies (Make m) (Move new) did t h = absurd t
-goes_told id replies (Move m) (SetMode new) did t h = absurd t
-goes_told id replies (SetMode s) (Delete new) did t h = absurd t
-goes_told id replies (SetMode s) (Make new) did t h = absurd t
-goes_told id replies (Move s) (Make new) did t h = absurd t
-goes_told id replies (SetMode s) (Move new) did t h = absurd t
 goes_told id replies (SetMode s) (SetMode new) did t h = setting_told id replies s new did t h
+goes_told id replies (RemoveEmptied r) (RemoveEmptied new) did t h = removal_told id replies r new did t h
+goes_told id replies old new did t h = absurd t
 
 winds_told : (id : ℕ) (replies : Replies) (ending : Ending) (old new : Work) (did : Did) → WorkWinds ending old did new → ends did ≡ false
     → after_step did (told (job_of id replies old (Ends ending))) ≡ Some (told (job_of id replies new (Ends ending)))
 winds_told id replies ending (Copy c) (Copy new) did t h = tree_winds id replies ending c new did t h
-winds_told id replies ending (Copy c) (Delete new) did t h = absurd t
-winds_told id replies ending (Copy c) (Make new) did t h = absurd t
-winds_told id replies ending (Copy c) (Move new) did t h = absurd t
-winds_told id replies ending (Copy c) (SetMode new) did t h = absurd t
-winds_told id replies ending (Delete d) (Copy new) did t h = absurd t
-winds_told id replies ending (Make m) (Copy new) did t h = absurd t
-winds_told id replies ending (Move m) (Copy new) did t h = absurd t
-winds_told id replies ending (SetMode s) (Copy new) did t h = absurd t
-winds_told id replies ending (Delete d) (Make new) did t h = absurd t
-winds_told id replies ending (Delete d) (Move new) did t h = absurd t
-winds_told id replies ending (Make m) (Delete new) did t h = absurd t
-winds_told id replies ending (Move m) (Delete new) did t h = absurd t
 winds_told id replies ending (Delete d) (Delete new) did t h = deletion_winds id replies ending d new did t h
 winds_told id replies ending (Make m) (Make new) did t h = making_winds id replies ending m new did t h
 winds_told id replies ending (Move m) (Move new) did t h = moving_winds id replies ending m new did t h
-winds_told id replies ending (Delete d) (SetMode new) did t h = absurd t
-winds_told id replies ending (Make m) (SetMode new) did t h = absurd t
-winds_told id replies ending (Make m) (Move new) did t h = absurd t
-winds_told id replies ending (Move m) (SetMode new) did t h = absurd t
-winds_told id replies ending (SetMode s) (Delete new) did t h = absurd t
-winds_told id replies ending (SetMode s) (Make new) did t h = absurd t
-winds_told id replies ending (Move s) (Make new) did t h = absurd t
-winds_told id replies ending (SetMode s) (Move new) did t h = absurd t
 winds_told id replies ending (SetMode s) (SetMode new) did t h = setting_winds id replies ending s new did t h
+winds_told id replies ending (RemoveEmptied r) (RemoveEmptied new) did t h = removal_winds id replies ending r new did t h
+winds_told id replies ending old new did t h = absurd t
 
 told_on : (course : Course) (id : ℕ) (replies : Replies) (work : Work) (new : Running) (did : Did) → TellsOn course (job_of id replies work course) did new → ends did ≡ false
     → after_step did (told (job_of id replies work course)) ≡ Some (told new)
@@ -417,7 +366,7 @@ pub step_told : (job new : Running) (did : Did) → JobTells job did new → opt
 step_told job new (Began part) t = sym (told_follows job new (Began part) t refl)
 step_told job new (Chunk count) t = sym (told_follows job new (Chunk count) t refl)
 step_told job new (Asked question) t = sym (told_follows job new (Asked question) t refl)
-step_told job new (Merges pair names) t = sym (told_follows job new (Merges pair names) t refl)
+step_told job new (Merges transfer pair names) t = sym (told_follows job new (Merges transfer pair names) t refl)
 step_told job new (Moved pair) t = sym (told_follows job new (Moved pair) t refl)
 step_told job new (Set path) t = sym (told_follows job new (Set path) t refl)
 step_told job new (Placed path) t = sym (told_follows job new (Placed path) t refl)
@@ -436,6 +385,7 @@ skips_told id cause (Delete d) = refl
 skips_told id cause (Make m) = refl
 skips_told id cause (Move m) = refl
 skips_told id cause (SetMode s) = refl
+skips_told id cause (RemoveEmptied r) = refl
 
 -- an answer, and the beginning of a job, are told whole
 pub answered_told : (answer : Answer) (job : Running) → told (answered answer job) ≡ answered answer (told job)
@@ -495,6 +445,7 @@ began_told id (plan.MakeLink path text) = began_if id (is_some (parent_of path) 
 began_told id (plan.SetMode [] mode) = refl
 began_told id (plan.SetMode (path ∷ []) mode) = began_if id (is_some (parent_of path) && nat_le mode 0o7777) (sets path mode) refl
 began_told id (plan.SetMode (path ∷ more ∷ paths) mode) = refl
+began_told id (plan.RemoveEmptied path) = began_if id (is_some (parent_of path)) (removes_emptied path) refl
 
 -- the sync of what an ended job left dirty comes before the first change, and leaves the work as it is
 synced_making : (m : Making) (stage : MakingStage) → makings.is_fresh stage ≡ true → synced (Make (record m { stage = stage })) ≡ Make (record m { stage = stage })
@@ -514,6 +465,7 @@ fresh_synced id (Delete d) h = refl
 fresh_synced id (Make m) h = synced_making m m.stage h
 fresh_synced id (Move m) h = synced_moving m m.stage h
 fresh_synced id (SetMode s) h = synced_setting s s.stage h
+fresh_synced id (RemoveEmptied r) h = synced_removal r r.stage h
 
 fresh_unsettled : (id : ℕ) (work : Work) (trouble : Trouble) → is_fresh work ≡ true → trouble.barrier ≡ true → course_told (work_told id work) trouble ≡ OwedSyncFailed trouble.cause
 fresh_unsettled id work trouble fresh barrier =

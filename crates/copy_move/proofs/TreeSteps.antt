@@ -51,7 +51,7 @@ met_so (Skipped path cause) h = h
 met_so (Began part) h = h
 met_so (Chunk count) h = h
 met_so (Asked question) h = h
-met_so (Merges pair names) h = h
+met_so (Merges transfer pair names) h = h
 met_so (Moved pair) h = h
 met_so (Set path) h = h
 met_so (Placed path) h = h
@@ -126,7 +126,7 @@ module _ (free : Route → Bool) (replies : Replies) (c new : SubtreeCopying) (d
   falls_on (Began part) m h = above (rank new.at) (rank c.at) (rank_law free replies c new (Began part) calls dirty dirty_after before after f0 f1 m g.steady g.can refl)
   falls_on (Chunk count) m h = above (rank new.at) (rank c.at) (rank_law free replies c new (Chunk count) calls dirty dirty_after before after f0 f1 m g.steady g.can refl)
   falls_on (Asked question) m h = at_most (last_rank new.at) (rank c.at) (let law = trouble_law in (law.ask free replies c new question calls dirty dirty_after before after f0 f1 m g.steady).1)
-  falls_on (Merges pair names) m h = above (rank new.at) (rank c.at) (rank_law free replies c new (Merges pair names) calls dirty dirty_after before after f0 f1 m g.steady g.can refl)
+  falls_on (Merges transfer pair names) m h = above (rank new.at) (rank c.at) (rank_law free replies c new (Merges transfer pair names) calls dirty dirty_after before after f0 f1 m g.steady g.can refl)
   falls_on (Moved pair) m h = above (rank new.at) (rank c.at) (rank_law free replies c new (Moved pair) calls dirty dirty_after before after f0 f1 m g.steady g.can refl)
   falls_on (Set path) m h = above (rank new.at) (rank c.at) (rank_law free replies c new (Set path) calls dirty dirty_after before after f0 f1 m g.steady g.can refl)
   falls_on (Placed path) m h = above (rank new.at) (rank c.at) (rank_law free replies c new (Placed path) calls dirty dirty_after before after f0 f1 m g.steady g.can refl)

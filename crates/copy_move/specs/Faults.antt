@@ -31,6 +31,6 @@ MeetsFault course (Kept path) = ⊥
 MeetsFault course (Cleaned part) = ⊥
 MeetsFault course Barrier = ⊥
 MeetsFault course (Asked question) = ⊥
-MeetsFault course (Merges pair names) = ⊥
+MeetsFault course (Merges transfer pair names) = ⊥
 MeetsFault course (Moved pair) = ⊥
 MeetsFault course (Ended ending part) = ⊥

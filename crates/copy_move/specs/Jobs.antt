@@ -28,7 +28,7 @@ use Rattle.thing_making.specs.declared.making.MakingStage.TheVariants as making
 use Rattle.thing_making.specs.declared.new_thing.NewThing.{NewThing}
 use Rattle.thing_making.specs.declared.new_thing.NewThing.TheVariants as thing
 use Rattle.copy_move.specs.declared.work.Work.{Work}
-use Rattle.copy_move.specs.declared.work.Work.TheVariants.{Copy, Delete, Make, Move, SetMode}
+use Rattle.copy_move.specs.declared.work.Work.TheVariants.{Copy, Delete, Make, Move, SetMode, RemoveEmptied}
 use Rattle.copy_move.specs.declared.run.Halt.{Halt}
 use Rattle.copy_move.specs.declared.run.Course.{Course}
 use Rattle.copy_move.specs.declared.run.Course.TheVariants.{GoesOn, Asking, InTrouble, OwedSyncFailed, Skips, Ends}
@@ -41,6 +41,8 @@ use Rattle.thing_making.specs.Makings as makings
 use Rattle.thing_moving.specs.Movings.{LastMovingCalls, MovingCalls}
 use Rattle.thing_moving.specs.Movings as movings
 use Rattle.thing_making.specs.NewThings.{making_kind}
+use Rattle.folder_removal.specs.Removals.{LastRemovalCalls, RemovalCalls}
+use Rattle.folder_removal.specs.Removals as removals
 use Rattle.copy_move.specs.ModeSettings.{LastSettingCalls}
 use Rattle.copy_move.specs.ModeSettings as modes
 use Rattle.copy_move.specs.TreeCopies as trees
@@ -78,11 +80,15 @@ deletes path = Delete (started path)
 abbrev pub makes : NewThing → Route → Work
 makes new path = Make (record { path = path; thing = new; stage = making.Make })
 
+-- the removal of a folder that a merge has emptied, just begun
+abbrev pub removes_emptied : Route → Work
+removes_emptied path = RemoveEmptied (removals.started path)
+
 -- the setting of a thing's mode, just begun
 abbrev pub sets : Route → ℕ → Work
 sets path mode = SetMode (setting path mode Give)
 
--- The work of the plan of one source. The root, which no folder holds, is neither copied, moved, deleted, made nor given a mode. Nothing is moved to where
+-- The work of the plan of one source. The root, which no folder holds, is neither copied, moved, removed, made nor given a mode. Nothing is moved to where
 -- it is. A mode has twelve bits.
 abbrev pub first_work : ℕ → Job → Option Work
 first_work id (plan.Delete []) = None
@@ -100,6 +106,7 @@ first_work id (plan.MakeLink path text) = if is_some (parent_of path) && is_link
 first_work id (plan.SetMode [] mode) = None
 first_work id (plan.SetMode (path ∷ []) mode) = if is_some (parent_of path) && nat_le mode 0o7777 then Some (sets path mode) else None
 first_work id (plan.SetMode (path ∷ more ∷ paths) mode) = None
+first_work id (plan.RemoveEmptied path) = if is_some (parent_of path) then Some (removes_emptied path) else None
 
 -- the work with which a job begins: that of the first of its sources
 abbrev pub begun_work : ℕ → List Job → Option Work
@@ -113,6 +120,7 @@ kind_of (Delete d) = kind.Delete
 kind_of (Make m) = making_kind m.thing
 kind_of (Move m) = kind.Move
 kind_of (SetMode s) = kind.SetMode
+kind_of (RemoveEmptied r) = kind.Move
 
 abbrev pub path_of : Work → Route
 path_of (Copy c) = c.top.source
@@ -120,6 +128,7 @@ path_of (Delete d) = d.path
 path_of (Make m) = m.path
 path_of (Move m) = m.pair.source
 path_of (SetMode s) = s.path
+path_of (RemoveEmptied r) = r.path
 
 -- the next call is at a barrier, where nothing can be skipped
 abbrev pub at_barrier : Work → Bool
@@ -128,6 +137,7 @@ at_barrier (Delete d) = standing.at_barrier d.stage
 at_barrier (Make m) = makings.at_barrier m.stage
 at_barrier (Move m) = movings.at_barrier m.stage
 at_barrier (SetMode s) = settings.at_barrier s.stage
+at_barrier (RemoveEmptied r) = removals.at_barrier r.stage
 
 -- the work of a job that has changed nothing yet
 abbrev pub is_fresh : Work → Bool
@@ -136,24 +146,27 @@ is_fresh (Delete d) = standing.is_fresh d.stage
 is_fresh (Make m) = makings.is_fresh m.stage
 is_fresh (Move m) = movings.is_fresh m.stage
 is_fresh (SetMode s) = settings.is_fresh s.stage
+is_fresh (RemoveEmptied r) = removals.is_fresh r.stage
 
--- the work once what stands at this path was left as it is: something of what is copied or deleted, the thing that is not moved, or not made, or the one that keeps
--- its mode
+-- the work once what stands at this path was left as it is: something of what is copied or deleted, the thing that is not moved, or not made, the one that keeps
+-- its mode, or the emptied folder that stays
 abbrev pub PassesOver : Work → Route → Work → Type 0
 PassesOver (Copy c) path (Copy new) = trees.Passes c path new
 PassesOver (Delete d) path (Delete new) = IsAtStage d (after_item d.path path d.stage) new
 PassesOver (Make m) path (Make new) = (path ≡ m.path) × (new ≡ record m { stage = makings.skipped m.stage })
 PassesOver (Move m) path (Move new) = (path ≡ m.pair.source) × (new ≡ record m { stage = movings.skipped m.stage })
 PassesOver (SetMode s) path (SetMode new) = (path ≡ s.path) × (new ≡ record s { stage = settings.skipped s.stage })
+PassesOver (RemoveEmptied r) path (RemoveEmptied new) = (path ≡ r.path) × (new ≡ record r { stage = removals.skipped r.stage })
 PassesOver old path new = ⊥
 
--- the work taken up once more after a trouble; a move, a deletion, a making and the setting of a mode try their call again
+-- the work taken up once more after a trouble; all but a copy try their call again
 abbrev pub taken_anew : Work → Work
 taken_anew (Copy c) = Copy (retries c)
 taken_anew (Delete d) = Delete d
 taken_anew (Make m) = Make m
 taken_anew (Move m) = Move m
 taken_anew (SetMode s) = SetMode s
+taken_anew (RemoveEmptied r) = RemoveEmptied r
 
 -- The work once troubles of this kind are passed over without a question. One that makes one thing comes to no later one.
 abbrev pub with_skips : Cause → Work → Work
@@ -162,6 +175,7 @@ with_skips cause (Delete d) = Delete (record d { skips = with_kind (kind_in caus
 with_skips cause (Make m) = Make m
 with_skips cause (Move m) = Move (record m { skips = with_kind (kind_in cause) m.skips })
 with_skips cause (SetMode s) = SetMode (record s { skips = with_kind (kind_in cause) s.skips })
+with_skips cause (RemoveEmptied r) = RemoveEmptied (record r { skips = with_kind (kind_in cause) r.skips })
 
 -- the work after an answer by which what stands next is left as it is
 abbrev pub skipping_by : Answer → Cause → Work → Work
@@ -183,6 +197,7 @@ skips_of (Delete d) = d.skips
 skips_of (Make m) = no_skips
 skips_of (Move m) = m.skips
 skips_of (SetMode s) = s.skips
+skips_of (RemoveEmptied r) = r.skips
 
 -- the work where these kinds are passed over
 abbrev pub passing_over : SkippedKinds → Work → Work
@@ -191,6 +206,7 @@ passing_over skips (Delete d) = Delete (record d { skips = skips })
 passing_over skips (Make m) = Make m
 passing_over skips (Move m) = Move (record m { skips = skips })
 passing_over skips (SetMode s) = SetMode (record s { skips = skips })
+passing_over skips (RemoveEmptied r) = RemoveEmptied (record r { skips = skips })
 
 -- the part that stands
 abbrev pub part_of : Work → Option Route
@@ -199,6 +215,7 @@ part_of (Delete d) = None
 part_of (Make m) = None
 part_of (Move m) = None
 part_of (SetMode s) = None
+part_of (RemoveEmptied r) = None
 
 -- work that goes on: no part of it was left in last steps
 abbrev pub IsGoing : Work → Type 0
@@ -207,6 +224,7 @@ IsGoing (Delete d) = ⊤
 IsGoing (Make m) = ⊤
 IsGoing (Move m) = ⊤
 IsGoing (SetMode s) = ⊤
+IsGoing (RemoveEmptied r) = ⊤
 
 -- Only a job that makes its last steps leaves a part, and nothing is skipped at a barrier.
 abbrev pub IsSound : Course → Work → Type 0
@@ -224,6 +242,7 @@ WorkTells (Delete d) did (Delete new) = deletions.Tells d did new
 WorkTells (Make m) did (Make new) = makings.Tells m did new
 WorkTells (Move m) did (Move new) = movings.Tells m did new
 WorkTells (SetMode s) did (SetMode new) = settings.Tells s did new
+WorkTells (RemoveEmptied r) did (RemoveEmptied new) = removals.Tells r did new
 WorkTells old did new = ⊥
 
 -- the same of a last step
@@ -233,6 +252,7 @@ WorkWinds ending (Delete d) did (Delete new) = deletions.Winds ending d did new
 WorkWinds ending (Make m) did (Make new) = makings.Winds ending m did new
 WorkWinds ending (Move m) did (Move new) = movings.Winds ending m did new
 WorkWinds ending (SetMode s) did (SetMode new) = modes.Winds ending s did new
+WorkWinds ending (RemoveEmptied r) did (RemoveEmptied new) = removals.Winds ending r did new
 WorkWinds ending old did new = ⊥
 
 -- why a job waits, as its trouble says it
@@ -247,7 +267,7 @@ unreported_skip = halt_of (out_of_memory_at false)
 abbrev pub course_after : Did → Course
 course_after (Troubled trouble) = InTrouble (halt_of trouble)
 course_after (Asked question) = Asking
-course_after (Merges pair names) = GoesOn
+course_after (Merges transfer pair names) = GoesOn
 course_after (Moved pair) = GoesOn
 course_after (Began part) = GoesOn
 course_after (Chunk count) = GoesOn
@@ -283,10 +303,12 @@ WorkCalls unclaimed replies (Copy c) did (Delete new) log after = ⊥
 WorkCalls unclaimed replies (Copy c) did (Make new) log after = ⊥
 WorkCalls unclaimed replies (Copy c) did (Move new) log after = ⊥
 WorkCalls unclaimed replies (Copy c) did (SetMode new) log after = ⊥
+WorkCalls unclaimed replies (Copy c) did (RemoveEmptied new) log after = ⊥
 WorkCalls unclaimed replies (Delete d) did new log after = DeletionCalls did log after
 WorkCalls unclaimed replies (Make m) did new log after = MakingCalls m did log after
 WorkCalls unclaimed replies (Move m) did new log after = MovingCalls replies m did log after
 WorkCalls unclaimed replies (SetMode s) did new log after = SettingCalls s did log after
+WorkCalls unclaimed replies (RemoveEmptied r) did new log after = RemovalCalls r did log after
 
 -- the same of a last step
 abbrev pub WorkLastCalls : Work → Did → CallLog → Option CallLog → Type 0
@@ -295,6 +317,7 @@ WorkLastCalls (Delete d) did log after = LastCalls did log after
 WorkLastCalls (Make m) did log after = LastMakingCalls m did log after
 WorkLastCalls (Move m) did log after = LastMovingCalls m did log after
 WorkLastCalls (SetMode s) did log after = LastSettingCalls s did log after
+WorkLastCalls (RemoveEmptied r) did log after = LastRemovalCalls r did log after
 
 -- What a step of a job says of the tree's calls. The report of a skip makes none.
 abbrev pub CallsOn : (Route → Type 0) → Course → Running → Did → Running → CallLog → Option CallLog → Type 0

@@ -5,9 +5,11 @@ use Rattle.thing_making.specs.declared.making.MakingStage.{MakingStage}
 use Rattle.thing_making.specs.declared.making.MakingStage.TheVariants as making
 use Rattle.thing_moving.specs.declared.moving.MovingStage.{MovingStage}
 use Rattle.thing_moving.specs.declared.moving.MovingStage.TheVariants as moving
+use Rattle.folder_removal.specs.declared.removal.RemovalStage.{RemovalStage}
+use Rattle.folder_removal.specs.declared.removal.RemovalStage.TheVariants as removal
 use Rattle.copy_move.specs.Deletions.{Deleting, left_in}
 use Rattle.copy_move.specs.declared.work.Work.{Work}
-use Rattle.copy_move.specs.declared.work.Work.TheVariants.{Copy, Delete, Make, Move, SetMode}
+use Rattle.copy_move.specs.declared.work.Work.TheVariants.{Copy, Delete, Make, Move, SetMode, RemoveEmptied}
 use Rattle.copy_move.specs.declared.run.Course.{Course}
 use Rattle.copy_move.specs.declared.run.Course.TheVariants.{GoesOn, Asking, InTrouble, OwedSyncFailed, Skips, Ends}
 use Rattle.copy_move.specs.Jobs.{Running}
@@ -49,6 +51,20 @@ last_moving_steps moving.SyncSource = 2
 last_moving_steps moving.Finish = 1
 last_moving_steps moving.PassedOver = 1
 
+-- of the removal of an emptied folder that goes on
+abbrev pub removal_rank : RemovalStage → ℕ
+removal_rank removal.Remove = 6
+removal_rank removal.Sync = 5
+removal_rank removal.Finish = 4
+removal_rank removal.PassedOver = 4
+
+-- its last steps
+abbrev pub last_removal_steps : RemovalStage → ℕ
+last_removal_steps removal.Remove = 1
+last_removal_steps removal.Sync = 2
+last_removal_steps removal.Finish = 1
+last_removal_steps removal.PassedOver = 1
+
 -- of the setting of a mode that goes on
 abbrev pub setting_rank : SettingStage → ℕ
 setting_rank setting.Give = 6
@@ -68,6 +84,7 @@ work_rank (Delete d) = deletion_rank d
 work_rank (Make m) = making_rank m.stage
 work_rank (Move m) = moving_rank m.stage
 work_rank (SetMode s) = setting_rank s.stage
+work_rank (RemoveEmptied r) = removal_rank r.stage
 
 abbrev pub last_rank : Work → ℕ
 last_rank (Copy c) = tree.last_rank c.at + 1
@@ -75,6 +92,7 @@ last_rank (Delete d) = 1
 last_rank (Make m) = last_making_steps m.stage
 last_rank (Move m) = last_moving_steps m.stage
 last_rank (SetMode s) = last_setting_steps s.stage
+last_rank (RemoveEmptied r) = last_removal_steps r.stage
 
 -- where something is to be skipped
 abbrev pub skip_rank : Work → ℕ
@@ -83,6 +101,7 @@ skip_rank (Delete d) = deletion_rank d + 1
 skip_rank (Make m) = 10
 skip_rank (Move m) = 10
 skip_rank (SetMode s) = 10
+skip_rank (RemoveEmptied r) = 10
 
 -- a job that waits counts as one that is aborted
 abbrev pub rank_on : Course → Work → ℕ
@@ -100,6 +119,7 @@ tries_left (Ends ending) (Copy c) dirty = length dirty
 tries_left (Ends ending) (Make m) dirty = length dirty
 tries_left (Ends ending) (Move m) dirty = length dirty
 tries_left (Ends ending) (SetMode s) dirty = length dirty
+tries_left (Ends ending) (RemoveEmptied r) dirty = length dirty
 tries_left GoesOn work dirty = length dirty
 tries_left (InTrouble halt) work dirty = length dirty
 tries_left (OwedSyncFailed cause) work dirty = length dirty

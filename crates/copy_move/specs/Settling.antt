@@ -15,7 +15,7 @@ use Rattle.tree_trait.specs.CrashImages.{Among}
 use Rattle.job_reports.specs.declared.report.Did.{Did}
 use Rattle.job_reports.specs.Paths.{folder_of}
 use Rattle.copy_move.specs.declared.work.Work.{Work}
-use Rattle.copy_move.specs.declared.work.Work.TheVariants.{Copy, Delete, Make, Move, SetMode}
+use Rattle.copy_move.specs.declared.work.Work.TheVariants.{Copy, Delete, Make, Move, SetMode, RemoveEmptied}
 use Rattle.subtree_copy.specs.LastCalls.{TellsTried as TellsTreeTried}
 use Rattle.subtree_copy.specs.Reporting.{ChangesOwn}
 use Rattle.subtree_copy.specs.Standing as tree
@@ -25,6 +25,8 @@ use Rattle.copy_move.specs.Deletions.{DeletionLeaves, TellsTried}
 use Rattle.thing_making.specs.Makings.{MakingLeaves}
 use Rattle.thing_making.specs.Makings as makings
 use Rattle.thing_moving.specs.Movings.{MovingLeaves, owed_folder, with_moves}
+use Rattle.folder_removal.specs.Removals.{RemovalLeaves}
+use Rattle.folder_removal.specs.Removals as removals
 use Rattle.copy_move.specs.ModeSettings.{SettingLeaves}
 use Rattle.mode_setting.specs.Settings as settings
 
@@ -35,6 +37,7 @@ changed_folder (Delete d) = folder_of d.path
 changed_folder (Make m) = folder_of m.path
 changed_folder (Move m) = folder_of m.pair.target
 changed_folder (SetMode s) = folder_of s.path
+changed_folder (RemoveEmptied r) = folder_of r.path
 
 -- a folder in which a job may change names: of a deletion also the thing itself, and what lies in it, and so of the target of a copy, and of both paths of a
 -- move; or the thing to which a job gives a mode
@@ -44,6 +47,7 @@ is_own (Delete d) kept = is_of (folder_of d.path) d.path kept
 is_own (Make m) kept = same_path kept (folder_of m.path)
 is_own (Move m) kept = is_of (folder_of m.pair.source) m.pair.source kept || is_of (folder_of m.pair.target) m.pair.target kept
 is_own (SetMode s) kept = same_path kept s.path
+is_own (RemoveEmptied r) kept = same_path kept (folder_of r.path)
 
 -- the folder that something leaves: of a move the source's, of all else the one that is changed
 abbrev pub left_folder : Work → Route
@@ -52,8 +56,9 @@ left_folder (Delete d) = folder_of d.path
 left_folder (Make m) = folder_of m.path
 left_folder (Move m) = folder_of m.pair.source
 left_folder (SetMode s) = folder_of s.path
+left_folder (RemoveEmptied r) = folder_of r.path
 
--- What is dirty here is owed on whatever mount it lies: at the thing that is deleted or moved, or in it; and before a mode is set all is, since the
+-- What is dirty here is owed on whatever mount it lies: at the thing that is removed or moved, or in it; and before a mode is set all is, since the
 -- mode of a folder may bar the way to what lies in it. Where something is copied to nothing stands yet.
 abbrev pub is_owed_anywhere : Work → Route → Bool
 is_owed_anywhere (Copy c) kept = false
@@ -61,6 +66,7 @@ is_owed_anywhere (Delete d) kept = is_prefix d.path kept
 is_owed_anywhere (Make m) kept = false
 is_owed_anywhere (Move m) kept = is_prefix m.pair.source kept
 is_owed_anywhere (SetMode s) kept = true
+is_owed_anywhere (RemoveEmptied r) kept = is_prefix r.path kept
 
 -- what is moved
 abbrev pub moved_thing : Work → Option Route
@@ -69,6 +75,7 @@ moved_thing (Delete d) = None
 moved_thing (Make m) = None
 moved_thing (Move m) = Some m.pair.source
 moved_thing (SetMode s) = None
+moved_thing (RemoveEmptied r) = None
 
 -- it is a folder (where nothing stands there this says so, too, and then nothing is moved)
 abbrev pub moves_folder : FileSystem → Work → Bool
@@ -87,6 +94,8 @@ WorkLeaves (Make m) did (Make new) dirty dirty_after before after =
 WorkLeaves (Move m) did (Move new) dirty dirty_after before after = dirty_after ≡ with_moves m.stage new.stage m.pair dirty
 WorkLeaves (SetMode s) did (SetMode new) dirty dirty_after before after =
     dirty_after ≡ with_change (settings.is_dirty s.stage) (settings.is_dirty new.stage) s.path dirty
+WorkLeaves (RemoveEmptied r) did (RemoveEmptied new) dirty dirty_after before after =
+    dirty_after ≡ with_change (removals.is_dirty r.stage) (removals.is_dirty new.stage) (folder_of r.path) dirty
 WorkLeaves old did new dirty dirty_after before after = ⊥
 
 -- what a last step tells of the folder, or the thing, that it tried: the refusal of its sync, if that was in vain
@@ -96,6 +105,7 @@ TellsFolder (Delete d) did left folder log after = TellsTried did left folder lo
 TellsFolder (Make m) did left folder log after = MakingLeaves m did left log after
 TellsFolder (Move m) did left folder log after = (folder ≡ owed_folder m) × MovingLeaves m did left log after
 TellsFolder (SetMode s) did left folder log after = SettingLeaves s did left log after
+TellsFolder (RemoveEmptied r) did left folder log after = RemovalLeaves r did left log after
 
 -- the number of the mount on which a folder lies
 abbrev pub IsMountOf : FileSystem → Route → ℕ → Type 0
@@ -124,6 +134,6 @@ NoneOwed s work dirty = (kept : Route) → Among dirty kept → IsElsewhere s wo
 abbrev pub IsGoneForFolder : FileSystem → Work → Route → Type 0
 IsGoneForFolder s work kept = moves_folder s work ≡ true → refusal_of s (Stat kept) ≡ Some Missing
 
--- before a folder is moved nothing that stands is dirty, on whatever mount: so it is before the mode of a folder is set
+-- before a folder is moved nothing that stands is dirty, on whatever mount: so it is before any mode is set
 abbrev pub NoneForFolder : FileSystem → Work → List Route → Type 0
 NoneForFolder s work dirty = (kept : Route) → Among dirty kept → IsGoneForFolder s work kept

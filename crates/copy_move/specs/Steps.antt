@@ -17,7 +17,7 @@ use Rattle.job_reports.specs.Stops.{out_of_memory_at}
 use Rattle.job_answers.specs.declared.replies.Replies.{Replies}
 use Rattle.copy_move.specs.declared.work.Work.{Work}
 use Rattle.copy_move.specs.declared.run.Course.{Course}
-use Rattle.copy_move.specs.declared.work.Work.TheVariants.{Copy, Delete, Make, Move, SetMode}
+use Rattle.copy_move.specs.declared.work.Work.TheVariants.{Copy, Delete, Make, Move, SetMode, RemoveEmptied}
 use Rattle.copy_move.specs.declared.run.Course.TheVariants.{GoesOn, Asking, InTrouble, OwedSyncFailed, Skips, Ends}
 use Rattle.copy_move.specs.Faults.{MeetsFault}
 use Rattle.copy_move.specs.DeletionSteps.{Goes, Passes, TriesNext, after_try}
@@ -28,6 +28,7 @@ use Rattle.copy_move.specs.Ranks.{last_rank, rank_at, rank_on, rank_with, work_r
 use Rattle.mode_setting.specs.SettingSteps.{SyncStops, sync_of}
 use Rattle.subtree_copy.specs.SubtreeSteps.{LastSubtreeStep, SubtreeSkips}
 use Rattle.thing_moving.specs.Movings as movings
+use Rattle.folder_removal.specs.Removals as removals
 use Rattle.copy_move.specs.TreeCopies as trees
 
 -- A step of a job: what it reports is allowed, the job is then as it says, it made the calls of the tree that it says, at
@@ -83,17 +84,19 @@ abbrev pub Walks : (Route → Type 0) → Replies → Work → Work → Did → 
 Walks unclaimed replies (Make m) new did calls dirty dirty_after before after faults faults_after = ⊤
 Walks unclaimed replies (Move m) new did calls dirty dirty_after before after faults faults_after = ⊤
 Walks unclaimed replies (SetMode s) new did calls dirty dirty_after before after faults faults_after = ⊤
+Walks unclaimed replies (RemoveEmptied r) new did calls dirty dirty_after before after faults faults_after = ⊤
 Walks unclaimed replies (Copy c) (Copy new) did calls dirty dirty_after before after faults faults_after =
     trees.Goes unclaimed replies c new did calls dirty dirty_after before after faults faults_after
 Walks unclaimed replies (Copy c) new did calls dirty dirty_after before after faults faults_after = ⊥
 Walks unclaimed replies (Delete d) (Delete new) did calls dirty dirty_after before after faults faults_after = Goes d new did calls dirty dirty_after before after faults faults_after
 Walks unclaimed replies (Delete d) new did calls dirty dirty_after before after faults faults_after = ⊥
 
--- what it does where something is passed over; what was moved is not
+-- what it does where something is passed over; what was moved is not, nor a folder that is gone
 abbrev pub SkipWalks : Cause → Work → Did → Work → Type 0
 SkipWalks cause (Make m) did new = ⊤
 SkipWalks cause (Move m) did new = movings.at_barrier m.stage ≡ false
 SkipWalks cause (SetMode s) did new = ⊤
+SkipWalks cause (RemoveEmptied r) did new = removals.at_barrier r.stage ≡ false
 SkipWalks cause (Copy c) did (Copy new) = SubtreeSkips cause c did new
 SkipWalks cause (Copy c) did new = ⊥
 SkipWalks cause (Delete d) did (Delete new) = Passes cause d did new
@@ -110,6 +113,7 @@ LastWalks ending (Delete d) new did calls left dirty dirty_after before after fa
 LastWalks ending (Make m) new did calls left dirty dirty_after before after faults faults_after = ⊤
 LastWalks ending (Move m) new did calls left dirty dirty_after before after faults faults_after = ⊤
 LastWalks ending (SetMode s) new did calls left dirty dirty_after before after faults faults_after = ⊤
+LastWalks ending (RemoveEmptied r) new did calls left dirty dirty_after before after faults faults_after = ⊤
 
 -- what it does in a step of a job that goes so
 abbrev pub WalksOn : (Route → Type 0) → Replies → Course → Work → Work → Did → ℕ → List Route → List Route → Option CallLog → Option CallLog → ℕ → ℕ → Type 0

@@ -16,12 +16,14 @@ use Rattle.tree_deletion.specs.declared.deletion.Stage.TheVariants.{Going}
 use Rattle.tree_deletion.specs.Standing.{after_item}
 use Rattle.thing_making.specs.declared.making.MakingStage.TheVariants as making
 use Rattle.copy_move.specs.declared.work.Work.{Work}
-use Rattle.copy_move.specs.declared.work.Work.TheVariants.{Copy, Delete, Make, Move, SetMode}
+use Rattle.copy_move.specs.declared.work.Work.TheVariants.{Copy, Delete, Make, Move, SetMode, RemoveEmptied}
 use Rattle.copy_move.specs.declared.run.Course.{Course}
 use Rattle.copy_move.specs.declared.run.Course.TheVariants.{GoesOn, Asking, InTrouble, OwedSyncFailed}
 use Rattle.thing_making.specs.Makings as makings
 use Rattle.thing_moving.specs.declared.moving.MovingStage.TheVariants as moving
 use Rattle.thing_moving.specs.Movings as movings
+use Rattle.folder_removal.specs.declared.removal.RemovalStage.TheVariants as removal
+use Rattle.folder_removal.specs.Removals as removals
 use Rattle.copy_move.specs.ModeSettings as modes
 use Rattle.mode_setting.specs.declared.setting.Stage.TheVariants as setting
 use Rattle.mode_setting.specs.Settings as settings
@@ -36,6 +38,7 @@ work_told id (Delete d) = Delete (record d { depth = Top; place = unopened; trie
 work_told id (Make m) = Make m
 work_told id (Move m) = Move m
 work_told id (SetMode s) = SetMode s
+work_told id (RemoveEmptied r) = RemoveEmptied r
 
 -- a job as its history tells it
 abbrev pub told : Running → Running
@@ -48,6 +51,7 @@ with_part part (Delete d) = Delete d
 with_part part (Make m) = Make m
 with_part part (Move m) = Move m
 with_part part (SetMode s) = SetMode s
+with_part part (RemoveEmptied r) = RemoveEmptied r
 
 -- the work once something of what it copies was placed
 abbrev pub placed : Work → Work
@@ -56,6 +60,7 @@ placed (Delete d) = Delete d
 placed (Make m) = Make m
 placed (Move m) = Move m
 placed (SetMode s) = SetMode s
+placed (RemoveEmptied r) = RemoveEmptied r
 
 -- the work once this was removed
 abbrev pub removed : Route → Work → Work
@@ -64,6 +69,7 @@ removed path (Delete d) = Delete (record d { stage = after_item d.path path Goin
 removed path (Make m) = Make m
 removed path (Move m) = Move m
 removed path (SetMode s) = SetMode s
+removed path (RemoveEmptied r) = RemoveEmptied (record r { stage = removal.Sync })
 
 -- the work once its thing, or a folder of what it copies, was made
 abbrev pub made : Work → Work
@@ -72,6 +78,7 @@ made (Delete d) = Delete d
 made (Make m) = Make (record m { stage = making.Sync })
 made (Move m) = Move m
 made (SetMode s) = SetMode s
+made (RemoveEmptied r) = RemoveEmptied r
 
 -- the work once its thing was moved
 abbrev pub moved : Work → Work
@@ -80,6 +87,16 @@ moved (Delete d) = Delete d
 moved (Make m) = Make m
 moved (Move m) = Move (record m { stage = moving.SyncTarget })
 moved (SetMode s) = SetMode s
+moved (RemoveEmptied r) = RemoveEmptied r
+
+-- the work once its folder was merged with that at its target: what lies in it are sources of their own then. Of a copy the history tells the same as before.
+abbrev pub merged : Work → Work
+merged (Copy c) = Copy c
+merged (Delete d) = Delete d
+merged (Make m) = Make m
+merged (Move m) = Move (record m { stage = moving.PassedOver })
+merged (SetMode s) = SetMode s
+merged (RemoveEmptied r) = RemoveEmptied r
 
 -- the work once its thing, or a folder of what it copies, was given the mode
 abbrev pub mode_given : Work → Work
@@ -88,14 +105,16 @@ mode_given (Delete d) = Delete d
 mode_given (Make m) = Make m
 mode_given (Move m) = Move m
 mode_given (SetMode s) = SetMode (record s { stage = setting.Sync })
+mode_given (RemoveEmptied r) = RemoveEmptied r
 
--- the work once this folder was kept, or what stands at the target of a copy or a move
+-- the work once this folder was kept, or what stands at the target of a copy or a move, or the emptied folder
 abbrev pub spared : Route → Work → Work
 spared path (Copy c) = Copy c
 spared path (Delete d) = Delete (record d { stage = after_item d.path path d.stage })
 spared path (Make m) = Make m
 spared path (Move m) = Move (record m { stage = moving.PassedOver })
 spared path (SetMode s) = SetMode s
+spared path (RemoveEmptied r) = RemoveEmptied (record r { stage = removal.PassedOver })
 
 -- the work once this was left as it is
 abbrev pub skipped : Route → Work → Work
@@ -104,6 +123,7 @@ skipped path (Delete d) = Delete (record d { stage = after_item d.path path d.st
 skipped path (Make m) = Make (record m { stage = makings.skipped m.stage })
 skipped path (Move m) = Move (record m { stage = movings.skipped m.stage })
 skipped path (SetMode s) = SetMode (record s { stage = settings.skipped s.stage })
+skipped path (RemoveEmptied r) = RemoveEmptied (record r { stage = removals.skipped r.stage })
 
 -- a copy once its part was removed; in its last steps only the part is gone
 abbrev pub cleaned_tree : Course → SubtreeCopying → SubtreeCopying
@@ -116,6 +136,7 @@ cleaned course (Delete d) = Delete d
 cleaned course (Make m) = Make m
 cleaned course (Move m) = Move m
 cleaned course (SetMode s) = SetMode s
+cleaned course (RemoveEmptied r) = RemoveEmptied r
 
 -- The work once a folder, or the thing itself, was synced, or that was tried. A deletion and a copy stand where they stood.
 -- The sync of what an ended job left dirty comes before the first change, and leaves the work as it is.
@@ -125,6 +146,7 @@ synced (Delete d) = Delete d
 synced (Make m) = Make (record m { stage = makings.after_sync m.stage })
 synced (Move m) = Move (record m { stage = movings.after_sync m.pair m.stage })
 synced (SetMode s) = SetMode (record s { stage = modes.after_sync s.stage })
+synced (RemoveEmptied r) = RemoveEmptied (record r { stage = removals.after_sync r.stage })
 
 -- a trouble at a barrier before the first change is that of what an ended job left dirty
 abbrev pub course_told : Work → Trouble → Course
@@ -143,7 +165,7 @@ after_step (Skipped path cause) job = Some (record job { work = skipped path job
 after_step (Cleaned part) job = Some (record job { work = cleaned job.course job.work })
 after_step Barrier job = Some (record job { work = synced job.work })
 after_step (Asked question) job = Some (record job { course = Asking })
-after_step (Merges pair names) job = Some job
+after_step (Merges transfer pair names) job = Some (record job { work = merged job.work })
 after_step (Moved pair) job = Some (record job { work = moved job.work })
 after_step (Troubled trouble) job = Some (record job { course = course_told job.work trouble })
 after_step (Ended ending part) job = None

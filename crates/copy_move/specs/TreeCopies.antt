@@ -6,6 +6,7 @@ use Rattle.tree_trait.specs.Change.{CallLog}
 use Rattle.job_answers.specs.Skipping.{holds, kind_in}
 use Rattle.job_answers.specs.declared.replies.Replies.{Replies}
 use Rattle.job_answers.specs.declared.skips.Skips.{Skips}
+use Rattle.job_reports.specs.declared.report.Transfer.TheVariants.{ByCopy}
 use Rattle.job_reports.specs.declared.job.Pair.{Pair}
 use Rattle.job_reports.specs.declared.question.Question.{Question}
 use Rattle.job_reports.specs.declared.report.Cause.{Cause}
@@ -45,7 +46,7 @@ pub record Tells (c : SubtreeCopying) (did : Did) (new : SubtreeCopying) : Type 
   pub barred : (trouble : Trouble) → did ≡ Troubled trouble → trouble.barrier ≡ at_barrier new.at
   pub apart : (trouble : Trouble) → did ≡ Troubled trouble → is_fresh c.at.stage ≡ true → trouble.barrier ≡ false
   pub kinds : (path : Route) (cause : Cause) → did ≡ Skipped path cause → holds c.skips (kind_in cause) ≡ true
-  pub merged : (pair : Pair) (names : List (List ℕ)) → did ≡ Merges pair names → MergesTop c pair names new
+  pub merged : (pair : Pair) (names : List (List ℕ)) → did ≡ Merges ByCopy pair names → MergesTop c pair names new
   pub kept : (path : Route) → did ≡ Kept path → KeepsTop c path new
   pub asked : (question : Question) → did ≡ Asked question → AsksTop c new
   pub over : IsOver c.at → IsOver new.at × (changes did ≡ false)

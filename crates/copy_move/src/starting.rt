@@ -6,6 +6,7 @@ ghost use Rattle.copy_move.specs.Jobs.{IsGoing, first_work};
 
 use crate::deletion::TreeDeletion;
 use crate::work::Work;
+use folder_removal::FolderRemoval;
 use job_reports::{Job, Pairs};
 use mc_text::{NoMemory, Path, Paths, Text};
 use mode_setting::ModeSetting;
@@ -26,6 +27,7 @@ pub(crate) fn begun_work(alloc: Global, source: &Job, id: u32) -> Result<Work, N
         Job::MakeFolder(path) => folder_of(alloc, path),
         Job::MakeLink(path, text) => link_of(alloc, path, text),
         Job::SetMode(paths, mode) => setting_of(alloc, paths, *mode),
+        Job::RemoveEmptied(path) => emptied_of(alloc, path),
     }
 }
 
@@ -107,4 +109,15 @@ fn link_of(alloc: Global, path: &Path, text: &Text) -> Result<Work, NoMemory>
     };
     let thing = NewThing::Link(text.copy(alloc)?);
     Ok(Work::Make(ThingMaking::new(path.copy(alloc)?, folder, thing)))
+}
+
+/// The removal of a folder that a merge has emptied.
+fn emptied_of(alloc: Global, path: &Path) -> Result<Work, NoMemory>
+    requires { is_workable (plan.RemoveEmptied path.now) ≡ true }
+    ensures { IfOk result (λ work. (first_work 0 (plan.RemoveEmptied path.now) ≡ Some work) × IsGoing work) }
+{
+    let Some(folder) = path.parent(alloc)? else {
+        unreachable!()
+    };
+    Ok(Work::RemoveEmptied(FolderRemoval::new(path.copy(alloc)?, folder)))
 }

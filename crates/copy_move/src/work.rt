@@ -1,5 +1,5 @@
-//! What a job does: it copies or deletes a thing with all that lies in it, moves a thing, makes a folder or a link, or sets a thing's mode.
-//! One machine for each.
+//! What a job does: it copies or deletes a thing with all that lies in it, moves a thing, makes a folder or a link, sets a thing's mode, or
+//! removes a folder that a merge has emptied. One machine for each.
 ghost use Rattle.std.specs.Prelude.{◌≡◌, false, option_map, true};
 ghost use Rattle.copy_move.specs.Jobs.{IsGoing, at_barrier, is_fresh, kind_of, part_of, passing_over, path_of, skipping_by, skips_of, taken_anew as anew, with_skips};
 ghost use Rattle.copy_move.specs.Settling.{changed_folder, is_owed_anywhere, left_folder, moved_thing};
@@ -8,6 +8,7 @@ ghost use Rattle.copy_move.specs.Steps.{WorkSkips, WorkSteps, WorkWindsUp};
 use crate::deletion::TreeDeletion;
 use crate::dirty_setting::{step_setting, wind_up_setting};
 use file_copy::PartTest;
+use folder_removal::{FolderRemoval, step_removal, wind_up_removal};
 use job_answers::{Replies, Skips};
 use job_reports::{Answer, Cause, Did, Ending, JobKind, LastStepResult, StepResult};
 use mc_text::Path;
@@ -27,6 +28,7 @@ pub enum Work {
     Make(ThingMaking),
     Move(ThingMoving),
     SetMode(ModeSetting),
+    RemoveEmptied(FolderRemoval),
 }
 
 impl Work {
@@ -50,6 +52,7 @@ impl Work {
             Work::Make(making) => step_making(making, alloc, tree, dirty),
             Work::Move(moving) => step_moving(moving, alloc, tree, dirty, replies),
             Work::SetMode(setting) => step_setting(setting, alloc, tree, dirty),
+            Work::RemoveEmptied(removal) => step_removal(removal, alloc, tree, dirty),
         }
     }
 
@@ -66,6 +69,7 @@ impl Work {
             Work::Make(making) => making.skip(alloc, cause),
             Work::Move(moving) => moving.skip(alloc, cause),
             Work::SetMode(setting) => setting.skip(alloc, cause),
+            Work::RemoveEmptied(removal) => removal.skip(alloc, cause),
         }
     }
 
@@ -82,6 +86,7 @@ impl Work {
             Work::Make(_) => {}
             Work::Move(moving) => moving.skip_all(cause),
             Work::SetMode(setting) => setting.skip_all(cause),
+            Work::RemoveEmptied(removal) => removal.skip_all(cause),
         }
     }
 
@@ -110,6 +115,7 @@ impl Work {
             Work::Make(_) => Skips::new(),
             Work::Move(moving) => moving.skips(),
             Work::SetMode(setting) => setting.skips(),
+            Work::RemoveEmptied(removal) => removal.skips(),
         }
     }
 
@@ -125,6 +131,7 @@ impl Work {
             Work::Make(_) => {}
             Work::Move(moving) => moving.pass_over(skips),
             Work::SetMode(setting) => setting.pass_over(skips),
+            Work::RemoveEmptied(removal) => removal.pass_over(skips),
         }
     }
 
@@ -140,6 +147,7 @@ impl Work {
             Work::Make(_) => {}
             Work::Move(_) => {}
             Work::SetMode(_) => {}
+            Work::RemoveEmptied(_) => {}
         }
     }
 
@@ -160,6 +168,7 @@ impl Work {
             Work::Make(making) => wind_up_making(making, alloc, tree, ending, dirty),
             Work::Move(moving) => wind_up_moving(moving, alloc, tree, ending, dirty),
             Work::SetMode(setting) => wind_up_setting(setting, alloc, tree, ending, dirty),
+            Work::RemoveEmptied(removal) => wind_up_removal(removal, alloc, tree, ending, dirty),
         }
     }
 
@@ -173,10 +182,11 @@ impl Work {
             Work::Make(making) => making.thing().kind(),
             Work::Move(_) => JobKind::Move,
             Work::SetMode(_) => JobKind::SetMode,
+            Work::RemoveEmptied(_) => JobKind::Move,
         }
     }
 
-    /// What is copied, deleted, made, moved or given a mode.
+    /// What is copied, deleted, made, moved, given a mode or removed.
     pub(crate) fn path(&self) -> &Path
         ensures { result.now ≡ path_of self.now }
     {
@@ -186,6 +196,7 @@ impl Work {
             Work::Make(making) => making.path(),
             Work::Move(moving) => &moving.pair().source,
             Work::SetMode(setting) => setting.path(),
+            Work::RemoveEmptied(removal) => removal.path(),
         }
     }
 
@@ -199,6 +210,7 @@ impl Work {
             Work::Make(_) => None,
             Work::Move(_) => None,
             Work::SetMode(_) => None,
+            Work::RemoveEmptied(_) => None,
         }
     }
 
@@ -212,6 +224,7 @@ impl Work {
             Work::Make(_) => None,
             Work::Move(_) => None,
             Work::SetMode(_) => None,
+            Work::RemoveEmptied(_) => None,
         }
     }
 
@@ -225,6 +238,7 @@ impl Work {
             Work::Make(making) => making.is_at_barrier(),
             Work::Move(moving) => moving.is_at_barrier(),
             Work::SetMode(setting) => setting.is_at_barrier(),
+            Work::RemoveEmptied(removal) => removal.is_at_barrier(),
         }
     }
 
@@ -238,6 +252,7 @@ impl Work {
             Work::Make(making) => making.folder(),
             Work::Move(moving) => moving.folder(),
             Work::SetMode(setting) => setting.folder(),
+            Work::RemoveEmptied(removal) => removal.folder(),
         }
     }
 
@@ -251,10 +266,11 @@ impl Work {
             Work::Make(making) => making.folder(),
             Work::Move(moving) => moving.source_folder(),
             Work::SetMode(setting) => setting.folder(),
+            Work::RemoveEmptied(removal) => removal.folder(),
         }
     }
 
-    /// Whether what is dirty here has to be synced first on whatever mount it lies: it is the thing that is deleted or moved, or lies in
+    /// Whether what is dirty here has to be synced first on whatever mount it lies: it is the thing that is removed or moved, or lies in
     /// it; and before a mode is set all has, since the mode of a folder may bar the way to what lies in it.
     pub(crate) fn is_owed_anywhere(&self, dirty: &Path) -> bool
         ensures { result ≡ is_owed_anywhere self.now dirty.now }
@@ -265,6 +281,7 @@ impl Work {
             Work::Make(_) => false,
             Work::Move(moving) => moving.pair().source.is_prefix_of(dirty),
             Work::SetMode(_) => true,
+            Work::RemoveEmptied(removal) => removal.path().is_prefix_of(dirty),
         }
     }
 
@@ -278,6 +295,7 @@ impl Work {
             Work::Make(_) => None,
             Work::Move(moving) => Some(&moving.pair().source),
             Work::SetMode(_) => None,
+            Work::RemoveEmptied(_) => None,
         }
     }
 
@@ -291,6 +309,7 @@ impl Work {
             Work::Make(making) => making.is_fresh(),
             Work::Move(moving) => moving.is_fresh(),
             Work::SetMode(setting) => setting.is_fresh(),
+            Work::RemoveEmptied(removal) => removal.is_fresh(),
         }
     }
 }

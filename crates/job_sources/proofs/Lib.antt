@@ -1,4 +1,5 @@
 pub mod Children
+pub mod Following
 pub mod Nearer
 pub mod Over
 pub mod Ranking

@@ -5,6 +5,7 @@ use Rattle.std.specs.Option.{option_map, option_map_or}
 use Rattle.std.proofs.lemmas.Bool.{false≢true, true≢false}
 use Rattle.mc_text.specs.Routes.{Route}
 use Rattle.tree_trait.specs.Change.{CallLog}
+use Rattle.job_reports.specs.declared.report.Transfer.{Transfer}
 use Rattle.job_reports.specs.declared.job.Job.{Job}
 use Rattle.job_reports.specs.declared.job.Pair.{Pair}
 use Rattle.job_reports.specs.declared.report.Did.{Did}
@@ -20,7 +21,7 @@ use Rattle.copy_move.specs.Ranks.{rank_at, rank_with, work_rank}
 use Rattle.copy_move.specs.Steps.{RunStep, SyncsOwed, step_made}
 use Rattle.copy_move.specs.Told.{if_closed, with_next}
 use Rattle.job_answers.specs.declared.skips.Skips.{Skips as SkippedKinds}
-use Rattle.copy_move.specs.declared.work.Work.TheVariants.{Copy, Delete, Make, Move, SetMode}
+use Rattle.copy_move.specs.declared.work.Work.TheVariants.{Copy, Delete, Make, Move, SetMode, RemoveEmptied}
 use Rattle.copy_move.proofs.Finishing.{Finishes, finish_stays, passing_rank}
 use Rattle.copy_move.proofs.Merging.{merge_stays}
 use Rattle.job_sources.specs.declared.turning.Stepped.{Stepped}
@@ -38,7 +39,7 @@ finish_so (Ended NoMemory part) h = absurd (false≢true h)
 finish_so (Began part) h = absurd (false≢true h)
 finish_so (Chunk count) h = absurd (false≢true h)
 finish_so (Asked question) h = absurd (false≢true h)
-finish_so (Merges pair names) h = absurd (false≢true h)
+finish_so (Merges transfer pair names) h = absurd (false≢true h)
 finish_so (Moved pair) h = absurd (false≢true h)
 finish_so (Set path) h = absurd (false≢true h)
 finish_so (Placed path) h = absurd (false≢true h)
@@ -65,8 +66,8 @@ synced_number job new path did dirty dirty_after before after (inl h) = ap (λ (
 synced_number job new path did dirty dirty_after before after (inr h) = ap (λ (r : Running). r.id) h.new_is
 
 -- the report that a folder is merged
-pub merge_so : (did : Did) → merges did ≡ true → (pair : Pair) × (names : List (List ℕ)) × (did ≡ Merges pair names)
-merge_so (Merges pair names) h = (pair, names, refl)
+pub merge_so : (did : Did) → merges did ≡ true → (transfer : Transfer) × (pair : Pair) × (names : List (List ℕ)) × (did ≡ Merges transfer pair names)
+merge_so (Merges transfer pair names) h = (transfer, pair, names, refl)
 merge_so (Moved pair) h = absurd (false≢true h)
 merge_so (Ended ending part) h = absurd (false≢true h)
 merge_so (Began part) h = absurd (false≢true h)
@@ -84,7 +85,7 @@ merge_so (Troubled trouble) h = absurd (false≢true h)
 
 -- all others leave the sources as they are, or none
 left_plain : (did : Did) (left : List Job) → merges did ≡ false → left_by did left ≡ (if ends did then [] else left)
-left_plain (Merges pair names) left h = absurd (true≢false h)
+left_plain (Merges transfer pair names) left h = absurd (true≢false h)
 left_plain (Moved pair) left h = refl
 left_plain (Ended ending part) left h = refl
 left_plain (Began part) left h = refl
@@ -132,6 +133,7 @@ passing_children skips (Delete d) = refl
 passing_children skips (Make m) = refl
 passing_children skips (Move m) = refl
 passing_children skips (SetMode s) = refl
+passing_children skips (RemoveEmptied r) = refl
 
 -- the run of a next source
 record IsNext (id : ℕ) (work : Option Work) (run : Running) : Type 0 where
@@ -210,11 +212,11 @@ module _ (unclaimed : Route → Type 0) (closed : Bool) (job new : Running) (did
   reported : (b : Bool) → merges did ≡ b → rank_left dirty_after (if_closed closed (if ends did then None else Some new)) (left_by did left) < rank_left dirty (Some job) left
   reported true h =
       let m = merge_so did h in
-      let at = m.2 in
+      let at = m.3 in
       subst (λ d. rank_left dirty_after (if_closed closed (if ends d then None else Some new)) (left_by d left) < rank_left dirty (Some job) left) (sym at)
-      (merge_falls closed job new dirty dirty_after (children_in m.0 m.1) left number
+      (merge_falls closed job new dirty dirty_after (children_in m.0 m.1 m.2) left number
       (subst (λ d. rank_with dirty_after (if_closed closed (if ends d then None else Some new)) < rank_with dirty (Some job)) at (run_falls unclaimed closed job new did made dirty dirty_after before after f0 f1 steps))
-      (step_merges unclaimed job new made dirty dirty_after before after f0 f1 m.0 m.1 (subst (λ d. RunStep unclaimed (step_made job new d made dirty dirty_after before after f0 f1)) at steps)))
+      (step_merges unclaimed job new made dirty dirty_after before after f0 f1 m.0 m.1 m.2 (subst (λ d. RunStep unclaimed (step_made job new d made dirty dirty_after before after f0 f1)) at steps)))
   reported false h =
       subst (λ l. rank_left dirty_after (if_closed closed (if ends did then None else Some new)) l < rank_left dirty (Some job) left) (sym (left_plain did left h))
       (report_falls closed (ends did) job new dirty dirty_after left number (run_falls unclaimed closed job new did made dirty dirty_after before after f0 f1 steps) (step_less unclaimed job new made dirty dirty_after before after f0 f1 did steps))
@@ -227,7 +229,7 @@ module _ (unclaimed : Route → Type 0) (closed : Bool) (job new : Running) (did
   goes_nearer (inr (inr (inl h, none, r))) = (let f = (finished h).1 in short_falls (ap length f.list) r.stands)
   goes_nearer (inr (inr (inr h, none, r))) =
       let m = merge_so did h in
-      let f = merge_stays unclaimed m.0 m.1 made dirty dirty_after before after f0 f1 job new (subst (λ d. RunStep unclaimed (step_made job new d made dirty dirty_after before after f0 f1)) m.2 steps) in
+      let f = merge_stays unclaimed m.0 m.1 m.2 made dirty dirty_after before after f0 f1 job new (subst (λ d. RunStep unclaimed (step_made job new d made dirty dirty_after before after f0 f1)) m.3 steps) in
       short_falls (ap length f.list) r.stands
 
 -- a job that is given up is no more

@@ -1,14 +1,18 @@
--- A copy that is over merges nothing any more: what may be left as sources yet falls to nothing with a merge, and rises with no step.
+-- A copy that is over merges nothing any more, nor does a move once something was decided: what may be left as sources yet falls to nothing with a merge, and rises with no step.
 use Rattle.std.proofs.Common.{◌≡◌, ℕ, ◌+◌, ◌≤◌, Bool, true, false, not, List, [], ◌∷◌, refl, sym, ◌∙◌, ap, subst, inl, inr, Option, arith}
 use Rattle.std.specs.Prelude.{if◌then◌else◌, ◌&&◌}
 use Rattle.std.proofs.lemmas.Bool.{false≢true}
-use Rattle.mc_text.specs.Routes.{Route}
+use Rattle.mc_text.specs.Routes.{Route, same_path}
 use Rattle.tree_trait.specs.Change.{CallLog}
 use Rattle.folder_copy.specs.FolderCopying.{is_dirty}
+use Rattle.job_reports.specs.declared.report.Transfer.{Transfer}
+use Rattle.job_reports.specs.declared.report.Transfer.TheVariants.{ByCopy, ByMove}
 use Rattle.job_reports.specs.declared.job.Pair.{Pair}
 use Rattle.job_reports.specs.declared.report.Cause.{Cause}
 use Rattle.job_reports.specs.declared.report.Did.{Did}
-use Rattle.job_reports.specs.declared.report.Did.TheVariants.{Barrier, Merges, Skipped, Troubled}
+use Rattle.job_reports.specs.declared.report.Did.TheVariants.{Kept, Skipped, Barrier, Asked, Merges, Moved, Troubled, Ended}
+use Rattle.job_reports.specs.declared.report.Ending.TheVariants.{Finished}
+use Rattle.job_reports.specs.Paths.{folder_of}
 use Rattle.session_history.specs.Sources.{children_in}
 use Rattle.subtree_copy.specs.Leaving.{owes_at_end}
 use Rattle.subtree_copy.specs.Merged.{IsOver}
@@ -18,14 +22,19 @@ use Rattle.subtree_walk.specs.Places.{is_empty}
 use Rattle.tree_copy.specs.declared.item.Item.{Item}
 use Rattle.tree_copy.specs.declared.item.Item.TheVariants as item
 use Rattle.tree_copy.specs.Standing.{Seen}
+use Rattle.thing_moving.specs.declared.moving.MovingStage.{MovingStage}
+use Rattle.thing_moving.specs.declared.moving.MovingStage.TheVariants.{Take, SyncTarget, SyncSource, Finish, PassedOver}
+use Rattle.thing_moving.specs.Movings as movings
+use Rattle.thing_moving.specs.Movings.{Moving}
 use Rattle.copy_move.specs.declared.run.Course.{Course}
 use Rattle.copy_move.specs.declared.run.Course.TheVariants.{GoesOn, Asking, InTrouble, OwedSyncFailed, Skips, Ends}
 use Rattle.copy_move.specs.declared.work.Work.{Work}
-use Rattle.copy_move.specs.declared.work.Work.TheVariants.{Copy, Delete, Make, Move, SetMode}
+use Rattle.copy_move.specs.declared.work.Work.TheVariants.{Copy, Delete, Make, Move, SetMode, RemoveEmptied}
 use Rattle.copy_move.specs.Jobs.{PassesOver, Running, TellsOn, WorkTells, closed_course}
 use Rattle.copy_move.specs.Steps.{RunStep, SkipWalks, SyncsOwed, WalksOn, step_made}
+use Rattle.copy_move.specs.TreeCopies as trees
 use Rattle.copy_move.proofs.Merging.{none_wound}
-use Rattle.job_sources.specs.Turning.{below_steps, children_left, children_on, is_next, is_over, merges, room_below, sources_rank, tree_steps}
+use Rattle.job_sources.specs.Turning.{children_left, children_on, is_next, is_over, sources_rank, within_steps}
 use Rattle.job_sources.proofs.Children.{children_within}
 
 all_five : (a b c d e : Bool) → a ≡ true → b ≡ true → c ≡ true → d ≡ false → e ≡ false → (a && (b && (c && (not d && not e)))) ≡ true
@@ -97,100 +106,100 @@ over_less false false m n h same = omega (arith, same)
 
 tree_less : (c new : SubtreeCopying) → new.top ≡ c.top → (IsOver c.at → IsOver new.at) → children_left (Copy new) ≤ children_left (Copy c)
 tree_less c new top over =
-    over_less (is_over c.at) (is_over new.at) (below_steps tree_steps (room_below c.top.source)) (below_steps tree_steps (room_below new.top.source))
-    (λ was. over_so new.at (over (so_over c.at was))) (ap (λ (p : Pair). below_steps tree_steps (room_below p.source)) top)
+    over_less (is_over c.at) (is_over new.at) (within_steps ByCopy c.top) (within_steps ByCopy new.top)
+    (λ was. over_so new.at (over (so_over c.at was))) (ap (within_steps ByCopy) top)
+
+-- nor does a move merge anything at one of its later stages
+late_less : (m new : Moving) (stage : MovingStage) → new ≡ record m { stage = stage } → movings.is_fresh stage ≡ false → children_left (Move new) ≤ children_left (Move m)
+late_less m new stage is late =
+    let none : children_left (Move new) ≡ 0 = ap (λ (k : Moving). children_left (Move k)) is ∙ ap (λ b. if b then within_steps ByMove m.pair else 0) late in
+    omega (arith, none)
+
+still_less : (m new : Moving) → new ≡ m → children_left (Move new) ≤ children_left (Move m)
+still_less m new is = let same : children_left (Move new) ≡ children_left (Move m) = ap (λ k. children_left (Move k)) is in omega (arith, same)
+
+synced_late : (pair : Pair) (stage : MovingStage) → movings.is_dirty stage ≡ true → movings.is_fresh (movings.after_sync pair stage) ≡ false
+synced_late pair Take h = absurd (false≢true h)
+synced_late pair SyncTarget h = by (same_path (folder_of pair.target) (folder_of pair.source))
+  where
+    by : (b : Bool) → movings.is_fresh (if b then Finish else SyncSource) ≡ false
+    by true = refl
+    by false = refl
+synced_late pair SyncSource h = refl
+synced_late pair Finish h = refl
+synced_late pair PassedOver h = refl
+
+skipped_late : (stage : MovingStage) → movings.is_fresh (movings.skipped stage) ≡ false
+skipped_late Take = refl
+skipped_late SyncTarget = refl
+skipped_late SyncSource = refl
+skipped_late Finish = refl
+skipped_late PassedOver = refl
+
+moving_less : (m new : Moving) (did : Did) → movings.Tells m did new → children_left (Move new) ≤ children_left (Move m)
+moving_less m new (Moved pair) t = late_less m new SyncTarget t.2 refl
+moving_less m new (Kept path) t = late_less m new PassedOver t.2 refl
+moving_less m new (Skipped path cause) t = late_less m new PassedOver t.3 refl
+moving_less m new Barrier t = late_less m new (movings.after_sync m.pair m.stage) t.1 (synced_late m.pair m.stage t.0)
+moving_less m new (Asked question) t = still_less m new t.1
+moving_less m new (Merges transfer pair names) t = late_less m new PassedOver t.2 refl
+moving_less m new (Troubled trouble) t = still_less m new t.3
+moving_less m new (Ended Finished part) t = still_less m new t.2
+moving_less m new did t = absurd t
 
 -- a step of the work
 tells_less : (old new : Work) (did : Did) → WorkTells old did new → children_left new ≤ children_left old
 tells_less (Copy c) (Copy new) did t = (let a = t.after in tree_less c new a.top (λ o. (t.over o).0))
-tells_less (Copy c) (Delete new) did t = absurd t
-tells_less (Copy c) (Make new) did t = absurd t
-tells_less (Copy c) (Move new) did t = absurd t
-tells_less (Copy c) (SetMode new) did t = absurd t
-tells_less (Delete d) (Copy new) did t = absurd t
 tells_less (Delete d) (Delete new) did t = omega arith
-tells_less (Delete d) (Make new) did t = absurd t
-tells_less (Delete d) (Move new) did t = absurd t
-tells_less (Delete d) (SetMode new) did t = absurd t
-tells_less (Make m) (Copy new) did t = absurd t
-tells_less (Move m) (Copy new) did t = absurd t
-tells_less (Make m) (Delete new) did t = absurd t
-tells_less (Move m) (Delete new) did t = absurd t
 tells_less (Make m) (Make new) did t = omega arith
-tells_less (Move m) (Move new) did t = omega arith
-tells_less (Make m) (SetMode new) did t = absurd t
-tells_less (Make m) (Move new) did t = absurd t
-tells_less (Move m) (SetMode new) did t = absurd t
-tells_less (SetMode s) (Copy new) did t = absurd t
-tells_less (SetMode s) (Delete new) did t = absurd t
-tells_less (SetMode s) (Make new) did t = absurd t
-tells_less (Move s) (Make new) did t = absurd t
-tells_less (SetMode s) (Move new) did t = absurd t
+tells_less (Move m) (Move new) did t = moving_less m new did t
 tells_less (SetMode s) (SetMode new) did t = omega arith
+tells_less (RemoveEmptied r) (RemoveEmptied new) did t = omega arith
+tells_less old new did t = absurd t
 
 -- a skip of it
 skips_less : (cause : Cause) (old new : Work) (did : Did) (path : Route) → PassesOver old path new → SkipWalks cause old did new → children_left new ≤ children_left old
 skips_less cause (Copy c) (Copy new) did path p s = tree_less c new (ap (λ (k : SubtreeCopying). k.top) s.stands) (λ o. merged_law.skip cause c new did s o)
-skips_less cause (Copy c) (Delete new) did path p s = absurd p
-skips_less cause (Copy c) (Make new) did path p s = absurd p
-skips_less cause (Copy c) (Move new) did path p s = absurd p
-skips_less cause (Copy c) (SetMode new) did path p s = absurd p
-skips_less cause (Delete d) (Copy new) did path p s = absurd p
 skips_less cause (Delete d) (Delete new) did path p s = omega arith
-skips_less cause (Delete d) (Make new) did path p s = absurd p
-skips_less cause (Delete d) (Move new) did path p s = absurd p
-skips_less cause (Delete d) (SetMode new) did path p s = absurd p
-skips_less cause (Make m) (Copy new) did path p s = absurd p
-skips_less cause (Move m) (Copy new) did path p s = absurd p
-skips_less cause (Make m) (Delete new) did path p s = absurd p
-skips_less cause (Move m) (Delete new) did path p s = absurd p
 skips_less cause (Make m) (Make new) did path p s = omega arith
-skips_less cause (Move m) (Move new) did path p s = omega arith
-skips_less cause (Make m) (SetMode new) did path p s = absurd p
-skips_less cause (Make m) (Move new) did path p s = absurd p
-skips_less cause (Move m) (SetMode new) did path p s = absurd p
-skips_less cause (SetMode m) (Copy new) did path p s = absurd p
-skips_less cause (SetMode m) (Delete new) did path p s = absurd p
-skips_less cause (SetMode m) (Make new) did path p s = absurd p
-skips_less cause (Move m) (Make new) did path p s = absurd p
-skips_less cause (SetMode m) (Move new) did path p s = absurd p
+skips_less cause (Move m) (Move new) did path p s = late_less m new (movings.skipped m.stage) p.1 (skipped_late m.stage)
 skips_less cause (SetMode m) (SetMode new) did path p s = omega arith
+skips_less cause (RemoveEmptied r) (RemoveEmptied new) did path p s = omega arith
+skips_less cause old new did path p s = absurd p
 
 -- the children that come in are counted before
 merged_exactly : (a b : Bool) (m n k : ℕ) → (a ≡ true → ⊥) → b ≡ true → k ≤ m → (if b then 0 else n) + k ≤ (if a then 0 else m)
 merged_exactly true b m n k begins over within = absurd (begins refl)
 merged_exactly false b m n k begins over within = let e : (if b then 0 else n) ≡ 0 = ap (λ x. if x then 0 else n) over in omega (arith, e, within)
 
-merges_less : (id : ℕ) (old new : Work) (pair : Pair) (names : List (List ℕ)) → WorkTells old (Merges pair names) new → children_left new + sources_rank id (children_in pair names) ≤ children_left old
-merges_less id (Copy c) (Copy new) pair names t =
+copy_merges : (id : ℕ) (c new : SubtreeCopying) (transfer : Transfer) (pair : Pair) (names : List (List ℕ)) → trees.Tells c (Merges transfer pair names) new
+    → children_left (Copy new) + sources_rank id (children_in transfer pair names) ≤ children_left (Copy c)
+copy_merges id c new ByMove pair names t = absurd t.may
+copy_merges id c new ByCopy pair names t =
     let m = t.merged pair names refl in
-    merged_exactly (is_over c.at) (is_over new.at) (below_steps tree_steps (room_below c.top.source)) (below_steps tree_steps (room_below new.top.source)) (sources_rank id (children_in pair names))
+    merged_exactly (is_over c.at) (is_over new.at) (within_steps ByCopy c.top) (within_steps ByCopy new.top) (sources_rank id (children_in ByCopy pair names))
     (λ was. m.begins (so_over c.at was)) (over_so new.at m.over)
-    (subst (λ (p : Pair). sources_rank id (children_in pair names) ≤ below_steps tree_steps (room_below p.source)) m.top (children_within id pair names m.short m.few))
-merges_less id (Copy c) (Delete new) pair names t = absurd t
-merges_less id (Copy c) (Make new) pair names t = absurd t
-merges_less id (Copy c) (Move new) pair names t = absurd t
-merges_less id (Copy c) (SetMode new) pair names t = absurd t
-merges_less id (Delete d) (Copy new) pair names t = absurd t
-merges_less id (Delete d) (Delete new) pair names t = absurd t
-merges_less id (Delete d) (Make new) pair names t = absurd t
-merges_less id (Delete d) (Move new) pair names t = absurd t
-merges_less id (Delete d) (SetMode new) pair names t = absurd t
-merges_less id (Make m) (Copy new) pair names t = absurd t
-merges_less id (Move m) (Copy new) pair names t = absurd t
-merges_less id (Make m) (Delete new) pair names t = absurd t
-merges_less id (Move m) (Delete new) pair names t = absurd t
-merges_less id (Make m) (Make new) pair names t = absurd t
-merges_less id (Move m) (Move new) pair names t = absurd t
-merges_less id (Make m) (SetMode new) pair names t = absurd t
-merges_less id (Make m) (Move new) pair names t = absurd t
-merges_less id (Move m) (SetMode new) pair names t = absurd t
-merges_less id (SetMode s) (Copy new) pair names t = absurd t
-merges_less id (SetMode s) (Delete new) pair names t = absurd t
-merges_less id (SetMode s) (Make new) pair names t = absurd t
-merges_less id (Move s) (Make new) pair names t = absurd t
-merges_less id (SetMode s) (Move new) pair names t = absurd t
-merges_less id (SetMode s) (SetMode new) pair names t = absurd t
+    (subst (λ (p : Pair). sources_rank id (children_in ByCopy pair names) ≤ within_steps ByCopy p) m.top (children_within id ByCopy pair names m.short m.few))
+
+move_merges : (id : ℕ) (m new : Moving) (transfer : Transfer) (pair : Pair) (names : List (List ℕ)) → movings.Tells m (Merges transfer pair names) new
+    → children_left (Move new) + sources_rank id (children_in transfer pair names) ≤ children_left (Move m)
+move_merges id m new ByCopy pair names t = absurd (let merge = t.1 in let e : ByCopy ≡ ByMove = merge.by_move in let f : ⊥ = cc in f)
+move_merges id m new ByMove pair names t =
+    let merge = t.1 in
+    let none : children_left (Move new) ≡ 0 = ap (λ (k : Moving). children_left (Move k)) t.2 in
+    let all : children_left (Move m) ≡ within_steps ByMove m.pair = ap (λ s. if movings.is_fresh s then within_steps ByMove m.pair else 0) t.0 in
+    let most = children_within id ByMove pair names merge.short merge.few in
+    let same : within_steps ByMove pair ≡ within_steps ByMove m.pair = ap (within_steps ByMove) merge.its in
+    omega (arith, none, all, most, same)
+
+merges_less : (id : ℕ) (old new : Work) (transfer : Transfer) (pair : Pair) (names : List (List ℕ)) → WorkTells old (Merges transfer pair names) new → children_left new + sources_rank id (children_in transfer pair names) ≤ children_left old
+merges_less id (Copy c) (Copy new) transfer pair names t = copy_merges id c new transfer pair names t
+merges_less id (Move m) (Move new) transfer pair names t = move_merges id m new transfer pair names t
+merges_less id (Delete d) (Delete new) transfer pair names t = absurd t
+merges_less id (Make m) (Make new) transfer pair names t = absurd t
+merges_less id (SetMode s) (SetMode new) transfer pair names t = absurd t
+merges_less id (RemoveEmptied r) (RemoveEmptied new) transfer pair names t = absurd t
+merges_less id old new transfer pair names t = absurd t
 
 module _ (unclaimed : Route → Type 0) (job new : Running) (calls : ℕ) (dirty dirty_after : List Route) (before after : Option CallLog) (f0 f1 : ℕ) where
   -- a step of the job that doesn't merge
@@ -223,24 +232,24 @@ module _ (unclaimed : Route → Type 0) (job new : Running) (calls : ℕ) (dirty
   step_less did (inr s) = owed_less did s.path s.synced
 
   -- a step that merges
-  module _ (pair : Pair) (names : List (List ℕ)) where
-    course_merges : (course : Course) → job.course ≡ course → TellsOn course job (Merges pair names) new → children_on new.course new.work + sources_rank new.id (children_in pair names) ≤ children_on course job.work
+  module _ (transfer : Transfer) (pair : Pair) (names : List (List ℕ)) where
+    course_merges : (course : Course) → job.course ≡ course → TellsOn course job (Merges transfer pair names) new → children_on new.course new.work + sources_rank new.id (children_in transfer pair names) ≤ children_on course job.work
     course_merges GoesOn is (work, tells, new_is) =
-        let less = merges_less new.id job.work work pair names tells in
+        let less = merges_less new.id job.work work transfer pair names tells in
         let most = on_within new.course new.work in
         let same : children_left new.work ≡ children_left work = ap (λ (r : Running). children_left r.work) new_is in
         omega (arith, less, most, same)
     course_merges (InTrouble halt) is tells = absurd tells
     course_merges (OwedSyncFailed cause) is tells = absurd tells
     course_merges Asking is tells = absurd tells
-    course_merges (Skips cause) is (inl (path, work, did_is, passes, new_is)) = absurd (let e : Merges pair names ≡ Skipped path cause = did_is in let f : ⊥ = cc in f)
+    course_merges (Skips cause) is (inl (path, work, did_is, passes, new_is)) = absurd (let e : Merges transfer pair names ≡ Skipped path cause = did_is in let f : ⊥ = cc in f)
     course_merges (Skips cause) is (inr (apart, did_is, new_is)) = absurd (let e = did_is in let f : ⊥ = cc in f)
-    course_merges (Ends ending) is (work, winds, new_is) = absurd (none_wound pair names ending job.work work winds)
+    course_merges (Ends ending) is (work, winds, new_is) = absurd (none_wound transfer pair names ending job.work work winds)
 
-    pub step_merges : RunStep unclaimed (step_made job new (Merges pair names) calls dirty dirty_after before after f0 f1) → children_on new.course new.work + sources_rank new.id (children_in pair names) ≤ children_on job.course job.work
+    pub step_merges : RunStep unclaimed (step_made job new (Merges transfer pair names) calls dirty dirty_after before after f0 f1) → children_on new.course new.work + sources_rank new.id (children_in transfer pair names) ≤ children_on job.course job.work
     step_merges (inl o) = (let s = o.own in course_merges job.course refl s.tells)
     step_merges (inr s) = by s.synced
       where
-        by : SyncsOwed job s.path (Merges pair names) new dirty dirty_after before after → children_on new.course new.work + sources_rank new.id (children_in pair names) ≤ children_on job.course job.work
-        by (inl h) = absurd (let e : Merges pair names ≡ Barrier = h.did_is in let f : ⊥ = cc in f)
-        by (inr h) = absurd (let e : Merges pair names ≡ Troubled h.trouble = h.did_is in let f : ⊥ = cc in f)
+        by : SyncsOwed job s.path (Merges transfer pair names) new dirty dirty_after before after → children_on new.course new.work + sources_rank new.id (children_in transfer pair names) ≤ children_on job.course job.work
+        by (inl h) = absurd (let e : Merges transfer pair names ≡ Barrier = h.did_is in let f : ⊥ = cc in f)
+        by (inr h) = absurd (let e : Merges transfer pair names ≡ Troubled h.trouble = h.did_is in let f : ⊥ = cc in f)

@@ -6,7 +6,7 @@ use Rattle.tree_trait.specs.Change.{CallLog}
 use Rattle.job_reports.specs.declared.report.Did.{Did}
 use Rattle.job_reports.specs.declared.report.Did.TheVariants.{Began, Chunk, Placed, Removed, Made, Set, Kept, Skipped, Cleaned, Barrier, Asked, Merges, Moved, Troubled, Ended}
 use Rattle.copy_move.specs.declared.work.Work.{Work}
-use Rattle.copy_move.specs.declared.work.Work.TheVariants.{Copy, Delete, Make, Move, SetMode}
+use Rattle.copy_move.specs.declared.work.Work.TheVariants.{Copy, Delete, Make, Move, SetMode, RemoveEmptied}
 use Rattle.copy_move.specs.declared.run.Course.{Course}
 use Rattle.copy_move.specs.declared.run.Course.TheVariants.{GoesOn, Asking, InTrouble, OwedSyncFailed, Skips, Ends}
 use Rattle.copy_move.specs.Jobs.{Running, closed_course}
@@ -15,12 +15,15 @@ use Rattle.thing_making.specs.declared.making.MakingStage.{MakingStage}
 use Rattle.thing_making.specs.declared.making.MakingStage.TheVariants as making
 use Rattle.thing_moving.specs.declared.moving.MovingStage.{MovingStage}
 use Rattle.thing_moving.specs.declared.moving.MovingStage.TheVariants as moving
+use Rattle.folder_removal.specs.declared.removal.RemovalStage.{RemovalStage}
+use Rattle.folder_removal.specs.declared.removal.RemovalStage.TheVariants as removal
+use Rattle.folder_removal.specs.Removals as removals
 use Rattle.copy_move.specs.Deletions.{Deleting, DeletionLeaves}
 use Rattle.thing_making.specs.Makings as makings
 use Rattle.mode_setting.specs.declared.setting.Stage.{Stage as SettingStage}
 use Rattle.mode_setting.specs.declared.setting.Stage.TheVariants as setting
 use Rattle.mode_setting.specs.Settings as settings
-use Rattle.copy_move.specs.Ranks.{last_making_steps, last_moving_steps, last_rank, last_setting_steps, making_rank, moving_rank, rank_at, rank_on, rank_with, setting_rank, work_rank}
+use Rattle.copy_move.specs.Ranks.{last_making_steps, last_moving_steps, last_rank, last_removal_steps, last_setting_steps, making_rank, moving_rank, rank_at, rank_on, rank_with, removal_rank, setting_rank, work_rank}
 use Rattle.tree_deletion.specs.Folders.{joined}
 use Rattle.copy_move.specs.Settling.{WorkLeaves}
 use Rattle.job_reports.specs.Paths.{folder_of, without}
@@ -66,12 +69,25 @@ some_setting_try setting.Give = omega arith
 some_setting_try setting.Sync = omega arith
 some_setting_try setting.Done = omega arith
 
+some_removal : (stage : RemovalStage) → 0 < removal_rank stage
+some_removal removal.Remove = omega arith
+some_removal removal.Sync = omega arith
+some_removal removal.Finish = omega arith
+some_removal removal.PassedOver = omega arith
+
+some_removal_try : (stage : RemovalStage) → 0 < last_removal_steps stage
+some_removal_try removal.Remove = omega arith
+some_removal_try removal.Sync = omega arith
+some_removal_try removal.Finish = omega arith
+some_removal_try removal.PassedOver = omega arith
+
 some_end : (work : Work) → 0 < last_rank work
 some_end (Copy c) = omega arith
 some_end (Delete d) = omega arith
 some_end (Make m) = some_making_try m.stage
 some_end (Move m) = some_moving_try m.stage
 some_end (SetMode s) = some_setting_try s.stage
+some_end (RemoveEmptied r) = some_removal_try r.stage
 
 some_work : (work : Work) → 0 < work_rank work
 some_work (Copy c) = omega arith
@@ -79,6 +95,7 @@ some_work (Delete d) = omega arith
 some_work (Make m) = some_making m.stage
 some_work (Move m) = some_moving m.stage
 some_work (SetMode s) = some_setting s.stage
+some_work (RemoveEmptied r) = some_removal r.stage
 
 -- a live job has steps left
 some_steps : (course : Course) (work : Work) → 0 < rank_on course work
@@ -91,6 +108,7 @@ some_steps (Skips cause) (Delete d) = omega arith
 some_steps (Skips cause) (Make m) = omega arith
 some_steps (Skips cause) (Move m) = omega arith
 some_steps (Skips cause) (SetMode s) = omega arith
+some_steps (Skips cause) (RemoveEmptied r) = omega arith
 some_steps (Ends ending) work = some_end work
 
 -- a job that waits is counted as one that is aborted
@@ -101,16 +119,19 @@ closed_rank (InTrouble halt) (Delete d) dirty = omega arith
 closed_rank (InTrouble halt) (Make m) dirty = omega arith
 closed_rank (InTrouble halt) (Move m) dirty = omega arith
 closed_rank (InTrouble halt) (SetMode s) dirty = omega arith
+closed_rank (InTrouble halt) (RemoveEmptied r) dirty = omega arith
 closed_rank (OwedSyncFailed cause) (Copy c) dirty = omega arith
 closed_rank (OwedSyncFailed cause) (Delete d) dirty = omega arith
 closed_rank (OwedSyncFailed cause) (Make m) dirty = omega arith
 closed_rank (OwedSyncFailed cause) (Move m) dirty = omega arith
 closed_rank (OwedSyncFailed cause) (SetMode s) dirty = omega arith
+closed_rank (OwedSyncFailed cause) (RemoveEmptied r) dirty = omega arith
 closed_rank Asking (Copy c) dirty = omega arith
 closed_rank Asking (Delete d) dirty = omega arith
 closed_rank Asking (Make m) dirty = omega arith
 closed_rank Asking (Move m) dirty = omega arith
 closed_rank Asking (SetMode s) dirty = omega arith
+closed_rank Asking (RemoveEmptied r) dirty = omega arith
 closed_rank (Skips cause) work dirty = omega arith
 closed_rank (Ends ending) work dirty = omega arith
 
@@ -144,7 +165,7 @@ deletion_more d (Troubled trouble) dirty dirty_after before after h = let same =
 deletion_more d (Began part) dirty dirty_after before after h = let same = ap length h in omega (arith, same)
 deletion_more d (Chunk bytes) dirty dirty_after before after h = let same = ap length h in omega (arith, same)
 deletion_more d (Asked question) dirty dirty_after before after h = let same = ap length h in omega (arith, same)
-deletion_more d (Merges pair names) dirty dirty_after before after h = let same = ap length h in omega (arith, same)
+deletion_more d (Merges transfer pair names) dirty dirty_after before after h = let same = ap length h in omega (arith, same)
 deletion_more d (Moved pair) dirty dirty_after before after h = let same = ap length h in omega (arith, same)
 deletion_more d (Set path) dirty dirty_after before after h = let same = ap length h in omega (arith, same)
 deletion_more d (Placed path) dirty dirty_after before after h = let same = ap length h in omega (arith, same)
@@ -158,30 +179,12 @@ within few many less = omega (arith, less)
 -- a step adds two folders at most, with a renaming
 work_more : (old new : Work) (did : Did) (dirty dirty_after : List Route) (before after : Option CallLog) → WorkLeaves old did new dirty dirty_after before after → length dirty_after ≤ length dirty + 2
 work_more (Copy c) (Copy new) did dirty dirty_after before after h = within (length dirty_after) (length dirty) (subst (λ xs. length xs ≤ length dirty + 1) (sym h.list) (one_more h.was h.now h.folder dirty))
-work_more (Copy c) (Delete new) did dirty dirty_after before after h = absurd h
-work_more (Copy c) (Make new) did dirty dirty_after before after h = absurd h
-work_more (Copy c) (Move new) did dirty dirty_after before after h = absurd h
-work_more (Copy c) (SetMode new) did dirty dirty_after before after h = absurd h
-work_more (Delete d) (Copy new) did dirty dirty_after before after h = absurd h
-work_more (Make m) (Copy new) did dirty dirty_after before after h = absurd h
-work_more (Move m) (Copy new) did dirty dirty_after before after h = absurd h
-work_more (SetMode s) (Copy new) did dirty dirty_after before after h = absurd h
-work_more (Delete d) (Make new) did dirty dirty_after before after h = absurd h
-work_more (Delete d) (Move new) did dirty dirty_after before after h = absurd h
-work_more (Make m) (Delete new) did dirty dirty_after before after h = absurd h
-work_more (Move m) (Delete new) did dirty dirty_after before after h = absurd h
-work_more (Delete d) (SetMode new) did dirty dirty_after before after h = absurd h
-work_more (Make m) (SetMode new) did dirty dirty_after before after h = absurd h
-work_more (Make m) (Move new) did dirty dirty_after before after h = absurd h
-work_more (Move m) (SetMode new) did dirty dirty_after before after h = absurd h
-work_more (SetMode s) (Delete new) did dirty dirty_after before after h = absurd h
-work_more (SetMode s) (Make new) did dirty dirty_after before after h = absurd h
-work_more (Move s) (Make new) did dirty dirty_after before after h = absurd h
-work_more (SetMode s) (Move new) did dirty dirty_after before after h = absurd h
 work_more (SetMode s) (SetMode new) did dirty dirty_after before after h = within (length dirty_after) (length dirty) (subst (λ xs. length xs ≤ length dirty + 1) (sym h) (one_more (settings.is_dirty s.stage) (settings.is_dirty new.stage) s.path dirty))
 work_more (Make m) (Make new) did dirty dirty_after before after h = within (length dirty_after) (length dirty) (subst (λ xs. length xs ≤ length dirty + 1) (sym h) (one_more (makings.is_dirty m.stage) (makings.is_dirty new.stage) (folder_of m.path) dirty))
 work_more (Move m) (Move new) did dirty dirty_after before after h = subst (λ xs. length xs ≤ length dirty + 2) (sym h) (two_more m.stage new.stage m.pair dirty)
 work_more (Delete d) (Delete new) did dirty dirty_after before after h = within (length dirty_after) (length dirty) (deletion_more d did dirty dirty_after before after h)
+work_more (RemoveEmptied r) (RemoveEmptied new) did dirty dirty_after before after h = within (length dirty_after) (length dirty) (subst (λ xs. length xs ≤ length dirty + 1) (sym h) (one_more (removals.is_dirty r.stage) (removals.is_dirty new.stage) (folder_of r.path) dirty))
+work_more old new did dirty dirty_after before after h = absurd h
 
 leaves_more : (course : Course) (old new : Work) (did : Did) (dirty dirty_after : List Route) (before after : Option CallLog) → LeavesDirty course old did new dirty dirty_after before after → length dirty_after ≤ length dirty + 2
 leaves_more GoesOn old new did dirty dirty_after before after h = work_more old new did dirty dirty_after before after h

@@ -25,6 +25,7 @@ pub fn sources_in(alloc: Global, plan: &Job) -> Result<Later, NoMemory>
             Job::MakeLink(path.copy(alloc)?, text.copy(alloc)?),
         ),
         Job::SetMode(paths, mode) => of_paths(alloc, paths, Some(*mode)),
+        Job::RemoveEmptied(path) => of_one(alloc, Job::RemoveEmptied(path.copy(alloc)?)),
     }
 }
 

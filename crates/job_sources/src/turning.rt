@@ -3,7 +3,7 @@ ghost use Rattle.std.specs.Prelude.{◌≡◌, ◌⊎◌, [], None, OnErr, OnOk,
 ghost use Rattle.job_reports.specs.Jobs.{is_workable};
 ghost use Rattle.job_reports.specs.Reports.{ends};
 ghost use Rattle.session_history.specs.Sources.{left_by};
-ghost use Rattle.job_sources.specs.Turning.{GoesOn, Reports, RunsShort, Turns, finishes, merges};
+ghost use Rattle.job_sources.specs.Turning.{GoesOn, MayFollow, Reports, RunsShort, Turns, finishes, merges};
 
 use crate::later::Later;
 use copy_move::Run;
@@ -22,6 +22,7 @@ pub struct Stepped {
 
 /// The job after a step. One that has finished a source goes on with the next one, where one is left.
 pub fn go_on(alloc: Global, job: Run, made: StepResult, later: &mut Later) -> Stepped
+    requires follows { MayFollow made.did }
     ensures goes { GoesOn job made.did made.calls later.old result later.new }
 {
     let StepResult { did, calls } = made;
@@ -37,6 +38,7 @@ pub fn go_on(alloc: Global, job: Run, made: StepResult, later: &mut Later) -> St
 
 /// A step as its report tells it. Where a folder is merged, and there is no memory to keep what lies in it, the job ends.
 fn reported(alloc: Global, job: Run, did: Did, calls: u64, later: &mut Later) -> Stepped
+    requires { MayFollow did }
     ensures { Reports job did calls later.old result later.new ⊎ ((merges did ≡ true) × (later.new ≡ []) × RunsShort job result) }
 {
     match leave_by(alloc, &did, later) {
@@ -62,11 +64,12 @@ fn told(job: Run, did: Did, calls: u64) -> Stepped
 
 /// The sources that are left once a step has reported this: none after an end, and what lies in a folder that is merged before all others.
 fn leave_by(alloc: Global, did: &Did, later: &mut Later) -> Result<(), NoMemory>
+    requires { MayFollow did.now }
     ensures done { OnOk result (later.new ≡ left_by did.now later.old) }
     ensures refused { OnErr result (merges did.now ≡ true) }
 {
     match did {
-        Did::Merges(pair, names) => later.put_children(alloc, pair, names),
+        Did::Merges(how, pair, names) => later.put_children(alloc, *how, pair, names),
         Did::Ended { .. } => {
             later.clear();
             Ok(())

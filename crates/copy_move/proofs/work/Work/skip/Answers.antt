@@ -5,6 +5,7 @@ use Rattle.copy_move.proofs.FolderSteps.{deletion_skips}
 use Rattle.copy_move.proofs.MakingWorks.{making_skips}
 use Rattle.copy_move.proofs.ModeSteps.{setting_skips}
 use Rattle.copy_move.proofs.MovingWorks.{moving_skips}
+use Rattle.copy_move.proofs.RemovalWorks.{removal_skips}
 use Rattle.copy_move.proofs.TreeSteps.{tree_skipped, tree_skips}
 use Rattle.copy_move.proofs.work.Work.skip.Goals as goal
 
@@ -26,3 +27,7 @@ returns-in-SetMode-clause-skips c = rw c.in-SetMode.is (setting_skips c.args.cau
 
 pub returns-in-Move-clause-skips : goal.returns-in-Move-clause-skips
 returns-in-Move-clause-skips c = rw c.in-Move.is (moving_skips c.args.cause _ _ _ c.skip-in-Move.ensures (subst (λ w. at_barrier w ≡ false) c.in-Move.is c.requires.apart))
+
+pub returns-in-RemoveEmptied-clause-skips : goal.returns-in-RemoveEmptied-clause-skips
+returns-in-RemoveEmptied-clause-skips c =
+    rw c.in-RemoveEmptied.is (removal_skips c.args.cause _ _ _ c.skip-in-RemoveEmptied.ensures (subst (λ w. at_barrier w ≡ false) c.in-RemoveEmptied.is c.requires.apart))

@@ -5,6 +5,7 @@ use Rattle.copy_move.proofs.FolderSteps.{deletion_steps}
 use Rattle.copy_move.proofs.MakingWorks.{making_steps}
 use Rattle.copy_move.proofs.ModeSteps.{setting_steps}
 use Rattle.copy_move.proofs.MovingWorks.{moving_steps}
+use Rattle.copy_move.proofs.RemovalWorks.{removal_steps}
 use Rattle.copy_move.proofs.TreeSteps.{tree_goes_on, tree_steps}
 use Rattle.copy_move.proofs.work.Work.step.Goals as goal
 
@@ -31,3 +32,7 @@ returns-in-SetMode-clause-steps g c =
 pub returns-in-Move-clause-steps : goal.returns-in-Move-clause-steps
 returns-in-Move-clause-steps g c =
     rw c.in-Move.is (moving_steps (λ path. g.P.PartTest.is_free c.args.parts.now path ≡ true) c.args.replies _ _ _ _ _ _ _ _ _ _ c.step_moving.ensures.steps c.step_moving.ensures.leaves)
+
+pub returns-in-RemoveEmptied-clause-steps : goal.returns-in-RemoveEmptied-clause-steps
+returns-in-RemoveEmptied-clause-steps g c =
+    rw c.in-RemoveEmptied.is (removal_steps (λ path. g.P.PartTest.is_free c.args.parts.now path ≡ true) c.args.replies _ _ _ _ _ _ _ _ _ _ c.step_removal.ensures.steps c.step_removal.ensures.leaves)

@@ -3,6 +3,7 @@ use Rattle.copy_move.proofs.FolderSteps.{deletion_winds_up}
 use Rattle.copy_move.proofs.MakingWorks.{making_winds_up}
 use Rattle.copy_move.proofs.ModeSteps.{setting_winds_up}
 use Rattle.copy_move.proofs.MovingWorks.{moving_winds_up}
+use Rattle.copy_move.proofs.RemovalWorks.{removal_winds_up}
 use Rattle.copy_move.proofs.TreeSteps.{tree_winds_up}
 use Rattle.copy_move.proofs.work.Work.wind_up.Goals as goal
 
@@ -21,3 +22,6 @@ returns-in-SetMode g c = rw c.in-SetMode.is (setting_winds_up c.args.ending _ _ 
 
 pub returns-in-Move : goal.returns-in-Move
 returns-in-Move g c = rw c.in-Move.is (moving_winds_up c.args.ending _ _ _ _ _ _ _ _ _ _ _ c.wind_up_moving.ensures.winds c.wind_up_moving.ensures.tries)
+
+pub returns-in-RemoveEmptied : goal.returns-in-RemoveEmptied
+returns-in-RemoveEmptied g c = rw c.in-RemoveEmptied.is (removal_winds_up c.args.ending _ _ _ _ _ _ _ _ _ _ _ c.wind_up_removal.ensures.winds c.wind_up_removal.ensures.tries)
