@@ -117,7 +117,7 @@ module _ (log now : CallLog) (name : List ℕ) (l : Levels) (p : Route) (h : Sta
     file_bare moved (Set path) tells calls = absurd tells
     file_bare moved (Kept path) tells calls = absurd tells
     file_bare moved (Asked question) tells calls = absurd tells
-    file_bare moved (Merges pair names) tells calls = absurd tells
+    file_bare moved (Merges transfer pair names) tells calls = absurd tells
     file_bare moved (Moved pair) tells calls = absurd tells
     file_bare moved (Skipped path why) tells calls = absurd tells
 
@@ -175,6 +175,6 @@ module _ (log now : CallLog) (name : List ℕ) (l : Levels) (p : Route) (h : Sta
     link_bare moved (Set path) tells calls = absurd tells
     link_bare moved (Kept path) tells calls = absurd tells
     link_bare moved (Asked question) tells calls = absurd tells
-    link_bare moved (Merges pair names) tells calls = absurd tells
+    link_bare moved (Merges transfer pair names) tells calls = absurd tells
     link_bare moved (Moved pair) tells calls = absurd tells
     link_bare moved (Skipped path why) tells calls = absurd tells

@@ -1,5 +1,5 @@
 -- A job's first change comes in work that goes on, and from then on the folder that holds what it changes is on the disk.
-use Rattle.std.proofs.Common.{◌≡◌, ◌⊎◌, Bool, true, false, not, ◌||◌, List, refl, sym, ◌∙◌, ap, subst, inl, inr, Some}
+use Rattle.std.proofs.Common.{◌≡◌, ◌⊎◌, Bool, true, false, not, ◌||◌, List, [], refl, sym, ◌∙◌, ap, subst, inl, inr, Some}
 use Rattle.std.proofs.lemmas.Bool.{and_from, both_ways, false≢true, or_left, or_right, true≢false}
 use Rattle.mc_text.specs.Routes.{Route, same_path}
 use Rattle.tree_trait.specs.Shape.{IsTree}
@@ -15,74 +15,40 @@ use Rattle.job_answers.specs.declared.replies.Replies.{Replies}
 use Rattle.copy_move.specs.declared.run.Course.{Course}
 use Rattle.copy_move.specs.declared.run.Course.TheVariants.{GoesOn, Asking, InTrouble, OwedSyncFailed, Skips, Ends}
 use Rattle.copy_move.specs.declared.work.Work.{Work}
-use Rattle.copy_move.specs.declared.work.Work.TheVariants.{Copy, Delete, Make, Move, SetMode}
+use Rattle.copy_move.specs.declared.work.Work.TheVariants.{Copy, Delete, Make, Move, SetMode, RemoveEmptied}
 use Rattle.copy_move.specs.Jobs.{CallsOn, Running, TellsOn, WorkCalls, WorkTells, WorkWinds}
 use Rattle.copy_move.specs.Settling.{changed_folder}
 use Rattle.history_laws.specs.Staying.{may_change}
 use Rattle.history_laws.specs.Traces.{IsUnclaimed, WorkLeads}
 use Rattle.history_laws.proofs.Deleted.{folder_removed, removal_done}
-use Rattle.history_laws.proofs.Intact.{folder_apart}
+use Rattle.history_laws.proofs.Intact.{folder_apart, prefix_append}
 use Rattle.history_laws.proofs.Sources.{item_in}
 use Rattle.history_laws.proofs.Stepped.{calm_by, folders_by}
 use Rattle.history_laws.proofs.Unchanged.{knows_calm}
 
 -- a change begins only in work that goes on
 winds_none : (ending : Ending) (old new : Work) (did : Did) → WorkWinds ending old did new → begins_change did ≡ true → ⊥
-winds_none ending (Delete d) (Delete new) (Began part) t h = t
-winds_none ending (Delete d) (Delete new) (Removed path) t h = t
-winds_none ending (Delete d) (Delete new) (Made path) t h = t
-winds_none ending (Delete d) (Delete new) (Set path) t h = t
-winds_none ending (Delete d) (Delete new) (Moved pair) t h = t
-winds_none ending (Delete d) (Make new) did t h = t
-winds_none ending (Delete d) (Move new) did t h = t
-winds_none ending (SetMode s) (Copy new) did t h = t
-winds_none ending (SetMode s) (Delete new) did t h = t
-winds_none ending (Copy s) (Delete new) did t h = t
-winds_none ending (SetMode s) (Make new) did t h = t
-winds_none ending (Move s) (Make new) did t h = t
-winds_none ending (SetMode s) (Move new) did t h = t
-winds_none ending (Copy s) (Make new) did t h = t
-winds_none ending (Copy s) (Move new) did t h = t
-winds_none ending (Copy c) (SetMode new) did t h = t
-winds_none ending (Delete d) (SetMode new) did t h = t
-winds_none ending (Delete d) (Copy new) did t h = t
-winds_none ending (Make m) (SetMode new) did t h = t
-winds_none ending (Make m) (Move new) did t h = t
-winds_none ending (Move m) (SetMode new) did t h = t
-winds_none ending (Make m) (Copy new) did t h = t
-winds_none ending (Move m) (Copy new) did t h = t
-winds_none ending (Make m) (Delete new) did t h = t
-winds_none ending (Move m) (Delete new) did t h = t
 winds_none ending (Copy c) (Copy new) (Began part) t h = t.may
 winds_none ending (Copy c) (Copy new) (Removed path) t h = t.may
 winds_none ending (Copy c) (Copy new) (Made path) t h = t.may
 winds_none ending (Copy c) (Copy new) (Set path) t h = t.may
 winds_none ending (Copy c) (Copy new) (Moved pair) t h = t.may
-winds_none ending (SetMode s) (SetMode new) (Began part) t h = t
-winds_none ending (SetMode s) (SetMode new) (Removed path) t h = t
-winds_none ending (SetMode s) (SetMode new) (Made path) t h = t
-winds_none ending (SetMode s) (SetMode new) (Set path) t h = t
-winds_none ending (SetMode s) (SetMode new) (Moved pair) t h = t
+winds_none ending (Delete d) (Delete new) (Began part) t h = t
 winds_none ending (Make m) (Make new) (Began part) t h = t
 winds_none ending (Move m) (Move new) (Began part) t h = t
-winds_none ending (Make m) (Make new) (Removed path) t h = t
-winds_none ending (Move m) (Move new) (Removed path) t h = t
-winds_none ending (Make m) (Make new) (Made path) t h = t
-winds_none ending (Move m) (Move new) (Made path) t h = t
-winds_none ending (Make m) (Make new) (Set path) t h = t
-winds_none ending (Make m) (Make new) (Moved pair) t h = t
-winds_none ending (Move m) (Move new) (Set path) t h = t
-winds_none ending (Move m) (Move new) (Moved pair) t h = t
+winds_none ending (SetMode s) (SetMode new) (Began part) t h = t
+winds_none ending (RemoveEmptied r) (RemoveEmptied new) (Began part) t h = t
 winds_none ending old new (Chunk count) t h = false≢true h
 winds_none ending old new (Placed path) t h = false≢true h
 winds_none ending old new (Kept kept) t h = false≢true h
 winds_none ending old new (Asked question) t h = false≢true h
-winds_none ending old new (Merges pair names) t h = false≢true h
+winds_none ending old new (Merges transfer pair names) t h = false≢true h
 winds_none ending old new (Skipped path why) t h = false≢true h
 winds_none ending old new (Cleaned part) t h = false≢true h
 winds_none ending old new Barrier t h = false≢true h
 winds_none ending old new (Troubled trouble) t h = false≢true h
 winds_none ending old new (Ended how part) t h = false≢true h
+winds_none ending old new did t h = t
 
 pub goes_then : (job new : Running) (did : Did) (course : Course) → job.course ≡ course → TellsOn course job did new → begins_change did ≡ true → (job.course ≡ GoesOn) × ((work : Work) × WorkTells job.work did work)
 goes_then job new did GoesOn is (work, tells, new_is) h = (is, (work, tells))
@@ -97,58 +63,23 @@ goes_then job new did (Ends ending) is (work, winds, new_is) h = absurd (winds_n
 stays_by : (replies : Replies) (log now : CallLog) → IsTree (current log) → (old work new : Work) (path : Route) → WorkTells old (Removed path) work → WorkCalls IsUnclaimed replies old (Removed path) new log (Some now) → same_path (changed_folder old) path ≡ false
 stays_by replies log now tree (Delete d) (Delete work) new path (going, within, at) (inl done) = folder_apart log now d.path path within (removal_done log now path tree done)
 stays_by replies log now tree (Delete d) (Delete work) new path (going, within, at) (inr done) = folder_apart log now d.path path within (folder_removed log now path tree done)
-stays_by replies log now tree (Delete d) (Make work) new path t calls = absurd t
-stays_by replies log now tree (Delete d) (Move work) new path t calls = absurd t
-stays_by replies log now tree (SetMode s) (Copy work) new path t calls = absurd t
-stays_by replies log now tree (SetMode s) (Delete work) new path t calls = absurd t
-stays_by replies log now tree (Copy s) (Delete work) new path t calls = absurd t
-stays_by replies log now tree (SetMode s) (Make work) new path t calls = absurd t
-stays_by replies log now tree (Move s) (Make work) new path t calls = absurd t
-stays_by replies log now tree (SetMode s) (Move work) new path t calls = absurd t
-stays_by replies log now tree (Copy s) (Make work) new path t calls = absurd t
-stays_by replies log now tree (Copy s) (Move work) new path t calls = absurd t
-stays_by replies log now tree (Copy c) (SetMode work) new path t calls = absurd t
-stays_by replies log now tree (Delete d) (SetMode work) new path t calls = absurd t
-stays_by replies log now tree (Delete d) (Copy work) new path t calls = absurd t
-stays_by replies log now tree (Make m) (SetMode work) new path t calls = absurd t
-stays_by replies log now tree (Make m) (Move work) new path t calls = absurd t
-stays_by replies log now tree (Move m) (SetMode work) new path t calls = absurd t
-stays_by replies log now tree (Make m) (Copy work) new path t calls = absurd t
-stays_by replies log now tree (Move m) (Copy work) new path t calls = absurd t
-stays_by replies log now tree (Make m) (Delete work) new path t calls = absurd t
-stays_by replies log now tree (Move m) (Delete work) new path t calls = absurd t
 stays_by replies log now tree (Make m) (Make work) new path t calls = absurd t
 stays_by replies log now tree (Move m) (Move work) new path t calls = absurd t
 stays_by replies log now tree (SetMode s) (SetMode work) new path t calls = absurd t
 stays_by replies log now tree (Copy c) (Copy work) new path t calls = absurd t.may
+stays_by replies log now tree (RemoveEmptied r) (RemoveEmptied work) new path (stage, path_is, new_is) done =
+    subst (λ q. same_path (folder_of r.path) q ≡ false) (sym path_is) (folder_apart log now r.path r.path (prefix_append r.path []) (folder_removed log now r.path tree done))
+stays_by replies log now tree old work new path t calls = absurd t
 
 -- only a move moves a thing, to a path in its folder
 moves_in : (old new : Work) (pair : Pair) → WorkTells old (Moved pair) new → (knows_calm old ≡ true) × (changed_folder old ≡ folder_of pair.target)
 moves_in (Move m) (Move new) pair (stage, pair_is, new_is) = (refl, ap (λ (p : Pair). folder_of p.target) (sym pair_is))
 moves_in (Copy c) (Copy new) pair t = absurd t.may
-moves_in (Copy c) (Delete new) pair t = absurd t
-moves_in (Copy c) (Make new) pair t = absurd t
-moves_in (Copy c) (Move new) pair t = absurd t
-moves_in (Copy c) (SetMode new) pair t = absurd t
-moves_in (Delete d) (Copy new) pair t = absurd t
 moves_in (Delete d) (Delete new) pair t = absurd t
-moves_in (Delete d) (Make new) pair t = absurd t
-moves_in (Delete d) (Move new) pair t = absurd t
-moves_in (Delete d) (SetMode new) pair t = absurd t
-moves_in (Make m) (Copy new) pair t = absurd t
-moves_in (Make m) (Delete new) pair t = absurd t
 moves_in (Make m) (Make new) pair t = absurd t
-moves_in (Make m) (Move new) pair t = absurd t
-moves_in (Make m) (SetMode new) pair t = absurd t
-moves_in (Move m) (Copy new) pair t = absurd t
-moves_in (Move m) (Delete new) pair t = absurd t
-moves_in (Move m) (Make new) pair t = absurd t
-moves_in (Move m) (SetMode new) pair t = absurd t
-moves_in (SetMode s) (Copy new) pair t = absurd t
-moves_in (SetMode s) (Delete new) pair t = absurd t
-moves_in (SetMode s) (Make new) pair t = absurd t
-moves_in (SetMode s) (Move new) pair t = absurd t
 moves_in (SetMode s) (SetMode new) pair t = absurd t
+moves_in (RemoveEmptied r) (RemoveEmptied new) pair t = absurd t
+moves_in old new pair t = absurd t
 
 -- so that is known to be on the disk from its first change on
 pub folder_stays : (job new : Running) (did : Did) (dirty dirty_after : List Route) (log now : CallLog) (folders : Route → Bool) → IsTree (current log) → WorkLeads job did new dirty dirty_after log now
@@ -164,7 +95,7 @@ folder_stays job new (Set path) dirty dirty_after log now folders tree works kno
 folder_stays job new (Placed path) dirty dirty_after log now folders tree works known = elim known [ inl stands ↦ stands | inr begins ↦ absurd (false≢true begins) ]
 folder_stays job new (Kept path) dirty dirty_after log now folders tree works known = elim known [ inl stands ↦ stands | inr begins ↦ absurd (false≢true begins) ]
 folder_stays job new (Asked question) dirty dirty_after log now folders tree works known = elim known [ inl stands ↦ stands | inr begins ↦ absurd (false≢true begins) ]
-folder_stays job new (Merges pair names) dirty dirty_after log now folders tree works known = elim known [ inl stands ↦ stands | inr begins ↦ absurd (false≢true begins) ]
+folder_stays job new (Merges transfer pair names) dirty dirty_after log now folders tree works known = elim known [ inl stands ↦ stands | inr begins ↦ absurd (false≢true begins) ]
 folder_stays job new (Moved pair) dirty dirty_after log now folders tree works known =
     let goes = goes_then job new (Moved pair) job.course refl works.tells refl in
     let there = (moves_in job.work goes.1.0 pair goes.1.1).1 in
@@ -178,22 +109,12 @@ folder_stays job new (Ended ending part) dirty dirty_after log now folders tree 
 -- a job that sets a mode changes no names, but for a copy or a move
 sets_none : (old new : Work) (path q : Route) → knows_calm old ≡ false → WorkTells old (Set path) new → may_change (item_in old) q ≡ true → ⊥
 sets_none (Delete d) (Delete new) path q other t own = t
-sets_none (Delete d) (Make new) path q other t own = t
-sets_none (Delete d) (Move new) path q other t own = t
-sets_none (SetMode s) (Copy new) path q other t own = t
-sets_none (SetMode s) (Delete new) path q other t own = t
-sets_none (SetMode s) (Make new) path q other t own = t
-sets_none (SetMode s) (Move new) path q other t own = t
-sets_none (Delete d) (SetMode new) path q other t own = t
-sets_none (Delete d) (Copy new) path q other t own = t
-sets_none (Make m) (SetMode new) path q other t own = t
-sets_none (Make m) (Move new) path q other t own = t
-sets_none (Make m) (Copy new) path q other t own = t
-sets_none (Make m) (Delete new) path q other t own = t
 sets_none (Make m) (Make new) path q other t own = t
 sets_none (SetMode s) (SetMode new) path q other t own = false≢true own
 sets_none (Copy c) new path q other t own = true≢false other
 sets_none (Move m) new path q other t own = true≢false other
+sets_none (RemoveEmptied r) (RemoveEmptied new) path q other t own = t
+sets_none old new path q other t own = t
 
 -- and in its folders no mode waits from then on, but for a copy or a move
 pub calm_stays : (job new : Running) (did : Did) (dirty dirty_after : List Route) (log now : CallLog) (calm : Route → Bool) (q : Route) → knows_calm job.work ≡ false → WorkLeads job did new dirty dirty_after log now
@@ -206,7 +127,7 @@ calm_stays job new (Chunk count) dirty dirty_after log now calm q other works ow
 calm_stays job new (Placed path) dirty dirty_after log now calm q other works own known = elim known [ inl stands ↦ stands | inr begins ↦ absurd (false≢true begins) ]
 calm_stays job new (Kept path) dirty dirty_after log now calm q other works own known = elim known [ inl stands ↦ stands | inr begins ↦ absurd (false≢true begins) ]
 calm_stays job new (Asked question) dirty dirty_after log now calm q other works own known = elim known [ inl stands ↦ stands | inr begins ↦ absurd (false≢true begins) ]
-calm_stays job new (Merges pair names) dirty dirty_after log now calm q other works own known = elim known [ inl stands ↦ stands | inr begins ↦ absurd (false≢true begins) ]
+calm_stays job new (Merges transfer pair names) dirty dirty_after log now calm q other works own known = elim known [ inl stands ↦ stands | inr begins ↦ absurd (false≢true begins) ]
 calm_stays job new (Moved pair) dirty dirty_after log now calm q other works own known =
     let goes = goes_then job new (Moved pair) job.course refl works.tells refl in absurd (both_ways _ other (moves_in job.work goes.1.0 pair goes.1.1).0)
 calm_stays job new (Skipped path why) dirty dirty_after log now calm q other works own known = elim known [ inl stands ↦ stands | inr begins ↦ absurd (false≢true begins) ]

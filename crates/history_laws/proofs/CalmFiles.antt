@@ -106,6 +106,6 @@ module _ (unclaimed : Route → Type 0) (log now : CallLog) (files : IsOfFiles l
   file_calm moved (Set path) tells calls = absurd tells
   file_calm moved (Kept path) tells calls = absurd tells
   file_calm moved (Asked question) tells calls = absurd tells
-  file_calm moved (Merges pair names) tells calls = absurd tells
+  file_calm moved (Merges transfer pair names) tells calls = absurd tells
   file_calm moved (Moved pair) tells calls = absurd tells
   file_calm moved (Skipped path why) tells calls = absurd tells

@@ -105,7 +105,7 @@ module _ (log now : CallLog) (files : IsOfFiles log) (name : List ℕ) (l : Leve
   link_calm p S moved (Set path) tells calls known_part calm = absurd tells
   link_calm p S moved (Kept path) tells calls known_part calm = absurd tells
   link_calm p S moved (Asked question) tells calls known_part calm = absurd tells
-  link_calm p S moved (Merges pair names) tells calls known_part calm = absurd tells
+  link_calm p S moved (Merges transfer pair names) tells calls known_part calm = absurd tells
   link_calm p S moved (Moved pair) tells calls known_part calm = absurd tells
   link_calm p S moved (Skipped path why) tells calls known_part calm = absurd tells
 
@@ -129,6 +129,6 @@ module _ (log now : CallLog) (files : IsOfFiles log) (name : List ℕ) (l : Leve
   part_calm moved (Set path) tells calls known_part has = absurd tells
   part_calm moved (Kept path) tells calls known_part has = absurd tells
   part_calm moved (Asked question) tells calls known_part has = absurd tells
-  part_calm moved (Merges pair names) tells calls known_part has = absurd tells
+  part_calm moved (Merges transfer pair names) tells calls known_part has = absurd tells
   part_calm moved (Moved pair) tells calls known_part has = absurd tells
   part_calm moved (Skipped path why) tells calls known_part has = absurd tells

@@ -17,12 +17,13 @@ use Rattle.copy_move.specs.declared.run.Course.TheVariants.{GoesOn}
 use Rattle.tree_copy.specs.Standing.{is_fresh as is_fresh_tree}
 use Rattle.subtree_copy.specs.Standing.{SubtreeCopying}
 use Rattle.copy_move.specs.declared.work.Work.{Work}
-use Rattle.copy_move.specs.declared.work.Work.TheVariants.{Copy, Delete, Make, Move, SetMode}
+use Rattle.copy_move.specs.declared.work.Work.TheVariants.{Copy, Delete, Make, Move, SetMode, RemoveEmptied}
 use Rattle.tree_deletion.specs.declared.deletion.Stage.{Stage}
 use Rattle.tree_deletion.specs.declared.deletion.Stage.TheVariants.{Begin, Going, Sync}
 use Rattle.tree_deletion.specs.Standing.{at_barrier, is_fresh as is_fresh_stage}
 use Rattle.thing_making.specs.Makings as makings
 use Rattle.thing_moving.specs.Movings as movings
+use Rattle.folder_removal.specs.Removals as removals
 use Rattle.mode_setting.specs.Settings as settings
 use Rattle.copy_move.specs.Jobs.{Running, WorkTells, is_fresh}
 use Rattle.copy_move.specs.Settling.{NoneOwed, changed_folder}
@@ -79,87 +80,23 @@ module _ (told : Said) (dirty : List Route) (marks : Marks) (log : CallLog) (cou
       still_fresh false h = absurd (true≢false h)
 
   fresh_then : (old new : Work) (did : Did) → WorkTells old did new → begins_change did ≡ true → has_begun old ≡ false → WorkKnows told dirty marks log course old → IsStart old
-  fresh_then (Delete d) (Make new) did t h clean k = absurd t
-  fresh_then (Delete d) (Move new) did t h clean k = absurd t
-  fresh_then (Delete d) (Delete new) (Removed path) t h clean (name, none, intact) = (fresh_stage d.stage t.0 clean, none)
-  fresh_then (Delete d) (Delete new) (Began part) t h clean k = absurd t
-  fresh_then (Delete d) (Delete new) (Chunk count) t h clean k = absurd (false≢true h)
-  fresh_then (Delete d) (Delete new) (Set path) t h clean k = absurd t
-  fresh_then (Delete d) (Delete new) (Placed path) t h clean k = absurd (false≢true h)
-  fresh_then (Delete d) (Delete new) (Made made) t h clean k = absurd t
-  fresh_then (Delete d) (Delete new) (Kept kept) t h clean k = absurd (false≢true h)
-  fresh_then (Delete d) (Delete new) (Asked question) t h clean k = absurd (false≢true h)
-  fresh_then (Delete d) (Delete new) (Merges pair names) t h clean k = absurd (false≢true h)
-  fresh_then (Delete d) (Delete new) (Moved pair) t h clean k = absurd t
-  fresh_then (Delete d) (Delete new) (Skipped path why) t h clean k = absurd (false≢true h)
-  fresh_then (Delete d) (Delete new) (Cleaned part) t h clean k = absurd (false≢true h)
-  fresh_then (Delete d) (Delete new) Barrier t h clean k = absurd (false≢true h)
-  fresh_then (Delete d) (Delete new) (Troubled trouble) t h clean k = absurd (false≢true h)
-  fresh_then (Delete d) (Delete new) (Ended ending part) t h clean k = absurd (false≢true h)
-  fresh_then (SetMode s) (Copy new) did t h clean k = absurd t
-  fresh_then (SetMode s) (Delete new) did t h clean k = absurd t
-  fresh_then (Copy s) (Delete new) did t h clean k = absurd t
-  fresh_then (SetMode s) (Make new) did t h clean k = absurd t
-  fresh_then (Move s) (Make new) did t h clean k = absurd t
-  fresh_then (SetMode s) (Move new) did t h clean k = absurd t
-  fresh_then (Copy s) (Make new) did t h clean k = absurd t
-  fresh_then (Copy s) (Move new) did t h clean k = absurd t
-  fresh_then (Copy c) (SetMode new) did t h clean k = absurd t
-  fresh_then (Delete d) (SetMode new) did t h clean k = absurd t
-  fresh_then (Delete d) (Copy new) did t h clean k = absurd t
-  fresh_then (Make m) (SetMode new) did t h clean k = absurd t
-  fresh_then (Make m) (Move new) did t h clean k = absurd t
-  fresh_then (Move m) (SetMode new) did t h clean k = absurd t
-  fresh_then (Make m) (Copy new) did t h clean k = absurd t
-  fresh_then (Move m) (Copy new) did t h clean k = absurd t
-  fresh_then (Make m) (Delete new) did t h clean k = absurd t
-  fresh_then (Move m) (Delete new) did t h clean k = absurd t
   fresh_then (Copy c) (Copy new) did t h clean k = fresh_copy c clean k
+  fresh_then (Delete d) (Delete new) (Removed path) t h clean (name, none, intact) = (fresh_stage d.stage t.0 clean, none)
   fresh_then (Make m) (Make new) (Made path) t h clean (name, none) = (ap makings.is_fresh t.0, none)
-  fresh_then (Move m) (Move new) (Made path) t h clean k = absurd t
-  fresh_then (Make m) (Make new) (Began part) t h clean k = absurd t
-  fresh_then (Move m) (Move new) (Began part) t h clean k = absurd t
-  fresh_then (Make m) (Make new) (Chunk count) t h clean k = absurd (false≢true h)
-  fresh_then (Move m) (Move new) (Chunk count) t h clean k = absurd (false≢true h)
-  fresh_then (Make m) (Make new) (Set path) t h clean k = absurd t
-  fresh_then (Move m) (Move new) (Set path) t h clean k = absurd t
-  fresh_then (Make m) (Make new) (Placed path) t h clean k = absurd (false≢true h)
-  fresh_then (Move m) (Move new) (Placed path) t h clean k = absurd (false≢true h)
-  fresh_then (Make m) (Make new) (Removed made) t h clean k = absurd t
-  fresh_then (Move m) (Move new) (Removed made) t h clean k = absurd t
-  fresh_then (Make m) (Make new) (Kept kept) t h clean k = absurd (false≢true h)
-  fresh_then (Move m) (Move new) (Kept kept) t h clean k = absurd (false≢true h)
-  fresh_then (Make m) (Make new) (Asked question) t h clean k = absurd (false≢true h)
-  fresh_then (Move m) (Move new) (Asked question) t h clean k = absurd (false≢true h)
-  fresh_then (Make m) (Make new) (Merges pair names) t h clean k = absurd (false≢true h)
-  fresh_then (Move m) (Move new) (Merges pair names) t h clean k = absurd (false≢true h)
-  fresh_then (Make m) (Make new) (Moved pair) t h clean k = absurd t
   fresh_then (Move m) (Move new) (Moved pair) t h clean k = (ap movings.is_fresh t.0, k.none)
-  fresh_then (Make m) (Make new) (Skipped path why) t h clean k = absurd (false≢true h)
-  fresh_then (Move m) (Move new) (Skipped path why) t h clean k = absurd (false≢true h)
-  fresh_then (Make m) (Make new) (Cleaned part) t h clean k = absurd (false≢true h)
-  fresh_then (Move m) (Move new) (Cleaned part) t h clean k = absurd (false≢true h)
-  fresh_then (Make m) (Make new) Barrier t h clean k = absurd (false≢true h)
-  fresh_then (Move m) (Move new) Barrier t h clean k = absurd (false≢true h)
-  fresh_then (Make m) (Make new) (Troubled trouble) t h clean k = absurd (false≢true h)
-  fresh_then (Move m) (Move new) (Troubled trouble) t h clean k = absurd (false≢true h)
-  fresh_then (Make m) (Make new) (Ended ending part) t h clean k = absurd (false≢true h)
-  fresh_then (Move m) (Move new) (Ended ending part) t h clean k = absurd (false≢true h)
   fresh_then (SetMode s) (SetMode new) (Set path) t h clean (name, none) = (ap settings.is_fresh t.0, none)
-  fresh_then (SetMode s) (SetMode new) (Began part) t h clean k = absurd t
-  fresh_then (SetMode s) (SetMode new) (Chunk count) t h clean k = absurd (false≢true h)
-  fresh_then (SetMode s) (SetMode new) (Made path) t h clean k = absurd t
-  fresh_then (SetMode s) (SetMode new) (Placed path) t h clean k = absurd (false≢true h)
-  fresh_then (SetMode s) (SetMode new) (Removed made) t h clean k = absurd t
-  fresh_then (SetMode s) (SetMode new) (Kept kept) t h clean k = absurd (false≢true h)
-  fresh_then (SetMode s) (SetMode new) (Asked question) t h clean k = absurd (false≢true h)
-  fresh_then (SetMode s) (SetMode new) (Merges pair names) t h clean k = absurd (false≢true h)
-  fresh_then (SetMode s) (SetMode new) (Moved pair) t h clean k = absurd t
-  fresh_then (SetMode s) (SetMode new) (Skipped path why) t h clean k = absurd (false≢true h)
-  fresh_then (SetMode s) (SetMode new) (Cleaned part) t h clean k = absurd (false≢true h)
-  fresh_then (SetMode s) (SetMode new) Barrier t h clean k = absurd (false≢true h)
-  fresh_then (SetMode s) (SetMode new) (Troubled trouble) t h clean k = absurd (false≢true h)
-  fresh_then (SetMode s) (SetMode new) (Ended ending part) t h clean k = absurd (false≢true h)
+  fresh_then (RemoveEmptied r) (RemoveEmptied new) (Removed path) t h clean (name, none) = (ap removals.is_fresh t.0, none)
+  fresh_then old new (Chunk count) t h clean k = absurd (false≢true h)
+  fresh_then old new (Placed path) t h clean k = absurd (false≢true h)
+  fresh_then old new (Kept kept) t h clean k = absurd (false≢true h)
+  fresh_then old new (Asked question) t h clean k = absurd (false≢true h)
+  fresh_then old new (Merges transfer pair names) t h clean k = absurd (false≢true h)
+  fresh_then old new (Skipped path why) t h clean k = absurd (false≢true h)
+  fresh_then old new (Cleaned part) t h clean k = absurd (false≢true h)
+  fresh_then old new Barrier t h clean k = absurd (false≢true h)
+  fresh_then old new (Troubled trouble) t h clean k = absurd (false≢true h)
+  fresh_then old new (Ended ending part) t h clean k = absurd (false≢true h)
+  fresh_then old new did t h clean k = absurd t
 
 no_route : (part : Option Route) (path : Route) → part ≡ None → part ≡ Some path → ⊥
 no_route part path none some = let f : ⊥ = cc in f
@@ -180,7 +117,7 @@ moves_or_names (Cleaned gone) = inr (record { name_is = λ q. refl; thing_is = �
 moves_or_names (Chunk count) = inr (record { name_is = λ q. refl; thing_is = λ q. refl })
 moves_or_names (Kept kept) = inr (record { name_is = λ q. refl; thing_is = λ q. refl })
 moves_or_names (Asked question) = inr (record { name_is = λ q. refl; thing_is = λ q. refl })
-moves_or_names (Merges pair within) = inr (record { name_is = λ q. refl; thing_is = λ q. refl })
+moves_or_names (Merges transfer pair within) = inr (record { name_is = λ q. refl; thing_is = λ q. refl })
 moves_or_names (Skipped path cause) = inr (record { name_is = λ q. refl; thing_is = λ q. refl })
 moves_or_names Barrier = inr (record { name_is = λ q. refl; thing_is = λ q. refl })
 moves_or_names (Troubled trouble) = inr (record { name_is = λ q. refl; thing_is = λ q. refl })

@@ -12,6 +12,7 @@ use Rattle.tree_trait.specs.CrashImages.{Among}
 use Rattle.tree_trait.specs.Shape.{IsTree}
 use Rattle.tree_trait.proofs.BareRoot.{bare, bare_tree}
 use Rattle.tree_trait.proofs.Kept.{tree_made}
+use Rattle.job_reports.specs.declared.report.Transfer.TheVariants.{ByCopy}
 use Rattle.job_reports.specs.CallRuns.{HasMore}
 use Rattle.job_reports.specs.Reports.{IsFault}
 use Rattle.job_reports.specs.declared.report.Cause.{Cause}
@@ -336,7 +337,7 @@ pub record IsDone (old new : SubtreeCopying) (did : Did) : Type 0 where
   pub on : course_after did ≡ GoesOn
   pub no_trouble : (trouble : Trouble) → did ≡ Troubled trouble → ⊥
   pub no_skip : (path : Route) (cause : Cause) → did ≡ Skipped path cause → ⊥
-  pub merged : (pair : Pair) (names : List (List ℕ)) → did ≡ Merges pair names → MergesTop old pair names new
+  pub merged : (pair : Pair) (names : List (List ℕ)) → did ≡ Merges ByCopy pair names → MergesTop old pair names new
   pub kept : (path : Route) → did ≡ Kept path → KeepsTop old path new
   pub asked : (question : Question) → did ≡ Asked question → ⊥
   pub over : IsOver old.at → IsOver new.at × (changes did ≡ false)

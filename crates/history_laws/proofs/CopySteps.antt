@@ -266,6 +266,6 @@ module _ (told : Said) (dirty : List Route) (marks : Marks) (log now : CallLog) 
   copy_tells new (Set path) going knows tells calls = absurd tells
   copy_tells new (Kept path) going knows tells calls = absurd tells
   copy_tells new (Asked question) going knows tells calls = absurd tells
-  copy_tells new (Merges pair names) going knows tells calls = absurd tells
+  copy_tells new (Merges transfer pair names) going knows tells calls = absurd tells
   copy_tells new (Moved pair) going knows tells calls = absurd tells
   copy_tells new (Skipped path why) going knows tells calls = absurd tells

@@ -234,7 +234,7 @@ module _ (told : Said) (dirty dirty_after : List Route) (marks : Marks) (log now
       (λ q among off. subst (λ xs. Among xs q) (sym leaves) (still_listed path q (joined (folder_of path) dirty) (joined_more (folder_of path) q dirty among) off)) it
   deletion_tells d new (Kept path) knows (going, at) done settled leaves = stands GoesOn (Delete new) (stays GoesOn GoesOn d new _ knows at (still_going path d) dirty) leaves (some_log now log done)
   deletion_tells d new (Asked question) knows tells done settled leaves = absurd tells
-  deletion_tells d new (Merges pair names) knows tells done settled leaves = absurd tells
+  deletion_tells d new (Merges transfer pair names) knows tells done settled leaves = absurd tells
   deletion_tells d new (Moved pair) knows tells done settled leaves = absurd tells
   deletion_tells d new Barrier knows (stage, at) done settled (folder, own, left, called) = tried folder None GoesOn (Delete new) (stays GoesOn GoesOn d new d.stage knows at (λ is. is)) (called log refl) left
   deletion_tells d new (Troubled trouble) knows (barrier, at) done settled leaves =
@@ -278,7 +278,7 @@ module _ (told : Said) (dirty dirty_after : List Route) (marks : Marks) (log now
   deletion_winds d new ending (Made path) left folder knows tells answer calls leaves = absurd tells
   deletion_winds d new ending (Kept path) left folder knows tells answer calls leaves = absurd tells
   deletion_winds d new ending (Asked question) left folder knows tells answer calls leaves = absurd tells
-  deletion_winds d new ending (Merges pair names) left folder knows tells answer calls leaves = absurd tells
+  deletion_winds d new ending (Merges transfer pair names) left folder knows tells answer calls leaves = absurd tells
   deletion_winds d new ending (Moved pair) left folder knows tells answer calls leaves = absurd tells
   deletion_winds d new ending (Skipped path cause) left folder knows tells answer calls leaves = absurd tells
   deletion_winds d new ending (Cleaned part) left folder knows tells answer calls leaves = absurd tells

@@ -17,7 +17,7 @@ use Rattle.session_history.specs.declared.history.Event.TheVariants.{Next, Step}
 use Rattle.session_history.specs.declared.history.Entry.{Entry}
 use Rattle.copy_move.specs.Jobs.{Running}
 use Rattle.copy_move.specs.declared.work.Work.{Work}
-use Rattle.copy_move.specs.declared.work.Work.TheVariants.{Copy, Delete, Make, Move, SetMode}
+use Rattle.copy_move.specs.declared.work.Work.TheVariants.{Copy, Delete, Make, Move, SetMode, RemoveEmptied}
 use Rattle.copy_move.specs.Steps.{SyncsOwed}
 use Rattle.history_laws.specs.Doubt.{is_unsettled}
 use Rattle.history_laws.specs.Owed.{IsNoMatter, is_own_path}
@@ -140,6 +140,7 @@ module _ (opening : CallLog) (tree : IsTree (current opening)) (settled : all_se
       by (thing.Link text) h = h
   own_changed (Move m) path h = h
   own_changed (SetMode s) path h = h
+  own_changed (RemoveEmptied r) path h = h
 
   -- and what is no matter of it
   no_matter : (work : Work) (log : CallLog) (path : Route) → IsNoMatter work log path → IsNoMatterOf (item_in work) log path
@@ -152,6 +153,7 @@ module _ (opening : CallLog) (tree : IsTree (current opening)) (settled : all_se
       by (thing.Link text) = h
   no_matter (Move m) log path h = h
   no_matter (SetMode s) log path h = absurd h
+  no_matter (RemoveEmptied r) log path h = h
 
   pub ender : (id : ℕ) (item : Item) → IsDoneWith id e.what → live_item id (live_jobs older) ≡ Some item → (f : IsFound) → IsEnder f.was f.after f.before f.now id item
   ender id item done tells f = by (done_with id e.what done)

@@ -31,7 +31,7 @@ has_one all (e ∷ older) i m j at some = by (is_of i m e) refl (has_one all old
         or_left _ _ (and_from _ _ parts.0 (ap (λ n. is_some (lookup all i n)) same ∙ some))
     by false is later = or_right _ _ (later (sym (ap (λ b. if b then e.to else lookup older i m) is) ∙ at) some)
 
-no_entries : (s : FileSystem) (i : ℕ) → has_entries s i ≡ false → (m : List ℕ) → lookup s.names i m ≡ None
+pub no_entries : (s : FileSystem) (i : ℕ) → has_entries s i ≡ false → (m : List ℕ) → lookup s.names i m ≡ None
 no_entries s i none m = by (lookup s.names i m) refl
   where
     by : (o : Option ℕ) → lookup s.names i m ≡ o → lookup s.names i m ≡ None

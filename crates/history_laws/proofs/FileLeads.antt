@@ -79,7 +79,7 @@ module _ (told : Said) (dirty dirty_after : List Route) (marks : Marks) (log now
   calm_then (Set path) t = absurd t
   calm_then (Kept path) t = absurd t
   calm_then (Asked question) t = absurd t
-  calm_then (Merges pair names) t = absurd t
+  calm_then (Merges transfer pair names) t = absurd t
   calm_then (Moved pair) t = absurd t
   calm_then (Skipped path cause) t = absurd t
 

@@ -32,7 +32,7 @@ use Rattle.tree_copy.specs.declared.progress.Progress.TheVariants.{UnderWay, Dec
 use Rattle.tree_copy.specs.Skipping.{retried_at}
 use Rattle.tree_copy.specs.Standing.{Seen, is_fresh}
 use Rattle.tree_copy.specs.Steps.{idle, settled}
-use Rattle.copy_move.specs.declared.work.Work.TheVariants.{Copy, Delete, Make, Move, SetMode}
+use Rattle.copy_move.specs.declared.work.Work.TheVariants.{Copy, Delete, Make, Move, SetMode, RemoveEmptied}
 use Rattle.copy_move.specs.Jobs.{replied, Running, TellsOn, answered_on, begun_work, closed_course, closed_job, course_after, taken_anew, unreported_skip, with_skips}
 use Rattle.job_reports.specs.Reports.{ends}
 use Rattle.copy_move.specs.Settling.{changed_folder}
@@ -87,7 +87,7 @@ after_going (Removed path) = tt
 after_going (Made made) = tt
 after_going (Kept kept) = tt
 after_going (Asked question) = tt
-after_going (Merges pair names) = tt
+after_going (Merges transfer pair names) = tt
 after_going (Moved pair) = tt
 after_going (Skipped path why) = tt
 after_going (Cleaned part) = tt
@@ -134,6 +134,7 @@ anew_dirty (Delete d) = (refl, (refl, refl, refl))
 anew_dirty (Make m) = (refl, (refl, refl, refl))
 anew_dirty (Move m) = (refl, (refl, refl, refl))
 anew_dirty (SetMode s) = (refl, (refl, refl, refl))
+anew_dirty (RemoveEmptied r) = (refl, (refl, refl, refl))
 
 anew_tidy : (work : Work) (dirty : List Route) → TidyFolder work dirty → TidyFolder (taken_anew work) dirty
 anew_tidy (Copy c) dirty t = ap is_fresh (anew_stage c.at.item c.at) ∙ t
@@ -141,6 +142,7 @@ anew_tidy (Delete d) dirty t = tt
 anew_tidy (Make m) dirty t = t
 anew_tidy (Move m) dirty t = t
 anew_tidy (SetMode s) dirty t = t
+anew_tidy (RemoveEmptied r) dirty t = t
 
 -- nor does it once a kind of trouble is passed over
 skips_dirty : (why : Cause) (work : Work)
@@ -150,6 +152,7 @@ skips_dirty why (Delete d) = (refl, (refl, refl, refl))
 skips_dirty why (Make m) = (refl, (refl, refl, refl))
 skips_dirty why (Move m) = (refl, (refl, refl, refl))
 skips_dirty why (SetMode s) = (refl, (refl, refl, refl))
+skips_dirty why (RemoveEmptied r) = (refl, (refl, refl, refl))
 
 skips_tidy : (why : Cause) (work : Work) (dirty : List Route) → TidyFolder work dirty → TidyFolder (with_skips why work) dirty
 skips_tidy why (Copy c) dirty t = t
@@ -157,6 +160,7 @@ skips_tidy why (Delete d) dirty t = tt
 skips_tidy why (Make m) dirty t = t
 skips_tidy why (Move m) dirty t = t
 skips_tidy why (SetMode s) dirty t = t
+skips_tidy why (RemoveEmptied r) dirty t = t
 
 some_end : (a b : Ending) → (let c : Course = Ends a in c) ≡ Ends b → b ≡ a
 some_end a b h = cc
@@ -337,6 +341,7 @@ module _ (opening : CallLog) (tree : IsTree (current opening)) (settled : all_se
       fewer_tidy (Make m) tidy = λ clean among. tidy clean (in_filter (λ kept. not (same_path kept syncs.path)) (folder_of m.path) was.dirty among)
       fewer_tidy (Move m) tidy = tidy
       fewer_tidy (SetMode s) tidy = λ clean among. tidy clean (in_filter (λ kept. not (same_path kept syncs.path)) s.path was.dirty among)
+      fewer_tidy (RemoveEmptied r) tidy = λ clean among. tidy clean (in_filter (λ kept. not (same_path kept syncs.path)) (folder_of r.path) was.dirty among)
 
       sure : has_changed job.id older ≡ true → ((path : Route) → names did path ≡ false) → IsSureThing (item_in job.work) now
       sure changed unnamed = sure_still (told_of opening before older r.part) was.dirty dirty_after r.marks before now r.kept.known job new did stays job.course knows unnamed (t.sure changed)

@@ -22,13 +22,16 @@ use Rattle.copy_move.specs.Deletions.{started}
 use Rattle.copy_move.specs.declared.work.Work.{Work}
 use Rattle.thing_making.specs.declared.making.MakingStage.{MakingStage}
 use Rattle.thing_making.specs.declared.making.MakingStage.TheVariants as making
-use Rattle.copy_move.specs.declared.work.Work.TheVariants.{Copy, Delete, Make, Move, SetMode}
+use Rattle.copy_move.specs.declared.work.Work.TheVariants.{Copy, Delete, Make, Move, SetMode, RemoveEmptied}
 use Rattle.thing_making.specs.Makings.{Making}
 use Rattle.thing_making.specs.Makings as makings
 use Rattle.thing_moving.specs.declared.moving.MovingStage.{MovingStage}
 use Rattle.thing_moving.specs.declared.moving.MovingStage.TheVariants as moving
 use Rattle.thing_moving.specs.Movings.{Moving}
 use Rattle.thing_moving.specs.Movings as movings
+use Rattle.folder_removal.specs.declared.removal.RemovalStage.{RemovalStage}
+use Rattle.folder_removal.specs.declared.removal.RemovalStage.TheVariants as removal
+use Rattle.folder_removal.specs.Removals as removals
 use Rattle.mode_setting.specs.Settings.{Setting}
 use Rattle.mode_setting.specs.Settings as settings
 use Rattle.copy_move.specs.Jobs.{Running, TellsOn, WorkTells}
@@ -67,22 +70,16 @@ done_making making.Sync h = absurd (false≢true h)
 done_making making.Finish h = refl
 done_making making.PassedOver h = refl
 
+done_removal : (stage : RemovalStage) → removals.is_done stage ≡ true → removals.is_dirty stage ≡ false
+done_removal removal.Remove h = absurd (false≢true h)
+done_removal removal.Sync h = absurd (false≢true h)
+done_removal removal.Finish h = refl
+done_removal removal.PassedOver h = refl
+
 done_work : (old new next : Work) (part : Option Route) (dirty dirty_after : List Route) (before after : Option CallLog) → WorkTells old (Ended Finished part) new → WorkLeaves old (Ended Finished part) next dirty dirty_after before after
     → knows_calm old ≡ false → TidyFolder old dirty → (q : Route) → is_own old q ≡ true → Among dirty q → ⊥
-done_work (Delete d) (Make new) next part dirty dirty_after before after t leaves other tidy q own among = t
-done_work (Delete d) (Move new) next part dirty dirty_after before after t leaves other tidy q own among = t
-done_work (SetMode s) (Copy new) next part dirty dirty_after before after t leaves other tidy q own among = t
-done_work (SetMode s) (Delete new) next part dirty dirty_after before after t leaves other tidy q own among = t
-done_work (SetMode s) (Make new) next part dirty dirty_after before after t leaves other tidy q own among = t
-done_work (SetMode s) (Move new) next part dirty dirty_after before after t leaves other tidy q own among = t
 done_work (Copy c) new next part dirty dirty_after before after t leaves other tidy q own among = true≢false other
 done_work (Move m) new next part dirty dirty_after before after t leaves other tidy q own among = true≢false other
-done_work (Delete d) (SetMode new) next part dirty dirty_after before after t leaves other tidy q own among = t
-done_work (Delete d) (Copy new) next part dirty dirty_after before after t leaves other tidy q own among = t
-done_work (Make m) (SetMode new) next part dirty dirty_after before after t leaves other tidy q own among = t
-done_work (Make m) (Move new) next part dirty dirty_after before after t leaves other tidy q own among = t
-done_work (Make m) (Copy new) next part dirty dirty_after before after t leaves other tidy q own among = t
-done_work (Make m) (Delete new) next part dirty dirty_after before after t leaves other tidy q own among = t
 done_work (Make m) (Make new) next part dirty dirty_after before after (is_done, part_is, new_is) leaves other tidy q own among =
     tidy (done_making m.stage is_done) (subst (λ x. Among dirty x) (same_path-true q (folder_of m.path) own) among)
 done_work (SetMode s) (SetMode new) next part dirty dirty_after before after (stage, part_is, new_is) leaves other tidy q own among =
@@ -90,8 +87,12 @@ done_work (SetMode s) (SetMode new) next part dirty dirty_after before after (st
 done_work (Delete d) (Delete new) (SetMode next) part dirty dirty_after before after t leaves other tidy q own among = leaves
 done_work (Delete d) (Delete new) (Copy next) part dirty dirty_after before after t leaves other tidy q own among = leaves
 done_work (Delete d) (Delete new) (Make next) part dirty dirty_after before after t leaves other tidy q own among = leaves
+done_work (Delete d) (Delete new) (RemoveEmptied next) part dirty dirty_after before after t leaves other tidy q own among = leaves
 done_work (Delete d) (Delete new) (Move next) part dirty dirty_after before after t leaves other tidy q own among = leaves
 done_work (Delete d) (Delete new) (Delete next) part dirty dirty_after before after t leaves other tidy q own among = both_ways _ (leaves.0 q among) own
+done_work (RemoveEmptied r) (RemoveEmptied new) next part dirty dirty_after before after (is_done, part_is, new_is) leaves other tidy q own among =
+    tidy (done_removal r.stage is_done) (subst (λ x. Among dirty x) (same_path-true q (folder_of r.path) own) among)
+done_work old new next part dirty dirty_after before after t leaves other tidy q own among = t
 
 pub wound_up : (ending : Ending) (old new : Work) (part : Option Route) → Rattle.copy_move.specs.Jobs.WorkWinds ending old (Ended Finished part) new → Finished ≡ ending
 wound_up ending (Delete d) (Delete new) part (how_is, part_is, path_is, stage_is, skips_is) = how_is
@@ -99,26 +100,8 @@ wound_up ending (Make m) (Make new) part (off, how_is, part_is, new_is) = how_is
 wound_up ending (Move m) (Move new) part (off, how_is, part_is, new_is) = how_is
 wound_up ending (SetMode s) (SetMode new) part (clean, how_is, part_is, new_is) = how_is
 wound_up ending (Copy c) (Copy new) part t = let m = t.may in m.0
-wound_up ending (Delete d) (Make new) part t = absurd t
-wound_up ending (Delete d) (Move new) part t = absurd t
-wound_up ending (SetMode s) (Copy new) part t = absurd t
-wound_up ending (SetMode s) (Delete new) part t = absurd t
-wound_up ending (Copy s) (Delete new) part t = absurd t
-wound_up ending (SetMode s) (Make new) part t = absurd t
-wound_up ending (Move s) (Make new) part t = absurd t
-wound_up ending (SetMode s) (Move new) part t = absurd t
-wound_up ending (Copy s) (Make new) part t = absurd t
-wound_up ending (Copy s) (Move new) part t = absurd t
-wound_up ending (Copy c) (SetMode new) part t = absurd t
-wound_up ending (Delete d) (SetMode new) part t = absurd t
-wound_up ending (Delete d) (Copy new) part t = absurd t
-wound_up ending (Make m) (SetMode new) part t = absurd t
-wound_up ending (Make m) (Move new) part t = absurd t
-wound_up ending (Move m) (SetMode new) part t = absurd t
-wound_up ending (Make m) (Copy new) part t = absurd t
-wound_up ending (Move m) (Copy new) part t = absurd t
-wound_up ending (Make m) (Delete new) part t = absurd t
-wound_up ending (Move m) (Delete new) part t = absurd t
+wound_up ending (RemoveEmptied r) (RemoveEmptied new) part (off, how_is, part_is, new_is) = how_is
+wound_up ending old new part t = absurd t
 
 finished_tidy : (opening : CallLog) (g : List Entry) (dirty dirty_after : List Route) (log : CallLog) (job new : Running) (part : Option Route) (before after : Option CallLog) (course : Course) → job.course ≡ course → TellsOn course job (Ended Finished part) new
     → LeavesDirty course job.work (Ended Finished part) new.work dirty dirty_after before after → IsTidyJob opening g dirty log job → has_changed job.id g ≡ true
@@ -155,6 +138,7 @@ may_above (Copy c) up names own = elim (or_cases (same_path up (folder_of c.top.
   | inl here ↦ inl (same_path-true up (folder_of c.top.target) here)
   | inr within ↦ inr (own_folder (started c.top.target) up (folder_of up) within refl)
 ]
+may_above (RemoveEmptied r) up names own = inl (same_path-true up (folder_of r.path) own)
 may_above (Delete d) up names own = elim (or_cases (same_path up (folder_of d.path)) (is_prefix d.path up) own) [
   | inl here ↦ inl (same_path-true up (folder_of d.path) here)
   | inr within ↦ inr (own_folder d up (folder_of up) within refl)
@@ -167,6 +151,7 @@ own_may (Delete d) path names own = own
 own_may (Make m) path names own = making_changes m.thing m.path (folder_of path) own
 own_may (Move m) path names own = absurd names
 own_may (SetMode s) path names own = absurd names
+own_may (RemoveEmptied r) path names own = own
 
 -- so where that one isn't in doubt, and nothing waits in these, nothing there is
 may_settled : (log : CallLog) (work : Work) → IsOfNames work → way_waits log (changed_folder work) ≡ false → ((p : Route) → may_change (item_in work) (folder_of p) ≡ true → name_waits log p ≡ false) → (path : Route)
@@ -280,6 +265,7 @@ module _ (opening now : CallLog) (newest : List Entry) (stand : Stand) (path : R
   left_by (Make m) firm off named calm whole own = names_left (Make m) tt firm (making_none m (off refl) (calm refl)) (calm refl) own
   left_by (Move m) firm off named calm whole own = move_left opening now newest stand path tree settled traced m whole.0 whole.1.0 whole.1.1.0 whole.1.1.1 own
   left_by (SetMode s) firm off named calm whole own = mode_left s firm (off refl s.path (same_path-self s.path)) named (same_path-true path s.path own)
+  left_by (RemoveEmptied r) firm off named calm whole own = names_left (RemoveEmptied r) tt firm (unlisted (is_own (RemoveEmptied r)) (off refl) (calm refl)) (calm refl) own
 
 -- so it is of a copy, where it tells its end
 whole_left : (told : Said) (dirty dirty_after : List Route) (marks : Marks) (log now : CallLog) (job new : Running) (part : Option Route) (c : SubtreeCopying) → job.work ≡ Copy c → job.course ≡ GoesOn → WorkKnows told dirty marks log job.course job.work
@@ -293,10 +279,7 @@ whole_left told dirty dirty_after marks log now job new part c is on knows tidy 
   where
     by : (calls f0 f1 : ℕ) → TreeKnown told dirty marks log GoesOn c → is_fresh_tree c.at.stage ≡ false → (work : Work) → Walks IsUnclaimed job.replies (Copy c) work (Ended Finished part) calls dirty dirty_after (Some log) (Some now) f0 f1 → TreeLeft told marks log c
     by calls f0 f1 known begun (Copy x) goes = tree_done told dirty dirty_after marks log now c x part known begun goes.free job.replies calls goes.since f1 goes.steps
-    by calls f0 f1 known begun (Delete x) goes = absurd goes
-    by calls f0 f1 known begun (Make x) goes = absurd goes
-    by calls f0 f1 known begun (Move x) goes = absurd goes
-    by calls f0 f1 known begun (SetMode x) goes = absurd goes
+    by calls f0 f1 known begun x goes = absurd goes
 
 -- and of a move that was renamed
 done_moving : (stage : MovingStage) → movings.is_done stage ≡ true → is_moved stage ≡ true → (movings.owes_target stage ≡ false) × (movings.is_dirty stage ≡ false)
@@ -308,10 +291,7 @@ done_moving moving.PassedOver done moved = absurd (false≢true moved)
 
 move_done : (m : Moving) (work : Work) (part : Option Route) → WorkTells (Move m) (Ended Finished part) work → movings.is_done m.stage ≡ true
 move_done m (Move new) part (is_done, part_is, new_is) = is_done
-move_done m (Copy new) part t = absurd t
-move_done m (Delete new) part t = absurd t
-move_done m (Make new) part t = absurd t
-move_done m (SetMode new) part t = absurd t
+move_done m work part t = absurd t
 
 moved_left : (told : Said) (dirty dirty_after : List Route) (marks : Marks) (log now : CallLog) (job new : Running) (part : Option Route) (m : Moving) → job.work ≡ Move m → job.course ≡ GoesOn → WorkKnows told dirty marks log job.course job.work
     → TidyFolder job.work dirty → WorkLeads job (Ended Finished part) new dirty dirty_after log now → HasName m.pair.source × (HasName m.pair.target × (((movings.owes_target m.stage ≡ false) × (movings.is_dirty m.stage ≡ false)) × IsMovedIn told marks log m))
@@ -346,3 +326,4 @@ finished_law opening now after newest stand dirty job new part path tree settled
     whole (Delete d) is = subst (λ w. IsWhole opening now newest stand path tree settled traced w) (sym is) tt
     whole (Make m) is = subst (λ w. IsWhole opening now newest stand path tree settled traced w) (sym is) tt
     whole (SetMode s) is = subst (λ w. IsWhole opening now newest stand path tree settled traced w) (sym is) tt
+    whole (RemoveEmptied r) is = subst (λ w. IsWhole opening now newest stand path tree settled traced w) (sym is) tt

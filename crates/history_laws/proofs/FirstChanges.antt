@@ -31,7 +31,7 @@ use Rattle.thing_moving.specs.declared.moving.MovingStage.TheVariants.{SyncTarge
 use Rattle.copy_move.specs.declared.run.Course.{Course}
 use Rattle.copy_move.specs.declared.run.Course.TheVariants.{GoesOn}
 use Rattle.copy_move.specs.declared.work.Work.{Work}
-use Rattle.copy_move.specs.declared.work.Work.TheVariants.{Copy, Delete, Make, Move, SetMode}
+use Rattle.copy_move.specs.declared.work.Work.TheVariants.{Copy, Delete, Make, Move, SetMode, RemoveEmptied}
 use Rattle.copy_move.specs.Jobs.{CallsOn, Running, TellsOn, WorkCalls, WorkTells, course_after, is_fresh}
 use Rattle.copy_move.specs.Settling.{NoneOwed, WorkLeaves, changed_folder}
 use Rattle.copy_move.specs.Steps.{LeavesDirty}
@@ -76,6 +76,7 @@ module _ (up : Route) (told : Said) (dirty : List Route) (marks : Marks) (log : 
   knows_calming (Make m) fresh k = k
   knows_calming (Move m) fresh k = move_said told (calming up told) refl refl marks log GoesOn m k
   knows_calming (SetMode s) fresh k = k
+  knows_calming (RemoveEmptied r) fresh k = k
 
   kept_calming : IsCalmFolder marks log up → IsKept told dirty marks log → IsKept (calming up told) dirty marks log
   kept_calming calm kept = record {
@@ -123,7 +124,7 @@ calms (Cleaned gone) item before up was = Stays was
 calms (Chunk count) item before up was = Stays was
 calms (Kept kept) item before up was = Stays was
 calms (Asked question) item before up was = Stays was
-calms (Merges pair names) item before up was = Stays was
+calms (Merges transfer pair names) item before up was = Stays was
 calms (Skipped path cause) item before up was = Stays was
 calms Barrier item before up was = Stays was
 calms (Troubled trouble) item before up was = Stays was
@@ -139,29 +140,11 @@ record HasMoved (old work : Work) (pair : Pair) : Type 0 where
 moved_in : (old work : Work) (pair : Pair) → WorkTells old (Moved pair) work → HasMoved old work pair
 moved_in (Move m) (Move new) pair (stage, pair_is, new_is) = record { m = m; is = refl; pair_is = pair_is; then = ap Move new_is }
 moved_in (Copy c) (Copy new) pair t = absurd t.may
-moved_in (Copy c) (Delete new) pair t = absurd t
-moved_in (Copy c) (Make new) pair t = absurd t
-moved_in (Copy c) (Move new) pair t = absurd t
-moved_in (Copy c) (SetMode new) pair t = absurd t
-moved_in (Delete d) (Copy new) pair t = absurd t
 moved_in (Delete d) (Delete new) pair t = absurd t
-moved_in (Delete d) (Make new) pair t = absurd t
-moved_in (Delete d) (Move new) pair t = absurd t
-moved_in (Delete d) (SetMode new) pair t = absurd t
-moved_in (Make m) (Copy new) pair t = absurd t
-moved_in (Make m) (Delete new) pair t = absurd t
 moved_in (Make m) (Make new) pair t = absurd t
-moved_in (Make m) (Move new) pair t = absurd t
-moved_in (Make m) (SetMode new) pair t = absurd t
-moved_in (Move m) (Copy new) pair t = absurd t
-moved_in (Move m) (Delete new) pair t = absurd t
-moved_in (Move m) (Make new) pair t = absurd t
-moved_in (Move m) (SetMode new) pair t = absurd t
-moved_in (SetMode s) (Copy new) pair t = absurd t
-moved_in (SetMode s) (Delete new) pair t = absurd t
-moved_in (SetMode s) (Make new) pair t = absurd t
-moved_in (SetMode s) (Move new) pair t = absurd t
 moved_in (SetMode s) (SetMode new) pair t = absurd t
+moved_in (RemoveEmptied r) (RemoveEmptied new) pair t = absurd t
+moved_in old new pair t = absurd t
 
 -- Below the two paths of a move no folder is joined with another after it: nothing waits of what was moved, and where it was nothing stands.
 moved_unjoined : (told : Said) (marks : Marks) (log : CallLog) (m : Moving) (up : Route) → IsMovedIn told marks log m → is_of_move m.pair up ≡ true → IsUnjoined log up
@@ -180,29 +163,11 @@ set_unjoined replies log now (SetMode s) (SetMode work) new path up fresh t call
     subst (λ (l : CallLog). IsUnjoined l up) (sym d.is)
     (unjoined_at log (Sets (found (current log) s.path) s.mode) up refl (λ f at. sym (same_quiet log (Sets (found (current log) s.path) s.mode) (λ g m. refl) up) ∙ at) apart)
 set_unjoined replies log now (Copy c) (Copy work) new path up fresh t calls apart = absurd (t.first fresh)
-set_unjoined replies log now (Copy c) (Delete work) new path up fresh t calls apart = absurd t
-set_unjoined replies log now (Copy c) (Make work) new path up fresh t calls apart = absurd t
-set_unjoined replies log now (Copy c) (Move work) new path up fresh t calls apart = absurd t
-set_unjoined replies log now (Copy c) (SetMode work) new path up fresh t calls apart = absurd t
-set_unjoined replies log now (Delete d) (Copy work) new path up fresh t calls apart = absurd t
 set_unjoined replies log now (Delete d) (Delete work) new path up fresh t calls apart = absurd t
-set_unjoined replies log now (Delete d) (Make work) new path up fresh t calls apart = absurd t
-set_unjoined replies log now (Delete d) (Move work) new path up fresh t calls apart = absurd t
-set_unjoined replies log now (Delete d) (SetMode work) new path up fresh t calls apart = absurd t
-set_unjoined replies log now (Make m) (Copy work) new path up fresh t calls apart = absurd t
-set_unjoined replies log now (Make m) (Delete work) new path up fresh t calls apart = absurd t
 set_unjoined replies log now (Make m) (Make work) new path up fresh t calls apart = absurd t
-set_unjoined replies log now (Make m) (Move work) new path up fresh t calls apart = absurd t
-set_unjoined replies log now (Make m) (SetMode work) new path up fresh t calls apart = absurd t
-set_unjoined replies log now (Move m) (Copy work) new path up fresh t calls apart = absurd t
-set_unjoined replies log now (Move m) (Delete work) new path up fresh t calls apart = absurd t
-set_unjoined replies log now (Move m) (Make work) new path up fresh t calls apart = absurd t
 set_unjoined replies log now (Move m) (Move work) new path up fresh t calls apart = absurd t
-set_unjoined replies log now (Move m) (SetMode work) new path up fresh t calls apart = absurd t
-set_unjoined replies log now (SetMode s) (Copy work) new path up fresh t calls apart = absurd t
-set_unjoined replies log now (SetMode s) (Delete work) new path up fresh t calls apart = absurd t
-set_unjoined replies log now (SetMode s) (Make work) new path up fresh t calls apart = absurd t
-set_unjoined replies log now (SetMode s) (Move work) new path up fresh t calls apart = absurd t
+set_unjoined replies log now (RemoveEmptied r) (RemoveEmptied work) new path up fresh t calls apart = absurd t
+set_unjoined replies log now old work new path up fresh t calls apart = absurd t
 
 module _ (opening log now : CallLog) (older newest : List Entry) (was stand : Stand) (job new : Running) (did : Did) (tree : IsTree (current opening)) (settled : all_settled opening.changes ≡ true)
     (before : IsTraced opening older was log) (jobs_is : was.jobs ≡ job ∷ []) (works : WorkLeads job did new was.dirty stand.dirty log now) (goes : job.course ≡ GoesOn) (fresh : is_fresh job.work ≡ true) where

@@ -21,7 +21,7 @@ use Rattle.session_history.specs.declared.history.JobOrder.TheVariants.{Answered
 use Rattle.copy_move.specs.declared.run.Course.{Course}
 use Rattle.copy_move.specs.declared.run.Course.TheVariants.{GoesOn, Asking, InTrouble, OwedSyncFailed, Skips, Ends}
 use Rattle.copy_move.specs.declared.work.Work.{Work}
-use Rattle.copy_move.specs.declared.work.Work.TheVariants.{Copy, Delete, Make, Move, SetMode}
+use Rattle.copy_move.specs.declared.work.Work.TheVariants.{Copy, Delete, Make, Move, SetMode, RemoveEmptied}
 use Rattle.copy_move.specs.Jobs.{Running, answered, answered_on, begun_work, closed_course, closed_job, taken_anew, with_skips}
 use Rattle.copy_move.specs.Told.{running}
 use Rattle.session_history.specs.LiveJobs.{LiveJob, after_event, after_report, live, turned}
@@ -49,6 +49,7 @@ anew_knows told dirty m log course (Delete d) going k = k
 anew_knows told dirty m log course (Make w) going k = k
 anew_knows told dirty m log course (Move w) going k = move_course told m log course GoesOn w (λ on. going) k
 anew_knows told dirty m log course (SetMode s) going k = k
+anew_knows told dirty m log course (RemoveEmptied w) going k = k
 
 skips_knows : (told : Said) (dirty : List Route) (m : Marks) (log : CallLog) (course : Course) (why : Cause) (work : Work) → WorkKnows told dirty m log course work → WorkKnows told dirty m log course (with_skips why work)
 skips_knows told dirty m log course why (Copy c) k = skips_kind told dirty m log course c (with_kind (kind_in why) c.skips) k
@@ -56,6 +57,7 @@ skips_knows told dirty m log course why (Delete d) k = k
 skips_knows told dirty m log course why (Make w) k = k
 skips_knows told dirty m log course why (Move w) k = move_skips told m log course w (record w { skips = with_kind (kind_in why) w.skips }) refl refl k
 skips_knows told dirty m log course why (SetMode s) k = k
+skips_knows told dirty m log course why (RemoveEmptied w) k = k
 
 module _ (told : Said) (dirty : List Route) (marks : Marks) (log : CallLog) where
   abbrev Knows : Running → Type 0

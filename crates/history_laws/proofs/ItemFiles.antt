@@ -92,6 +92,6 @@ module _ (unclaimed : Route → Type 0) (log now : CallLog) (name : List ℕ) (l
   file_item moved (Set path) met short tells calls going p stands = absurd tells
   file_item moved (Kept path) met short tells calls going p stands = absurd tells
   file_item moved (Asked question) met short tells calls going p stands = absurd tells
-  file_item moved (Merges pair names) met short tells calls going p stands = absurd tells
+  file_item moved (Merges transfer pair names) met short tells calls going p stands = absurd tells
   file_item moved (Moved pair) met short tells calls going p stands = absurd tells
   file_item moved (Skipped path why) met short tells calls going p stands = absurd tells

@@ -103,6 +103,6 @@ module _ (log now : CallLog) (name : List ℕ) (l : Levels) (c : LinkCopying) (k
   link_item moved (Set path) open_to tells calls going = absurd tells
   link_item moved (Kept path) open_to tells calls going = absurd tells
   link_item moved (Asked question) open_to tells calls going = absurd tells
-  link_item moved (Merges pair names) open_to tells calls going = absurd tells
+  link_item moved (Merges transfer pair names) open_to tells calls going = absurd tells
   link_item moved (Moved pair) open_to tells calls going = absurd tells
   link_item moved (Skipped path why) open_to tells calls going = absurd tells

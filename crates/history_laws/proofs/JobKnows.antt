@@ -16,7 +16,7 @@ use Rattle.job_reports.specs.declared.report.Did.TheVariants.{Ended}
 use Rattle.job_reports.proofs.PermittedCalls.{stat_missing}
 use Rattle.copy_move.specs.declared.run.Course.{Course}
 use Rattle.copy_move.specs.declared.work.Work.{Work}
-use Rattle.copy_move.specs.declared.work.Work.TheVariants.{Copy, Delete, Make, Move, SetMode}
+use Rattle.copy_move.specs.declared.work.Work.TheVariants.{Copy, Delete, Make, Move, SetMode, RemoveEmptied}
 use Rattle.tree_deletion.specs.declared.deletion.Stage.TheVariants.{Going}
 use Rattle.tree_deletion.specs.Folders.{is_of}
 use Rattle.crash_law.proofs.Unworked.{unworked_law}
@@ -55,6 +55,7 @@ WorkKnows told dirty marks log course (Delete d) =
 WorkKnows told dirty marks log course (Make m) = HasName m.path × (told.part ≡ None)
 WorkKnows told dirty marks log course (Move m) = MoveKnown told marks log course m
 WorkKnows told dirty marks log course (SetMode s) = HasName s.path × (told.part ≡ None)
+WorkKnows told dirty marks log course (RemoveEmptied r) = HasName r.path × (told.part ≡ None)
 
 -- a mode that waits is of a path at which something stands, which is listed
 module _ (told : Said) (dirty : List Route) (marks : Marks) (log : CallLog) (kept : IsKept told dirty marks log) where
@@ -123,6 +124,7 @@ module _ (log : CallLog) (marks : Marks) where
   work_settled told dirty course (Make w) k = k
   work_settled told dirty course (Move w) k = move_settled log marks told course w k
   work_settled told dirty course (SetMode s) k = k
+  work_settled told dirty course (RemoveEmptied w) k = k
 
 -- A job that goes on only where it went on, and isn't in its last steps where it wasn't, knows what it knew.
 pub work_course : (told : Said) (dirty : List Route) (marks : Marks) (log : CallLog) (course other : Course) (work : Work) → (may_fill other ≡ true → may_fill course ≡ true) → (is_over other ≡ false → is_over course ≡ false)
@@ -132,6 +134,7 @@ work_course told dirty marks log course other (Delete d) on over k = k
 work_course told dirty marks log course other (Make w) on over k = k
 work_course told dirty marks log course other (Move w) on over k = move_course told marks log course other w over k
 work_course told dirty marks log course other (SetMode s) on over k = k
+work_course told dirty marks log course other (RemoveEmptied w) on over k = k
 
 -- a sync, and a call that was refused, leave the tree as it was
 pub still_same : (log now : CallLog) → IsStill log now → current now ≡ current log
@@ -171,6 +174,7 @@ work_still told dirty marks log now course (Delete d) tree still (name, none, kn
 work_still told dirty marks log now course (Make m) tree still k = k
 work_still told dirty marks log now course (Move m) tree still k = move_still told marks log now course m still k
 work_still told dirty marks log now course (SetMode s) tree still k = k
+work_still told dirty marks log now course (RemoveEmptied r) tree still k = k
 
 -- What is known of a job hangs on the tree, the part, the folders on the disk and the calm folders of what a history says.
 pub work_said : (told other : Said) → other.tree ≡ told.tree → other.part ≡ told.part → other.folders ≡ told.folders → other.calm ≡ told.calm → (dirty : List Route) (marks : Marks) (log : CallLog) (course : Course) (work : Work)
@@ -184,6 +188,7 @@ work_said told other tree part folders calm dirty marks log course (Delete d) (n
 work_said told other tree part folders calm dirty marks log course (Make m) (name, none) = (name, part ∙ none)
 work_said told other tree part folders calm dirty marks log course (Move m) k = move_said told other part folders marks log course m k
 work_said told other tree part folders calm dirty marks log course (SetMode s) (name, none) = (name, part ∙ none)
+work_said told other tree part folders calm dirty marks log course (RemoveEmptied r) (name, none) = (name, part ∙ none)
 
 -- what is known after a report: of a job that has ended no part stands
 abbrev pub KnowsAfter : Did → Said → List Route → CallLog → Course → Work → Marks → Type 0

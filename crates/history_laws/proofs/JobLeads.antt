@@ -11,11 +11,12 @@ use Rattle.job_reports.specs.declared.report.Did.{Did}
 use Rattle.job_reports.specs.declared.report.Did.TheVariants.{Skipped, Barrier, Troubled}
 use Rattle.job_reports.proofs.CallAnswers.{some_log}
 use Rattle.copy_move.specs.declared.work.Work.{Work}
-use Rattle.copy_move.specs.declared.work.Work.TheVariants.{Copy, Delete, Make, Move, SetMode}
+use Rattle.copy_move.specs.declared.work.Work.TheVariants.{Copy, Delete, Make, Move, SetMode, RemoveEmptied}
 use Rattle.job_answers.specs.declared.replies.Replies.{Replies}
 use Rattle.copy_move.specs.declared.run.Course.{Course}
 use Rattle.copy_move.specs.declared.run.Course.TheVariants.{GoesOn, Asking, InTrouble, OwedSyncFailed, Skips, Ends}
 use Rattle.thing_making.specs.Makings.{Making}
+use Rattle.folder_removal.specs.Removals.{Removing}
 use Rattle.copy_move.specs.Jobs.{Running, CallsOn, TellsOn, WorkCalls, WorkLastCalls, WorkTells, PassesOver, WorkWinds, course_after, is_fresh, unreported_skip}
 use Rattle.copy_move.specs.DeletionSteps.{after_try}
 use Rattle.copy_move.specs.Settling.{NoneOwed, WorkLeaves}
@@ -28,6 +29,7 @@ use Rattle.history_laws.proofs.Deleted.{comes_refused}
 use Rattle.history_laws.proofs.DeletionSteps.{Steps, comes_thing_synced, deletion_tells, deletion_winds, stands, stays, still_going}
 use Rattle.history_laws.proofs.MakingSteps.{making_tells, making_winds}
 use Rattle.history_laws.proofs.MovingSteps.{moving_skipped, moving_tells, moving_winds}
+use Rattle.history_laws.proofs.RemovalSteps.{removal_tells, removal_winds}
 use Rattle.history_laws.proofs.JobSteps.{fresh_knows}
 use Rattle.history_laws.proofs.Knowing.{Said, IsKept}
 use Rattle.history_laws.proofs.JobKnows.{KnowsAfter, WorkKnows, none_over, work_course}
@@ -40,32 +42,14 @@ use Rattle.history_laws.proofs.TreeWinds.{tree_winds}
 module _ (told : Said) (dirty dirty_after : List Route) (marks : Marks) (log now : CallLog) (kept : IsKept told dirty marks log) where
   skip_knows : (course : Course) (work new : Work) (path : Route) (cause : Cause) → is_over course ≡ false → PassesOver work path new → SkipWalks cause work (Skipped path cause) new → WorkKnows told dirty marks log course work
       → WorkKnows told dirty marks log GoesOn new
-  skip_knows course (Delete d) (Make new) path cause going h walks k = absurd h
-  skip_knows course (Delete d) (Move new) path cause going h walks k = absurd h
-  skip_knows course (SetMode s) (Copy new) path cause going h walks k = absurd h
-  skip_knows course (SetMode s) (Delete new) path cause going h walks k = absurd h
-  skip_knows course (Copy s) (Delete new) path cause going h walks k = absurd h
-  skip_knows course (SetMode s) (Make new) path cause going h walks k = absurd h
-  skip_knows course (Move s) (Make new) path cause going h walks k = absurd h
-  skip_knows course (SetMode s) (Move new) path cause going h walks k = absurd h
-  skip_knows course (Copy s) (Make new) path cause going h walks k = absurd h
-  skip_knows course (Copy s) (Move new) path cause going h walks k = absurd h
-  skip_knows course (Copy c) (SetMode new) path cause going h walks k = absurd h
-  skip_knows course (Delete d) (SetMode new) path cause going h walks k = absurd h
-  skip_knows course (Delete d) (Copy new) path cause going h walks k = absurd h
-  skip_knows course (Make m) (SetMode new) path cause going h walks k = absurd h
-  skip_knows course (Make m) (Move new) path cause going h walks k = absurd h
-  skip_knows course (Move m) (SetMode new) path cause going h walks k = absurd h
-  skip_knows course (Make m) (Copy new) path cause going h walks k = absurd h
-  skip_knows course (Move m) (Copy new) path cause going h walks k = absurd h
-  skip_knows course (Make m) (Delete new) path cause going h walks k = absurd h
-  skip_knows course (Move m) (Delete new) path cause going h walks k = absurd h
   skip_knows course (SetMode s) (SetMode new) path cause going (path_is, new_is) walks k = subst (λ (n : Setting). WorkKnows told dirty marks log GoesOn (SetMode n)) (sym new_is) k
   skip_knows course (Make m) (Make new) path cause going (path_is, new_is) walks k = subst (λ (n : Making). WorkKnows told dirty marks log GoesOn (Make n)) (sym new_is) k
   skip_knows course (Move m) (Move new) path cause going (path_is, new_is) walks k = moving_skipped told marks log course m new going new_is k
   skip_knows course (Delete d) (Delete new) path cause going at walks k = stays told dirty dirty_after marks log now kept course GoesOn d new _ k at (still_going told dirty dirty_after marks log now kept path d) dirty
   skip_knows course (Copy c) (Copy new) path cause going h walks k =
       skips_tree told dirty marks log course GoesOn cause c new (Skipped path cause) going (λ trouble is on. let f : ⊥ = cc in f) walks k
+  skip_knows course (RemoveEmptied r) (RemoveEmptied new) path cause going (path_is, new_is) walks k = subst (λ (n : Removing). WorkKnows told dirty marks log GoesOn (RemoveEmptied n)) (sym new_is) k
+  skip_knows course old new path cause going h walks k = absurd h
 
   -- what the machine of the work did
   abbrev WorkWalks : Replies → Course → Work → Did → Work → Type 0
@@ -79,26 +63,8 @@ module _ (told : Said) (dirty dirty_after : List Route) (marks : Marks) (log now
   work_tells replies (Move w) (Move new) did knows tells calls settled leaves walks = moving_tells told dirty dirty_after marks log now kept replies w new did knows tells calls settled leaves
   work_tells replies (SetMode s) (SetMode new) did knows tells calls settled leaves walks = setting_tells told dirty dirty_after marks log now kept s new did knows tells calls settled leaves
   work_tells replies (Copy c) (Copy new) did knows tells calls settled leaves (count, f0, f1, goes) = tree_tells told dirty dirty_after marks log now kept c new did knows tells settled goes.free replies count goes.since f1 goes.steps
-  work_tells replies (Delete d) (Make new) did knows tells calls settled leaves walks = absurd tells
-  work_tells replies (Delete d) (Move new) did knows tells calls settled leaves walks = absurd tells
-  work_tells replies (SetMode s) (Copy new) did knows tells calls settled leaves walks = absurd tells
-  work_tells replies (SetMode s) (Delete new) did knows tells calls settled leaves walks = absurd tells
-  work_tells replies (Copy s) (Delete new) did knows tells calls settled leaves walks = absurd tells
-  work_tells replies (SetMode s) (Make new) did knows tells calls settled leaves walks = absurd tells
-  work_tells replies (Move s) (Make new) did knows tells calls settled leaves walks = absurd tells
-  work_tells replies (SetMode s) (Move new) did knows tells calls settled leaves walks = absurd tells
-  work_tells replies (Copy s) (Make new) did knows tells calls settled leaves walks = absurd tells
-  work_tells replies (Copy s) (Move new) did knows tells calls settled leaves walks = absurd tells
-  work_tells replies (Copy c) (SetMode new) did knows tells calls settled leaves walks = absurd tells
-  work_tells replies (Delete d) (SetMode new) did knows tells calls settled leaves walks = absurd tells
-  work_tells replies (Delete d) (Copy new) did knows tells calls settled leaves walks = absurd tells
-  work_tells replies (Make w) (SetMode new) did knows tells calls settled leaves walks = absurd tells
-  work_tells replies (Make w) (Move new) did knows tells calls settled leaves walks = absurd tells
-  work_tells replies (Move w) (SetMode new) did knows tells calls settled leaves walks = absurd tells
-  work_tells replies (Make w) (Copy new) did knows tells calls settled leaves walks = absurd tells
-  work_tells replies (Move w) (Copy new) did knows tells calls settled leaves walks = absurd tells
-  work_tells replies (Make w) (Delete new) did knows tells calls settled leaves walks = absurd tells
-  work_tells replies (Move w) (Delete new) did knows tells calls settled leaves walks = absurd tells
+  work_tells replies (RemoveEmptied r) (RemoveEmptied new) did knows tells calls settled leaves walks = removal_tells told dirty dirty_after marks log now kept r new did knows tells calls settled leaves
+  work_tells replies old new did knows tells calls settled leaves walks = absurd tells
 
   work_winds : (replies : Replies) (ending : Ending) (old new : Work) (did : Did) → WorkKnows told dirty marks log (Ends ending) old → WorkWinds ending old did new → WorkLastCalls old did log (Some now)
       → LeavesDirty (Ends ending) old did new dirty dirty_after (Some log) (Some now) → WorkWalks replies (Ends ending) old did new → Steps told dirty dirty_after marks log now kept did (Ends ending) old new
@@ -112,27 +78,11 @@ module _ (told : Said) (dirty dirty_after : List Route) (marks : Marks) (log now
   work_winds replies ending (SetMode s) (SetMode new) did knows winds calls leaves walks =
       setting_winds told dirty dirty_after marks log now kept s new ending did leaves.refusal knows winds (leaves.tried log refl) calls
       (leaves.dirty_is ∙ ap (λ f. after_try did leaves.refusal f dirty) (same_path-true leaves.folder s.path leaves.own))
-  work_winds replies ending (Delete d) (Make new) did knows winds calls leaves walks = absurd winds
-  work_winds replies ending (Delete d) (Move new) did knows winds calls leaves walks = absurd winds
-  work_winds replies ending (SetMode s) (Copy new) did knows winds calls leaves walks = absurd winds
-  work_winds replies ending (SetMode s) (Delete new) did knows winds calls leaves walks = absurd winds
-  work_winds replies ending (Copy s) (Delete new) did knows winds calls leaves walks = absurd winds
-  work_winds replies ending (SetMode s) (Make new) did knows winds calls leaves walks = absurd winds
-  work_winds replies ending (Move s) (Make new) did knows winds calls leaves walks = absurd winds
-  work_winds replies ending (SetMode s) (Move new) did knows winds calls leaves walks = absurd winds
-  work_winds replies ending (Copy s) (Make new) did knows winds calls leaves walks = absurd winds
-  work_winds replies ending (Copy s) (Move new) did knows winds calls leaves walks = absurd winds
-  work_winds replies ending (Copy c) (SetMode new) did knows winds calls leaves walks = absurd winds
-  work_winds replies ending (Delete d) (SetMode new) did knows winds calls leaves walks = absurd winds
-  work_winds replies ending (Delete d) (Copy new) did knows winds calls leaves walks = absurd winds
-  work_winds replies ending (Make m) (SetMode new) did knows winds calls leaves walks = absurd winds
-  work_winds replies ending (Make m) (Move new) did knows winds calls leaves walks = absurd winds
-  work_winds replies ending (Move m) (SetMode new) did knows winds calls leaves walks = absurd winds
-  work_winds replies ending (Make m) (Copy new) did knows winds calls leaves walks = absurd winds
-  work_winds replies ending (Move m) (Copy new) did knows winds calls leaves walks = absurd winds
-  work_winds replies ending (Make m) (Delete new) did knows winds calls leaves walks = absurd winds
-  work_winds replies ending (Move m) (Delete new) did knows winds calls leaves walks = absurd winds
   work_winds replies ending (Copy c) (Copy new) did knows winds calls leaves (count, f0, f1, (tells, last)) = tree_winds told dirty dirty_after marks log now kept ending c new knows did count tells f0 f1 winds last calls leaves
+  work_winds replies ending (RemoveEmptied r) (RemoveEmptied new) did knows winds calls leaves walks =
+      removal_winds told dirty dirty_after marks log now kept r new ending did leaves.refusal knows winds (leaves.tried log refl) calls
+      (leaves.dirty_is ∙ ap (λ f. after_try did leaves.refusal f dirty) (same_path-true leaves.folder (folder_of r.path) leaves.own))
+  work_winds replies ending old new did knows winds calls leaves walks = absurd winds
 
   abbrev pub Leads : Running → Did → Running → Type 0
   Leads job did new = Comes told (said_after now did job.work told) dirty_after log now (KnowsAfter did (said_after now did job.work told) dirty_after now new.course new.work)

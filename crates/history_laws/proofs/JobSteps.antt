@@ -20,7 +20,7 @@ use Rattle.copy_levels.specs.declared.level.Level.{Level}
 use Rattle.tree_copy.specs.Standing.{is_fresh as tree_fresh}
 use Rattle.subtree_copy.specs.Standing.{SubtreeCopying, part_of as tree_part}
 use Rattle.copy_move.specs.declared.work.Work.{Work}
-use Rattle.copy_move.specs.declared.work.Work.TheVariants.{Copy, Delete, Make, Move, SetMode}
+use Rattle.copy_move.specs.declared.work.Work.TheVariants.{Copy, Delete, Make, Move, SetMode, RemoveEmptied}
 use Rattle.copy_move.specs.declared.run.Course.{Course}
 use Rattle.copy_move.specs.declared.run.Course.TheVariants.{Ends}
 use Rattle.copy_move.specs.Jobs.{part_of}
@@ -68,6 +68,7 @@ fresh_knows told dirty other marks log course (Delete d) going fresh k = k
 fresh_knows told dirty other marks log course (Make w) going fresh k = k
 fresh_knows told dirty other marks log course (Move w) going fresh k = k
 fresh_knows told dirty other marks log course (SetMode s) going fresh k = k
+fresh_knows told dirty other marks log course (RemoveEmptied w) going fresh k = k
 
 module _ (told : Said) (dirty dirty_after : List Route) (marks : Marks) (log now : CallLog) (kept : IsKept told dirty marks log) where
   -- an end names the part that stays
@@ -134,6 +135,8 @@ module _ (told : Said) (dirty dirty_after : List Route) (marks : Marks) (log now
       subst (λ x. Comes told (said_after now x (Move w) told) dirty_after log now (λ m. (said_after now x (Move w) told).part ≡ None)) (sym did_is) (ends told dirty dirty_after marks log now kept (Move w) knows.none same is)
   gives_up (SetMode s) course did knows did_is same is =
       subst (λ x. Comes told (said_after now x (SetMode s) told) dirty_after log now (λ m. (said_after now x (SetMode s) told).part ≡ None)) (sym did_is) (ends told dirty dirty_after marks log now kept (SetMode s) knows.1 same is)
+  gives_up (RemoveEmptied w) course did knows did_is same is =
+      subst (λ x. Comes told (said_after now x (RemoveEmptied w) told) dirty_after log now (λ m. (said_after now x (RemoveEmptied w) told).part ≡ None)) (sym did_is) (ends told dirty dirty_after marks log now kept (RemoveEmptied w) knows.1 same is)
 
   -- the part that a last step removes
   pub removed_part : (c : Copying) (ending : Ending) (part : Route) (stage : Stage) → StageKnows told marks (current log) (Ends ending) c stage → removable stage ≡ Some part

@@ -106,6 +106,7 @@ pub mod Prefixes
 pub mod Quiet
 pub mod QuietRuns
 pub mod Refused
+pub mod RemovalSteps
 pub mod Renaming
 pub mod RenamingThings
 pub mod Renamings

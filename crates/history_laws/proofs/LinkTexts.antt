@@ -128,6 +128,6 @@ module _ (log now : CallLog) (tree : IsTree (current log)) (c : LinkCopying) whe
   text_after moved (Set path) tells calls known has = absurd tells
   text_after moved (Kept path) tells calls known has = absurd tells
   text_after moved (Asked question) tells calls known has = absurd tells
-  text_after moved (Merges pair names) tells calls known has = absurd tells
+  text_after moved (Merges transfer pair names) tells calls known has = absurd tells
   text_after moved (Moved pair) tells calls known has = absurd tells
   text_after moved (Skipped path why) tells calls known has = absurd tells

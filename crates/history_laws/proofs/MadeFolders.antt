@@ -12,6 +12,7 @@ use Rattle.tree_trait.specs.Refusals.{refusal_of}
 use Rattle.tree_trait.specs.Shape.{IsTree}
 use Rattle.tree_trait.proofs.Walking.{stat-found}
 use Rattle.job_answers.specs.declared.replies.Replies.{Replies}
+use Rattle.job_reports.specs.declared.report.Transfer.TheVariants.{ByCopy}
 use Rattle.job_reports.specs.CallRuns.{AllDone}
 use Rattle.job_reports.specs.declared.job.Pair.{Pair}
 use Rattle.job_reports.specs.declared.report.Did.{Did}
@@ -110,7 +111,7 @@ module _ (log now : CallLog) (tree : IsTree (current log)) where
     made_in (inr (inl t)) = (let w = t.works in absurd w.tells)
     made_in (inr (inr (inl t))) = (let w = t.works in absurd w.tells)
     made_in (inr (inr (inr (inl t)))) = folder_made t
-    made_in (inr (inr (inr (inr (inl t))))) = absurd (let e : common.Made path ≡ common.Merges t.pair t.names = t.says in let f : ⊥ = cc in f)
+    made_in (inr (inr (inr (inr (inl t))))) = absurd (let e : common.Made path ≡ common.Merges ByCopy t.pair t.names = t.says in let f : ⊥ = cc in f)
     made_in (inr (inr (inr (inr (inr (inl t)))))) = absurd (let e : common.Made path ≡ common.Kept t.pair.target = t.says in let f : ⊥ = cc in f)
     made_in (inr (inr (inr (inr (inr (inr (inl t))))))) = absurd (let e : common.Made path ≡ common.Asked t.question = t.says in let f : ⊥ = cc in f)
     made_in (inr (inr (inr (inr (inr (inr (inr (next, inl (debt, e))))))))) =

@@ -209,7 +209,7 @@ module _ (told : Said) (dirty dirty_after : List Route) (marks : Marks) (log now
   making_tells w new (Removed path) knows tells done settled leaves = absurd tells
   making_tells w new (Kept kept) knows tells done settled leaves = absurd tells
   making_tells w new (Asked question) knows tells done settled leaves = absurd tells
-  making_tells w new (Merges pair names) knows tells done settled leaves = absurd tells
+  making_tells w new (Merges transfer pair names) knows tells done settled leaves = absurd tells
   making_tells w new (Moved pair) knows tells done settled leaves = absurd tells
   making_tells w new (Skipped path cause) knows tells done settled leaves = absurd tells
   making_tells w new (Cleaned part) knows tells done settled leaves = absurd tells
@@ -230,7 +230,7 @@ module _ (told : Said) (dirty dirty_after : List Route) (marks : Marks) (log now
   making_winds w new ending (Made path) left knows tells answer calls leaves = absurd tells
   making_winds w new ending (Kept kept) left knows tells answer calls leaves = absurd tells
   making_winds w new ending (Asked question) left knows tells answer calls leaves = absurd tells
-  making_winds w new ending (Merges pair names) left knows tells answer calls leaves = absurd tells
+  making_winds w new ending (Merges transfer pair names) left knows tells answer calls leaves = absurd tells
   making_winds w new ending (Moved pair) left knows tells answer calls leaves = absurd tells
   making_winds w new ending (Skipped path cause) left knows tells answer calls leaves = absurd tells
   making_winds w new ending (Cleaned part) left knows tells answer calls leaves = absurd tells

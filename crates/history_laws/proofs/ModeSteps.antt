@@ -183,7 +183,7 @@ module _ (told : Said) (dirty dirty_after : List Route) (marks : Marks) (log now
   setting_tells s new (Made path) knows tells done settled leaves = absurd tells
   setting_tells s new (Kept kept) knows tells done settled leaves = absurd tells
   setting_tells s new (Asked question) knows tells done settled leaves = absurd tells
-  setting_tells s new (Merges pair names) knows tells done settled leaves = absurd tells
+  setting_tells s new (Merges transfer pair names) knows tells done settled leaves = absurd tells
   setting_tells s new (Moved pair) knows tells done settled leaves = absurd tells
   setting_tells s new (Cleaned part) knows tells done settled leaves = absurd tells
 
@@ -201,7 +201,7 @@ module _ (told : Said) (dirty dirty_after : List Route) (marks : Marks) (log now
   setting_winds s new ending (Made path) left knows tells tried calls leaves = absurd tells
   setting_winds s new ending (Kept kept) left knows tells tried calls leaves = absurd tells
   setting_winds s new ending (Asked question) left knows tells tried calls leaves = absurd tells
-  setting_winds s new ending (Merges pair names) left knows tells tried calls leaves = absurd tells
+  setting_winds s new ending (Merges transfer pair names) left knows tells tried calls leaves = absurd tells
   setting_winds s new ending (Moved pair) left knows tells tried calls leaves = absurd tells
   setting_winds s new ending (Skipped path cause) left knows tells tried calls leaves = absurd tells
   setting_winds s new ending (Cleaned part) left knows tells tried calls leaves = absurd tells

@@ -233,7 +233,8 @@ module _ (told : Said) (dirty dirty_after : List Route) (marks : Marks) (log now
   moving_tells replies w new (Placed path) k tells calls settled leaves = absurd tells
   moving_tells replies w new (Removed path) k tells calls settled leaves = absurd tells
   moving_tells replies w new (Made path) k tells calls settled leaves = absurd tells
-  moving_tells replies w new (Merges pair names) k tells calls settled leaves = absurd tells
+  moving_tells replies w new (Merges transfer pair names) k (stage, merges, new_is) calls settled leaves =
+      stands told dirty dirty_after marks log now kept GoesOn (Move new) (passed_knows GoesOn w new new_is k) (passed_dirty w new stage new_is leaves) (some_log now log calls.1)
   moving_tells replies w new (Cleaned part) k tells calls settled leaves = absurd tells
 
   -- what is known of one in its last steps
@@ -256,7 +257,7 @@ module _ (told : Said) (dirty dirty_after : List Route) (marks : Marks) (log now
   moving_winds w new ending (Made path) left folder k winds answer calls leaves = absurd winds
   moving_winds w new ending (Kept path) left folder k winds answer calls leaves = absurd winds
   moving_winds w new ending (Asked question) left folder k winds answer calls leaves = absurd winds
-  moving_winds w new ending (Merges pair names) left folder k winds answer calls leaves = absurd winds
+  moving_winds w new ending (Merges transfer pair names) left folder k winds answer calls leaves = absurd winds
   moving_winds w new ending (Moved pair) left folder k winds answer calls leaves = absurd winds
   moving_winds w new ending (Skipped path cause) left folder k winds answer calls leaves = absurd winds
   moving_winds w new ending (Cleaned part) left folder k winds answer calls leaves = absurd winds

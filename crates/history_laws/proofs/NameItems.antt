@@ -117,7 +117,7 @@ module _ (name : List ℕ) (up : Route) (log now : CallLog) (files : IsOfFiles l
     file_names moved (Set path) tells calls = absurd tells
     file_names moved (Kept path) tells calls = absurd tells
     file_names moved (Asked question) tells calls = absurd tells
-    file_names moved (Merges pair names) tells calls = absurd tells
+    file_names moved (Merges transfer pair names) tells calls = absurd tells
     file_names moved (Moved pair) tells calls = absurd tells
     file_names moved (Skipped path why) tells calls = absurd tells
 
@@ -178,6 +178,6 @@ module _ (name : List ℕ) (up : Route) (log now : CallLog) (files : IsOfFiles l
     link_names moved (Set path) tells calls = absurd tells
     link_names moved (Kept path) tells calls = absurd tells
     link_names moved (Asked question) tells calls = absurd tells
-    link_names moved (Merges pair names) tells calls = absurd tells
+    link_names moved (Merges transfer pair names) tells calls = absurd tells
     link_names moved (Moved pair) tells calls = absurd tells
     link_names moved (Skipped path why) tells calls = absurd tells

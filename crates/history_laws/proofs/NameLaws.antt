@@ -75,7 +75,7 @@ file_under f moved (Made path) tells going = absurd tells
 file_under f moved (Set path) tells going = absurd tells
 file_under f moved (Kept path) tells going = absurd tells
 file_under f moved (Asked question) tells going = absurd tells
-file_under f moved (Merges pair names) tells going = absurd tells
+file_under f moved (Merges transfer pair names) tells going = absurd tells
 file_under f moved (Moved pair) tells going = absurd tells
 file_under f moved (Skipped path why) tells going = absurd tells
 
@@ -92,7 +92,7 @@ link_under l moved (Made path) tells going = absurd tells
 link_under l moved (Set path) tells going = absurd tells
 link_under l moved (Kept path) tells going = absurd tells
 link_under l moved (Asked question) tells going = absurd tells
-link_under l moved (Merges pair names) tells going = absurd tells
+link_under l moved (Merges transfer pair names) tells going = absurd tells
 link_under l moved (Moved pair) tells going = absurd tells
 link_under l moved (Skipped path why) tells going = absurd tells
 

@@ -13,10 +13,11 @@ use Rattle.crash_law.specs.Guarded.{Marks}
 use Rattle.job_reports.specs.Paths.{folder_of}
 use Rattle.job_reports.proofs.PermittedCalls.{stat_missing}
 use Rattle.copy_move.specs.declared.work.Work.{Work}
-use Rattle.copy_move.specs.declared.work.Work.TheVariants.{Copy, Delete, Make, Move, SetMode}
+use Rattle.copy_move.specs.declared.work.Work.TheVariants.{Copy, Delete, Make, Move, SetMode, RemoveEmptied}
 use Rattle.copy_move.specs.Deletions.{DeletionLeaves, Tells}
 use Rattle.thing_making.specs.Makings as makings
 use Rattle.thing_moving.specs.Movings as movings
+use Rattle.folder_removal.specs.Removals as removals
 use Rattle.mode_setting.specs.Settings as settings
 use Rattle.copy_move.specs.Jobs.{WorkTells}
 use Rattle.copy_move.specs.Settling.{LiesApart, NoneOwed, WorkLeaves, changed_folder, is_own, with_change}
@@ -154,36 +155,16 @@ changed_or_before true true up q dirty among = inr among
 -- what is dirty after a step was dirty, or it is a folder of the job's own, of a move one of its two
 pub own_or_before : (old next new : Work) (did : Did) (q : Route) (dirty dirty_after : List Route) (before after : Option CallLog) → WorkTells old did next → WorkLeaves old did new dirty dirty_after before after → Among dirty_after q
     → (waits_in old q ≡ true) ⊎ Among dirty q
-own_or_before (Make m) next (SetMode new) did q dirty dirty_after before after t leaves among = absurd leaves
-own_or_before (Make m) next (Move new) did q dirty dirty_after before after t leaves among = absurd leaves
-own_or_before (Move m) next (SetMode new) did q dirty dirty_after before after t leaves among = absurd leaves
-own_or_before (Delete d) (SetMode next) new did q dirty dirty_after before after t leaves among = absurd t
-own_or_before (Delete d) (Copy next) new did q dirty dirty_after before after t leaves among = absurd t
-own_or_before (Delete d) (Delete next) (SetMode new) did q dirty dirty_after before after t leaves among = absurd leaves
-own_or_before (Delete d) (Delete next) (Copy new) did q dirty dirty_after before after t leaves among = absurd leaves
-own_or_before (SetMode s) next (Delete new) did q dirty dirty_after before after t leaves among = absurd leaves
-own_or_before (SetMode s) next (Make new) did q dirty dirty_after before after t leaves among = absurd leaves
-own_or_before (Move s) next (Make new) did q dirty dirty_after before after t leaves among = absurd leaves
-own_or_before (SetMode s) next (Move new) did q dirty dirty_after before after t leaves among = absurd leaves
 own_or_before (SetMode s) next (SetMode new) did q dirty dirty_after before after t leaves among =
     elim (changed_or_before (settings.is_dirty s.stage) (settings.is_dirty new.stage) s.path q dirty (subst (λ xs. Among xs q) leaves among)) [
       | inl same ↦ inl (subst (λ p. same_path p s.path ≡ true) (sym same) (same_path-self s.path))
       | inr old ↦ inr old
     ]
-own_or_before (Make m) next (Copy new) did q dirty dirty_after before after t leaves among = absurd leaves
-own_or_before (Move m) next (Copy new) did q dirty dirty_after before after t leaves among = absurd leaves
-own_or_before (SetMode s) next (Copy new) did q dirty dirty_after before after t leaves among = absurd leaves
-own_or_before (Copy c) next (Delete new) did q dirty dirty_after before after t leaves among = absurd leaves
-own_or_before (Copy c) next (Make new) did q dirty dirty_after before after t leaves among = absurd leaves
-own_or_before (Copy c) next (Move new) did q dirty dirty_after before after t leaves among = absurd leaves
-own_or_before (Copy c) next (SetMode new) did q dirty dirty_after before after t leaves among = absurd leaves
 own_or_before (Copy c) next (Copy new) did q dirty dirty_after before after t leaves among =
     elim (changed_or_before leaves.was leaves.now leaves.folder q dirty (subst (λ xs. Among xs q) leaves.list among)) [
       | inl same ↦ inl (subst (λ p. is_own (Copy c) p ≡ true) (sym same) leaves.own)
       | inr old ↦ inr old
     ]
-own_or_before (Make m) next (Delete new) did q dirty dirty_after before after t leaves among = absurd leaves
-own_or_before (Move m) next (Delete new) did q dirty dirty_after before after t leaves among = absurd leaves
 own_or_before (Make m) next (Make new) did q dirty dirty_after before after t leaves among =
     elim (changed_or_before (makings.is_dirty m.stage) (makings.is_dirty new.stage) (folder_of m.path) q dirty (subst (λ xs. Among xs q) leaves among)) [
       | inl same ↦ inl (subst (λ p. same_path p (folder_of m.path) ≡ true) (sym same) (same_path-self (folder_of m.path)))
@@ -200,10 +181,6 @@ own_or_before (Move m) next (Move new) did q dirty dirty_after before after t le
   where
     with_target : List Route
     with_target = with_change (movings.owes_target m.stage) (movings.owes_target new.stage) (folder_of m.pair.target) dirty
-own_or_before (Delete d) (Make next) new did q dirty dirty_after before after t leaves among = absurd t
-own_or_before (Delete d) (Move next) new did q dirty dirty_after before after t leaves among = absurd t
-own_or_before (Delete d) (Delete next) (Make new) did q dirty dirty_after before after t leaves among = absurd leaves
-own_or_before (Delete d) (Delete next) (Move new) did q dirty dirty_after before after t leaves among = absurd leaves
 own_or_before (Delete d) (Delete next) (Delete new) did q dirty dirty_after before after t leaves among = by did t leaves
   where
     by : (did : Did) → Tells d did next → DeletionLeaves d did dirty dirty_after before after → (is_own (Delete d) q ≡ true) ⊎ Among dirty q
@@ -216,7 +193,7 @@ own_or_before (Delete d) (Delete next) (Delete new) did q dirty dirty_after befo
     by Barrier t (folder, own, left, called) = inr (in_filter (λ kept. not (same_path kept folder)) q dirty (subst (λ xs. Among xs q) left among))
     by (Kept path) t h = inr (subst (λ xs. Among xs q) h among)
     by (Asked question) t h = inr (subst (λ xs. Among xs q) h among)
-    by (Merges pair names) t h = inr (subst (λ xs. Among xs q) h among)
+    by (Merges transfer pair names) t h = inr (subst (λ xs. Among xs q) h among)
     by (Moved pair) t h = inr (subst (λ xs. Among xs q) h among)
     by (Troubled trouble) t h = inr (subst (λ xs. Among xs q) h among)
     by (Ended ending part) t h = inr (subst (λ xs. Among xs q) h.1 among)
@@ -227,6 +204,18 @@ own_or_before (Delete d) (Delete next) (Delete new) did q dirty dirty_after befo
     by (Made path) t h = absurd t
     by (Skipped path why) t h = inr (subst (λ xs. Among xs q) h among)
     by (Cleaned part) t h = absurd t
+own_or_before (RemoveEmptied r) next (RemoveEmptied new) did q dirty dirty_after before after t leaves among =
+    elim (changed_or_before (removals.is_dirty r.stage) (removals.is_dirty new.stage) (folder_of r.path) q dirty (subst (λ xs. Among xs q) leaves among)) [
+      | inl same ↦ inl (subst (λ p. same_path p (folder_of r.path) ≡ true) (sym same) (same_path-self (folder_of r.path)))
+      | inr old ↦ inr old
+    ]
+own_or_before (Delete d) (Delete next) (Copy new) did q dirty dirty_after before after t leaves among = absurd leaves
+own_or_before (Delete d) (Delete next) (Make new) did q dirty dirty_after before after t leaves among = absurd leaves
+own_or_before (Delete d) (Delete next) (Move new) did q dirty dirty_after before after t leaves among = absurd leaves
+own_or_before (Delete d) (Delete next) (SetMode new) did q dirty dirty_after before after t leaves among = absurd leaves
+own_or_before (Delete d) (Delete next) (RemoveEmptied new) did q dirty dirty_after before after t leaves among = absurd leaves
+own_or_before (Delete d) next new did q dirty dirty_after before after t leaves among = absurd t
+own_or_before old next new did q dirty dirty_after before after t leaves among = absurd leaves
 
 pub step_law : StepLaw
 step_law job new did calls dirty dirty_after log now faults faults_after (inl own) = inl (

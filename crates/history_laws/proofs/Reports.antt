@@ -54,7 +54,7 @@ module _ (told : Said) (dirty : List Route) (marks : Marks) (log : CallLog) (new
   knows_after (Made made) k = k
   knows_after (Kept kept) k = k
   knows_after (Asked question) k = k
-  knows_after (Merges pair names) k = k
+  knows_after (Merges transfer pair names) k = k
   knows_after (Moved pair) k = k
   knows_after (Skipped path why) k = k
   knows_after (Cleaned part) k = k
@@ -84,7 +84,7 @@ module _ (id : ℕ) (item : Item) (part : Option Route) (new : Running) (same : 
   live_after (Made made) = stays part _ (kept_if (id == id) _ _ (same_id id))
   live_after (Kept kept) = stays part _ (kept_if (id == id) _ _ (same_id id))
   live_after (Asked question) = stays part _ (kept_if (id == id) _ _ (same_id id))
-  live_after (Merges pair names) = stays part _ (kept_if (id == id) _ _ (same_id id))
+  live_after (Merges transfer pair names) = stays part _ (kept_if (id == id) _ _ (same_id id))
   live_after (Moved pair) = stays part _ (kept_if (id == id) _ _ (same_id id))
   live_after (Skipped path why) = stays part _ (kept_if (id == id) _ _ (same_id id))
   live_after (Cleaned p) = stays None _ (kept_if (id == id) _ _ (same_id id))
@@ -108,6 +108,10 @@ module _ (told : Said) (dirty : List Route) (marks : Marks) (log : CallLog) (non
   sets : (path : Route) (mode : ℕ) (w : Work) (b : Bool) → (b ≡ true → is_some (parent_of path) ≡ true) → (let o : Option Work = if◌then◌else◌ b (Some (Rattle.copy_move.specs.Jobs.sets path mode)) None in o) ≡ Some w → WorkKnows told dirty marks log GoesOn w
   sets path mode w true has is = subst (λ x. WorkKnows told dirty marks log GoesOn x) (let e : Rattle.copy_move.specs.Jobs.sets path mode ≡ w = cc in e) (has_name path (has refl), none)
   sets path mode w false has is = absurd (let f : ⊥ = cc in f)
+
+  removes : (path : Route) (w : Work) (b : Bool) → is_some (parent_of path) ≡ b → (let o : Option Work = if◌then◌else◌ b (Some (Rattle.copy_move.specs.Jobs.removes_emptied path)) None in o) ≡ Some w → WorkKnows told dirty marks log GoesOn w
+  removes path w true has is = subst (λ x. WorkKnows told dirty marks log GoesOn x) (let e : Rattle.copy_move.specs.Jobs.removes_emptied path ≡ w = cc in e) (has_name path has, none)
+  removes path w false has is = absurd (let f : ⊥ = cc in f)
 
   moves : (pair : Pair) (w : Work) (b : Bool) → ((is_some (parent_of pair.source) && is_some (parent_of pair.target)) && not (same_path pair.source pair.target)) ≡ b
       → (let o : Option Work = if◌then◌else◌ b (Some (Rattle.copy_move.specs.Jobs.moves pair)) None in o) ≡ Some w → WorkKnows told dirty marks log GoesOn w
@@ -141,3 +145,4 @@ module _ (told : Said) (dirty : List Route) (marks : Marks) (log : CallLog) (non
   first_knows id (plan.SetMode [] mode) w is = absurd (let f : ⊥ = cc in f)
   first_knows id (plan.SetMode (path ∷ []) mode) w is = sets path mode w (is_some (parent_of path) && nat_le mode 0o7777) (λ has. (and_parts _ _ has).0) is
   first_knows id (plan.SetMode (path ∷ more ∷ paths) mode) w is = absurd (let f : ⊥ = cc in f)
+  first_knows id (plan.RemoveEmptied path) w is = removes path w (is_some (parent_of path)) refl is

@@ -11,6 +11,7 @@ use Rattle.tree_trait.specs.Shape.{IsTree}
 use Rattle.crash_law.specs.Guarded.{with_mode}
 use Rattle.crash_law.proofs.Guarding.{found_there, same_quiet}
 use Rattle.job_answers.specs.declared.replies.Replies.{Replies}
+use Rattle.job_reports.specs.declared.report.Transfer.TheVariants.{ByCopy}
 use Rattle.job_reports.specs.CallRuns.{AllDone}
 use Rattle.job_reports.specs.Jobs.{Copies}
 use Rattle.job_reports.specs.declared.job.Pair.{Pair}
@@ -134,7 +135,7 @@ module _ (log now : CallLog) (tree : IsTree (current log)) (v : View) (shows : S
         let w = t.works in
         let tells = subst (λ r. Tells (copying t.pair.source t.pair.target (at.Make t.mode) Synced) r w.moved) (told_set w.report w.says) w.tells in
         absurd (let e = tells.1 in let f : ⊥ = cc in f)
-    set_in clean (inr (inr (inr (inr (inl t))))) = absurd (let e : common.Set path ≡ common.Merges t.pair t.names = t.says in let f : ⊥ = cc in f)
+    set_in clean (inr (inr (inr (inr (inl t))))) = absurd (let e : common.Set path ≡ common.Merges ByCopy t.pair t.names = t.says in let f : ⊥ = cc in f)
     set_in clean (inr (inr (inr (inr (inr (inl t)))))) = absurd (let e : common.Set path ≡ common.Kept t.pair.target = t.says in let f : ⊥ = cc in f)
     set_in clean (inr (inr (inr (inr (inr (inr (inl t))))))) = absurd (let e : common.Set path ≡ common.Asked t.question = t.says in let f : ⊥ = cc in f)
     set_in clean (inr (inr (inr (inr (inr (inr (inr (next, inl (debt, e))))))))) = folder_set clean e

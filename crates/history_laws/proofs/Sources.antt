@@ -6,19 +6,19 @@ use Rattle.mc_text.specs.Routes.{Route, parent_of, same_path}
 use Rattle.job_reports.specs.declared.job.Job.{Job}
 use Rattle.job_reports.specs.declared.job.Pair.{Pair}
 use Rattle.job_reports.specs.declared.job.Job.TheVariants as plan
-use Rattle.job_reports.specs.Jobs.{Item, Copies, Moves, Removes, Makes, MakesLink, Sets, folder_changed, is_link_text, item_of}
+use Rattle.job_reports.specs.Jobs.{Item, Copies, Moves, Removes, Makes, MakesLink, Sets, RemovesEmptied, folder_changed, is_link_text, item_of}
 use Rattle.job_reports.specs.declared.report.Ending.{Ending}
-use Rattle.job_reports.specs.declared.report.Ending.TheVariants.{Finished, Aborted, Killed, NoMemory}
+use Rattle.job_reports.specs.declared.report.Ending.TheVariants.{Finished}
 use Rattle.job_reports.specs.declared.report.Cause.{Cause}
 use Rattle.job_reports.specs.declared.report.Did.{Did}
-use Rattle.job_reports.specs.declared.report.Did.TheVariants.{Began, Chunk, Placed, Removed, Made, Set, Kept, Skipped, Cleaned, Barrier, Asked, Merges, Moved, Troubled, Ended}
+use Rattle.job_reports.specs.declared.report.Did.TheVariants.{Removed, Made, Set, Kept, Skipped, Barrier, Asked, Merges, Moved, Troubled, Ended}
 use Rattle.job_reports.specs.Paths.{folder_of}
 use Rattle.job_reports.specs.declared.answer.Answer.{Answer}
 use Rattle.job_reports.specs.declared.answer.Answer.TheVariants.{Yes, No, All, Update, Nothing, SizeDiffers, Retry, Skip, SkipAll, Abort}
 use Rattle.thing_making.specs.declared.new_thing.NewThing.{NewThing}
 use Rattle.thing_making.specs.declared.new_thing.NewThing.TheVariants as thing
 use Rattle.copy_move.specs.declared.work.Work.{Work}
-use Rattle.copy_move.specs.declared.work.Work.TheVariants.{Copy, Delete, Make, Move, SetMode}
+use Rattle.copy_move.specs.declared.work.Work.TheVariants.{Copy, Delete, Make, Move, SetMode, RemoveEmptied}
 use Rattle.copy_move.specs.declared.run.Course.{Course}
 use Rattle.copy_move.specs.declared.run.Course.TheVariants.{GoesOn, Asking, InTrouble, OwedSyncFailed, Skips, Ends}
 use Rattle.copy_move.specs.Deletions.{Deleting}
@@ -27,10 +27,12 @@ use Rattle.thing_making.specs.Makings.{Making}
 use Rattle.thing_making.specs.Makings as makings
 use Rattle.thing_moving.specs.Movings.{Moving}
 use Rattle.thing_moving.specs.Movings as movings
+use Rattle.folder_removal.specs.Removals.{Removing}
+pub use Rattle.folder_removal.proofs.RemovalFolders.{removal_stays, removal_winds_there}
 use Rattle.copy_move.specs.ModeSettings as modes
 use Rattle.mode_setting.specs.Settings.{Setting}
 use Rattle.mode_setting.specs.Settings as settings
-use Rattle.copy_move.specs.Jobs.{PassesOver, Running, JobTells, TellsOn, WorkTells, WorkWinds, answered, answered_on, copies, deletes, first_work, makes, moves, sets, taken_anew, with_skips}
+use Rattle.copy_move.specs.Jobs.{PassesOver, Running, JobTells, TellsOn, WorkTells, WorkWinds, answered, answered_on, copies, deletes, first_work, makes, moves, removes_emptied, sets, taken_anew, with_skips}
 use Rattle.copy_move.specs.Settling.{changed_folder}
 use Rattle.history_laws.specs.Staying.{may_change}
 
@@ -46,6 +48,7 @@ item_in (Delete d) = Removes d.path
 item_in (Make m) = making_item m.thing m.path
 item_in (Move m) = Moves m.pair.source m.pair.target
 item_in (SetMode s) = Sets s.path s.mode
+item_in (RemoveEmptied r) = RemovesEmptied r.path
 
 -- of a copy
 abbrev tree_item : Pair → Item
@@ -66,6 +69,7 @@ folder_is (Delete d) = refl
 folder_is (Make m) = making_folder m.thing m.path
 folder_is (Move m) = refl
 folder_is (SetMode s) = refl
+folder_is (RemoveEmptied r) = refl
 
 -- where a thing is made, names change in the folder that holds it and in no other
 making_may : (new : NewThing) (path folder : Route) → may_change (making_item new path) folder ≡ same_path folder (folder_of path)
@@ -102,117 +106,46 @@ first_item id (plan.MakeLink path text) = first_if (is_some (parent_of path) && 
 first_item id (plan.SetMode [] mode) = refl
 first_item id (plan.SetMode (path ∷ []) mode) = first_if (is_some (parent_of path) && nat_le mode 0o7777) (sets path mode)
 first_item id (plan.SetMode (path ∷ more ∷ paths) mode) = refl
+first_item id (plan.RemoveEmptied path) = first_if (is_some (parent_of path)) (removes_emptied path)
 
 deletion_paths : (d new : Deleting) (did : Did) → deletions.Tells d did new → item_in (Delete new) ≡ item_in (Delete d)
 deletion_paths d new (Removed path) (going, within, at) = ap Removes at.path_is
 deletion_paths d new Barrier (stage, at) = ap Removes at.path_is
 deletion_paths d new (Troubled trouble) (barrier, at) = ap Removes at.path_is
 deletion_paths d new (Ended Finished part) (stage, part_is, at) = ap Removes at.path_is
-deletion_paths d new (Ended Aborted part) t = absurd t
-deletion_paths d new (Ended Killed part) t = absurd t
-deletion_paths d new (Ended NoMemory part) t = absurd t
-deletion_paths d new (Began part) t = absurd t
-deletion_paths d new (Chunk count) t = absurd t
-deletion_paths d new (Set path) t = absurd t
-deletion_paths d new (Placed path) t = absurd t
-deletion_paths d new (Made made) t = absurd t
 deletion_paths d new (Kept path) (going, at) = ap Removes at.path_is
-deletion_paths d new (Asked question) t = absurd t
-deletion_paths d new (Merges pair names) t = absurd t
-deletion_paths d new (Moved pair) t = absurd t
 deletion_paths d new (Skipped path why) (going, passes, at) = ap Removes at.path_is
-deletion_paths d new (Cleaned part) t = absurd t
+deletion_paths d new did t = absurd t
 
 making_paths : (m new : Making) (did : Did) → makings.Tells m did new → item_in (Make new) ≡ item_in (Make m)
 making_paths m new (Made path) (stage, path_is, new_is) = ap (λ (x : Making). item_in (Make x)) new_is
 making_paths m new Barrier (stage, new_is) = ap (λ (x : Making). item_in (Make x)) new_is
 making_paths m new (Troubled trouble) (at, new_is) = ap (λ (x : Making). item_in (Make x)) new_is
 making_paths m new (Ended Finished part) (is_done, part_is, new_is) = ap (λ (x : Making). item_in (Make x)) new_is
-making_paths m new (Ended Aborted part) t = absurd t
-making_paths m new (Ended Killed part) t = absurd t
-making_paths m new (Ended NoMemory part) t = absurd t
-making_paths m new (Began part) t = absurd t
-making_paths m new (Chunk count) t = absurd t
-making_paths m new (Set path) t = absurd t
-making_paths m new (Placed path) t = absurd t
-making_paths m new (Removed made) t = absurd t
-making_paths m new (Kept kept) t = absurd t
-making_paths m new (Asked question) t = absurd t
-making_paths m new (Merges pair names) t = absurd t
-making_paths m new (Moved pair) t = absurd t
-making_paths m new (Skipped path why) t = absurd t
-making_paths m new (Cleaned part) t = absurd t
+making_paths m new did t = absurd t
 
 deletion_winds : (ending : Ending) (d new : Deleting) (did : Did) → deletions.Winds ending d did new → item_in (Delete new) ≡ item_in (Delete d)
 deletion_winds ending d new Barrier (path_is, stage_is, skips_is) = ap Removes path_is
 deletion_winds ending d new (Ended how part) (how_is, part_is, path_is, stage_is, skips_is) = ap Removes path_is
-deletion_winds ending d new (Began part) t = absurd t
-deletion_winds ending d new (Chunk count) t = absurd t
-deletion_winds ending d new (Set path) t = absurd t
-deletion_winds ending d new (Placed path) t = absurd t
-deletion_winds ending d new (Removed path) t = absurd t
-deletion_winds ending d new (Made made) t = absurd t
-deletion_winds ending d new (Kept kept) t = absurd t
-deletion_winds ending d new (Asked question) t = absurd t
-deletion_winds ending d new (Merges pair names) t = absurd t
-deletion_winds ending d new (Moved pair) t = absurd t
-deletion_winds ending d new (Skipped path why) t = absurd t
-deletion_winds ending d new (Cleaned part) t = absurd t
-deletion_winds ending d new (Troubled trouble) t = absurd t
+deletion_winds ending d new did t = absurd t
 
 making_winds : (ending : Ending) (m new : Making) (did : Did) → makings.Winds ending m did new → item_in (Make new) ≡ item_in (Make m)
 making_winds ending m new Barrier (stage, new_is) = ap (λ (x : Making). item_in (Make x)) new_is
 making_winds ending m new (Ended how part) (stage, how_is, part_is, new_is) = ap (λ (x : Making). item_in (Make x)) new_is
-making_winds ending m new (Began part) t = absurd t
-making_winds ending m new (Chunk count) t = absurd t
-making_winds ending m new (Set path) t = absurd t
-making_winds ending m new (Placed path) t = absurd t
-making_winds ending m new (Made path) t = absurd t
-making_winds ending m new (Removed made) t = absurd t
-making_winds ending m new (Kept kept) t = absurd t
-making_winds ending m new (Asked question) t = absurd t
-making_winds ending m new (Merges pair names) t = absurd t
-making_winds ending m new (Moved pair) t = absurd t
-making_winds ending m new (Skipped path why) t = absurd t
-making_winds ending m new (Cleaned part) t = absurd t
-making_winds ending m new (Troubled trouble) t = absurd t
+making_winds ending m new did t = absurd t
 
 setting_paths : (s new : Setting) (did : Did) → settings.Tells s did new → item_in (SetMode new) ≡ item_in (SetMode s)
 setting_paths s new (Set path) (stage, path_is, new_is) = ap (λ (x : Setting). item_in (SetMode x)) new_is
 setting_paths s new Barrier (stage, new_is) = ap (λ (x : Setting). item_in (SetMode x)) new_is
 setting_paths s new (Troubled trouble) (at, told, new_is) = ap (λ (x : Setting). item_in (SetMode x)) new_is
 setting_paths s new (Ended Finished part) (is_done, part_is, new_is) = ap (λ (x : Setting). item_in (SetMode x)) new_is
-setting_paths s new (Ended Aborted part) t = absurd t
-setting_paths s new (Ended Killed part) t = absurd t
-setting_paths s new (Ended NoMemory part) t = absurd t
-setting_paths s new (Began part) t = absurd t
-setting_paths s new (Chunk count) t = absurd t
-setting_paths s new (Made path) t = absurd t
-setting_paths s new (Placed path) t = absurd t
-setting_paths s new (Removed made) t = absurd t
-setting_paths s new (Kept kept) t = absurd t
-setting_paths s new (Asked question) t = absurd t
-setting_paths s new (Merges pair names) t = absurd t
-setting_paths s new (Moved pair) t = absurd t
 setting_paths s new (Skipped path why) (stage, path_is, passes, new_is) = ap (λ (x : Setting). item_in (SetMode x)) new_is
-setting_paths s new (Cleaned part) t = absurd t
+setting_paths s new did t = absurd t
 
 setting_winds : (ending : Ending) (s new : Setting) (did : Did) → modes.Winds ending s did new → item_in (SetMode new) ≡ item_in (SetMode s)
 setting_winds ending s new Barrier (stage, new_is) = ap (λ (x : Setting). item_in (SetMode x)) new_is
 setting_winds ending s new (Ended how part) (stage, how_is, part_is, new_is) = ap (λ (x : Setting). item_in (SetMode x)) new_is
-setting_winds ending s new (Began part) t = absurd t
-setting_winds ending s new (Chunk count) t = absurd t
-setting_winds ending s new (Set path) t = absurd t
-setting_winds ending s new (Placed path) t = absurd t
-setting_winds ending s new (Made path) t = absurd t
-setting_winds ending s new (Removed made) t = absurd t
-setting_winds ending s new (Kept kept) t = absurd t
-setting_winds ending s new (Asked question) t = absurd t
-setting_winds ending s new (Merges pair names) t = absurd t
-setting_winds ending s new (Moved pair) t = absurd t
-setting_winds ending s new (Skipped path why) t = absurd t
-setting_winds ending s new (Cleaned part) t = absurd t
-setting_winds ending s new (Troubled trouble) t = absurd t
+setting_winds ending s new did t = absurd t
 
 -- a move stays at its two paths
 pub moving_stays : (m new : Moving) (did : Did) → movings.Tells m did new → new.pair ≡ m.pair
@@ -223,115 +156,40 @@ moving_stays m new Barrier (dirty, new_is) = ap (λ (x : Moving). x.pair) new_is
 moving_stays m new (Asked question) (stage, new_is) = ap (λ (x : Moving). x.pair) new_is
 moving_stays m new (Troubled trouble) (barrier, off, told, new_is) = ap (λ (x : Moving). x.pair) new_is
 moving_stays m new (Ended Finished part) (is_done, part_is, new_is) = ap (λ (x : Moving). x.pair) new_is
-moving_stays m new (Ended Aborted part) t = absurd t
-moving_stays m new (Ended Killed part) t = absurd t
-moving_stays m new (Ended NoMemory part) t = absurd t
-moving_stays m new (Began part) t = absurd t
-moving_stays m new (Chunk count) t = absurd t
-moving_stays m new (Set path) t = absurd t
-moving_stays m new (Placed path) t = absurd t
-moving_stays m new (Removed made) t = absurd t
-moving_stays m new (Made path) t = absurd t
-moving_stays m new (Merges pair names) t = absurd t
-moving_stays m new (Cleaned part) t = absurd t
+moving_stays m new (Merges transfer pair names) (stage, merges, new_is) = ap (λ (x : Moving). x.pair) new_is
+moving_stays m new did t = absurd t
 
 moving_winds : (ending : Ending) (m new : Moving) (did : Did) → movings.Winds ending m did new → new.pair ≡ m.pair
 moving_winds ending m new Barrier (dirty, new_is) = ap (λ (x : Moving). x.pair) new_is
 moving_winds ending m new (Ended how part) (clean, how_is, part_is, new_is) = ap (λ (x : Moving). x.pair) new_is
-moving_winds ending m new (Began part) t = absurd t
-moving_winds ending m new (Chunk count) t = absurd t
-moving_winds ending m new (Set path) t = absurd t
-moving_winds ending m new (Placed path) t = absurd t
-moving_winds ending m new (Made path) t = absurd t
-moving_winds ending m new (Removed made) t = absurd t
-moving_winds ending m new (Kept kept) t = absurd t
-moving_winds ending m new (Asked question) t = absurd t
-moving_winds ending m new (Merges pair names) t = absurd t
-moving_winds ending m new (Moved pair) t = absurd t
-moving_winds ending m new (Skipped path why) t = absurd t
-moving_winds ending m new (Cleaned part) t = absurd t
-moving_winds ending m new (Troubled trouble) t = absurd t
+moving_winds ending m new did t = absurd t
 
 pub work_paths : (old new : Work) (did : Did) → WorkTells old did new → item_in new ≡ item_in old
-work_paths (Delete d) (Make new) did t = absurd t
-work_paths (Delete d) (Move new) did t = absurd t
-work_paths (SetMode s) (Copy new) did t = absurd t
-work_paths (SetMode s) (Delete new) did t = absurd t
-work_paths (Copy s) (Delete new) did t = absurd t
-work_paths (SetMode s) (Make new) did t = absurd t
-work_paths (Move s) (Make new) did t = absurd t
-work_paths (SetMode s) (Move new) did t = absurd t
-work_paths (Copy s) (Make new) did t = absurd t
-work_paths (Copy s) (Move new) did t = absurd t
-work_paths (Copy c) (SetMode new) did t = absurd t
-work_paths (Delete d) (SetMode new) did t = absurd t
-work_paths (Delete d) (Copy new) did t = absurd t
-work_paths (Make m) (SetMode new) did t = absurd t
-work_paths (Make m) (Move new) did t = absurd t
-work_paths (Move m) (SetMode new) did t = absurd t
-work_paths (Make m) (Copy new) did t = absurd t
-work_paths (Move m) (Copy new) did t = absurd t
-work_paths (Make m) (Delete new) did t = absurd t
-work_paths (Move m) (Delete new) did t = absurd t
 work_paths (Delete d) (Delete new) did t = deletion_paths d new did t
 work_paths (Make m) (Make new) did t = making_paths m new did t
 work_paths (Move m) (Move new) did t = ap move_item (moving_stays m new did t)
 work_paths (SetMode s) (SetMode new) did t = setting_paths s new did t
 work_paths (Copy c) (Copy new) did t = let after = t.after in ap tree_item after.top
+work_paths (RemoveEmptied r) (RemoveEmptied new) did t = ap RemovesEmptied (removal_stays r new did t)
+work_paths old new did t = absurd t
 
 wind_paths : (ending : Ending) (old new : Work) (did : Did) → WorkWinds ending old did new → item_in new ≡ item_in old
-wind_paths ending (Delete d) (Make new) did t = absurd t
-wind_paths ending (Delete d) (Move new) did t = absurd t
-wind_paths ending (SetMode s) (Copy new) did t = absurd t
-wind_paths ending (SetMode s) (Delete new) did t = absurd t
-wind_paths ending (Copy s) (Delete new) did t = absurd t
-wind_paths ending (SetMode s) (Make new) did t = absurd t
-wind_paths ending (Move s) (Make new) did t = absurd t
-wind_paths ending (SetMode s) (Move new) did t = absurd t
-wind_paths ending (Copy s) (Make new) did t = absurd t
-wind_paths ending (Copy s) (Move new) did t = absurd t
-wind_paths ending (Copy c) (SetMode new) did t = absurd t
-wind_paths ending (Delete d) (SetMode new) did t = absurd t
-wind_paths ending (Delete d) (Copy new) did t = absurd t
-wind_paths ending (Make m) (SetMode new) did t = absurd t
-wind_paths ending (Make m) (Move new) did t = absurd t
-wind_paths ending (Move m) (SetMode new) did t = absurd t
-wind_paths ending (Make m) (Copy new) did t = absurd t
-wind_paths ending (Move m) (Copy new) did t = absurd t
-wind_paths ending (Make m) (Delete new) did t = absurd t
-wind_paths ending (Move m) (Delete new) did t = absurd t
 wind_paths ending (Delete d) (Delete new) did t = deletion_winds ending d new did t
 wind_paths ending (Make m) (Make new) did t = making_winds ending m new did t
 wind_paths ending (Move m) (Move new) did t = ap move_item (moving_winds ending m new did t)
 wind_paths ending (SetMode s) (SetMode new) did t = setting_winds ending s new did t
 wind_paths ending (Copy c) (Copy new) did t = ap tree_item t.top
+wind_paths ending (RemoveEmptied r) (RemoveEmptied new) did t = ap RemovesEmptied (removal_winds_there ending r new did t)
+wind_paths ending old new did t = absurd t
 
 skip_paths : (work new : Work) (path : Route) → PassesOver work path new → item_in new ≡ item_in work
 skip_paths (Delete d) (Delete new) path at = ap Removes at.path_is
-skip_paths (Delete d) (Make new) path h = absurd h
-skip_paths (Delete d) (Move new) path h = absurd h
-skip_paths (SetMode s) (Copy new) path h = absurd h
-skip_paths (SetMode s) (Delete new) path h = absurd h
-skip_paths (Copy s) (Delete new) path h = absurd h
-skip_paths (SetMode s) (Make new) path h = absurd h
-skip_paths (Move s) (Make new) path h = absurd h
-skip_paths (SetMode s) (Move new) path h = absurd h
-skip_paths (Copy s) (Make new) path h = absurd h
-skip_paths (Copy s) (Move new) path h = absurd h
-skip_paths (Copy c) (SetMode new) path h = absurd h
-skip_paths (Delete d) (SetMode new) path h = absurd h
-skip_paths (Delete d) (Copy new) path h = absurd h
-skip_paths (Make m) (SetMode new) path h = absurd h
-skip_paths (Make m) (Move new) path h = absurd h
-skip_paths (Move m) (SetMode new) path h = absurd h
-skip_paths (Make m) (Copy new) path h = absurd h
-skip_paths (Move m) (Copy new) path h = absurd h
-skip_paths (Make m) (Delete new) path h = absurd h
-skip_paths (Move m) (Delete new) path h = absurd h
 skip_paths (Make m) (Make new) path (path_is, new_is) = ap (λ (x : Making). item_in (Make x)) new_is
 skip_paths (Move m) (Move new) path (path_is, new_is) = ap (λ (x : Moving). item_in (Move x)) new_is
 skip_paths (Copy c) (Copy new) path (cause, after) = ap tree_item after.top
 skip_paths (SetMode s) (SetMode new) path (path_is, new_is) = ap (λ (x : Setting). item_in (SetMode x)) new_is
+skip_paths (RemoveEmptied r) (RemoveEmptied new) path (path_is, new_is) = ap (λ (x : Removing). item_in (RemoveEmptied x)) new_is
+skip_paths old new path h = absurd h
 
 anew_paths : (work : Work) → item_in (taken_anew work) ≡ item_in work
 anew_paths (Copy c) = refl
@@ -339,6 +197,7 @@ anew_paths (Delete d) = refl
 anew_paths (Make m) = refl
 anew_paths (Move m) = refl
 anew_paths (SetMode s) = refl
+anew_paths (RemoveEmptied r) = refl
 
 abbrev pub IsSame : Running → Running → Type 0
 IsSame old new = (new.id ≡ old.id) × (item_in new.work ≡ item_in old.work)
@@ -361,6 +220,7 @@ skips_paths why (Delete d) = refl
 skips_paths why (Make m) = refl
 skips_paths why (Move m) = refl
 skips_paths why (SetMode s) = refl
+skips_paths why (RemoveEmptied r) = refl
 
 answer_on : (course : Course) (answer : Answer) (job : Running) → IsSame job (answered_on course answer job)
 answer_on (InTrouble halt) Retry job = (refl, anew_paths job.work)

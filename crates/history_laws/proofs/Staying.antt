@@ -8,6 +8,7 @@ use Rattle.tree_trait.specs.Shape.{IsTree}
 use Rattle.tree_trait.specs.Change.{Change, CallLog, current}
 use Rattle.tree_trait.specs.CrashImages.{all_settled}
 use Rattle.tree_trait.proofs.Visible.{same_path-self, same_path-true}
+use Rattle.job_reports.specs.declared.report.Transfer.TheVariants.{ByCopy}
 use Rattle.job_reports.specs.Jobs.{Item, item_of}
 use Rattle.crash_law.specs.Guarded.{Marks}
 use Rattle.job_reports.specs.declared.report.Did.{Did}
@@ -97,7 +98,7 @@ unnamed_sure (Set changed) part before path sure unnamed other = untold_facts (b
 unnamed_sure (Made folder) part before path sure unnamed other = untold_facts (before path) (same_path path folder) sure unnamed
 unnamed_sure (Kept kept) part before path sure unnamed other = sure
 unnamed_sure (Asked question) part before path sure unnamed other = sure
-unnamed_sure (Merges pair names) part before path sure unnamed other = sure
+unnamed_sure (Merges transfer pair names) part before path sure unnamed other = sure
 unnamed_sure (Moved pair) part before path sure unnamed other = untold_facts (before path) (same_path path pair.source || same_path path pair.target) sure (off_ends pair path unnamed)
 unnamed_sure (Skipped file cause) part before path sure unnamed other = sure
 unnamed_sure Barrier part before path sure unnamed other = sure
@@ -188,7 +189,7 @@ part_before (Removed file) part path unnamed is = is
 part_before (Made made) part path unnamed is = is
 part_before (Kept kept) part path unnamed is = is
 part_before (Asked question) part path unnamed is = is
-part_before (Merges pair names) part path unnamed is = is
+part_before (Merges transfer pair names) part path unnamed is = is
 part_before (Moved pair) part path unnamed is = is
 part_before (Skipped file cause) part path unnamed is = is
 part_before Barrier part path unnamed is = is
@@ -219,8 +220,8 @@ module _ (path : Route) where
   report_part id (Made made) (job ∷ jobs) unnamed h = stepped_part (job.id == id) job (Made made) jobs (after_report id (Made made) jobs) unnamed (report_part id (Made made) jobs unnamed) h
   report_part id (Kept kept) (job ∷ jobs) unnamed h = stepped_part (job.id == id) job (Kept kept) jobs (after_report id (Kept kept) jobs) unnamed (report_part id (Kept kept) jobs unnamed) h
   report_part id (Asked question) (job ∷ jobs) unnamed h = stepped_part (job.id == id) job (Asked question) jobs (after_report id (Asked question) jobs) unnamed (report_part id (Asked question) jobs unnamed) h
-  report_part id (Merges pair within) (job ∷ jobs) unnamed h =
-      stepped_part (job.id == id) job (Merges pair within) jobs (after_report id (Merges pair within) jobs) unnamed (report_part id (Merges pair within) jobs unnamed) h
+  report_part id (Merges transfer pair within) (job ∷ jobs) unnamed h =
+      stepped_part (job.id == id) job (Merges ByCopy pair within) jobs (after_report id (Merges ByCopy pair within) jobs) unnamed (report_part id (Merges ByCopy pair within) jobs unnamed) h
   report_part id (Moved pair) (job ∷ jobs) unnamed h =
       stepped_part (job.id == id) job (Moved pair) jobs (after_report id (Moved pair) jobs) unnamed (report_part id (Moved pair) jobs unnamed) h
   report_part id (Skipped file cause) (job ∷ jobs) unnamed h =

@@ -119,7 +119,7 @@ module _ (log now : CallLog) (free : Route → Bool) (replies : Replies) (mid : 
   file_idle (Moved pair) new still t = absurd (true≢false still)
   file_idle (Kept path) new still t = let w = taken_moves (IsPartPlace free mid) replies mid new (Kept path) (Some log) (Some now) t in absurd w.tells
   file_idle (Asked question) new still t = let w = taken_moves (IsPartPlace free mid) replies mid new (Asked question) (Some log) (Some now) t in absurd w.tells
-  file_idle (Merges pair names) new still t = let w = taken_moves (IsPartPlace free mid) replies mid new (Merges pair names) (Some log) (Some now) t in absurd w.tells
+  file_idle (Merges transfer pair names) new still t = let w = taken_moves (IsPartPlace free mid) replies mid new (Merges transfer pair names) (Some log) (Some now) t in absurd w.tells
   file_idle (Skipped path cause) new still t = let w = taken_moves (IsPartPlace free mid) replies mid new (Skipped path cause) (Some log) (Some now) t in absurd w.tells
 
   -- and so does a link
@@ -148,7 +148,7 @@ module _ (log now : CallLog) (free : Route → Bool) (replies : Replies) (mid : 
   link_idle (Moved pair) new still t = absurd (true≢false still)
   link_idle (Kept path) new still t = let w = t.works in absurd w.tells
   link_idle (Asked question) new still t = let w = t.works in absurd w.tells
-  link_idle (Merges pair names) new still t = let w = t.works in absurd w.tells
+  link_idle (Merges transfer pair names) new still t = let w = t.works in absurd w.tells
   link_idle (Skipped path cause) new still t = let w = t.works in absurd w.tells
 
   next_idle : (did : Did) (new : Seen) → begins_change did ≡ false → TakesNext (IsPartPlace free mid) replies mid new did (Some log) (Some now) → Idle new

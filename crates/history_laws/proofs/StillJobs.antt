@@ -34,15 +34,15 @@ use Rattle.thing_making.specs.declared.new_thing.NewThing.TheVariants as thing
 use Rattle.copy_move.specs.declared.run.Course.{Course}
 use Rattle.copy_move.specs.declared.run.Course.TheVariants.{GoesOn, Asking, InTrouble, OwedSyncFailed, Skips, Ends}
 use Rattle.copy_move.specs.declared.work.Work.{Work}
-use Rattle.copy_move.specs.declared.work.Work.TheVariants.{Copy, Delete, Make, Move, SetMode}
-use Rattle.copy_move.specs.Jobs.{CallsOn, PassesOver, Running, TellsOn, WorkCalls, WorkLastCalls, WorkTells, WorkWinds, answered, answered_on, begun_work, closed_job, copies, deletes, first_work, makes, moves, sets, taken_anew, with_skips}
+use Rattle.copy_move.specs.declared.work.Work.TheVariants.{Copy, Delete, Make, Move, SetMode, RemoveEmptied}
+use Rattle.copy_move.specs.Jobs.{CallsOn, PassesOver, Running, TellsOn, WorkCalls, WorkLastCalls, WorkTells, WorkWinds, answered, answered_on, begun_work, closed_job, copies, deletes, first_work, makes, moves, removes_emptied, sets, taken_anew, with_skips}
 use Rattle.copy_move.specs.Steps.{LastWalks, SkipWalks, SyncsOwed, Walks, WalksOn}
 use Rattle.copy_move.specs.Told.{running, turned, with_next}
 use Rattle.history_laws.specs.Traces.{EventLeads, IsJob, IsUnclaimed, Stand, StepLeads, WorkLeads, before_others, begun, if_closed, ordered, with_job}
 use Rattle.history_laws.specs.Whole.{begins_in}
 use Rattle.history_laws.proofs.CalmCalls.{calm_stop, calm_thing}
 use Rattle.history_laws.proofs.StillCopies.{last_idle, passes_idle, step_idle}
-use Rattle.history_laws.proofs.StillWorks.{deletion_calm, deletion_last, making_calm, making_last, moving_calm, moving_last, setting_calm, setting_last}
+use Rattle.history_laws.proofs.StillWorks.{deletion_calm, deletion_last, making_calm, making_last, moving_calm, moving_last, removal_calm, removal_last, setting_calm, setting_last}
 use Rattle.history_laws.proofs.WholeImages.{IsCalmCall}
 
 -- no file or link is at work of a copy; of other work no part ever stands
@@ -52,6 +52,7 @@ IsIdle (Delete d) = Unit {0}
 IsIdle (Make m) = Unit {0}
 IsIdle (Move m) = Unit {0}
 IsIdle (SetMode s) = Unit {0}
+IsIdle (RemoveEmptied r) = Unit {0}
 
 -- so it is of the live job, where there is one
 abbrev pub AreIdle : List Running → Type 0
@@ -66,6 +67,7 @@ anew_idle (Delete d) idle = tt
 anew_idle (Make m) idle = tt
 anew_idle (Move m) idle = tt
 anew_idle (SetMode s) idle = tt
+anew_idle (RemoveEmptied r) idle = tt
 
 skips_idle : (cause : Cause) (work : Work) → IsIdle work → IsIdle (with_skips cause work)
 skips_idle cause (Copy c) idle = idle
@@ -73,6 +75,7 @@ skips_idle cause (Delete d) idle = tt
 skips_idle cause (Make m) idle = tt
 skips_idle cause (Move m) idle = tt
 skips_idle cause (SetMode s) idle = tt
+skips_idle cause (RemoveEmptied r) idle = tt
 
 answered_idle : (course : Course) (answer : Answer) (job : Running) → IsIdle job.work → IsIdle (answered_on course answer job).work
 answered_idle (InTrouble halt) Retry job idle = anew_idle job.work idle
@@ -150,6 +153,7 @@ first_idle id (plan.MakeLink path text) w is = begins_by (is_some (parent_of pat
 first_idle id (plan.SetMode [] mode) w is = absurd (let f : ⊥ = cc in f)
 first_idle id (plan.SetMode (path ∷ []) mode) w is = begins_by (is_some (parent_of path) && nat_le mode 0o7777) (sets path mode) w tt is
 first_idle id (plan.SetMode (path ∷ more ∷ paths) mode) w is = absurd (let f : ⊥ = cc in f)
+first_idle id (plan.RemoveEmptied path) w is = begins_by (is_some (parent_of path)) (removes_emptied path) w tt is
 
 begun_idle : (id : ℕ) (job : Job) → AreIdle (begun id job)
 begun_idle id job = by (begun_work id (sources_of job)) refl
@@ -171,6 +175,7 @@ turned_idle source job next is = by (first_work job.id source) refl (is)
     taken (Make m) idle = tt
     taken (Move m) idle = tt
     taken (SetMode s) idle = tt
+    taken (RemoveEmptied r) idle = tt
 
     by : (o : Option Work) → first_work job.id source ≡ o → option_map (λ work. with_next job work) o ≡ Some next → IsIdle next.work
     by None first is = absurd (let f : ⊥ = cc in f)
@@ -188,26 +193,8 @@ module _ (log now : CallLog) where
   work_stays replies (Make m) (Make new) did calls dirty dirty_after faults faults_after still idle tells called walks = (making_calm log now m did still called, tt)
   work_stays replies (Move m) (Move new) did calls dirty dirty_after faults faults_after still idle tells called walks = (moving_calm log now replies m did still called, tt)
   work_stays replies (SetMode s) (SetMode new) did calls dirty dirty_after faults faults_after still idle tells called walks = (setting_calm log now s did still called, tt)
-  work_stays replies (Copy c) (Delete new) did calls dirty dirty_after faults faults_after still idle tells called walks = absurd tells
-  work_stays replies (Copy c) (Make new) did calls dirty dirty_after faults faults_after still idle tells called walks = absurd tells
-  work_stays replies (Copy c) (Move new) did calls dirty dirty_after faults faults_after still idle tells called walks = absurd tells
-  work_stays replies (Copy c) (SetMode new) did calls dirty dirty_after faults faults_after still idle tells called walks = absurd tells
-  work_stays replies (Delete d) (Copy new) did calls dirty dirty_after faults faults_after still idle tells called walks = absurd tells
-  work_stays replies (Delete d) (Make new) did calls dirty dirty_after faults faults_after still idle tells called walks = absurd tells
-  work_stays replies (Delete d) (Move new) did calls dirty dirty_after faults faults_after still idle tells called walks = absurd tells
-  work_stays replies (Delete d) (SetMode new) did calls dirty dirty_after faults faults_after still idle tells called walks = absurd tells
-  work_stays replies (Make m) (Copy new) did calls dirty dirty_after faults faults_after still idle tells called walks = absurd tells
-  work_stays replies (Make m) (Delete new) did calls dirty dirty_after faults faults_after still idle tells called walks = absurd tells
-  work_stays replies (Make m) (Move new) did calls dirty dirty_after faults faults_after still idle tells called walks = absurd tells
-  work_stays replies (Make m) (SetMode new) did calls dirty dirty_after faults faults_after still idle tells called walks = absurd tells
-  work_stays replies (Move m) (Copy new) did calls dirty dirty_after faults faults_after still idle tells called walks = absurd tells
-  work_stays replies (Move m) (Delete new) did calls dirty dirty_after faults faults_after still idle tells called walks = absurd tells
-  work_stays replies (Move m) (Make new) did calls dirty dirty_after faults faults_after still idle tells called walks = absurd tells
-  work_stays replies (Move m) (SetMode new) did calls dirty dirty_after faults faults_after still idle tells called walks = absurd tells
-  work_stays replies (SetMode s) (Copy new) did calls dirty dirty_after faults faults_after still idle tells called walks = absurd tells
-  work_stays replies (SetMode s) (Delete new) did calls dirty dirty_after faults faults_after still idle tells called walks = absurd tells
-  work_stays replies (SetMode s) (Make new) did calls dirty dirty_after faults faults_after still idle tells called walks = absurd tells
-  work_stays replies (SetMode s) (Move new) did calls dirty dirty_after faults faults_after still idle tells called walks = absurd tells
+  work_stays replies (RemoveEmptied r) (RemoveEmptied new) did calls dirty dirty_after faults faults_after still idle tells called walks = (removal_calm log now r did still called, tt)
+  work_stays replies old new did calls dirty dirty_after faults faults_after still idle tells called walks = absurd tells
 
   -- a last step
   last_stays : (ending : Ending) (old new : Work) (did : Did) (calls : ℕ) (left : Option TreeError) (dirty dirty_after : List Route) (faults faults_after : ℕ) → IsIdle old → WorkWinds ending old did new
@@ -217,26 +204,8 @@ module _ (log now : CallLog) where
   last_stays ending (Make m) (Make new) did calls left dirty dirty_after faults faults_after idle winds called walks = (making_last log now m did called, tt)
   last_stays ending (Move m) (Move new) did calls left dirty dirty_after faults faults_after idle winds called walks = (moving_last log now m did called, tt)
   last_stays ending (SetMode s) (SetMode new) did calls left dirty dirty_after faults faults_after idle winds called walks = (setting_last log now s did called, tt)
-  last_stays ending (Copy c) (Delete new) did calls left dirty dirty_after faults faults_after idle winds called walks = absurd winds
-  last_stays ending (Copy c) (Make new) did calls left dirty dirty_after faults faults_after idle winds called walks = absurd winds
-  last_stays ending (Copy c) (Move new) did calls left dirty dirty_after faults faults_after idle winds called walks = absurd winds
-  last_stays ending (Copy c) (SetMode new) did calls left dirty dirty_after faults faults_after idle winds called walks = absurd winds
-  last_stays ending (Delete d) (Copy new) did calls left dirty dirty_after faults faults_after idle winds called walks = absurd winds
-  last_stays ending (Delete d) (Make new) did calls left dirty dirty_after faults faults_after idle winds called walks = absurd winds
-  last_stays ending (Delete d) (Move new) did calls left dirty dirty_after faults faults_after idle winds called walks = absurd winds
-  last_stays ending (Delete d) (SetMode new) did calls left dirty dirty_after faults faults_after idle winds called walks = absurd winds
-  last_stays ending (Make m) (Copy new) did calls left dirty dirty_after faults faults_after idle winds called walks = absurd winds
-  last_stays ending (Make m) (Delete new) did calls left dirty dirty_after faults faults_after idle winds called walks = absurd winds
-  last_stays ending (Make m) (Move new) did calls left dirty dirty_after faults faults_after idle winds called walks = absurd winds
-  last_stays ending (Make m) (SetMode new) did calls left dirty dirty_after faults faults_after idle winds called walks = absurd winds
-  last_stays ending (Move m) (Copy new) did calls left dirty dirty_after faults faults_after idle winds called walks = absurd winds
-  last_stays ending (Move m) (Delete new) did calls left dirty dirty_after faults faults_after idle winds called walks = absurd winds
-  last_stays ending (Move m) (Make new) did calls left dirty dirty_after faults faults_after idle winds called walks = absurd winds
-  last_stays ending (Move m) (SetMode new) did calls left dirty dirty_after faults faults_after idle winds called walks = absurd winds
-  last_stays ending (SetMode s) (Copy new) did calls left dirty dirty_after faults faults_after idle winds called walks = absurd winds
-  last_stays ending (SetMode s) (Delete new) did calls left dirty dirty_after faults faults_after idle winds called walks = absurd winds
-  last_stays ending (SetMode s) (Make new) did calls left dirty dirty_after faults faults_after idle winds called walks = absurd winds
-  last_stays ending (SetMode s) (Move new) did calls left dirty dirty_after faults faults_after idle winds called walks = absurd winds
+  last_stays ending (RemoveEmptied r) (RemoveEmptied new) did calls left dirty dirty_after faults faults_after idle winds called walks = (removal_last log now r did called, tt)
+  last_stays ending old new did calls left dirty dirty_after faults faults_after idle winds called walks = absurd winds
 
   -- the report of what is passed over
   passed_stays : (cause : Cause) (old new : Work) (did : Did) (path : Route) → IsIdle old → PassesOver old path new → SkipWalks cause old did new → IsIdle new
@@ -245,26 +214,33 @@ module _ (log now : CallLog) where
   passed_stays cause (Copy c) (Make new) did path idle passes walks = tt
   passed_stays cause (Copy c) (Move new) did path idle passes walks = tt
   passed_stays cause (Copy c) (SetMode new) did path idle passes walks = tt
-  passed_stays cause (Delete d) (Copy new) did path idle passes walks = absurd passes
   passed_stays cause (Delete d) (Delete new) did path idle passes walks = tt
   passed_stays cause (Delete d) (Make new) did path idle passes walks = tt
   passed_stays cause (Delete d) (Move new) did path idle passes walks = tt
   passed_stays cause (Delete d) (SetMode new) did path idle passes walks = tt
-  passed_stays cause (Make m) (Copy new) did path idle passes walks = absurd passes
   passed_stays cause (Make m) (Delete new) did path idle passes walks = tt
   passed_stays cause (Make m) (Make new) did path idle passes walks = tt
   passed_stays cause (Make m) (Move new) did path idle passes walks = tt
   passed_stays cause (Make m) (SetMode new) did path idle passes walks = tt
-  passed_stays cause (Move m) (Copy new) did path idle passes walks = absurd passes
   passed_stays cause (Move m) (Delete new) did path idle passes walks = tt
   passed_stays cause (Move m) (Make new) did path idle passes walks = tt
   passed_stays cause (Move m) (Move new) did path idle passes walks = tt
   passed_stays cause (Move m) (SetMode new) did path idle passes walks = tt
-  passed_stays cause (SetMode s) (Copy new) did path idle passes walks = absurd passes
   passed_stays cause (SetMode s) (Delete new) did path idle passes walks = tt
   passed_stays cause (SetMode s) (Make new) did path idle passes walks = tt
   passed_stays cause (SetMode s) (Move new) did path idle passes walks = tt
   passed_stays cause (SetMode s) (SetMode new) did path idle passes walks = tt
+  passed_stays cause (RemoveEmptied r) (Delete new) did path idle passes walks = tt
+  passed_stays cause (RemoveEmptied r) (RemoveEmptied new) did path idle passes walks = tt
+  passed_stays cause (RemoveEmptied r) (Move new) did path idle passes walks = tt
+  passed_stays cause (RemoveEmptied r) (SetMode new) did path idle passes walks = tt
+  passed_stays cause (Copy c) (RemoveEmptied new) did path idle passes walks = tt
+  passed_stays cause (Delete d) (RemoveEmptied new) did path idle passes walks = tt
+  passed_stays cause (Move m) (RemoveEmptied new) did path idle passes walks = tt
+  passed_stays cause (SetMode s) (RemoveEmptied new) did path idle passes walks = tt
+  passed_stays cause (RemoveEmptied r) (Make new) did path idle passes walks = tt
+  passed_stays cause (Make m) (RemoveEmptied new) did path idle passes walks = tt
+  passed_stays cause old (Copy new) did path idle passes walks = absurd passes
 
   job_stays : (job new : Running) (did : Did) (course : Course) (calls : ℕ) (dirty dirty_after : List Route) (faults faults_after : ℕ) → begins_change did ≡ false → IsIdle job.work → TellsOn course job did new
       → CallsOn IsUnclaimed course job did new log (Some now) → WalksOn IsUnclaimed job.replies course job.work new.work did calls dirty dirty_after (Some log) (Some now) faults faults_after → Stays new.work

@@ -1,11 +1,13 @@
--- The calls of a deletion, a making, a move and the setting of a mode, where the report begins no change: a sync, one that is refused, or none.
+-- The calls of a deletion, a making, a move, the setting of a mode and the removal of an emptied folder, where the report begins no change: a sync, one that is
+-- refused, or none.
 use Rattle.std.proofs.Common.{◌≡◌, ℕ, false, List, [], ◌∷◌, refl, inl, inr, Option, Some, Ok, Err}
 use Rattle.std.specs.Prelude.{Result}
 use Rattle.std.proofs.lemmas.Bool.{true≢false}
 use Rattle.mc_text.specs.Routes.{Route}
 use Rattle.tree_trait.specs.declared.calls.TreeError.{TreeError}
+use Rattle.tree_trait.specs.declared.calls.TreeError.TheVariants.{NotEmpty}
 use Rattle.tree_trait.specs.Calls.{Rename, RemoveFile, RemoveFolder, SetMode, SyncFolder}
-use Rattle.tree_trait.specs.Change.{CallLog, current, torn_write}
+use Rattle.tree_trait.specs.Change.{CallLog, torn_write}
 use Rattle.tree_trait.specs.Change as change
 use Rattle.tree_trait.specs.declared.file_system.FileSystem.{FileSystem}
 use Rattle.job_answers.specs.declared.replies.Replies.{Replies}
@@ -13,6 +15,7 @@ use Rattle.job_reports.proofs.CallAnswers.{some_log}
 use Rattle.job_reports.specs.declared.report.Cause.{Cause}
 use Rattle.job_reports.specs.declared.report.Did.{Did}
 use Rattle.job_reports.specs.declared.report.Did.TheVariants.{Began, Chunk, Placed, Removed, Made, Set, Kept, Skipped, Cleaned, Barrier, Asked, Merges, Moved, Troubled, Ended}
+use Rattle.job_reports.specs.Paths.{folder_of}
 use Rattle.session_history.specs.Named.{begins_change}
 use Rattle.thing_making.specs.declared.making.MakingStage.{MakingStage}
 use Rattle.thing_making.specs.declared.making.MakingStage.TheVariants as making
@@ -23,6 +26,9 @@ use Rattle.thing_making.specs.NewThings.{making_call}
 use Rattle.thing_moving.specs.declared.moving.MovingStage.{MovingStage}
 use Rattle.thing_moving.specs.declared.moving.MovingStage.TheVariants as moving
 use Rattle.thing_moving.specs.Movings.{LastMovingCalls, Moving, MovingCalls, Stops, owed_folder}
+use Rattle.folder_removal.specs.declared.removal.RemovalStage.{RemovalStage}
+use Rattle.folder_removal.specs.declared.removal.RemovalStage.TheVariants as removal
+use Rattle.folder_removal.specs.Removals.{LastRemovalCalls, RemovalCalls, Removing, Stops as RemovalStops}
 use Rattle.mode_setting.specs.Settings.{Setting}
 use Rattle.mode_setting.specs.declared.setting.Stage.{Stage as SettingStage}
 use Rattle.mode_setting.specs.declared.setting.Stage.TheVariants as setting
@@ -59,7 +65,7 @@ module _ (log now : CallLog) where
   deletion_calm (Made path) still calls = absurd calls
   deletion_calm (Cleaned part) still calls = absurd calls
   deletion_calm (Asked question) still calls = absurd calls
-  deletion_calm (Merges pair names) still calls = absurd calls
+  deletion_calm (Merges transfer pair names) still calls = absurd calls
   deletion_calm (Moved pair) still calls = absurd calls
 
   pub deletion_last : (did : Did) → LastCalls did log (Some now) → Calm
@@ -75,7 +81,7 @@ module _ (log now : CallLog) where
   deletion_last (Skipped path cause) calls = absurd calls
   deletion_last (Cleaned part) calls = absurd calls
   deletion_last (Asked question) calls = absurd calls
-  deletion_last (Merges pair names) calls = absurd calls
+  deletion_last (Merges transfer pair names) calls = absurd calls
   deletion_last (Moved pair) calls = absurd calls
   deletion_last (Troubled trouble) calls = absurd calls
 
@@ -110,7 +116,7 @@ module _ (log now : CallLog) where
   making_calm m (Removed path) still calls = absurd calls
   making_calm m (Kept kept) still calls = absurd calls
   making_calm m (Asked question) still calls = absurd calls
-  making_calm m (Merges pair names) still calls = absurd calls
+  making_calm m (Merges transfer pair names) still calls = absurd calls
   making_calm m (Moved pair) still calls = absurd calls
   making_calm m (Skipped path cause) still calls = absurd calls
   making_calm m (Cleaned part) still calls = absurd calls
@@ -126,7 +132,7 @@ module _ (log now : CallLog) where
   making_last m (Made path) calls = absurd calls
   making_last m (Kept kept) calls = absurd calls
   making_last m (Asked question) calls = absurd calls
-  making_last m (Merges pair names) calls = absurd calls
+  making_last m (Merges transfer pair names) calls = absurd calls
   making_last m (Moved pair) calls = absurd calls
   making_last m (Skipped path cause) calls = absurd calls
   making_last m (Cleaned part) calls = absurd calls
@@ -155,7 +161,7 @@ module _ (log now : CallLog) where
   moving_calm replies m (Placed path) still calls = absurd calls
   moving_calm replies m (Removed path) still calls = absurd calls
   moving_calm replies m (Made path) still calls = absurd calls
-  moving_calm replies m (Merges pair names) still calls = absurd calls
+  moving_calm replies m (Merges transfer pair names) still (merged, same) = inl (some_log now log same)
   moving_calm replies m (Cleaned part) still calls = absurd calls
 
   pub moving_last : (m : Moving) (did : Did) → LastMovingCalls m did log (Some now) → Calm
@@ -169,7 +175,7 @@ module _ (log now : CallLog) where
   moving_last m (Made path) calls = absurd calls
   moving_last m (Kept path) calls = absurd calls
   moving_last m (Asked question) calls = absurd calls
-  moving_last m (Merges pair names) calls = absurd calls
+  moving_last m (Merges transfer pair names) calls = absurd calls
   moving_last m (Moved pair) calls = absurd calls
   moving_last m (Skipped path cause) calls = absurd calls
   moving_last m (Cleaned part) calls = absurd calls
@@ -193,7 +199,7 @@ module _ (log now : CallLog) where
   setting_calm s (Made path) still calls = absurd calls
   setting_calm s (Kept path) still calls = absurd calls
   setting_calm s (Asked question) still calls = absurd calls
-  setting_calm s (Merges pair names) still calls = absurd calls
+  setting_calm s (Merges transfer pair names) still calls = absurd calls
   setting_calm s (Moved pair) still calls = absurd calls
   setting_calm s (Skipped path cause) still (named, stops) = setting_stops s s.stage cause named stops
   setting_calm s (Cleaned part) still calls = absurd calls
@@ -209,8 +215,30 @@ module _ (log now : CallLog) where
   setting_last s (Made path) calls = absurd calls
   setting_last s (Kept path) calls = absurd calls
   setting_last s (Asked question) calls = absurd calls
-  setting_last s (Merges pair names) calls = absurd calls
+  setting_last s (Merges transfer pair names) calls = absurd calls
   setting_last s (Moved pair) calls = absurd calls
   setting_last s (Skipped path cause) calls = absurd calls
   setting_last s (Cleaned part) calls = absurd calls
   setting_last s (Troubled trouble) calls = absurd calls
+
+  -- the removal of an emptied folder
+  removal_stops : (r : Removing) (stage : RemovalStage) (cause : Cause) (named : Option Route) → RemovalStops r stage cause named log (Some now) → Calm
+  removal_stops r removal.Remove cause named (inl (why, nowhere, same)) = inl (some_log now log same)
+  removal_stops r removal.Remove cause named (inr s) = calm_refused log now (RemoveFolder r.path) s.error (λ x left. refl) s.called
+  removal_stops r removal.Sync cause named s = calm_refused log now (SyncFolder (folder_of r.path)) s.error (λ x left. refl) s.called
+  removal_stops r removal.Finish cause named s = calm_refused log now (SyncFolder (folder_of r.path)) s.error (λ x left. refl) s.called
+  removal_stops r removal.PassedOver cause named s = calm_refused log now (SyncFolder (folder_of r.path)) s.error (λ x left. refl) s.called
+
+  pub removal_calm : (r : Removing) (did : Did) → begins_change did ≡ false → RemovalCalls r did log (Some now) → Calm
+  removal_calm r (Removed path) still calls = absurd (true≢false still)
+  removal_calm r (Kept path) still calls = calm_refused log now (RemoveFolder r.path) NotEmpty (λ x left. refl) calls
+  removal_calm r (Skipped path cause) still (named, stops) = removal_stops r r.stage cause named stops
+  removal_calm r Barrier still done = calm_sync log now (folder_of r.path) done
+  removal_calm r (Troubled trouble) still stops = removal_stops r r.stage trouble.cause trouble.path stops
+  removal_calm r (Ended ending part) still calls = inl (some_log now log calls)
+  removal_calm r did still calls = absurd calls
+
+  pub removal_last : (r : Removing) (did : Did) → LastRemovalCalls r did log (Some now) → Calm
+  removal_last r Barrier (answer, done) = calm_try log now (folder_of r.path) answer done
+  removal_last r (Ended ending part) calls = inl (some_log now log calls)
+  removal_last r did calls = absurd calls

@@ -23,7 +23,7 @@ use Rattle.copy_move.specs.ModeSettings as modes
 use Rattle.copy_move.specs.declared.run.Course.{Course}
 use Rattle.copy_move.specs.declared.run.Course.TheVariants.{GoesOn, Asking, InTrouble, OwedSyncFailed, Skips, Ends}
 use Rattle.copy_move.specs.declared.work.Work.{Work}
-use Rattle.copy_move.specs.declared.work.Work.TheVariants.{Copy, Delete, Make, Move, SetMode}
+use Rattle.copy_move.specs.declared.work.Work.TheVariants.{Copy, Delete, Make, Move, SetMode, RemoveEmptied}
 use Rattle.copy_move.specs.Jobs.{CallsOn, Running, TellsOn, WorkCalls, WorkTells, WorkWinds, is_fresh}
 use Rattle.copy_move.specs.Settling.{NoneOwed}
 use Rattle.history_laws.specs.Doubt.{name_waits}
@@ -57,7 +57,7 @@ told_unnamed s new (Placed target) path t none = absurd t
 told_unnamed s new (Removed gone) path t none = absurd t
 told_unnamed s new (Kept kept) path t none = absurd t
 told_unnamed s new (Asked question) path t none = absurd t
-told_unnamed s new (Merges pair within) path t none = absurd t
+told_unnamed s new (Merges transfer pair within) path t none = absurd t
 told_unnamed s new (Moved pair) path t none = absurd t
 told_unnamed s new (Skipped skipped why) path t none = refl
 told_unnamed s new (Cleaned part) path t none = absurd t
@@ -73,7 +73,7 @@ wound_unnamed ending s new (Made made) path t = absurd t
 wound_unnamed ending s new (Removed gone) path t = absurd t
 wound_unnamed ending s new (Kept kept) path t = absurd t
 wound_unnamed ending s new (Asked question) path t = absurd t
-wound_unnamed ending s new (Merges pair within) path t = absurd t
+wound_unnamed ending s new (Merges transfer pair within) path t = absurd t
 wound_unnamed ending s new (Moved pair) path t = absurd t
 wound_unnamed ending s new (Skipped skipped why) path t = absurd t
 wound_unnamed ending s new (Cleaned part) path t = absurd t
@@ -81,17 +81,11 @@ wound_unnamed ending s new (Troubled trouble) path t = absurd t
 
 work_unnamed : (s : Setting) (work : Work) (did : Did) (path : Route) → WorkTells (SetMode s) did work → (begins_change did ≡ true → ⊥) → names did path ≡ false
 work_unnamed s (SetMode new) did path t none = told_unnamed s new did path t none
-work_unnamed s (Copy new) did path t none = absurd t
-work_unnamed s (Delete new) did path t none = absurd t
-work_unnamed s (Make new) did path t none = absurd t
-work_unnamed s (Move new) did path t none = absurd t
+work_unnamed s work did path t none = absurd t
 
 wind_unnamed : (ending : Ending) (s : Setting) (work : Work) (did : Did) (path : Route) → WorkWinds ending (SetMode s) did work → names did path ≡ false
 wind_unnamed ending s (SetMode new) did path t = wound_unnamed ending s new did path t
-wind_unnamed ending s (Copy new) did path t = absurd t
-wind_unnamed ending s (Delete new) did path t = absurd t
-wind_unnamed ending s (Make new) did path t = absurd t
-wind_unnamed ending s (Move new) did path t = absurd t
+wind_unnamed ending s work did path t = absurd t
 
 unnamed_on : (job new : Running) (did : Did) (s : Setting) (course : Course) (path : Route) → job.work ≡ SetMode s → TellsOn course job did new → (begins_change did ≡ true → ⊥) → names did path ≡ false
 unnamed_on job new did s GoesOn path is (work, tells, new_is) none = work_unnamed s work did path (subst (λ w. WorkTells w did work) is tells) none
@@ -128,16 +122,13 @@ set_then told dirty marks log now s (SetMode new) (Chunk count) known owed t cal
 set_then told dirty marks log now s (SetMode new) (Placed path) known owed t calls h = absurd (true≢false (sym h))
 set_then told dirty marks log now s (SetMode new) (Kept kept) known owed t calls h = absurd (true≢false (sym h))
 set_then told dirty marks log now s (SetMode new) (Asked question) known owed t calls h = absurd (true≢false (sym h))
-set_then told dirty marks log now s (SetMode new) (Merges pair within) known owed t calls h = absurd (true≢false (sym h))
+set_then told dirty marks log now s (SetMode new) (Merges transfer pair within) known owed t calls h = absurd (true≢false (sym h))
 set_then told dirty marks log now s (SetMode new) (Skipped path why) known owed t calls h = absurd (true≢false (sym h))
 set_then told dirty marks log now s (SetMode new) (Cleaned part) known owed t calls h = absurd (true≢false (sym h))
 set_then told dirty marks log now s (SetMode new) Barrier known owed t calls h = absurd (true≢false (sym h))
 set_then told dirty marks log now s (SetMode new) (Troubled trouble) known owed t calls h = absurd (true≢false (sym h))
 set_then told dirty marks log now s (SetMode new) (Ended ending part) known owed t calls h = absurd (true≢false (sym h))
-set_then told dirty marks log now s (Copy new) did known owed t calls h = absurd t
-set_then told dirty marks log now s (Delete new) did known owed t calls h = absurd t
-set_then told dirty marks log now s (Make new) did known owed t calls h = absurd t
-set_then told dirty marks log now s (Move new) did known owed t calls h = absurd t
+set_then told dirty marks log now s work did known owed t calls h = absurd t
 
 module _ (told : Said) (dirty dirty_after : List Route) (marks : Marks) (log now : CallLog) (known : IsKnown told dirty marks log) (job new : Running) (did : Did)
     (still : (path : Route) → (told.part ≡ Some path → ⊥) → names did path ≡ false → name_waits log path ≡ false → name_waits now path ≡ false) where
@@ -169,6 +160,7 @@ module _ (told : Said) (dirty dirty_after : List Route) (marks : Marks) (log now
       by (Make m) is = subst (λ w. IsSureThing (item_in w) now) (sym is) (making_sure m.thing m.path)
       by (Move m) is = subst (λ w. IsSureThing (item_in w) now) (sym is) tt
       by (SetMode s) is = subst (λ w. IsSureThing (item_in w) now) (sym is) (set s is (begins_change did) refl)
+      by (RemoveEmptied r) is = subst (λ w. IsSureThing (item_in w) now) (sym is) tt
 
   -- and after a report that names nothing
   pub sure_still : (course : Course) → WorkKnows told dirty marks log course job.work → ((path : Route) → names did path ≡ false) → IsSureThing (item_in job.work) log → IsSureThing (item_in job.work) now
@@ -182,3 +174,4 @@ module _ (told : Said) (dirty dirty_after : List Route) (marks : Marks) (log now
       by (SetMode s) is =
           let k : WorkKnows told dirty marks log course (SetMode s) = subst (λ w. WorkKnows told dirty marks log course w) is knows in
           subst (λ w. IsSureThing (item_in w) now) (sym is) (still_sure s k.1 (unnamed s.path) (subst (λ w. IsSureThing (item_in w) log) is before))
+      by (RemoveEmptied r) is = subst (λ w. IsSureThing (item_in w) now) (sym is) tt

@@ -1,4 +1,4 @@
--- Before a thing is deleted or moved nothing waits in it, on whatever mount: no name, no mode, and no renaming for a folder there and another one.
+-- Before a thing is deleted, moved or removed nothing waits in it, on whatever mount: no name, no mode, and no renaming for a folder there and another one.
 use Rattle.std.proofs.Common.{◌≡◌, ◌⊎◌, ℕ, true, false, not, List, [], ◌∷◌, ◌++◌, refl, sym, ◌∙◌, ap, subst, inl, inr, Option, Some, None}
 use Rattle.std.specs.Option.{option_map_or}
 use Rattle.std.proofs.lemmas.Bool.{both_ways, false_from_ne_true}
@@ -16,7 +16,8 @@ use Rattle.crash_law.specs.Guarded.{Marks}
 use Rattle.job_reports.specs.Paths.{folder_of}
 use Rattle.job_reports.proofs.PermittedCalls.{stat_missing}
 use Rattle.thing_moving.specs.Movings.{Moving}
-use Rattle.copy_move.specs.declared.work.Work.TheVariants.{Delete, Move}
+use Rattle.folder_removal.specs.Removals.{Removing}
+use Rattle.copy_move.specs.declared.work.Work.TheVariants.{Delete, Move, RemoveEmptied}
 use Rattle.copy_move.specs.Deletions.{Deleting}
 use Rattle.copy_move.specs.Settling.{LiesOff, NoneOwed}
 use Rattle.history_laws.specs.Doubt.{is_pending, name_waits, node_waits, way_waits}
@@ -41,6 +42,10 @@ none_in_deleted s d dirty none kept among = elim (none kept among) [ inl gone �
 -- and of a move
 pub none_in_moved : (s : FileSystem) (m : Moving) (dirty : List Route) → NoneOwed s (Move m) dirty → NoneWithin s m.pair.source dirty
 none_in_moved s m dirty none kept among = elim (none kept among) [ inl gone ↦ inl gone | inr apart ↦ inr (apart.0, apart.2) ]
+
+-- and of the removal of an emptied folder
+pub none_in_emptied : (s : FileSystem) (r : Removing) (dirty : List Route) → NoneOwed s (RemoveEmptied r) dirty → NoneWithin s r.path dirty
+none_in_emptied s r dirty none kept among = elim (none kept among) [ inl gone ↦ inl gone | inr apart ↦ inr (apart.0, apart.2) ]
 
 module _ (told : Said) (dirty : List Route) (marks : Marks) (log : CallLog) (kept : IsKept told dirty marks log) (top : Route) (has : HasName top) (none : NoneWithin (current log) top dirty) where
   abbrev pub around : Route

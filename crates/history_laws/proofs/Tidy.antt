@@ -15,13 +15,17 @@ use Rattle.copy_move.specs.declared.run.Course.TheVariants.{GoesOn, Asking, InTr
 use Rattle.copy_move.specs.declared.work.Work.{Work}
 use Rattle.thing_making.specs.declared.making.MakingStage.{MakingStage}
 use Rattle.thing_making.specs.declared.making.MakingStage.TheVariants as making
-use Rattle.copy_move.specs.declared.work.Work.TheVariants.{Copy, Delete, Make, Move, SetMode}
+use Rattle.copy_move.specs.declared.work.Work.TheVariants.{Copy, Delete, Make, Move, SetMode, RemoveEmptied}
 use Rattle.thing_making.specs.Makings.{Making}
 use Rattle.thing_making.specs.Makings as makings
 use Rattle.thing_moving.specs.declared.moving.MovingStage.{MovingStage}
 use Rattle.thing_moving.specs.declared.moving.MovingStage.TheVariants as moving
 use Rattle.thing_moving.specs.Movings.{Moving}
 use Rattle.thing_moving.specs.Movings as movings
+use Rattle.folder_removal.specs.declared.removal.RemovalStage.{RemovalStage}
+use Rattle.folder_removal.specs.declared.removal.RemovalStage.TheVariants as removal
+use Rattle.folder_removal.specs.Removals.{Removing}
+use Rattle.folder_removal.specs.Removals as removals
 use Rattle.mode_setting.specs.Settings.{Setting}
 use Rattle.mode_setting.specs.Settings as settings
 use Rattle.tree_copy.specs.Reports.{changes}
@@ -37,6 +41,7 @@ use Rattle.copy_move.specs.Steps.{LeavesDirty}
 use Rattle.session_history.specs.Named.{begins_change}
 use Rattle.history_laws.specs.Traces.{WorkLeads}
 use Rattle.history_laws.proofs.MoveKnown.{is_moved}
+use Rattle.history_laws.proofs.Sources.{removal_stays}
 use Rattle.history_laws.proofs.Unchanged.{skip_setting}
 
 -- the making of a thing that begins a change is dirty then
@@ -49,7 +54,7 @@ making_dirty m new (Set path) t h = absurd t
 making_dirty m new (Placed path) t h = absurd (false≢true h)
 making_dirty m new (Kept kept) t h = absurd (false≢true h)
 making_dirty m new (Asked question) t h = absurd (false≢true h)
-making_dirty m new (Merges pair names) t h = absurd (false≢true h)
+making_dirty m new (Merges transfer pair names) t h = absurd (false≢true h)
 making_dirty m new (Moved pair) t h = absurd t
 making_dirty m new (Skipped path why) t h = absurd (false≢true h)
 making_dirty m new (Cleaned part) t h = absurd (false≢true h)
@@ -67,13 +72,31 @@ setting_dirty s new (Chunk count) t h = absurd (false≢true h)
 setting_dirty s new (Placed path) t h = absurd (false≢true h)
 setting_dirty s new (Kept kept) t h = absurd (false≢true h)
 setting_dirty s new (Asked question) t h = absurd (false≢true h)
-setting_dirty s new (Merges pair names) t h = absurd (false≢true h)
+setting_dirty s new (Merges transfer pair names) t h = absurd (false≢true h)
 setting_dirty s new (Moved pair) t h = absurd t
 setting_dirty s new (Skipped path why) t h = absurd (false≢true h)
 setting_dirty s new (Cleaned part) t h = absurd (false≢true h)
 setting_dirty s new Barrier t h = absurd (false≢true h)
 setting_dirty s new (Troubled trouble) t h = absurd (false≢true h)
 setting_dirty s new (Ended ending part) t h = absurd (false≢true h)
+
+-- and the removal of an emptied folder
+removal_dirty : (r new : Removing) (did : Did) → removals.Tells r did new → begins_change did ≡ true → removals.is_dirty new.stage ≡ true
+removal_dirty r new (Removed path) (stage, path_is, new_is) h = ap (λ (x : Removing). removals.is_dirty x.stage) new_is
+removal_dirty r new (Began part) t h = absurd t
+removal_dirty r new (Made path) t h = absurd t
+removal_dirty r new (Set path) t h = absurd t
+removal_dirty r new (Moved pair) t h = absurd t
+removal_dirty r new (Chunk count) t h = absurd (false≢true h)
+removal_dirty r new (Placed path) t h = absurd (false≢true h)
+removal_dirty r new (Kept kept) t h = absurd (false≢true h)
+removal_dirty r new (Asked question) t h = absurd (false≢true h)
+removal_dirty r new (Merges transfer pair names) t h = absurd (false≢true h)
+removal_dirty r new (Skipped path why) t h = absurd (false≢true h)
+removal_dirty r new (Cleaned part) t h = absurd (false≢true h)
+removal_dirty r new Barrier t h = absurd (false≢true h)
+removal_dirty r new (Troubled trouble) t h = absurd (false≢true h)
+removal_dirty r new (Ended ending part) t h = absurd (false≢true h)
 
 skipped_moved : (stage : MovingStage) → is_moved (movings.skipped stage) ≡ is_moved stage
 skipped_moved moving.Take = refl
@@ -99,6 +122,7 @@ moving_moved m new (Moved pair) (stage, pair_is, new_is) old = ap (λ (x : Movin
 moving_moved m new Barrier (dirty, new_is) old = ap (λ (x : Moving). is_moved x.stage) new_is ∙ synced_moved m.pair m.stage (old (λ h. false≢true h))
 moving_moved m new (Kept path) (stage, path_is, new_is) old = absurd (both_ways _ (ap is_moved stage) (old (λ h. false≢true h)))
 moving_moved m new (Skipped path why) (stage, path_is, passes, new_is) old = absurd (both_ways _ (ap is_moved stage) (old (λ h. false≢true h)))
+moving_moved m new (Merges transfer pair names) (stage, merges, new_is) old = absurd (both_ways _ (ap is_moved stage) (old (λ h. false≢true h)))
 moving_moved m new (Asked question) (stage, new_is) old = ap (λ (x : Moving). is_moved x.stage) new_is ∙ old (λ h. false≢true h)
 moving_moved m new (Troubled trouble) (barrier, off, told, new_is) old = ap (λ (x : Moving). is_moved x.stage) new_is ∙ old (λ h. false≢true h)
 moving_moved m new (Ended Finished part) (is_done, part_is, new_is) old = ap (λ (x : Moving). is_moved x.stage) new_is ∙ old (λ h. false≢true h)
@@ -111,7 +135,6 @@ moving_moved m new (Set path) t old = absurd t
 moving_moved m new (Placed path) t old = absurd t
 moving_moved m new (Removed made) t old = absurd t
 moving_moved m new (Made path) t old = absurd t
-moving_moved m new (Merges pair names) t old = absurd t
 moving_moved m new (Cleaned part) t old = absurd t
 
 -- a folder that was synced is no longer listed
@@ -136,13 +159,15 @@ IsGoing (OwedSyncFailed why) = Unit {0}
 IsGoing Asking = Unit {0}
 IsGoing (Skips why) = Unit {0}
 
--- where the folder of a new thing isn't dirty, it isn't listed; nor a thing that was given a mode; a copy has begun, and a moved thing was renamed
+-- where the folder of a new thing isn't dirty, it isn't listed; nor that of an emptied folder, nor a thing that was given a mode; a copy has begun, and a moved thing was
+-- renamed
 abbrev pub TidyFolder : Work → List Route → Type 0
 TidyFolder (Copy c) dirty = is_fresh_tree c.at.stage ≡ false
 TidyFolder (Delete d) dirty = Unit {0}
 TidyFolder (Make m) dirty = makings.is_dirty m.stage ≡ false → Among dirty (folder_of m.path) → ⊥
 TidyFolder (Move m) dirty = is_moved m.stage ≡ true
 TidyFolder (SetMode s) dirty = settings.is_dirty s.stage ≡ false → Among dirty s.path → ⊥
+TidyFolder (RemoveEmptied r) dirty = removals.is_dirty r.stage ≡ false → Among dirty (folder_of r.path) → ⊥
 
 -- what is known of a job that has changed something
 abbrev pub IsTidy : Bool → List Route → Running → Type 0
@@ -169,7 +194,7 @@ going_then (Chunk count) stage h = absurd (false≢true h)
 going_then (Placed path) stage h = absurd (false≢true h)
 going_then (Kept kept) stage h = absurd (false≢true h)
 going_then (Asked question) stage h = absurd (false≢true h)
-going_then (Merges pair names) stage h = absurd (false≢true h)
+going_then (Merges transfer pair names) stage h = absurd (false≢true h)
 going_then (Moved pair) stage h = refl
 going_then (Skipped path why) stage h = absurd (false≢true h)
 going_then (Cleaned part) stage h = absurd (false≢true h)
@@ -200,32 +225,21 @@ tidy_work (SetMode s) (SetMode new) did dirty dirty_after before after tells lea
 tidy_work (Make m) (Make new) did dirty dirty_after before after tells leaves old = λ clean among.
     tidy_by (makings.is_dirty m.stage) (makings.is_dirty new.stage) (folder_of m.path) (folder_of new.path) dirty dirty_after leaves (ap folder_of (making_stays m new did tells)) (old (λ h. both_ways _ clean (making_dirty m new did tells h))) clean among
 tidy_work (Move m) (Move new) did dirty dirty_after before after tells leaves old = moving_moved m new did tells old
-tidy_work (Delete d) (Make new) did dirty dirty_after before after tells leaves old = absurd tells
-tidy_work (Delete d) (Move new) did dirty dirty_after before after tells leaves old = absurd tells
-tidy_work (SetMode s) (Copy new) did dirty dirty_after before after tells leaves old = absurd tells
-tidy_work (SetMode s) (Delete new) did dirty dirty_after before after tells leaves old = absurd tells
-tidy_work (Copy s) (Delete new) did dirty dirty_after before after tells leaves old = absurd tells
-tidy_work (SetMode s) (Make new) did dirty dirty_after before after tells leaves old = absurd tells
-tidy_work (Move s) (Make new) did dirty dirty_after before after tells leaves old = absurd tells
-tidy_work (SetMode s) (Move new) did dirty dirty_after before after tells leaves old = absurd tells
-tidy_work (Copy s) (Make new) did dirty dirty_after before after tells leaves old = absurd tells
-tidy_work (Copy s) (Move new) did dirty dirty_after before after tells leaves old = absurd tells
-tidy_work (Copy c) (SetMode new) did dirty dirty_after before after tells leaves old = absurd tells
-tidy_work (Delete d) (SetMode new) did dirty dirty_after before after tells leaves old = absurd tells
-tidy_work (Delete d) (Copy new) did dirty dirty_after before after tells leaves old = absurd tells
-tidy_work (Make m) (SetMode new) did dirty dirty_after before after tells leaves old = absurd tells
-tidy_work (Make m) (Move new) did dirty dirty_after before after tells leaves old = absurd tells
-tidy_work (Move m) (SetMode new) did dirty dirty_after before after tells leaves old = absurd tells
-tidy_work (Make m) (Copy new) did dirty dirty_after before after tells leaves old = absurd tells
-tidy_work (Move m) (Copy new) did dirty dirty_after before after tells leaves old = absurd tells
-tidy_work (Make m) (Delete new) did dirty dirty_after before after tells leaves old = absurd tells
-tidy_work (Move m) (Delete new) did dirty dirty_after before after tells leaves old = absurd tells
+tidy_work (RemoveEmptied r) (RemoveEmptied new) did dirty dirty_after before after tells leaves old = λ clean among.
+    tidy_by (removals.is_dirty r.stage) (removals.is_dirty new.stage) (folder_of r.path) (folder_of new.path) dirty dirty_after leaves (ap folder_of (removal_stays r new did tells)) (old (λ h. both_ways _ clean (removal_dirty r new did tells h))) clean among
+tidy_work work new did dirty dirty_after before after tells leaves old = absurd tells
 
 skipped_clean : (stage : MakingStage) → makings.is_dirty (makings.skipped stage) ≡ makings.is_dirty stage
 skipped_clean making.Make = refl
 skipped_clean making.Sync = refl
 skipped_clean making.Finish = refl
 skipped_clean making.PassedOver = refl
+
+skip_removal : (stage : RemovalStage) → removals.is_dirty (removals.skipped stage) ≡ removals.is_dirty stage
+skip_removal removal.Remove = refl
+skip_removal removal.Sync = refl
+skip_removal removal.Finish = refl
+skip_removal removal.PassedOver = refl
 
 tidy_passes : (old new : Work) (path : Route) (dirty : List Route) → PassesOver old path new → TidyFolder old dirty → TidyFolder new dirty
 tidy_passes (Copy c) (Copy new) path dirty (cause, after) old = ap is_fresh_tree after.stage ∙ old
@@ -234,26 +248,9 @@ tidy_passes (Make m) (Make new) path dirty (path_is, new_is) old = subst (λ (n 
 tidy_passes (Move m) (Move new) path dirty (path_is, new_is) old = ap (λ (x : Moving). is_moved x.stage) new_is ∙ (skipped_moved m.stage ∙ old)
 tidy_passes (SetMode s) (SetMode new) path dirty (path_is, new_is) old =
     subst (λ (n : Setting). TidyFolder (SetMode n) dirty) (sym new_is) (λ clean among. old (sym (skip_setting s.stage) ∙ clean) among)
-tidy_passes (Delete d) (Make new) path dirty h old = absurd h
-tidy_passes (Delete d) (Move new) path dirty h old = absurd h
-tidy_passes (SetMode s) (Copy new) path dirty h old = absurd h
-tidy_passes (SetMode s) (Delete new) path dirty h old = absurd h
-tidy_passes (Copy s) (Delete new) path dirty h old = absurd h
-tidy_passes (SetMode s) (Make new) path dirty h old = absurd h
-tidy_passes (Move s) (Make new) path dirty h old = absurd h
-tidy_passes (SetMode s) (Move new) path dirty h old = absurd h
-tidy_passes (Copy s) (Make new) path dirty h old = absurd h
-tidy_passes (Copy s) (Move new) path dirty h old = absurd h
-tidy_passes (Copy c) (SetMode new) path dirty h old = absurd h
-tidy_passes (Delete d) (SetMode new) path dirty h old = absurd h
-tidy_passes (Delete d) (Copy new) path dirty h old = absurd h
-tidy_passes (Make m) (SetMode new) path dirty h old = absurd h
-tidy_passes (Make m) (Move new) path dirty h old = absurd h
-tidy_passes (Move m) (SetMode new) path dirty h old = absurd h
-tidy_passes (Make m) (Copy new) path dirty h old = absurd h
-tidy_passes (Move m) (Copy new) path dirty h old = absurd h
-tidy_passes (Make m) (Delete new) path dirty h old = absurd h
-tidy_passes (Move m) (Delete new) path dirty h old = absurd h
+tidy_passes (RemoveEmptied r) (RemoveEmptied new) path dirty (path_is, new_is) old =
+    subst (λ (n : Removing). TidyFolder (RemoveEmptied n) dirty) (sym new_is) (λ clean among. old (sym (skip_removal r.stage) ∙ clean) among)
+tidy_passes work new path dirty h old = absurd h
 
 module _ (job new : Running) (did : Did) (dirty dirty_after : List Route) (log now : CallLog) (before : Bool) where
   tidy_on : (course : Course) → job.course ≡ course → TellsOn course job did new → LeavesDirty course job.work did new.work dirty dirty_after (Some log) (Some now) → IsTidy before dirty job → IsTidy (before || begins_change did) dirty_after new

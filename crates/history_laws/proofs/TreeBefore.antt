@@ -5,6 +5,7 @@ use Rattle.mc_text.specs.Routes.{Route}
 use Rattle.tree_trait.specs.declared.file_system.FileSystem.{FileSystem}
 use Rattle.tree_trait.specs.Change.{Nothing, CallLog, current, with_change}
 use Rattle.crash_law.specs.Guarded.{Marks}
+use Rattle.job_reports.specs.declared.report.Transfer.TheVariants.{ByCopy}
 use Rattle.job_reports.specs.declared.report.Ending.TheVariants.{Finished}
 use Rattle.job_reports.specs.declared.report.Did.{Did}
 use Rattle.job_answers.specs.declared.replies.Replies.{Replies}
@@ -112,7 +113,7 @@ module _ (told : Said) (dirty dirty_after : List Route) (marks : Marks) (log now
   pub merges : (replies : Replies) (did : Did) (new : Seen) → TakesMerged replies mid new did (Some log) (Some now) → dirty_after ≡ dirty → Comes_to did new
   merges replies did new t list =
       let still : new.item ≡ Next = ap (λ (x : Seen). x.item) t.stands ∙ none in
-      subst (λ d. Comes_to d new) (sym t.says) (unmoved (Merges t.pair t.names) new still list (some_log now log t.same)
+      subst (λ d. Comes_to d new) (sym t.says) (unmoved (Merges ByCopy t.pair t.names) new still list (some_log now log t.same)
       (λ m idle. record { part = subst (λ i. ItemHas told dirty_after m (current now) GoesOn i) (sym still) idle.0; around = idle.1; had = λ some. had_begun told dirty marks log c mid b some; modes = λ h. h }))
 
   -- what stands at the target is kept

@@ -5,6 +5,7 @@ use Rattle.mc_text.specs.Routes.{Route}
 use Rattle.tree_trait.specs.FileSystem.{find, node}
 use Rattle.tree_trait.specs.Change.{CallLog, current}
 use Rattle.tree_trait.specs.CrashImages.{is_clean}
+use Rattle.job_reports.specs.declared.report.Transfer.TheVariants.{ByCopy}
 use Rattle.job_reports.specs.Paths.{folder_of}
 use Rattle.job_reports.specs.declared.job.Pair.{Pair}
 use Rattle.job_reports.specs.declared.report.Did.TheVariants as common
@@ -55,7 +56,7 @@ module _ (top : Pair) (log : CallLog) (c : Seen) (h : LogHas top log c) where
     ends_next none (inr (inl t)) = (let w = t.works in absurd w.tells)
     ends_next none (inr (inr (inl t))) = (let w = t.works in absurd w.tells)
     ends_next none (inr (inr (inr (inl t)))) = (let w = t.works in no_end w.report part w.says)
-    ends_next none (inr (inr (inr (inr (inl t))))) = absurd (let e : common.Ended Finished part ≡ common.Merges t.pair t.names = t.says in let f : ⊥ = cc in f)
+    ends_next none (inr (inr (inr (inr (inl t))))) = absurd (let e : common.Ended Finished part ≡ common.Merges ByCopy t.pair t.names = t.says in let f : ⊥ = cc in f)
     ends_next none (inr (inr (inr (inr (inr (inl t)))))) = absurd (let e : common.Ended Finished part ≡ common.Kept t.pair.target = t.says in let f : ⊥ = cc in f)
     ends_next none (inr (inr (inr (inr (inr (inr (inl t))))))) = absurd (let e : common.Ended Finished part ≡ common.Asked t.question = t.says in let f : ⊥ = cc in f)
     ends_next none (inr (inr (inr (inr (inr (inr (inr (due, inl (debt, e))))))))) = no_end e.report part e.says

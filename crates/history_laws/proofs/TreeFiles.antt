@@ -143,6 +143,6 @@ module _ (unclaimed : Route → Type 0) (log now : CallLog) (name : List ℕ) (l
   file_step moved (Set path) old new levels_are short tells calls stands = absurd tells
   file_step moved (Kept path) old new levels_are short tells calls stands = absurd tells
   file_step moved (Asked question) old new levels_are short tells calls stands = absurd tells
-  file_step moved (Merges pair names) old new levels_are short tells calls stands = absurd tells
+  file_step moved (Merges transfer pair names) old new levels_are short tells calls stands = absurd tells
   file_step moved (Moved pair) old new levels_are short tells calls stands = absurd tells
   file_step moved (Skipped path why) old new levels_are short tells calls stands = absurd tells

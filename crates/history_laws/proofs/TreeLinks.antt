@@ -122,6 +122,6 @@ module _ (log now : CallLog) (name : List ℕ) (l : Levels) (c : LinkCopying) (k
   link_step moved (Set path) old new levels_are tells calls stands = absurd tells
   link_step moved (Kept path) old new levels_are tells calls stands = absurd tells
   link_step moved (Asked question) old new levels_are tells calls stands = absurd tells
-  link_step moved (Merges pair names) old new levels_are tells calls stands = absurd tells
+  link_step moved (Merges transfer pair names) old new levels_are tells calls stands = absurd tells
   link_step moved (Moved pair) old new levels_are tells calls stands = absurd tells
   link_step moved (Skipped path why) old new levels_are tells calls stands = absurd tells

@@ -177,6 +177,6 @@ module _ (told : Said) (dirty dirty_after : List Route) (marks : Marks) (log now
   takes_file (Set path) new t list = (let w = taken_moves (IsPartPlace free mid) replies mid new (Set path) (Some log) (Some now) t in absurd w.tells)
   takes_file (Kept path) new t list = (let w = taken_moves (IsPartPlace free mid) replies mid new (Kept path) (Some log) (Some now) t in absurd w.tells)
   takes_file (Asked question) new t list = (let w = taken_moves (IsPartPlace free mid) replies mid new (Asked question) (Some log) (Some now) t in absurd w.tells)
-  takes_file (Merges pair names) new t list = (let w = taken_moves (IsPartPlace free mid) replies mid new (Merges pair names) (Some log) (Some now) t in absurd w.tells)
+  takes_file (Merges transfer pair names) new t list = (let w = taken_moves (IsPartPlace free mid) replies mid new (Merges transfer pair names) (Some log) (Some now) t in absurd w.tells)
   takes_file (Moved pair) new t list = (let w = taken_moves (IsPartPlace free mid) replies mid new (Moved pair) (Some log) (Some now) t in absurd w.tells)
   takes_file (Skipped path cause) new t list = (let w = taken_moves (IsPartPlace free mid) replies mid new (Skipped path cause) (Some log) (Some now) t in absurd w.tells)

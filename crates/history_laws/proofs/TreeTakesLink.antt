@@ -302,6 +302,6 @@ module _ (told : Said) (dirty dirty_after : List Route) (marks : Marks) (log now
   takes_link (Set path) new t list = (let w = t.works in absurd w.tells)
   takes_link (Kept path) new t list = (let w = t.works in absurd w.tells)
   takes_link (Asked question) new t list = (let w = t.works in absurd w.tells)
-  takes_link (Merges pair names) new t list = (let w = t.works in absurd w.tells)
+  takes_link (Merges transfer pair names) new t list = (let w = t.works in absurd w.tells)
   takes_link (Moved pair) new t list = (let w = t.works in absurd w.tells)
   takes_link (Skipped path cause) new t list = (let w = t.works in absurd w.tells)

@@ -187,7 +187,7 @@ module _ (told : Said) (dirty dirty_after : List Route) (marks : Marks) (log now
   folder_then (Kept path) is some = still_so some
   folder_then (Asked question) is some = still_so some
   folder_then (Removed path) is some = absurd (subst MayTell is tells.may)
-  folder_then (Merges pair names) is some = still_so some
+  folder_then (Merges transfer pair names) is some = still_so some
   folder_then (Moved pair) is some = absurd (subst MayTell is tells.may)
   folder_then (Skipped path cause) is some = still_so some
   folder_then (Troubled trouble) is some = still_so some
@@ -217,7 +217,7 @@ module _ (told : Said) (dirty dirty_after : List Route) (marks : Marks) (log now
   knows_after (Set path) m known = known
   knows_after (Kept path) m known = known
   knows_after (Asked question) m known = known
-  knows_after (Merges pair names) m known = known
+  knows_after (Merges transfer pair names) m known = known
   knows_after (Moved pair) m known = known
   knows_after (Skipped path cause) m known = known
   knows_after (Cleaned part) m known = known

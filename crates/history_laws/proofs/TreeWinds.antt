@@ -223,7 +223,7 @@ module _ (told : Said) (dirty dirty_after : List Route) (marks : Marks) (log now
     tree_winds (Set path) count tells f0 f1 wound s rows leaves = absurd wound.may
     tree_winds (Kept path) count tells f0 f1 wound s rows leaves = absurd wound.may
     tree_winds (Asked question) count tells f0 f1 wound s rows leaves = absurd wound.may
-    tree_winds (Merges pair names) count tells f0 f1 wound s rows leaves = absurd wound.may
+    tree_winds (Merges transfer pair names) count tells f0 f1 wound s rows leaves = absurd wound.may
     tree_winds (Moved pair) count tells f0 f1 wound s rows leaves = absurd wound.may
     tree_winds (Skipped path cause) count tells f0 f1 wound s rows leaves = absurd wound.may
     tree_winds (Troubled trouble) count tells f0 f1 wound s rows leaves = absurd wound.may

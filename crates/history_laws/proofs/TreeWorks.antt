@@ -180,7 +180,7 @@ module _ (told : Said) (dirty dirty_after : List Route) (marks : Marks) (log now
     file_modes (Set path) moved t new stands h = absurd t
     file_modes (Kept path) moved t new stands h = absurd t
     file_modes (Asked question) moved t new stands h = absurd t
-    file_modes (Merges pair names) moved t new stands h = absurd t
+    file_modes (Merges transfer pair names) moved t new stands h = absurd t
     file_modes (Moved pair) moved t new stands h = absurd t
     file_modes (Skipped path cause) moved t new stands h = absurd t
 
@@ -357,6 +357,6 @@ module _ (told : Said) (dirty dirty_after : List Route) (marks : Marks) (log now
     works_link (Set path) w list = absurd w.tells
     works_link (Kept path) w list = absurd w.tells
     works_link (Asked question) w list = absurd w.tells
-    works_link (Merges pair names) w list = absurd w.tells
+    works_link (Merges transfer pair names) w list = absurd w.tells
     works_link (Moved pair) w list = absurd w.tells
     works_link (Skipped path cause) w list = absurd w.tells

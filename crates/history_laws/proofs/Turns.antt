@@ -16,7 +16,7 @@ use Rattle.session_history.specs.declared.history.Event.TheVariants as event
 use Rattle.session_history.specs.Sources.{IsDoneWith, item_in as item_first}
 use Rattle.copy_move.specs.declared.run.Course.TheVariants.{GoesOn}
 use Rattle.copy_move.specs.declared.work.Work.{Work}
-use Rattle.copy_move.specs.declared.work.Work.TheVariants.{Copy, Delete, Make, Move, SetMode}
+use Rattle.copy_move.specs.declared.work.Work.TheVariants.{Copy, Delete, Make, Move, SetMode, RemoveEmptied}
 use Rattle.copy_move.specs.Jobs.{Running, begun_work, first_work, passing_over, skips_of}
 use Rattle.copy_move.specs.Told.{turned, with_next}
 use Rattle.history_laws.proofs.JobKnows.{WorkKnows}
@@ -35,6 +35,7 @@ passing_item skips (Delete d) = refl
 passing_item skips (Make m) = refl
 passing_item skips (Move m) = refl
 passing_item skips (SetMode s) = refl
+passing_item skips (RemoveEmptied r) = refl
 
 passing_begun : (skips : Skips) (work : Work) → has_begun (passing_over skips work) ≡ has_begun work
 passing_begun skips (Copy c) = refl
@@ -42,6 +43,7 @@ passing_begun skips (Delete d) = refl
 passing_begun skips (Make m) = refl
 passing_begun skips (Move m) = refl
 passing_begun skips (SetMode s) = refl
+passing_begun skips (RemoveEmptied r) = refl
 
 -- the work with which a job goes on
 pub record Turned (plan : Job) (job next : Running) : Type 0 where
@@ -78,7 +80,7 @@ done_with id (Step number (Removed path)) is = absurd is
 done_with id (Step number (Made made)) is = absurd is
 done_with id (Step number (Kept kept)) is = absurd is
 done_with id (Step number (Asked question)) is = absurd is
-done_with id (Step number (Merges pair names)) is = absurd is
+done_with id (Step number (Merges transfer pair names)) is = absurd is
 done_with id (Step number (Moved pair)) is = absurd is
 done_with id (Step number (Skipped path why)) is = absurd is
 done_with id (Step number (Cleaned part)) is = absurd is
@@ -106,6 +108,7 @@ module _ (told : Said) (dirty : List Route) (marks : Marks) (log : CallLog) wher
   passing_knows skips (Make m) k = k
   passing_knows skips (Move m) k = move_skips told marks log GoesOn m (record m { skips = skips }) refl refl k
   passing_knows skips (SetMode s) k = k
+  passing_knows skips (RemoveEmptied r) k = k
 
   -- what is known of the next source, where no part stands
   pub turned_knows : (plan : Job) (job next : Running) → told.part ≡ None → (t : Turned plan job next) → WorkKnows told dirty marks log next.course next.work

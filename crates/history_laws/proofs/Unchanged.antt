@@ -18,18 +18,21 @@ use Rattle.tree_deletion.specs.Standing.{after_item}
 use Rattle.thing_making.specs.declared.new_thing.NewThing.{NewThing}
 use Rattle.thing_making.specs.declared.new_thing.NewThing.TheVariants as thing
 use Rattle.copy_move.specs.declared.work.Work.{Work}
-use Rattle.copy_move.specs.declared.work.Work.TheVariants.{Copy, Delete, Make, Move, SetMode}
+use Rattle.copy_move.specs.declared.work.Work.TheVariants.{Copy, Delete, Make, Move, SetMode, RemoveEmptied}
 use Rattle.thing_making.specs.Makings as makings
 use Rattle.thing_moving.specs.declared.moving.MovingStage.{MovingStage}
 use Rattle.thing_moving.specs.declared.moving.MovingStage.TheVariants as moving
 use Rattle.thing_moving.specs.Movings as movings
+use Rattle.folder_removal.specs.declared.removal.RemovalStage.{RemovalStage}
+use Rattle.folder_removal.specs.declared.removal.RemovalStage.TheVariants as removal
+use Rattle.folder_removal.specs.Removals as removals
 use Rattle.copy_move.specs.ModeSettings as modes
 use Rattle.mode_setting.specs.declared.setting.Stage.{Stage as SettingStage}
 use Rattle.mode_setting.specs.declared.setting.Stage.TheVariants as setting
 use Rattle.mode_setting.specs.Settings as settings
-use Rattle.copy_move.specs.Jobs.{JobTells, PassesOver, Running, TellsOn, WorkTells, WorkWinds, copies, deletes, first_work, makes, moves, sets}
+use Rattle.copy_move.specs.Jobs.{JobTells, PassesOver, Running, TellsOn, WorkTells, WorkWinds, copies, deletes, first_work, makes, moves, removes_emptied, sets}
 use Rattle.job_reports.specs.Reports.{ends}
-use Rattle.copy_move.specs.Told.{after_step, cleaned, placed, skipped, spared, synced, told, work_told}
+use Rattle.copy_move.specs.Told.{after_step, cleaned, merged, placed, skipped, spared, synced, told, work_told}
 use Rattle.copy_move.specs.declared.run.Course.{Course}
 use Rattle.copy_move.specs.declared.run.Course.TheVariants.{GoesOn, Asking, InTrouble, OwedSyncFailed, Skips, Ends}
 use Rattle.subtree_copy.specs.Standing.{SubtreeCopying}
@@ -45,13 +48,14 @@ is_going Begin = false
 is_going Going = true
 is_going Sync = false
 
--- a change was begun: a copy or a deletion goes on, or what a making, a move or the setting of a mode changed is dirty
+-- a change was begun: a copy or a deletion goes on, or what a making, a move, the setting of a mode or the removal of an emptied folder changed is dirty
 abbrev pub has_begun : Work → Bool
 has_begun (Copy c) = not (is_fresh c.at.stage)
 has_begun (Delete d) = is_going d.stage
 has_begun (Make m) = makings.is_dirty m.stage
 has_begun (Move m) = movings.is_dirty m.stage
 has_begun (SetMode s) = settings.is_dirty s.stage
+has_begun (RemoveEmptied r) = removals.is_dirty r.stage
 
 told_begun : (id : ℕ) (work : Work) → has_begun (work_told id work) ≡ has_begun work
 told_begun id (Copy c) = refl
@@ -59,6 +63,7 @@ told_begun id (Delete d) = refl
 told_begun id (Make m) = refl
 told_begun id (Move m) = refl
 told_begun id (SetMode s) = refl
+told_begun id (RemoveEmptied r) = refl
 
 item_begun : (top path : Route) (stage : Stage) → is_going stage ≡ false → is_going (after_item top path stage) ≡ false
 item_begun top path stage clean = by (same_path path top)
@@ -104,12 +109,25 @@ synced_setting setting.Give = refl
 synced_setting setting.Sync = refl
 synced_setting setting.Done = refl
 
+skip_removal : (stage : RemovalStage) → removals.is_dirty (removals.skipped stage) ≡ removals.is_dirty stage
+skip_removal removal.Remove = refl
+skip_removal removal.Sync = refl
+skip_removal removal.Finish = refl
+skip_removal removal.PassedOver = refl
+
+synced_removal : (stage : RemovalStage) → removals.is_dirty (removals.after_sync stage) ≡ false
+synced_removal removal.Remove = refl
+synced_removal removal.Sync = refl
+synced_removal removal.Finish = refl
+synced_removal removal.PassedOver = refl
+
 skipped_begun : (path : Route) (work : Work) → has_begun work ≡ false → has_begun (skipped path work) ≡ false
 skipped_begun path (Copy c) clean = clean
 skipped_begun path (Delete d) clean = item_begun d.path path d.stage clean
 skipped_begun path (Make m) clean = skip_making m.stage ∙ clean
 skipped_begun path (Move m) clean = skip_moving m.stage ∙ clean
 skipped_begun path (SetMode s) clean = skip_setting s.stage ∙ clean
+skipped_begun path (RemoveEmptied r) clean = skip_removal r.stage ∙ clean
 
 spared_begun : (path : Route) (work : Work) → has_begun work ≡ false → has_begun (spared path work) ≡ false
 spared_begun path (Copy c) clean = clean
@@ -117,6 +135,15 @@ spared_begun path (Delete d) clean = item_begun d.path path d.stage clean
 spared_begun path (Make m) clean = clean
 spared_begun path (Move m) clean = refl
 spared_begun path (SetMode s) clean = clean
+spared_begun path (RemoveEmptied r) clean = refl
+
+merged_begun : (work : Work) → has_begun work ≡ false → has_begun (merged work) ≡ false
+merged_begun (Copy c) clean = clean
+merged_begun (Delete d) clean = clean
+merged_begun (Make m) clean = clean
+merged_begun (Move m) clean = refl
+merged_begun (SetMode s) clean = clean
+merged_begun (RemoveEmptied r) clean = clean
 
 -- it is a copy
 abbrev is_tree : Work → Bool
@@ -125,6 +152,7 @@ is_tree (Delete d) = false
 is_tree (Make m) = false
 is_tree (Move m) = false
 is_tree (SetMode s) = false
+is_tree (RemoveEmptied r) = false
 
 -- a copy or a move: which names and modes wait in its folders is known of the work itself
 abbrev pub knows_calm : Work → Bool
@@ -133,6 +161,7 @@ knows_calm (Delete d) = false
 knows_calm (Make m) = false
 knows_calm (Move m) = true
 knows_calm (SetMode s) = false
+knows_calm (RemoveEmptied r) = false
 
 -- a step leaves it so
 tells_calm : (old new : Work) (did : Did) → WorkTells old did new → knows_calm new ≡ false → knows_calm old ≡ false
@@ -140,45 +169,27 @@ tells_calm (Delete d) new did t other = refl
 tells_calm (Make m) new did t other = refl
 tells_calm (SetMode s) new did t other = refl
 tells_calm (Copy c) (Copy new) did t other = other
-tells_calm (Copy c) (Delete new) did t other = absurd t
-tells_calm (Copy c) (Make new) did t other = absurd t
-tells_calm (Copy c) (Move new) did t other = absurd t
-tells_calm (Copy c) (SetMode new) did t other = absurd t
 tells_calm (Move m) (Move new) did t other = other
-tells_calm (Move m) (Copy new) did t other = absurd t
-tells_calm (Move m) (Delete new) did t other = absurd t
-tells_calm (Move m) (Make new) did t other = absurd t
-tells_calm (Move m) (SetMode new) did t other = absurd t
+tells_calm (RemoveEmptied r) new did t other = refl
+tells_calm old new did t other = absurd t
 
 winds_calm : (ending : Ending) (old new : Work) (did : Did) → WorkWinds ending old did new → knows_calm new ≡ false → knows_calm old ≡ false
 winds_calm ending (Delete d) new did t other = refl
 winds_calm ending (Make m) new did t other = refl
 winds_calm ending (SetMode s) new did t other = refl
 winds_calm ending (Copy c) (Copy new) did t other = other
-winds_calm ending (Copy c) (Delete new) did t other = absurd t
-winds_calm ending (Copy c) (Make new) did t other = absurd t
-winds_calm ending (Copy c) (Move new) did t other = absurd t
-winds_calm ending (Copy c) (SetMode new) did t other = absurd t
 winds_calm ending (Move m) (Move new) did t other = other
-winds_calm ending (Move m) (Copy new) did t other = absurd t
-winds_calm ending (Move m) (Delete new) did t other = absurd t
-winds_calm ending (Move m) (Make new) did t other = absurd t
-winds_calm ending (Move m) (SetMode new) did t other = absurd t
+winds_calm ending (RemoveEmptied r) new did t other = refl
+winds_calm ending old new did t other = absurd t
 
 passes_calm : (old new : Work) (path : Route) → PassesOver old path new → knows_calm new ≡ false → knows_calm old ≡ false
 passes_calm (Delete d) new path h other = refl
 passes_calm (Make m) new path h other = refl
 passes_calm (SetMode s) new path h other = refl
 passes_calm (Copy c) (Copy new) path h other = other
-passes_calm (Copy c) (Delete new) path h other = absurd h
-passes_calm (Copy c) (Make new) path h other = absurd h
-passes_calm (Copy c) (Move new) path h other = absurd h
-passes_calm (Copy c) (SetMode new) path h other = absurd h
 passes_calm (Move m) (Move new) path h other = other
-passes_calm (Move m) (Copy new) path h other = absurd h
-passes_calm (Move m) (Delete new) path h other = absurd h
-passes_calm (Move m) (Make new) path h other = absurd h
-passes_calm (Move m) (SetMode new) path h other = absurd h
+passes_calm (RemoveEmptied r) new path h other = refl
+passes_calm old new path h other = absurd h
 
 on_calm : (old new : Running) (did : Did) (course : Course) → TellsOn course old did new → knows_calm new.work ≡ false → knows_calm old.work ≡ false
 on_calm old new did GoesOn (work, tells, new_is) other = tells_calm old.work work did tells (sym (ap (λ (x : Running). knows_calm x.work) new_is) ∙ other)
@@ -198,6 +209,7 @@ told_tree id (Delete d) = refl
 told_tree id (Make m) = refl
 told_tree id (Move m) = refl
 told_tree id (SetMode s) = refl
+told_tree id (RemoveEmptied r) = refl
 
 placed_begun : (work : Work) → is_tree work ≡ false → has_begun (placed work) ≡ has_begun work
 placed_begun (Copy c) other = absurd (true≢false other)
@@ -205,6 +217,7 @@ placed_begun (Delete d) other = refl
 placed_begun (Make m) other = refl
 placed_begun (Move m) other = refl
 placed_begun (SetMode s) other = refl
+placed_begun (RemoveEmptied r) other = refl
 
 cleaned_begun : (course : Course) (work : Work) → is_tree work ≡ false → has_begun (cleaned course work) ≡ has_begun work
 cleaned_begun course (Copy c) other = absurd (true≢false other)
@@ -212,6 +225,7 @@ cleaned_begun course (Delete d) other = refl
 cleaned_begun course (Make m) other = refl
 cleaned_begun course (Move m) other = refl
 cleaned_begun course (SetMode s) other = refl
+cleaned_begun course (RemoveEmptied r) other = refl
 
 synced_begun : (work : Work) → has_begun work ≡ false → has_begun (synced work) ≡ false
 synced_begun (Copy c) clean = clean
@@ -219,6 +233,7 @@ synced_begun (Delete d) clean = clean
 synced_begun (Make m) clean = synced_making m.stage
 synced_begun (Move m) clean = synced_moving m.pair m.stage clean
 synced_begun (SetMode s) clean = synced_setting s.stage
+synced_begun (RemoveEmptied r) clean = synced_removal r.stage
 
 some_job : (a b : Running) → (let o : Option Running = Some a in o) ≡ Some b → has_begun b.work ≡ has_begun a.work
 some_job a b h = let e : a ≡ b = cc in ap (λ (x : Running). has_begun x.work) (sym e)
@@ -233,7 +248,7 @@ clean_after (Placed path) job new other none h clean = some_job (record job { wo
 clean_after (Made path) job new other none h clean = absurd (true≢false none)
 clean_after (Kept path) job new other none h clean = some_job (record job { work = spared path job.work }) new h ∙ spared_begun path job.work clean
 clean_after (Asked question) job new other none h clean = some_job (record job { course = Rattle.copy_move.specs.declared.run.Course.TheVariants.Asking }) new h ∙ clean
-clean_after (Merges pair names) job new other none h clean = some_job job new h ∙ clean
+clean_after (Merges transfer pair names) job new other none h clean = some_job (record job { work = merged job.work }) new h ∙ merged_begun job.work clean
 clean_after (Moved pair) job new other none h clean = absurd (true≢false none)
 clean_after (Skipped path why) job new other none h clean = some_job (record job { work = skipped path job.work; course = Rattle.copy_move.specs.declared.run.Course.TheVariants.GoesOn }) new h ∙ skipped_begun path job.work clean
 clean_after (Cleaned part) job new other none h clean = some_job (record job { work = cleaned job.course job.work }) new h ∙ (cleaned_begun job.course job.work other ∙ clean)
@@ -248,16 +263,11 @@ stage_stays (Made path) stage may none = absurd (true≢false none)
 stage_stays (Skipped path cause) stage may none = refl
 stage_stays (Troubled trouble) stage may none = refl
 stage_stays (Ended ending part) stage may none = refl
-stage_stays (Chunk count) stage may none = absurd may
-stage_stays (Placed path) stage may none = absurd may
-stage_stays (Removed path) stage may none = absurd may
-stage_stays (Set path) stage may none = absurd may
 stage_stays (Kept path) stage may none = refl
 stage_stays (Asked question) stage may none = refl
-stage_stays (Merges pair names) stage may none = refl
+stage_stays (Merges transfer pair names) stage may none = refl
 stage_stays (Moved pair) stage may none = absurd (true≢false none)
-stage_stays (Cleaned part) stage may none = absurd may
-stage_stays Barrier stage may none = absurd may
+stage_stays did stage may none = absurd may
 
 not_true : (b : Bool) → not b ≡ false → b ≡ true
 not_true true h = refl
@@ -269,24 +279,15 @@ as_stage old new is clean = ap (λ s. not (is_fresh s)) is ∙ clean
 tree_tells : (c : SubtreeCopying) (work : Work) (did : Did) → WorkTells (Copy c) did work → begins_change did ≡ false → has_begun (Copy c) ≡ false → has_begun work ≡ false
 tree_tells c (Copy new) did t none clean =
     let after = t.after in as_stage c.at.stage new.at.stage (after.stage ∙ stage_stays did c.at.stage (t.first (not_true (is_fresh c.at.stage) clean)) none) clean
-tree_tells c (Delete new) did t none clean = absurd t
-tree_tells c (Make new) did t none clean = absurd t
-tree_tells c (Move new) did t none clean = absurd t
-tree_tells c (SetMode new) did t none clean = absurd t
+tree_tells c new did t none clean = absurd t
 
 tree_passes : (c : SubtreeCopying) (work : Work) (path : Route) → PassesOver (Copy c) path work → has_begun (Copy c) ≡ false → has_begun work ≡ false
 tree_passes c (Copy new) path (cause, after) clean = as_stage c.at.stage new.at.stage after.stage clean
-tree_passes c (Delete new) path h clean = absurd h
-tree_passes c (Make new) path h clean = absurd h
-tree_passes c (Move new) path h clean = absurd h
-tree_passes c (SetMode new) path h clean = absurd h
+tree_passes c new path h clean = absurd h
 
 tree_winds : (ending : Ending) (c : SubtreeCopying) (work : Work) (did : Did) → WorkWinds ending (Copy c) did work → has_begun (Copy c) ≡ false → has_begun work ≡ false
 tree_winds ending c (Copy new) did t clean = as_stage c.at.stage new.at.stage t.stage clean
-tree_winds ending c (Delete new) did t clean = absurd t
-tree_winds ending c (Make new) did t clean = absurd t
-tree_winds ending c (Move new) did t clean = absurd t
-tree_winds ending c (SetMode new) did t clean = absurd t
+tree_winds ending c new did t clean = absurd t
 
 tree_clean : (job new : Running) (did : Did) (c : SubtreeCopying) (course : Course) → job.work ≡ Copy c → TellsOn course job did new → begins_change did ≡ false → has_begun job.work ≡ false → has_begun new.work ≡ false
 tree_clean job new did c GoesOn is (work, tells, new_is) none clean =
@@ -312,6 +313,7 @@ step_clean job new did tells on none clean = by job.work refl
     by (Make m) is = other (ap is_tree is)
     by (Move m) is = other (ap is_tree is)
     by (SetMode s) is = other (ap is_tree is)
+    by (RemoveEmptied r) is = other (ap is_tree is)
 
 -- a job begins so
 deletes_clean : (path : Route) (w : Work) (b : Bool) → (let o : Option Work = if◌then◌else◌ b (Some (deletes path)) None in o) ≡ Some w → has_begun w ≡ false
@@ -334,6 +336,10 @@ sets_clean : (path : Route) (mode : ℕ) (w : Work) (b : Bool) → (let o : Opti
 sets_clean path mode w true is = let e : sets path mode ≡ w = cc in ap has_begun (sym e)
 sets_clean path mode w false is = absurd (let f : ⊥ = cc in f)
 
+emptied_clean : (path : Route) (w : Work) (b : Bool) → (let o : Option Work = if◌then◌else◌ b (Some (removes_emptied path)) None in o) ≡ Some w → has_begun w ≡ false
+emptied_clean path w true is = let e : removes_emptied path ≡ w = cc in ap has_begun (sym e)
+emptied_clean path w false is = absurd (let f : ⊥ = cc in f)
+
 pub first_clean : (id : ℕ) (job : Job) (w : Work) → first_work id job ≡ Some w → has_begun w ≡ false
 first_clean id (plan.Delete []) w is = absurd (let f : ⊥ = cc in f)
 first_clean id (plan.Delete (path ∷ [])) w is = deletes_clean path w (is_some (parent_of path)) is
@@ -349,3 +355,4 @@ first_clean id (plan.MakeLink path text) w is = makes_clean (thing.Link text) pa
 first_clean id (plan.SetMode [] mode) w is = absurd (let f : ⊥ = cc in f)
 first_clean id (plan.SetMode (path ∷ []) mode) w is = sets_clean path mode w (is_some (parent_of path) && nat_le mode 0o7777) is
 first_clean id (plan.SetMode (path ∷ more ∷ paths) mode) w is = absurd (let f : ⊥ = cc in f)
+first_clean id (plan.RemoveEmptied path) w is = emptied_clean path w (is_some (parent_of path)) is

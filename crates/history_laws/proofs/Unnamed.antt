@@ -9,7 +9,7 @@ use Rattle.tree_trait.specs.CrashImages.{Among}
 use Rattle.tree_trait.proofs.Visible.{same_path-self}
 use Rattle.job_reports.specs.declared.report.Did.{Did}
 use Rattle.job_reports.specs.declared.report.Did.TheVariants.{Began, Chunk, Placed, Removed, Made, Set, Kept, Skipped, Cleaned, Barrier, Asked, Merges, Moved, Troubled, Ended}
-use Rattle.job_reports.specs.Jobs.{Item, Copies, Moves, Removes, Makes, MakesLink, Sets}
+use Rattle.job_reports.specs.Jobs.{Item, Copies, Moves, Removes, Makes, MakesLink, Sets, RemovesEmptied}
 use Rattle.session_history.specs.declared.history.Event.{Event}
 use Rattle.session_history.specs.declared.history.Event.TheVariants.{Key, Look, Sought, Order, Step, Next, Closed}
 use Rattle.session_history.specs.declared.history.Event.TheVariants as event
@@ -31,6 +31,7 @@ placed_unnamed (Some (Removes file)) target v path unnamed = refl
 placed_unnamed (Some (Makes folder)) target v path unnamed = refl
 placed_unnamed (Some (MakesLink link text)) target v path unnamed = refl
 placed_unnamed (Some (Sets thing mode)) target v path unnamed = refl
+placed_unnamed (Some (RemovesEmptied folder)) target v path unnamed = refl
 placed_unnamed None target v path unnamed = refl
 
 set_unnamed : (item : Option Item) (changed : Route) (v : View) (path : Route) → same_path path changed ≡ false → set_by item changed v path ≡ v path
@@ -40,6 +41,7 @@ set_unnamed (Some (Removes file)) changed v path unnamed = refl
 set_unnamed (Some (Makes folder)) changed v path unnamed = refl
 set_unnamed (Some (MakesLink link text)) changed v path unnamed = refl
 set_unnamed (Some (Sets thing mode)) changed v path unnamed = put_off v changed (Rattle.std.specs.Option.option_map (with_mode mode) (v changed).value) path unnamed
+set_unnamed (Some (RemovesEmptied folder)) changed v path unnamed = refl
 set_unnamed None changed v path unnamed = refl
 
 pub step_unnamed : (log : CallLog) (did : Did) (item : Option Item) (v : View) (path : Route) → names did path ≡ false → replayed_step log did item v path ≡ v path
@@ -53,7 +55,7 @@ step_unnamed log (Set changed) item v path unnamed = set_unnamed item changed v 
 step_unnamed log (Made folder) item v path unnamed = put_off v folder (Some (made_by item folder v)) path unnamed
 step_unnamed log (Kept kept) item v path unnamed = refl
 step_unnamed log (Asked question) item v path unnamed = refl
-step_unnamed log (Merges pair names) item v path unnamed = refl
+step_unnamed log (Merges transfer pair names) item v path unnamed = refl
 step_unnamed log (Moved pair) item v path unnamed = moved_off pair v path unnamed
 step_unnamed log (Skipped file cause) item v path unnamed = refl
 step_unnamed log (Cleaned part) item v path unnamed = refl
@@ -87,7 +89,7 @@ named_step (Removed file) left parts path unnamed among = among
 named_step (Made folder) left parts path unnamed among = in_filter (λ kept. Rattle.std.specs.Prelude.not (same_path kept folder)) path parts among
 named_step (Kept kept) left parts path unnamed among = among
 named_step (Asked question) left parts path unnamed among = among
-named_step (Merges pair names) left parts path unnamed among = among
+named_step (Merges transfer pair names) left parts path unnamed among = among
 named_step (Moved pair) left parts path unnamed among = named_off pair left parts path unnamed among
 named_step (Skipped file cause) left parts path unnamed among = among
 named_step (Cleaned part) left parts path unnamed among = among
@@ -105,7 +107,7 @@ earlier_unnamed (Chunk count) v before path unnamed = refl
 earlier_unnamed (Set changed) v before path unnamed = put_off before changed (v changed).value path unnamed
 earlier_unnamed (Kept kept) v before path unnamed = refl
 earlier_unnamed (Asked question) v before path unnamed = refl
-earlier_unnamed (Merges pair names) v before path unnamed = refl
+earlier_unnamed (Merges transfer pair names) v before path unnamed = refl
 earlier_unnamed (Moved pair) v before path unnamed = kept_off pair v before path unnamed
 earlier_unnamed (Skipped file cause) v before path unnamed = refl
 earlier_unnamed (Cleaned part) v before path unnamed = refl

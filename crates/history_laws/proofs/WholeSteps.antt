@@ -20,7 +20,7 @@ use Rattle.thing_moving.specs.Movings.{Moving, is_fresh}
 use Rattle.copy_move.specs.declared.run.Course.{Course}
 use Rattle.copy_move.specs.declared.run.Course.TheVariants.{GoesOn, Asking, InTrouble, OwedSyncFailed, Skips, Ends}
 use Rattle.copy_move.specs.declared.work.Work.{Work}
-use Rattle.copy_move.specs.declared.work.Work.TheVariants.{Copy, Delete, Make, Move, SetMode}
+use Rattle.copy_move.specs.declared.work.Work.TheVariants.{Copy, Delete, Make, Move, SetMode, RemoveEmptied}
 use Rattle.copy_move.specs.Jobs.{Running, CallsOn, TellsOn, WorkCalls, WorkTells, WorkWinds}
 use Rattle.copy_move.specs.Jobs as jobs
 use Rattle.copy_move.specs.Settling.{NoneOwed}
@@ -175,6 +175,17 @@ module _ (told : Said) (dirty : List Route) (marks : Marks) (log now : CallLog) 
     of_work (SetMode s) (Move new) is course_is tells calls settled after_is = absurd tells
     of_work (SetMode s) (Make new) is course_is tells calls settled after_is = absurd tells
     of_work (SetMode s) (SetMode new) is course_is tells calls settled after_is = absurd tells
+    of_work (RemoveEmptied r) (Copy new) is course_is tells calls settled after_is = absurd tells
+    of_work (RemoveEmptied r) (Delete new) is course_is tells calls settled after_is = absurd tells
+    of_work (RemoveEmptied r) (Move new) is course_is tells calls settled after_is = absurd tells
+    of_work (RemoveEmptied r) (RemoveEmptied new) is course_is tells calls settled after_is = absurd tells
+    of_work (RemoveEmptied r) (SetMode new) is course_is tells calls settled after_is = absurd tells
+    of_work (Move m) (RemoveEmptied new) is course_is tells calls settled after_is = absurd tells
+    of_work (Copy c) (RemoveEmptied new) is course_is tells calls settled after_is = absurd tells
+    of_work (Delete d) (RemoveEmptied new) is course_is tells calls settled after_is = absurd tells
+    of_work (SetMode s) (RemoveEmptied new) is course_is tells calls settled after_is = absurd tells
+    of_work (RemoveEmptied r) (Make new) is course_is tells calls settled after_is = absurd tells
+    of_work (Make w) (RemoveEmptied new) is course_is tells calls settled after_is = absurd tells
 
     by_course : (new : Running) (course : Course) → job.course ≡ course → TellsOn course job (Moved pair) new → CallsOn IsUnclaimed course job (Moved pair) new log (Some now)
         → (course ≡ GoesOn → jobs.is_fresh job.work ≡ true → NoneOwed (current log) job.work dirty) → after ≡ Some new → WhollyMoved pair after
@@ -214,6 +225,17 @@ module _ (told : Said) (dirty : List Route) (marks : Marks) (log now : CallLog) 
         wound (SetMode s) (Make new) winds = winds
         wound (SetMode s) (Move new) winds = winds
         wound (SetMode s) (SetMode new) winds = winds
+        wound (RemoveEmptied r) (Copy new) winds = winds
+        wound (RemoveEmptied r) (Delete new) winds = winds
+        wound (RemoveEmptied r) (Make new) winds = winds
+        wound (RemoveEmptied r) (Move new) winds = winds
+        wound (RemoveEmptied r) (SetMode new) winds = winds
+        wound (RemoveEmptied r) (RemoveEmptied new) winds = winds
+        wound (Copy c) (RemoveEmptied new) winds = winds
+        wound (Delete d) (RemoveEmptied new) winds = winds
+        wound (Make w) (RemoveEmptied new) winds = winds
+        wound (Move m) (RemoveEmptied new) winds = winds
+        wound (SetMode s) (RemoveEmptied new) winds = winds
 
     pub step_whole : StepLeads job (Moved pair) after dirty dirty_after log now → WhollyMoved pair after
     step_whole (inl (new, inl works, after_is)) = by_course new job.course refl works.tells works.called works.settled after_is

@@ -16,7 +16,7 @@ use Rattle.session_history.specs.declared.history.Event.{Event}
 use Rattle.session_history.specs.declared.history.Event.TheVariants.{Key, Look, Sought, Order, Step, Next, Closed}
 use Rattle.session_history.specs.declared.history.Event.TheVariants as event
 use Rattle.session_history.specs.declared.history.Entry.{Entry}
-use Rattle.job_reports.specs.Jobs.{Item, Copies, Moves, Removes, Makes, MakesLink, Sets, new_folder_mode}
+use Rattle.job_reports.specs.Jobs.{Item, Copies, Moves, Removes, Makes, MakesLink, Sets, RemovesEmptied, new_folder_mode}
 use Rattle.session_history.specs.LiveJobs.{LiveJob, live_jobs, live_item}
 
 -- the log as it was when so many calls had been made since the opening
@@ -42,6 +42,7 @@ placed_by (Some (Removes file)) path v = v
 placed_by (Some (Makes folder)) path v = v
 placed_by (Some (MakesLink link text)) path v = v
 placed_by (Some (Sets thing mode)) path v = v
+placed_by (Some (RemovesEmptied folder)) path v = v
 placed_by None path v = v
 
 -- a thing with the mode of another, where there is one
@@ -61,6 +62,7 @@ set_by (Some (Removes file)) path v = v
 set_by (Some (Makes folder)) path v = v
 set_by (Some (MakesLink link text)) path v = v
 set_by (Some (Sets thing mode)) path v = put v path (option_map (with_mode mode) (v path).value)
+set_by (Some (RemovesEmptied folder)) path v = v
 set_by None path v = v
 
 -- what stands where a folder was made
@@ -84,6 +86,7 @@ made_by (Some (Copies source target)) path v = copied_folder (v (moved_from sour
 made_by (Some (Moves source target)) path v = new_folder
 made_by (Some (Removes file)) path v = new_folder
 made_by (Some (Sets thing mode)) path v = new_folder
+made_by (Some (RemovesEmptied folder)) path v = new_folder
 made_by None path v = new_folder
 
 -- nothing stands there
@@ -108,7 +111,7 @@ replayed_step log (Set path) item v = set_by item path v
 replayed_step log (Made path) item v = put v path (Some (made_by item path v))
 replayed_step log (Kept kept) item v = v
 replayed_step log (Asked question) item v = v
-replayed_step log (Merges pair names) item v = v
+replayed_step log (Merges transfer pair names) item v = v
 replayed_step log (Moved pair) item v = moved_by pair v
 replayed_step log (Skipped path cause) item v = v
 replayed_step log (Cleaned part) item v = v

@@ -11,7 +11,7 @@ use Rattle.job_reports.specs.declared.report.Did.TheVariants.{Ended}
 use Rattle.job_reports.specs.declared.report.Ending.TheVariants.{Finished}
 use Rattle.job_reports.specs.Paths.{folder_of}
 use Rattle.session_history.specs.declared.history.Entry.{Entry}
-use Rattle.job_reports.specs.Jobs.{Item, Copies, Moves, Removes, Makes, MakesLink, Sets}
+use Rattle.job_reports.specs.Jobs.{Item, Copies, Moves, Removes, Makes, MakesLink, Sets, RemovesEmptied}
 use Rattle.copy_move.specs.Jobs.{Running}
 use Rattle.history_laws.specs.Owed.{IsNoMatter, is_own_path}
 use Rattle.history_laws.specs.Doubt.{IsMountInDoubt, name_waits, node_waits}
@@ -57,6 +57,7 @@ may_change (Removes path) folder = same_path folder (folder_of path) || is_prefi
 may_change (Makes path) folder = same_path folder (folder_of path)
 may_change (MakesLink path text) folder = same_path folder (folder_of path)
 may_change (Sets path mode) folder = false
+may_change (RemovesEmptied path) folder = same_path folder (folder_of path)
 
 -- a path that a job may change: one in such a folder, or the thing to which it gives a mode
 abbrev pub may_change_path : Item → Route → Bool
