@@ -18,6 +18,7 @@ use Rattle.job_reports.specs.declared.question.Question.{Question}
 use Rattle.job_reports.specs.declared.report.Did.{Did}
 use Rattle.job_reports.specs.declared.report.Did.TheVariants.{Began, Chunk, Placed, Removed, Made, Set, Kept, Skipped, Cleaned, Barrier, Asked, Merges, Moved, Troubled, Ended}
 use Rattle.job_reports.specs.declared.report.StepResult.{StepResult}
+use Rattle.job_reports.specs.declared.report.Transfer.TheVariants.{ByCopy}
 use Rattle.job_answers.specs.declared.replies.Decision.{Decision}
 use Rattle.job_answers.specs.declared.replies.Decision.TheVariants.{Ask, Keep, Replace}
 use Rattle.job_answers.specs.declared.replies.Replies.{Replies}
@@ -59,9 +60,10 @@ use Rattle.outcome_laws.specs.Answered.{IsAsAnswered, IsQuestionOf, IsSized}
 use Rattle.outcome_laws.proofs.Accounts.{ItemDone}
 use Rattle.outcome_laws.proofs.CopyOutcome.{TreeAccounts, next_of, not_begun, shows_all, top_alone, top_source}
 use Rattle.outcome_laws.proofs.FileWork.{none_shown, some_shown}
+use Rattle.outcome_laws.proofs.MergedNames.{merged_whole}
 use Rattle.outcome_laws.proofs.TreeLevels.{leaves_done}
 
--- a report that asks nothing, keeps nothing and begins no part
+-- a report that asks nothing, keeps nothing, merges nothing and begins no part
 abbrev pub IsOther : Did → Type 0
 IsOther (Asked question) = ⊥
 IsOther (Kept path) = ⊥
@@ -74,7 +76,7 @@ IsOther (Set path) = ⊤
 IsOther (Skipped path cause) = ⊤
 IsOther (Cleaned part) = ⊤
 IsOther Barrier = ⊤
-IsOther (Merges pair names) = ⊤
+IsOther (Merges transfer pair names) = ⊥
 IsOther (Moved pair) = ⊤
 IsOther (Troubled trouble) = ⊤
 IsOther (Ended ending part) = ⊤
@@ -91,7 +93,7 @@ other_as replies source target v (Set path) h = tt
 other_as replies source target v (Skipped path cause) h = tt
 other_as replies source target v (Cleaned part) h = tt
 other_as replies source target v Barrier h = tt
-other_as replies source target v (Merges pair names) h = tt
+other_as replies source target v (Merges transfer pair names) h = absurd h
 other_as replies source target v (Moved pair) h = tt
 other_as replies source target v (Troubled trouble) h = tt
 other_as replies source target v (Ended ending part) h = tt
@@ -121,7 +123,7 @@ file_other f moved (Skipped path cause) t begun = tt
 file_other f moved (Removed path) t begun = tt
 file_other f moved (Made path) t begun = tt
 file_other f moved (Set path) t begun = tt
-file_other f moved (Merges pair names) t begun = tt
+file_other f moved (Merges transfer pair names) t begun = absurd t
 file_other f moved (Moved pair) t begun = tt
 
 link_other : (l moved : LinkCopying) (did : Did) → link.Tells l did moved → (l.stage ≡ link_stage.Make → ⊥) → IsOther did
@@ -138,7 +140,7 @@ link_other l moved (Skipped path cause) t begun = tt
 link_other l moved (Removed path) t begun = tt
 link_other l moved (Made path) t begun = tt
 link_other l moved (Set path) t begun = tt
-link_other l moved (Merges pair names) t begun = tt
+link_other l moved (Merges transfer pair names) t begun = absurd t
 link_other l moved (Moved pair) t begun = tt
 
 -- nothing stands there, so nothing is replaced
@@ -179,7 +181,8 @@ beside top name source target named m is = by m.rest m.from m.to
         absurd (let deep = ap (λ (p : Route). length (folder_of p)) to in let same = ap (λ (p : Route). length p) is in let whole = ap (λ (p : Route). length p) named in let sum = length-append rest top.target in omega (arith, deep, same, whole, sum))
 
 -- a step of the machine
-module _ (log : CallLog) (v : View) (top : Pair) (unclaimed : Route → Type 0) (replies : Replies) (old new : Seen) (did : Did) (after : Option CallLog) (place : IsInPlace top old) (tree : IsTree (current log)) where
+module _ (log : CallLog) (v : View) (top : Pair) (unclaimed : Route → Type 0) (replies : Replies) (old new : Seen) (did : Did) (after : Option CallLog) (place : IsInPlace top old) (tree : IsTree (current log))
+    (merges : (pair : Pair) (names : List (List ℕ)) → did ≡ Merges ByCopy pair names → pair ≡ top) where
   abbrev As : Did → Type 0
   As d = IsAsAnswered replies top.source top.target v d
 
@@ -212,7 +215,7 @@ module _ (log : CallLog) (v : View) (top : Pair) (unclaimed : Route → Type 0) 
   file_as pair facts moved m onto shows (Skipped path cause) t called = tt
   file_as pair facts moved m onto shows (Cleaned part) t called = tt
   file_as pair facts moved m onto shows Barrier t called = tt
-  file_as pair facts moved m onto shows (Merges told names) t called = tt
+  file_as pair facts moved m onto shows (Merges transfer told names) t called = absurd t
   file_as pair facts moved m onto shows (Moved told) t called = tt
   file_as pair facts moved m onto shows (Ended ending part) t called = tt
 
@@ -230,7 +233,7 @@ module _ (log : CallLog) (v : View) (top : Pair) (unclaimed : Route → Type 0) 
   link_as pair k part moved part_is m onto shows (Skipped path cause) t = tt
   link_as pair k part moved part_is m onto shows (Cleaned left) t = tt
   link_as pair k part moved part_is m onto shows Barrier t = tt
-  link_as pair k part moved part_is m onto shows (Merges told names) t = tt
+  link_as pair k part moved part_is m onto shows (Merges transfer told names) t = absurd t
   link_as pair k part moved part_is m onto shows (Moved told) t = tt
   link_as pair k part moved part_is m onto shows (Ended ending left) t = tt
 
@@ -259,7 +262,9 @@ module _ (log : CallLog) (v : View) (top : Pair) (unclaimed : Route → Type 0) 
       let w = t.works in
       link_as t.pair chosen.0 t.part w.moved chosen.1 (moved_as t.pair t.next) is.1 shows did w.tells
   takes_as shows (inr (inr (inr (inl t)))) = (let w = t.works in other_as replies top.source top.target v did (told_other w.report did w.says))
-  takes_as shows (inr (inr (inr (inr (inl t))))) = subst As (sym t.says) tt
+  takes_as shows (inr (inr (inr (inr (inl t))))) =
+      let is = t.is log refl in
+      subst As (sym t.says) (refl, merges t.pair t.names t.says, merged_whole v log shows t.pair t.names is.0.0 is.2)
   takes_as shows (inr (inr (inr (inr (inr (inl t)))))) =
       let is = t.is log refl in
       let q = top_question t.pair is.0 Keep t.next t.top shows is.1 in
@@ -279,7 +284,8 @@ module _ (log : CallLog) (v : View) (top : Pair) (unclaimed : Route → Type 0) 
   works_as passed (Stays part) d shows w = absurd w
 
 -- a step of the copy of a thing with all that lies in it
-module _ (told : Said) (dirty dirty_after : List Route) (marks : Marks) (log now : CallLog) (kept : IsKept told dirty marks log) (c new : SubtreeCopying) (did : Did) (passed : List Route) (course : Course) (free : Route → Bool) (replies : Replies) (count f0 f1 : ℕ)
+module _ (told : Said) (dirty dirty_after : List Route) (marks : Marks) (log now : CallLog) (kept : IsKept told dirty marks log) (c new : SubtreeCopying) (did : Did)
+    (merges : (pair : Pair) (names : List (List ℕ)) → did ≡ Merges ByCopy pair names → pair ≡ c.top) (passed : List Route) (course : Course) (free : Route → Bool) (replies : Replies) (count f0 f1 : ℕ)
     (part : ItemHas told dirty marks (current log) course c.at.item) (s : SubtreeSteps free replies c new did count dirty dirty_after (Some log) (Some now) f0 f1) (a : TreeAccounts passed told.tree c) where
   abbrev Here : Did → Type 0
   Here d = IsAsAnswered replies c.top.source c.top.target told.tree d
@@ -290,22 +296,22 @@ module _ (told : Said) (dirty dirty_after : List Route) (marks : Marks) (log now
   abbrev mid : Seen
   mid = s.mid
 
-  machine : CopySteps free replies mid s.moved r.did r.calls (Some log) (Some now) f0 f1 → Here r.did
-  machine m =
+  machine : (r.did ≡ did) → CopySteps free replies mid s.moved r.did r.calls (Some log) (Some now) f0 f1 → Here r.did
+  machine same m =
       let last = m.mid in
       let first = leaves_done told.tree passed c.top s.leaves.0 c.at mid s.leaves.1 a.done in
       let done = leaves_done told.tree passed c.top m.folders mid last m.leaves first in
       let place = leaves_all c.top m.folders mid last m.leaves (leaves_all c.top s.leaves.0 c.at mid s.leaves.1 a.in_place) in
-      works_as log told.tree c.top (IsPartPlace free last) replies last s.moved r.did (Some now) place kept.known.guarded.tree passed last.item done.item
+      works_as log told.tree c.top (IsPartPlace free last) replies last s.moved r.did (Some now) place kept.known.guarded.tree (λ pair names is. merges pair names (sym same ∙ is)) passed last.item done.item
       (λ none. shows_all told dirty marks log kept (subst (ItemHas told dirty marks (current log) course) (sym (left_item s.leaves.0 c.at mid s.leaves.1) ∙ (sym (left_item m.folders mid last m.leaves) ∙ none)) part)) m.works
 
-  worked : ListSteps free replies mid s.moved r dirty dirty_after (Some log) (Some now) f0 f1 → Here r.did
-  worked (inl out) = subst Here (sym (ap (λ (x : StepResult). x.did) out.says)) tt
-  worked (inr m) = machine m.steps
+  worked : (r.did ≡ did) → ListSteps free replies mid s.moved r dirty dirty_after (Some log) (Some now) f0 f1 → Here r.did
+  worked said (inl out) = subst Here (sym (ap (λ (x : StepResult). x.did) out.says)) tt
+  worked said (inr m) = machine said m.steps
 
   pub tree_as : Here did
   tree_as = by s.passes
     where
       by : OrPassedOver c.skips r s.moved new.at (step_result did count) → Here did
-      by (inl (none, same, at)) = subst Here (sym (ap (λ (x : StepResult). x.did) same)) (worked s.works)
+      by (inl (none, same, at)) = (let said = sym (ap (λ (x : StepResult). x.did) same) in subst Here said (worked said s.works))
       by (inr (cause, is, calls, skips)) = (let moved = s.moved in other_as replies c.top.source c.top.target told.tree did (passed_other did (skip_says moved.item cause moved new.at did skips)))

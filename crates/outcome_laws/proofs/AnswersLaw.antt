@@ -1,4 +1,5 @@
--- Wherever in a history a job that copies asks, keeps or begins a part beside its target, or one that moves asks, keeps or goes there, that is as was answered to it before.
+-- Wherever in a history a job that copies asks, keeps, merges or begins a part beside its target, or one that moves asks, keeps, merges or goes there, that is as was answered to it before, and by what
+-- stands there; and so an emptied folder is kept or removed by what lies in it.
 use Rattle.std.specs.Prelude.{⊤}
 use Rattle.std.proofs.Common.{◌≡◌, ℕ, Bool, true, false, List, [], ◌∷◌, refl, sym, ◌∙◌, ap, subst, inl, inr, Option, Some, append-nil}
 use Rattle.mc_text.specs.Routes.{Route}
@@ -8,7 +9,7 @@ use Rattle.tree_trait.specs.CrashImages.{all_settled}
 use Rattle.tree_trait.specs.FileSystem.{View}
 use Rattle.crash_law.specs.Guarded.{Marks}
 use Rattle.job_answers.specs.declared.replies.Replies.{Replies}
-use Rattle.job_reports.specs.Jobs.{Item, Copies, Moves, Removes, Makes, MakesLink, Sets}
+use Rattle.job_reports.specs.Jobs.{Item, Copies, Moves, Removes, Makes, MakesLink, Sets, RemovesEmptied}
 use Rattle.job_reports.specs.declared.report.Did.{Did}
 use Rattle.job_reports.specs.declared.report.Did.TheVariants.{Began, Chunk, Placed, Removed, Made, Set, Kept, Skipped, Cleaned, Barrier, Asked, Merges, Moved, Troubled, Ended}
 use Rattle.job_reports.specs.declared.report.Cause.{Cause}
@@ -29,7 +30,7 @@ use Rattle.thing_moving.specs.Movings.{Moving}
 use Rattle.copy_move.specs.declared.run.Course.{Course}
 use Rattle.copy_move.specs.declared.run.Course.TheVariants.{GoesOn, Asking, InTrouble, OwedSyncFailed, Skips, Ends}
 use Rattle.copy_move.specs.declared.work.Work.{Work}
-use Rattle.copy_move.specs.declared.work.Work.TheVariants.{Copy, Delete, Make, Move, SetMode}
+use Rattle.copy_move.specs.declared.work.Work.TheVariants.{Copy, Delete, Make, Move, SetMode, RemoveEmptied}
 use Rattle.copy_move.specs.Jobs.{part_of as left_of}
 use Rattle.copy_move.specs.Jobs.{CallsOn, Running, TellsOn, WorkCalls, WorkTells, WorkWinds}
 use Rattle.copy_move.specs.Steps.{SyncsOwed, Walks, WalksOn}
@@ -44,18 +45,19 @@ use Rattle.history_laws.proofs.Knowing.{IsKept, Said}
 use Rattle.history_laws.proofs.Moments.{log_of}
 use Rattle.history_laws.proofs.Prefixes.{replayed_more, told_of}
 use Rattle.history_laws.proofs.Sources.{item_in, making_item}
-use Rattle.outcome_laws.specs.Answered.{AnsweredLaw, IsAsAnswered, IsMovedAsAnswered, asks_still, replies_said}
+use Rattle.outcome_laws.specs.Answered.{AnsweredLaw, IsAsAnswered, IsMovedAsAnswered, IsRemovedIfEmpty, asks_still, replies_said}
 use Rattle.outcome_laws.specs.Begun.{tree_begun}
 use Rattle.outcome_laws.specs.Outcomes.{passed_over}
 use Rattle.outcome_laws.proofs.AnswersSaid.{IsSaid, JobsSaid, traced_said}
 use Rattle.outcome_laws.proofs.Answering.{IsOther, other_as, tree_as}
 use Rattle.outcome_laws.proofs.CopyOutcome.{shows_all}
 use Rattle.outcome_laws.proofs.Doing.{CourseDone, JobDone, JobsDone, WorkDone}
+use Rattle.outcome_laws.proofs.EmptiedAnswers.{emptied_as, emptied_wound}
 use Rattle.outcome_laws.proofs.MovedAnswers.{moved_as}
 use Rattle.outcome_laws.proofs.Outcome.{traced_done}
 use Rattle.outcome_laws.proofs.Touching.{UnlessEnding}
 
--- last steps ask nothing, keep nothing and begin no part
+-- last steps ask nothing, keep nothing, merge nothing and begin no part
 tree_wound : (ending : Ending) (stands : Option Route) (did : Did) → MayWind ending stands did → IsOther did
 tree_wound ending stands (Asked question) w = absurd w
 tree_wound ending stands (Kept path) w = absurd w
@@ -68,7 +70,7 @@ tree_wound ending stands (Set path) w = tt
 tree_wound ending stands (Skipped path cause) w = tt
 tree_wound ending stands (Cleaned part) w = tt
 tree_wound ending stands Barrier w = tt
-tree_wound ending stands (Merges pair names) w = tt
+tree_wound ending stands (Merges transfer pair names) w = absurd w
 tree_wound ending stands (Moved pair) w = tt
 tree_wound ending stands (Troubled trouble) w = tt
 tree_wound ending stands (Ended how part) w = tt
@@ -81,6 +83,7 @@ IsAs replies v (Removes path) did = ⊤
 IsAs replies v (Makes path) did = ⊤
 IsAs replies v (MakesLink path text) did = ⊤
 IsAs replies v (Sets path mode) did = ⊤
+IsAs replies v (RemovesEmptied path) did = IsRemovedIfEmpty path v did
 
 -- a making asks nothing
 made_as : (replies : Replies) (v : View) (did : Did) (new : NewThing) (path : Route) → IsAs replies v (making_item new path) did
@@ -95,6 +98,7 @@ skipped_as replies v (Removes top) path cause = tt
 skipped_as replies v (Makes made) path cause = tt
 skipped_as replies v (MakesLink made text) path cause = tt
 skipped_as replies v (Sets thing mode) path cause = tt
+skipped_as replies v (RemovesEmptied folder) path cause = tt
 
 synced_as : (replies : Replies) (v : View) (item : Item) → IsAs replies v item Barrier
 synced_as replies v (Copies source target) = tt
@@ -103,6 +107,7 @@ synced_as replies v (Removes top) = tt
 synced_as replies v (Makes made) = tt
 synced_as replies v (MakesLink made text) = tt
 synced_as replies v (Sets thing mode) = tt
+synced_as replies v (RemovesEmptied folder) = tt
 
 troubled_as : (replies : Replies) (v : View) (item : Item) (trouble : Trouble) → IsAs replies v item (Troubled trouble)
 troubled_as replies v (Copies source target) trouble = tt
@@ -111,6 +116,7 @@ troubled_as replies v (Removes top) trouble = tt
 troubled_as replies v (Makes made) trouble = tt
 troubled_as replies v (MakesLink made text) trouble = tt
 troubled_as replies v (Sets thing mode) trouble = tt
+troubled_as replies v (RemovesEmptied folder) trouble = tt
 
 ended_as : (replies : Replies) (v : View) (item : Item) (ending : Ending) (part : Option Route) → IsAs replies v item (Ended ending part)
 ended_as replies v (Copies source target) ending part = tt
@@ -119,6 +125,7 @@ ended_as replies v (Removes top) ending part = tt
 ended_as replies v (Makes made) ending part = tt
 ended_as replies v (MakesLink made text) ending part = tt
 ended_as replies v (Sets thing mode) ending part = tt
+ended_as replies v (RemovesEmptied folder) ending part = tt
 
 -- last steps of a move
 move_wound : (replies : Replies) (v : View) (ending : Ending) (m new : Moving) (did : Did) → movings.Winds ending m did new → (let pair = m.pair in IsMovedAsAnswered replies pair.source pair.target v did)
@@ -134,7 +141,7 @@ move_wound replies v ending m new (Made path) w = absurd w
 move_wound replies v ending m new (Set path) w = absurd w
 move_wound replies v ending m new (Skipped path cause) w = absurd w
 move_wound replies v ending m new (Cleaned part) w = absurd w
-move_wound replies v ending m new (Merges pair names) w = absurd w
+move_wound replies v ending m new (Merges transfer pair names) w = absurd w
 move_wound replies v ending m new (Moved pair) w = absurd w
 move_wound replies v ending m new (Troubled trouble) w = absurd w
 
@@ -152,12 +159,20 @@ work_wound replies v ending (Move m) (Copy new) did w = absurd w
 work_wound replies v ending (Move m) (Delete new) did w = absurd w
 work_wound replies v ending (Move m) (Make new) did w = absurd w
 work_wound replies v ending (Move m) (SetMode new) did w = absurd w
+work_wound replies v ending (RemoveEmptied r) (RemoveEmptied new) did w = emptied_wound v ending r new did w
+work_wound replies v ending (RemoveEmptied r) (Copy new) did w = absurd w
+work_wound replies v ending (RemoveEmptied r) (Delete new) did w = absurd w
+work_wound replies v ending (RemoveEmptied r) (Make new) did w = absurd w
+work_wound replies v ending (RemoveEmptied r) (Move new) did w = absurd w
+work_wound replies v ending (RemoveEmptied r) (SetMode new) did w = absurd w
+work_wound replies v ending (Copy c) (RemoveEmptied new) did w = absurd w
+work_wound replies v ending (Move m) (RemoveEmptied new) did w = absurd w
 
 module _ (told : Said) (dirty dirty_after : List Route) (marks : Marks) (log now : CallLog) (kept : IsKept told dirty marks log) (passed : List Route) (begun : View) where
   work_as : (replies : Replies) (old new : Work) (did : Did) (calls f0 f1 : ℕ) → WorkTells old did new → WorkCalls IsUnclaimed replies old did new log (Some now)
       → Walks IsUnclaimed replies old new did calls dirty dirty_after (Some log) (Some now) f0 f1 → WorkKnows told dirty marks log GoesOn old → WorkDone passed begun told.tree (current log) old → IsAs replies told.tree (item_in old) did
   work_as replies (Copy c) (Copy new) did calls f0 f1 t called walks knows done =
-      tree_as told dirty dirty_after marks log now kept c new did passed GoesOn walks.free replies calls walks.since f1 knows.part walks.steps done
+      tree_as told dirty dirty_after marks log now kept c new did (λ pair names is. (let m = t.merged pair names is in m.top)) passed GoesOn walks.free replies calls walks.since f1 knows.part walks.steps done
   work_as replies (Move m) (Move new) did calls f0 f1 t called walks knows done =
       moved_as told.tree log kept.known.guarded.tree (shows_all told dirty marks log kept knows.none) replies m new did (Some now) t called
   work_as replies (Delete d) new did calls f0 f1 t called walks knows done = tt
@@ -171,6 +186,14 @@ module _ (told : Said) (dirty dirty_after : List Route) (marks : Marks) (log now
   work_as replies (Move m) (Delete new) did calls f0 f1 t called walks knows done = absurd t
   work_as replies (Move m) (Make new) did calls f0 f1 t called walks knows done = absurd t
   work_as replies (Move m) (SetMode new) did calls f0 f1 t called walks knows done = absurd t
+  work_as replies (RemoveEmptied r) (RemoveEmptied new) did calls f0 f1 t called walks knows done = emptied_as told.tree log (shows_all told dirty marks log kept knows.1) r new did (Some now) t called
+  work_as replies (RemoveEmptied r) (Copy new) did calls f0 f1 t called walks knows done = absurd t
+  work_as replies (RemoveEmptied r) (Delete new) did calls f0 f1 t called walks knows done = absurd t
+  work_as replies (RemoveEmptied r) (Make new) did calls f0 f1 t called walks knows done = absurd t
+  work_as replies (RemoveEmptied r) (Move new) did calls f0 f1 t called walks knows done = absurd t
+  work_as replies (RemoveEmptied r) (SetMode new) did calls f0 f1 t called walks knows done = absurd t
+  work_as replies (Copy c) (RemoveEmptied new) did calls f0 f1 t called walks knows done = absurd t
+  work_as replies (Move m) (RemoveEmptied new) did calls f0 f1 t called walks knows done = absurd t
 
   course_as : (job new : Running) (did : Did) (course : Course) (asks : Bool) (said : Replies) (calls f0 f1 : ℕ) → TellsOn course job did new → CallsOn IsUnclaimed course job did new log (Some now)
       → WalksOn IsUnclaimed job.replies course job.work new.work did calls dirty dirty_after (Some log) (Some now) f0 f1 → WorkKnows told dirty marks log course job.work → CourseDone course passed begun told.tree (current log) job.work
@@ -230,4 +253,5 @@ pub answered_law : AnsweredLaw
 answered_law opening now newest stand tree settled traced = record {
   copies = λ e older id did source target what its moment. follows opening now newest stand tree settled traced e older id did (Copies source target) what its moment;
   moves = λ e older id did source target what its moment. follows opening now newest stand tree settled traced e older id did (Moves source target) what its moment;
+  emptied = λ e older id did path what its moment. follows opening now newest stand tree settled traced e older id did (RemovesEmptied path) what its moment;
 }

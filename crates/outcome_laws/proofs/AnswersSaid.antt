@@ -71,7 +71,7 @@ said_before (Skipped path cause) asks said new h = h
 said_before (Cleaned part) asks said new h = h
 said_before Barrier asks said new h = h
 said_before (Asked question) asks said new h = h
-said_before (Merges pair names) asks said new h = h
+said_before (Merges transfer pair names) asks said new h = h
 said_before (Moved pair) asks said new h = h
 said_before (Troubled trouble) asks said new h = h
 
@@ -89,7 +89,7 @@ goes_said (Skipped path cause) said replies is = (refl, is)
 goes_said (Cleaned part) said replies is = (refl, is)
 goes_said Barrier said replies is = (refl, is)
 goes_said (Asked question) said replies is = (refl, is)
-goes_said (Merges pair names) said replies is = (refl, is)
+goes_said (Merges transfer pair names) said replies is = (refl, is)
 goes_said (Moved pair) said replies is = (refl, is)
 goes_said (Troubled trouble) said replies is = (refl, is)
 

@@ -12,6 +12,7 @@ use Rattle.tree_trait.specs.declared.file_system.FileSystem.{FileSystem}
 use Rattle.tree_trait.specs.Refusals.{folder_kind, is_folder}
 use Rattle.tree_trait.specs.Shape.{IsTree}
 use Rattle.crash_law.specs.Guarded.{Marks}
+use Rattle.job_reports.specs.declared.report.Transfer.TheVariants.{ByCopy}
 use Rattle.job_reports.specs.Jobs.{Copies}
 use Rattle.job_reports.specs.declared.job.Pair.{Pair}
 use Rattle.job_reports.specs.declared.report.Cause.{Cause}
@@ -268,7 +269,7 @@ module _ (told : Said) (dirty dirty_after : List Route) (marks : Marks) (log now
   takes_end unclaimed old next part (inr (inl t)) = (let w = t.works in absurd w.tells)
   takes_end unclaimed old next part (inr (inr (inl t))) = (let w = t.works in absurd w.tells)
   takes_end unclaimed old next part (inr (inr (inr (inl t)))) = (let w = t.works in absurd (no_end w.report part w.says))
-  takes_end unclaimed old next part (inr (inr (inr (inr (inl t))))) = absurd (let e : Ended Finished part ≡ Merges t.pair t.names = t.says in let f : ⊥ = cc in f)
+  takes_end unclaimed old next part (inr (inr (inr (inr (inl t))))) = absurd (let e : Ended Finished part ≡ Merges ByCopy t.pair t.names = t.says in let f : ⊥ = cc in f)
   takes_end unclaimed old next part (inr (inr (inr (inr (inr (inl t)))))) = absurd (let e : Ended Finished part ≡ Kept (let p = t.pair in p.target) = t.says in let f : ⊥ = cc in f)
   takes_end unclaimed old next part (inr (inr (inr (inr (inr (inr (inl t))))))) = absurd (let e : Ended Finished part ≡ Asked t.question = t.says in let f : ⊥ = cc in f)
   takes_end unclaimed old next part (inr (inr (inr (inr (inr (inr (inr (due, inl (debt, e))))))))) = absurd (no_end e.report part e.says)

@@ -144,7 +144,7 @@ work_done log now passed old new (Kept path) tree off (path_is, left, d) same k 
     (let both = kept_of passed (current log) (current log) (λ q among. among) (λ p i at. (i, at)) old.depth old.path path old.walk.place (let p : Place = old.walk.place in p.inner.names) refl path_is left w in
     of_decides passed passed (current log) (current log) (λ q among. among) (λ p i at. (i, at)) old new true path old.stage d path_is (off refl) both.0 both.1 w)
 work_done log now passed old new (Asked question) tree off t same k = absurd t
-work_done log now passed old new (Merges pair names) tree off t same k = absurd t
+work_done log now passed old new (Merges transfer pair names) tree off t same k = absurd t
 work_done log now passed old new (Moved pair) tree off t same k = absurd t
 work_done log now passed old new (Troubled trouble) tree off (barrier, at) calls k =
     subst (λ (s : FileSystem). MachineDone passed s new) (sym (by calls)) (at_same passed (current log) old new at k)
@@ -221,7 +221,7 @@ off_of : (d new : Deleting) (did : Did) → Tells d did new → IsProgress did �
 off_of d new (Removed path) t is = t.0
 off_of d new (Kept path) t is = t.0
 off_of d new (Asked question) t is = absurd t
-off_of d new (Merges pair names) t is = absurd t
+off_of d new (Merges transfer pair names) t is = absurd t
 off_of d new (Moved pair) t is = absurd t
 off_of d new (Skipped path why) t is = absurd (false≢true is)
 off_of d new (Troubled trouble) t is = absurd (false≢true is)
@@ -239,7 +239,7 @@ no_progress : {A : Type 0} (skips : Skips) (did : Did) (cause : Cause) → passe
 no_progress skips (Removed path) cause is progress = absurd (let f : ⊥ = cc in f)
 no_progress skips (Kept path) cause is progress = absurd (let f : ⊥ = cc in f)
 no_progress skips (Asked question) cause is progress = absurd (let f : ⊥ = cc in f)
-no_progress skips (Merges pair names) cause is progress = absurd (let f : ⊥ = cc in f)
+no_progress skips (Merges transfer pair names) cause is progress = absurd (let f : ⊥ = cc in f)
 no_progress skips (Moved pair) cause is progress = absurd (let f : ⊥ = cc in f)
 no_progress skips (Skipped path why) cause is progress = absurd (false≢true progress)
 no_progress skips (Troubled trouble) cause is progress = absurd (false≢true progress)
@@ -257,7 +257,7 @@ unless_works : (d mid : Deletion) (did : Did) (passed : List Route) (s : FileSys
 unless_works d mid (Removed path) passed s new t k = k
 unless_works d mid (Kept path) passed s new t k = k
 unless_works d mid (Asked question) passed s new t k = k
-unless_works d mid (Merges pair names) passed s new t k = absurd t
+unless_works d mid (Merges transfer pair names) passed s new t k = absurd t
 unless_works d mid (Moved pair) passed s new t k = absurd t
 unless_works d mid (Troubled trouble) passed s new t k = k
 unless_works d mid (Skipped path why) passed s new t k = absurd t
@@ -282,7 +282,7 @@ syncs_done d (Ended ending part) folders folders_after log now passed t k = tt
 syncs_done d (Removed path) folders folders_after log now passed t k = absurd t
 syncs_done d (Kept path) folders folders_after log now passed t k = absurd t
 syncs_done d (Asked question) folders folders_after log now passed t k = absurd t
-syncs_done d (Merges pair names) folders folders_after log now passed t k = absurd t
+syncs_done d (Merges transfer pair names) folders folders_after log now passed t k = absurd t
 syncs_done d (Moved pair) folders folders_after log now passed t k = absurd t
 syncs_done d (Skipped path why) folders folders_after log now passed t k = absurd t
 syncs_done d (Began part) folders folders_after log now passed t k = absurd t

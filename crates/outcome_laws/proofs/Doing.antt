@@ -32,7 +32,7 @@ use Rattle.thing_making.specs.declared.new_thing.NewThing.TheVariants as thing
 use Rattle.copy_move.specs.declared.run.Course.{Course}
 use Rattle.copy_move.specs.declared.run.Course.TheVariants.{GoesOn, Asking, InTrouble, OwedSyncFailed, Skips, Ends}
 use Rattle.copy_move.specs.declared.work.Work.{Work}
-use Rattle.copy_move.specs.declared.work.Work.TheVariants.{Copy, Delete, Make, Move, SetMode}
+use Rattle.copy_move.specs.declared.work.Work.TheVariants.{Copy, Delete, Make, Move, SetMode, RemoveEmptied}
 use Rattle.copy_move.specs.Jobs.{Running, CallsOn, PassesOver, TellsOn, WorkCalls, WorkTells, answered, answered_on, begun_work, closed_course, closed_job, course_after, first_work, passing_over, skips_of, taken_anew, with_skips}
 use Rattle.copy_move.specs.Jobs as works
 use Rattle.copy_move.specs.Steps.{SkipWalks, Walks, WalksOn}
@@ -48,6 +48,7 @@ use Rattle.outcome_laws.proofs.ApartPaths.{AreApart, named_apart}
 use Rattle.outcome_laws.proofs.CopyOutcome.{TreeAccounts, tree_begins, tree_passed, tree_steps, tree_taken}
 use Rattle.outcome_laws.proofs.MadeThings.{MakingDone, SettingDone, Unless, making_skips, making_steps, setting_skips, setting_steps, unless_of}
 use Rattle.outcome_laws.proofs.MovedThings.{MovingDone, moving_begins, moving_skips, moving_steps}
+use Rattle.outcome_laws.proofs.RemovedThings.{RemovalDone, removal_begins, removal_skips, removal_steps}
 use Rattle.outcome_laws.proofs.Deciding.{DeletionDone}
 use Rattle.outcome_laws.proofs.Deletions.{deletion_skips, deletion_steps}
 
@@ -58,6 +59,7 @@ WorkDone passed begun v s (Delete d) = DeletionDone passed s d
 WorkDone passed begun v s (Make m) = MakingDone passed v m
 WorkDone passed begun v s (Move m) = MovingDone passed begun v m
 WorkDone passed begun v s (SetMode w) = SettingDone passed v w
+WorkDone passed begun v s (RemoveEmptied r) = RemovalDone passed begun v r
 
 -- a job that makes its last steps is never finished
 abbrev pub CourseDone : Course → List Route → View → View → FileSystem → Work → Type 0
@@ -86,7 +88,7 @@ on_course (Made made) passed begun v s work h = h
 on_course (Set path) passed begun v s work h = h
 on_course (Kept kept) passed begun v s work h = h
 on_course (Asked question) passed begun v s work h = h
-on_course (Merges pair names) passed begun v s work h = h
+on_course (Merges transfer pair names) passed begun v s work h = h
 on_course (Moved pair) passed begun v s work h = h
 on_course (Skipped path cause) passed begun v s work h = h
 on_course (Cleaned part) passed begun v s work h = h
@@ -104,7 +106,7 @@ jobs_after (Made made) passed begun v s new h = h
 jobs_after (Set path) passed begun v s new h = h
 jobs_after (Kept kept) passed begun v s new h = h
 jobs_after (Asked question) passed begun v s new h = h
-jobs_after (Merges pair names) passed begun v s new h = h
+jobs_after (Merges transfer pair names) passed begun v s new h = h
 jobs_after (Moved pair) passed begun v s new h = h
 jobs_after (Skipped path cause) passed begun v s new h = h
 jobs_after (Cleaned part) passed begun v s new h = h
@@ -138,6 +140,17 @@ skips_work (SetMode t) (Delete new) cause path passed begun v s p w k = absurd p
 skips_work (SetMode t) (Make new) cause path passed begun v s p w k = absurd p
 skips_work (Move t) (Make new) cause path passed begun v s p w k = absurd p
 skips_work (SetMode t) (Move new) cause path passed begun v s p w k = absurd p
+skips_work (RemoveEmptied r) (RemoveEmptied new) cause path passed begun v s (path_is, new_is) w k = removal_skips r new path passed begun v w path_is new_is k
+skips_work (RemoveEmptied r) (Copy new) cause path passed begun v s p w k = absurd p
+skips_work (RemoveEmptied r) (Delete new) cause path passed begun v s p w k = absurd p
+skips_work (RemoveEmptied r) (SetMode new) cause path passed begun v s p w k = absurd p
+skips_work (RemoveEmptied r) (Move new) cause path passed begun v s p w k = absurd p
+skips_work (Copy c) (RemoveEmptied new) cause path passed begun v s p w k = absurd p
+skips_work (Delete d) (RemoveEmptied new) cause path passed begun v s p w k = absurd p
+skips_work (SetMode t) (RemoveEmptied new) cause path passed begun v s p w k = absurd p
+skips_work (Move t) (RemoveEmptied new) cause path passed begun v s p w k = absurd p
+skips_work (RemoveEmptied r) (Make new) cause path passed begun v s p w k = absurd p
+skips_work (Make m) (RemoveEmptied new) cause path passed begun v s p w k = absurd p
 
 -- of a job that keeps nothing of its own what is passed over is what was skipped
 in_plain : (item : Item) (did : Did) (passed : List Route) → kept_of (Some item) passed ≡ passed → passed_in (Some item) did passed ≡ passed_by did passed
@@ -150,7 +163,7 @@ in_plain item (Removed path) passed plain = refl
 in_plain item (Made made) passed plain = refl
 in_plain item (Set path) passed plain = refl
 in_plain item (Asked question) passed plain = refl
-in_plain item (Merges pair names) passed plain = refl
+in_plain item (Merges transfer pair names) passed plain = refl
 in_plain item (Moved pair) passed plain = refl
 in_plain item (Cleaned part) passed plain = refl
 in_plain item Barrier passed plain = refl
@@ -215,6 +228,18 @@ module _ (told : Said) (dirty dirty_after : List Route) (marks : Marks) (log now
   work_steps replies (SetMode s) (Make new) did calls faults faults_after passed knows t called walks k = absurd t
   work_steps replies (Move s) (Make new) did calls faults faults_after passed knows t called walks k = absurd t
   work_steps replies (SetMode s) (Move new) did calls faults faults_after passed knows t called walks k = absurd t
+  work_steps replies (RemoveEmptied r) (RemoveEmptied new) did calls faults faults_after passed knows t called walks k =
+      removal_steps r new did now passed begun told.tree t k
+  work_steps replies (RemoveEmptied r) (Copy new) did calls faults faults_after passed knows t called walks k = absurd t
+  work_steps replies (RemoveEmptied r) (Delete new) did calls faults faults_after passed knows t called walks k = absurd t
+  work_steps replies (RemoveEmptied r) (SetMode new) did calls faults faults_after passed knows t called walks k = absurd t
+  work_steps replies (RemoveEmptied r) (Move new) did calls faults faults_after passed knows t called walks k = absurd t
+  work_steps replies (Copy c) (RemoveEmptied new) did calls faults faults_after passed knows t called walks k = absurd t
+  work_steps replies (Delete d) (RemoveEmptied new) did calls faults faults_after passed knows t called walks k = absurd t
+  work_steps replies (SetMode s) (RemoveEmptied new) did calls faults faults_after passed knows t called walks k = absurd t
+  work_steps replies (Move s) (RemoveEmptied new) did calls faults faults_after passed knows t called walks k = absurd t
+  work_steps replies (RemoveEmptied r) (Make new) did calls faults faults_after passed knows t called walks k = absurd t
+  work_steps replies (Make m) (RemoveEmptied new) did calls faults faults_after passed knows t called walks k = absurd t
 
   abbrev Later : List Route → Did → Running → Running → Type 0
   Later passed did job new = Unless did (JobDone (passed_in (Some (item_in job.work)) did passed) begun (replayed_step now did (Some (item_in job.work)) told.tree) (current now) new)
@@ -254,6 +279,7 @@ module _ (passed : List Route) (begun v : View) (s : FileSystem) where
   anew_done (Make m) k = k
   anew_done (Move m) k = k
   anew_done (SetMode t) k = k
+  anew_done (RemoveEmptied r) k = k
 
   skips_done : (cause : Cause) (work : Work) → WorkDone passed begun v s work → WorkDone passed begun v s (with_skips cause work)
   skips_done cause (Copy c) k = record { in_place = k.in_place; done = k.done }
@@ -261,6 +287,7 @@ module _ (passed : List Route) (begun v : View) (s : FileSystem) where
   skips_done cause (Make m) k = k
   skips_done cause (Move m) k = k
   skips_done cause (SetMode t) k = k
+  skips_done cause (RemoveEmptied r) k = k
 
   answer_done : (course : Course) (answer : Answer) (job : Running) → job.course ≡ course → JobDone passed begun v s job → JobDone passed begun v s (answered_on course answer job)
   answer_done (InTrouble halt) Retry job is k = anew_done job.work (subst (λ c. CourseDone c passed begun v s job.work) is k)
@@ -390,6 +417,7 @@ module _ (v : View) (s : FileSystem) where
   first_done id (plan.SetMode [] mode) w is = absurd (let f : ⊥ = cc in f)
   first_done id (plan.SetMode (path ∷ []) mode) w is = some_if (WorkDone [] v v s) (is_some (parent_of path) && nat_le mode 0o7777) (works.sets path mode) w tt is
   first_done id (plan.SetMode (path ∷ more ∷ paths) mode) w is = absurd (let f : ⊥ = cc in f)
+  first_done id (plan.RemoveEmptied path) w is = some_if (WorkDone [] v v s) (is_some (parent_of path)) (works.removes_emptied path) w (removal_begins path v) is
 
   pub begun_done : (id : ℕ) (sources : List Job) (w : Work) → begun_work id sources ≡ Some w → WorkDone [] v v s w
   begun_done id [] w is = absurd (let f : ⊥ = cc in f)
@@ -402,6 +430,7 @@ module _ (v : View) (s : FileSystem) where
   passing_done skips (Make m) k = k
   passing_done skips (Move m) k = k
   passing_done skips (SetMode t) k = k
+  passing_done skips (RemoveEmptied r) k = k
 
   pub turned_done : (plan : Job) (job next : Running) → Turned plan job next → WorkDone [] v v s next.work
   turned_done plan job next turn =

@@ -56,7 +56,7 @@ IsOwn (Removed path) = ⊥
 IsOwn (Kept path) = ⊥
 IsOwn (Skipped path cause) = ⊥
 IsOwn (Asked question) = ⊥
-IsOwn (Merges pair names) = ⊥
+IsOwn (Merges transfer pair names) = ⊥
 IsOwn (Moved pair) = ⊥
 IsOwn (Troubled trouble) = ⊥
 

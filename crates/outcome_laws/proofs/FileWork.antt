@@ -141,7 +141,7 @@ module _ (now : CallLog) (v : View) (passed : List Route) (top : Pair) where
     file_goes f moved (Set path) m t begun d = absurd t
     file_goes f moved (Kept path) m t begun d = absurd t
     file_goes f moved (Asked question) m t begun d = absurd t
-    file_goes f moved (Merges pair names) m t begun d = absurd t
+    file_goes f moved (Merges transfer pair names) m t begun d = absurd t
     file_goes f moved (Moved pair) m t begun d = absurd t
     file_goes f moved (Skipped path cause) m t begun d = absurd t
 

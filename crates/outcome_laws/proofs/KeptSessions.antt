@@ -23,7 +23,7 @@ use Rattle.session_history.specs.LiveJobs.{live_jobs}
 use Rattle.session_history.specs.Sources.{sources_of}
 use Rattle.copy_move.specs.declared.run.Course.TheVariants.{GoesOn, Skips}
 use Rattle.copy_move.specs.declared.work.Work.{Work}
-use Rattle.copy_move.specs.declared.work.Work.TheVariants.{Copy, Delete, Make, Move, SetMode}
+use Rattle.copy_move.specs.declared.work.Work.TheVariants.{Copy, Delete, Make, Move, SetMode, RemoveEmptied}
 use Rattle.thing_making.specs.declared.new_thing.NewThing.{NewThing}
 use Rattle.thing_making.specs.declared.new_thing.NewThing.TheVariants as thing
 use Rattle.copy_move.specs.Jobs.{Running, begun_work}
@@ -194,6 +194,7 @@ all_same v was kept (Delete d) source target is has s = absurd (let f : ⊥ = cc
 all_same v was kept (Make m) source target is has s = made_no_copy m.thing m.path source target is
 all_same v was kept (Move m) source target is has s = absurd (let f : ⊥ = cc in f)
 all_same v was kept (SetMode w) source target is has s = absurd (let f : ⊥ = cc in f)
+all_same v was kept (RemoveEmptied r) source target is has s = absurd (let f : ⊥ = cc in f)
 
 module _ (opening now : CallLog) (newest : List Entry) (stand : Stand) (tree : IsTree (current opening)) (settled : all_settled opening.changes ≡ true) (e : Entry) (older : List Entry) (id : ℕ) (source target path : Route)
     (h : Finishes e older id (Copies source target)) (has : has_kept id older ≡ true) where

@@ -21,7 +21,7 @@ use Rattle.thing_making.specs.declared.new_thing.NewThing.TheVariants as thing
 use Rattle.copy_move.specs.declared.run.Course.{Course}
 use Rattle.copy_move.specs.declared.run.Course.TheVariants.{GoesOn, Asking, InTrouble, OwedSyncFailed, Skips, Ends}
 use Rattle.copy_move.specs.declared.work.Work.{Work}
-use Rattle.copy_move.specs.declared.work.Work.TheVariants.{Copy, Delete, Make, Move, SetMode}
+use Rattle.copy_move.specs.declared.work.Work.TheVariants.{Copy, Delete, Make, Move, SetMode, RemoveEmptied}
 use Rattle.copy_move.specs.Jobs.{PassesOver, Running, TellsOn, WorkTells, answered_on, answered, begun_work, closed_job, first_work, passing_over, skips_of, with_skips}
 use Rattle.copy_move.specs.Jobs as works
 use Rattle.copy_move.specs.Steps.{SkipWalks, Walks}
@@ -42,6 +42,7 @@ Spares v was kept (Delete d) = ⊤
 Spares v was kept (Make m) = ⊤
 Spares v was kept (Move m) = ⊤
 Spares v was kept (SetMode s) = ⊤
+Spares v was kept (RemoveEmptied r) = ⊤
 
 module _ (now : CallLog) (v was : View) (kept : Bool) where
   work_spares : (replies : Replies) (old new : Work) (did : Did) (calls faults faults_after : ℕ) (dirty dirty_after : List Route) (before after : Option CallLog) → WorkTells old did new
@@ -73,6 +74,17 @@ module _ (now : CallLog) (v was : View) (kept : Bool) where
   work_spares replies (SetMode w) (Make new) did calls faults faults_after dirty dirty_after before after t walks s = absurd t
   work_spares replies (Move w) (Make new) did calls faults faults_after dirty dirty_after before after t walks s = absurd t
   work_spares replies (SetMode w) (Move new) did calls faults faults_after dirty dirty_after before after t walks s = absurd t
+  work_spares replies (RemoveEmptied r) (RemoveEmptied new) did calls faults faults_after dirty dirty_after before after t walks s = unless_of did ⊤ tt
+  work_spares replies (RemoveEmptied r) (Copy new) did calls faults faults_after dirty dirty_after before after t walks s = absurd t
+  work_spares replies (RemoveEmptied r) (Delete new) did calls faults faults_after dirty dirty_after before after t walks s = absurd t
+  work_spares replies (RemoveEmptied r) (SetMode new) did calls faults faults_after dirty dirty_after before after t walks s = absurd t
+  work_spares replies (RemoveEmptied r) (Move new) did calls faults faults_after dirty dirty_after before after t walks s = absurd t
+  work_spares replies (Copy c) (RemoveEmptied new) did calls faults faults_after dirty dirty_after before after t walks s = absurd t
+  work_spares replies (Delete d) (RemoveEmptied new) did calls faults faults_after dirty dirty_after before after t walks s = absurd t
+  work_spares replies (SetMode w) (RemoveEmptied new) did calls faults faults_after dirty dirty_after before after t walks s = absurd t
+  work_spares replies (Move w) (RemoveEmptied new) did calls faults faults_after dirty dirty_after before after t walks s = absurd t
+  work_spares replies (RemoveEmptied r) (Make new) did calls faults faults_after dirty dirty_after before after t walks s = absurd t
+  work_spares replies (Make m) (RemoveEmptied new) did calls faults faults_after dirty dirty_after before after t walks s = absurd t
 
   passes_spares : (old new : Work) (cause : Cause) (did : Did) (path : Route) → PassesOver old path new → SkipWalks cause old did new → Spares v was kept old → Spares v was kept new
   passes_spares (Copy c) (Copy new) cause did path p k s = tree_passes v was kept c new cause did k s
@@ -100,6 +112,17 @@ module _ (now : CallLog) (v was : View) (kept : Bool) where
   passes_spares (SetMode w) (Make new) cause did path p k s = absurd p
   passes_spares (Move w) (Make new) cause did path p k s = absurd p
   passes_spares (SetMode w) (Move new) cause did path p k s = absurd p
+  passes_spares (RemoveEmptied r) (RemoveEmptied new) cause did path p k s = tt
+  passes_spares (RemoveEmptied r) (Copy new) cause did path p k s = absurd p
+  passes_spares (RemoveEmptied r) (Delete new) cause did path p k s = absurd p
+  passes_spares (RemoveEmptied r) (SetMode new) cause did path p k s = absurd p
+  passes_spares (RemoveEmptied r) (Move new) cause did path p k s = absurd p
+  passes_spares (Copy c) (RemoveEmptied new) cause did path p k s = absurd p
+  passes_spares (Delete d) (RemoveEmptied new) cause did path p k s = absurd p
+  passes_spares (SetMode w) (RemoveEmptied new) cause did path p k s = absurd p
+  passes_spares (Move w) (RemoveEmptied new) cause did path p k s = absurd p
+  passes_spares (RemoveEmptied r) (Make new) cause did path p k s = absurd p
+  passes_spares (Make m) (RemoveEmptied new) cause did path p k s = absurd p
 
   -- a step, by the course
   pub course_spares : (job new : Running) (did : Did) (course : Course) → job.course ≡ course → TellsOn course job did new → ((cause : Cause) → course ≡ Skips cause → SkipWalks cause job.work did new.work)
@@ -123,7 +146,7 @@ module _ (now : CallLog) (v was : View) (kept : Bool) where
       ending_by (Cleaned part) h = h
       ending_by Barrier h = h
       ending_by (Asked question) h = h
-      ending_by (Merges pair names) h = h
+      ending_by (Merges transfer pair names) h = h
       ending_by (Moved pair) h = h
       ending_by (Troubled trouble) h = h
       ending_by (Ended ending part) h = h
@@ -160,7 +183,7 @@ spares_after (Skipped path cause) v was kept new h = h
 spares_after (Cleaned part) v was kept new h = h
 spares_after Barrier v was kept new h = h
 spares_after (Asked question) v was kept new h = h
-spares_after (Merges pair names) v was kept new h = h
+spares_after (Merges transfer pair names) v was kept new h = h
 spares_after (Moved pair) v was kept new h = h
 spares_after (Troubled trouble) v was kept new h = h
 
@@ -172,6 +195,7 @@ module _ (v was : View) (kept : Bool) where
   anew_spares (Make m) s = s
   anew_spares (Move m) s = s
   anew_spares (SetMode w) s = s
+  anew_spares (RemoveEmptied r) s = s
 
   skips_spares : (cause : Cause) (work : Work) → Spares v was kept work → Spares v was kept (with_skips cause work)
   skips_spares cause (Copy c) s = other_skips v was kept c (with_kind (kind_in cause) c.skips) s
@@ -179,6 +203,7 @@ module _ (v was : View) (kept : Bool) where
   skips_spares cause (Make m) s = s
   skips_spares cause (Move m) s = s
   skips_spares cause (SetMode w) s = s
+  skips_spares cause (RemoveEmptied r) s = s
 
   abbrev Held : Running → Type 0
   Held job = UnlessEnding job.course (Spares v was kept job.work)
@@ -253,6 +278,7 @@ module _ (v : View) where
   first_spares id (plan.SetMode [] mode) w is = absurd (let f : ⊥ = cc in f)
   first_spares id (plan.SetMode (path ∷ []) mode) w is = some_if (Spares v v false) (is_some (parent_of path) && nat_le mode 0o7777) (works.sets path mode) w tt is
   first_spares id (plan.SetMode (path ∷ more ∷ paths) mode) w is = absurd (let f : ⊥ = cc in f)
+  first_spares id (plan.RemoveEmptied path) w is = some_if (Spares v v false) (is_some (parent_of path)) (works.removes_emptied path) w tt is
 
   pub begun_spares : (id : ℕ) (sources : List Job) (w : Work) → begun_work id sources ≡ Some w → Spares v v false w
   begun_spares id [] w is = absurd (let f : ⊥ = cc in f)
@@ -264,6 +290,7 @@ module _ (v : View) where
   passing_spares skips (Make m) s = s
   passing_spares skips (Move m) s = s
   passing_spares skips (SetMode w) s = s
+  passing_spares skips (RemoveEmptied r) s = s
 
   pub turned_spares : (plan : Job) (job next : Running) → Turned plan job next → Spares v v false next.work
   turned_spares plan job next turn =

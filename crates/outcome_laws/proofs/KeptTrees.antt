@@ -46,7 +46,7 @@ unless_both (Skipped path cause) P h f = f h
 unless_both (Cleaned part) P h f = f h
 unless_both Barrier P h f = f h
 unless_both (Asked question) P h f = f h
-unless_both (Merges pair names) P h f = f h
+unless_both (Merges transfer pair names) P h f = f h
 unless_both (Moved pair) P h f = f h
 unless_both (Troubled trouble) P h f = f h
 

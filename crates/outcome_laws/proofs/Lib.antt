@@ -11,6 +11,7 @@ pub mod Deciding
 pub mod Deletions
 pub mod Doing
 pub mod Elsewhere
+pub mod EmptiedAnswers
 pub mod ExampleSteps
 pub mod FileWork
 pub mod KeptExample
@@ -20,12 +21,15 @@ pub mod KeptTrees
 pub mod LinkWork
 pub mod MadeThings
 pub mod MergedExample
+pub mod MergedMoveExample
+pub mod MergedNames
 pub mod MovedAnswers
 pub mod MovedExample
 pub mod MovedFolderExample
 pub mod MovedThings
 pub mod Outcome
 pub mod Owed
+pub mod RemovedThings
 pub mod ReplacedExample
 pub mod SourcesExample
 pub mod Together

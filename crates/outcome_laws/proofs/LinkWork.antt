@@ -48,7 +48,7 @@ module _ (now : CallLog) (v : View) (passed : List Route) (top : Pair) (around :
   link_goes l moved (Set path) m t d = absurd t
   link_goes l moved (Kept path) m t d = absurd t
   link_goes l moved (Asked question) m t d = absurd t
-  link_goes l moved (Merges pair names) m t d = absurd t
+  link_goes l moved (Merges transfer pair names) m t d = absurd t
   link_goes l moved (Moved pair) m t d = absurd t
   link_goes l moved (Skipped path cause) m t d = absurd t
 

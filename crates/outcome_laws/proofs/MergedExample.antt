@@ -17,6 +17,7 @@ use Rattle.tree_trait.proofs.Finding.{same_name-true}
 use Rattle.tree_trait.proofs.Kept.{tree_made}
 use Rattle.tree_trait.proofs.Visible.{same_path-self}
 use Rattle.job_answers.specs.Decisions.{no_replies}
+use Rattle.job_reports.specs.declared.report.Transfer.TheVariants.{ByCopy}
 use Rattle.job_reports.specs.declared.job.Job.TheVariants as plan
 use Rattle.job_reports.specs.declared.job.Pair.{Pair}
 use Rattle.job_reports.specs.declared.report.Did.TheVariants.{Merges, Ended}
@@ -128,12 +129,12 @@ module _ (name : List ℕ) (from to : Route) (names : List (List ℕ)) where
   own_folder = or_left _ _ (same_path-self to)
 
   module _ (taken : IsTaken small true no_replies pair (Merged names)) (from_short : IsShort pair.source) (to_short : IsShort pair.target) (short : AreShort pair names) (few : length names ≤ 2 ^ 64) (in_order : IsAscending names) where
-    takes : IsStep no_replies begins over (Merges pair names) 0 [] [] log log
+    takes : IsStep no_replies begins over (Merges ByCopy pair names) 0 [] [] log log
     takes = record {
       mid = begins.at;
       leaves = (0, refl);
       settled = refl;
-      worked = step_result (Merges pair names) 0;
+      worked = step_result (Merges ByCopy pair names) 0;
       moved = over.at;
       works = inr (record {
         steps = record {
@@ -157,7 +158,7 @@ module _ (name : List ℕ) (from to : Route) (names : List (List ℕ)) where
               stands = refl;
             }))))),
           );
-          counts = counts (Merges pair names) 0 log log refl (omega arith) (λ h. h);
+          counts = counts (Merges ByCopy pair names) 0 log log refl (omega arith) (λ h. h);
         };
         list = refl;
       });
@@ -167,17 +168,17 @@ module _ (name : List ℕ) (from to : Route) (names : List (List ℕ)) where
     }
 
     -- what it tells is what is copied
-    merges_top : (told : Pair) (within : List (List ℕ)) → Merges pair names ≡ Merges told within → MergesTop begins told within over
+    merges_top : (told : Pair) (within : List (List ℕ)) → Merges ByCopy pair names ≡ Merges ByCopy told within → MergesTop begins told within over
     merges_top told within is =
         let same : pair ≡ told = cc in
         let all : names ≡ within = cc in
         subst (λ (p : Pair). MergesTop begins p within over) same (subst (λ ns. MergesTop begins pair ns over) all (record { fresh = refl; top = refl; short = short; few = few; begins = λ before. (let e = before.names in let f : ⊥ = cc in f); over = is_over }))
 
-    stays : ChangesOwn begins (Merges pair names) [] []
+    stays : ChangesOwn begins (Merges ByCopy pair names) [] []
     stays = record { folder = to; own = own_folder; was = false; now = false; list = refl; synced = λ was now. absurd (false≢true was) }
 
-    pub merges : WorkLeads (job begins) (Merges pair names) (job over) [] [] log log
-    merges = works no_replies GoesOn begins over (Merges pair names) 0 [] [] log log (record {
+    pub merges : WorkLeads (job begins) (Merges ByCopy pair names) (job over) [] [] log log
+    merges = works no_replies GoesOn begins over (Merges ByCopy pair names) 0 [] [] log log (record {
       may = tt;
       after = record { top = refl; part = refl; stage = refl; skips = refl };
       first = λ fresh. tt;
@@ -235,11 +236,11 @@ begun_traced : IsTraced log begun_entries (stand (job outer_begins ∷ []) []) l
 begun_traced = (nothing_live, log, (refl, refl), record { after = stand (job outer_begins ∷ []) []; leads = record { none_live = refl; after_is = refl; now_is = refl }; stand_is = refl; counts = refl })
 
 abbrev pub merged_entries : List Entry
-merged_entries = entry 0 (Step 1 (Merges outer (inner_name ∷ []))) ∷ begun_entries
+merged_entries = entry 0 (Step 1 (Merges ByCopy outer (inner_name ∷ []))) ∷ begun_entries
 
 merged_traced : IsTraced log merged_entries (stand (job (merged outer_begins) ∷ []) []) log
 merged_traced =
-    own_step log 1 0 (Merges outer (inner_name ∷ [])) begun_entries (stand (job outer_begins ∷ []) []) (stand (job (merged outer_begins) ∷ []) []) log log (job outer_begins) (job (merged outer_begins)) begun_traced (inl (refl, refl))
+    own_step log 1 0 (Merges ByCopy outer (inner_name ∷ [])) begun_entries (stand (job outer_begins ∷ []) []) (stand (job (merged outer_begins) ∷ []) []) log log (job outer_begins) (job (merged outer_begins)) begun_traced (inl (refl, refl))
     (merges outer_name ((115 ∷ []) ∷ []) ((116 ∷ []) ∷ []) (inner_name ∷ []) ((refl, refl), (refl, refl), (refl, lists_one)) (omega arith) (omega arith) short_one (omega arith) (tt, tt)) refl refl refl
 
 -- it goes on with what lies in it
@@ -272,11 +273,11 @@ turned_traced = (
 
 -- merges that, too, and is finished
 abbrev pub both_entries : List Entry
-both_entries = entry 0 (Step 1 (Merges inner [])) ∷ turned_entries
+both_entries = entry 0 (Step 1 (Merges ByCopy inner [])) ∷ turned_entries
 
 both_traced : IsTraced log both_entries (stand (job (merged inner_begins) ∷ []) []) log
 both_traced =
-    own_step log 1 0 (Merges inner []) turned_entries (stand (job inner_begins ∷ []) []) (stand (job (merged inner_begins) ∷ []) []) log log (job inner_begins) (job (merged inner_begins)) turned_traced (inl (refl, refl))
+    own_step log 1 0 (Merges ByCopy inner []) turned_entries (stand (job inner_begins ∷ []) []) (stand (job (merged inner_begins) ∷ []) []) log log (job inner_begins) (job (merged inner_begins)) turned_traced (inl (refl, refl))
     (merges inner_name outer.source outer.target [] ((refl, refl), (refl, refl), (refl, lists_none)) (omega arith) (omega arith) (λ name among. absurd among) (omega arith) tt) refl refl refl
 
 abbrev pub end : Entry

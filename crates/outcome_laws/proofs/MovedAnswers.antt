@@ -25,9 +25,10 @@ use Rattle.thing_moving.specs.Movings.{Moving, MovingCalls, Tells}
 use Rattle.thing_moving.specs.Takings.{IsDecided, MayMove, Stands}
 use Rattle.tree_copy.specs.Asking.{IsReplaceable}
 use Rattle.history_laws.proofs.OwedModes.{ShowsTree}
-use Rattle.outcome_laws.specs.Answered.{IsMoveQuestion, IsMovedAsAnswered, IsSizedAs}
+use Rattle.outcome_laws.specs.Answered.{IsMergedWhole, IsMoveQuestion, IsMovedAsAnswered, IsSizedAs}
 use Rattle.outcome_laws.proofs.Answering.{none_there}
 use Rattle.outcome_laws.proofs.FileWork.{none_shown, some_shown}
+use Rattle.outcome_laws.proofs.MergedNames.{merged_whole}
 
 -- where it is asked a file or a link stands
 replaceable : (source target : Kind) → folder_kind source ≡ false → placing_at (from.Moved source) (Some target) ≡ Asks → IsReplaceable target
@@ -79,6 +80,9 @@ module _ (v : View) (log : CallLog) (tree : IsTree (current log)) (shows : Shows
   moved_as replies m new (Kept path) after (stage, path_is, new_is) ((question, d), none) =
       let q = question_is m.pair replies question Keep d in (path_is, (question, q.0, q.1))
   moved_as replies m new (Asked question) after t (d, none) = question_is m.pair replies question Ask d
+  moved_as replies m new (Merges transfer pair names) after (stage, may, new_is) (merged, none) =
+      let from = (let meets = merged.meets in meets.of_source) in
+      (may.by_move, may.its, subst (λ (p : Pair). IsMergedWhole v p names) (sym may.its) (merged_whole v log shows m.pair names from.there merged.lists))
   moved_as replies m new (Skipped path cause) after t called = tt
   moved_as replies m new Barrier after t called = tt
   moved_as replies m new (Troubled trouble) after t called = tt
@@ -90,4 +94,3 @@ module _ (v : View) (log : CallLog) (tree : IsTree (current log)) (shows : Shows
   moved_as replies m new (Made path) after t called = absurd t
   moved_as replies m new (Set path) after t called = absurd t
   moved_as replies m new (Cleaned part) after t called = absurd t
-  moved_as replies m new (Merges pair names) after t called = absurd t

@@ -1,5 +1,5 @@
 -- What a move knows of what it leaves: before the renaming both paths are as they were where the job began with it, and then what stood at its source stands at its target.
-use Rattle.std.proofs.Common.{◌≡◌, Bool, true, false, List, [], ◌∷◌, ◌++◌, refl, sym, ◌∙◌, ap, subst, inl, Some, None}
+use Rattle.std.proofs.Common.{◌≡◌, Bool, true, false, List, [], ◌∷◌, ◌++◌, refl, sym, ◌∙◌, ap, subst, inl, Some}
 use Rattle.std.specs.Prelude.{if◌then◌else◌}
 use Rattle.std.proofs.lemmas.Bool.{false_from_ne_true}
 use Rattle.mc_text.specs.Routes.{Route, is_prefix, same_path}
@@ -75,7 +75,7 @@ synced pair Take passed begun v dirty k = absurd (let f : ⊥ = cc in f)
 synced pair Finish passed begun v dirty k = absurd (let f : ⊥ = cc in f)
 synced pair PassedOver passed begun v dirty k = absurd (let f : ⊥ = cc in f)
 
--- a thing that isn't moved yet is passed over
+-- a thing that isn't moved yet is passed over, as a folder is that is merged
 left : (m : Moving) (path : Route) (passed : List Route) (begun v : View) → m.stage ≡ Take → path ≡ m.pair.source → MovingDone passed begun v m → MovingAt PassedOver m.pair (path ∷ passed) begun v
 left m path passed begun v stage path_is k = (inl (sym path_is), (subst (λ st. MovingAt st m.pair passed begun v) stage k).1)
 
@@ -90,6 +90,8 @@ moving_steps m new (Kept path) log passed begun v apart (stage, path_is, new_is)
 moving_steps m new (Skipped path cause) log passed begun v apart (stage, path_is, holds, new_is) k =
     subst (λ (x : Moving). MovingDone (path ∷ passed) begun v x) (sym new_is) (left m path passed begun v stage path_is k)
 moving_steps m new Barrier log passed begun v apart (dirty, new_is) k = subst (λ (x : Moving). MovingDone passed begun v x) (sym new_is) (synced m.pair m.stage passed begun v dirty k)
+moving_steps m new (Merges transfer pair names) log passed begun v apart (stage, may, new_is) k =
+    subst (λ (x : Moving). MovingDone (pair.source ∷ passed) begun v x) (sym new_is) (left m pair.source passed begun v stage (ap (λ (p : Pair). p.source) may.its) k)
 moving_steps m new (Asked question) log passed begun v apart (stage, new_is) k = subst (λ (x : Moving). MovingDone passed begun v x) (sym new_is) k
 moving_steps m new (Troubled trouble) log passed begun v apart t k = subst (λ (x : Moving). MovingDone passed begun v x) (sym t.3) k
 moving_steps m new (Ended ending part) log passed begun v apart t k = tt
@@ -99,7 +101,6 @@ moving_steps m new (Set path) log passed begun v apart t k = absurd t
 moving_steps m new (Made path) log passed begun v apart t k = absurd t
 moving_steps m new (Placed path) log passed begun v apart t k = absurd t
 moving_steps m new (Removed path) log passed begun v apart t k = absurd t
-moving_steps m new (Merges pair names) log passed begun v apart t k = absurd t
 moving_steps m new (Cleaned part) log passed begun v apart t k = absurd t
 
 pub moving_skips : (m new : Moving) (path : Route) (passed : List Route) (begun v : View) → at_barrier m.stage ≡ false → path ≡ m.pair.source → new ≡ record m { stage = skipped m.stage } → MovingDone passed begun v m
@@ -114,7 +115,7 @@ moving_skips m new path passed begun v free path_is new_is k = subst (λ (x : Mo
     by PassedOver is off = absurd (let f : ⊥ = cc in f)
 
 -- nothing was passed over
-none_among : {A : Type 0} (passed : List Route) (path : Route) → passed ≡ [] → Among passed path → A
+pub none_among : {A : Type 0} (passed : List Route) (path : Route) → passed ≡ [] → Among passed path → A
 none_among passed path none among = absurd (subst (λ ps. Among ps path) none among)
 
 pub moving_ends : (m : Moving) (passed : List Route) (begun v : View) → is_done m.stage ≡ true → MovingDone passed begun v m → IsMoved m.pair.source m.pair.target passed begun v
@@ -142,5 +143,5 @@ moving_touches m new (Set p) path t among = absurd t
 moving_touches m new (Made p) path t among = absurd t
 moving_touches m new (Placed p) path t among = absurd t
 moving_touches m new (Removed p) path t among = absurd t
-moving_touches m new (Merges pair names) path t none = absurd none
+moving_touches m new (Merges transfer pair names) path t none = absurd none
 moving_touches m new (Cleaned part) path t none = absurd none

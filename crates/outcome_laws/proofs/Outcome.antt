@@ -25,7 +25,7 @@ use Rattle.session_history.specs.Sources.{sources_of}
 use Rattle.copy_move.specs.declared.run.Course.{Course}
 use Rattle.copy_move.specs.declared.run.Course.TheVariants.{GoesOn, Asking, InTrouble, OwedSyncFailed, Skips, Ends}
 use Rattle.copy_move.specs.declared.work.Work.{Work}
-use Rattle.copy_move.specs.declared.work.Work.TheVariants.{Copy, Delete, Make, Move, SetMode}
+use Rattle.copy_move.specs.declared.work.Work.TheVariants.{Copy, Delete, Make, Move, SetMode, RemoveEmptied}
 use Rattle.copy_move.specs.Jobs.{Running, TellsOn, WorkTells, begun_work}
 use Rattle.copy_move.specs.Steps.{SyncsOwed, Walks, WalksOn}
 use Rattle.copy_move.specs.Told.{running}
@@ -51,6 +51,7 @@ use Rattle.outcome_laws.proofs.Deletions.{deletion_ends}
 use Rattle.outcome_laws.proofs.Doing.{CourseDone, JobDone, JobsDone, WorkDone, begun_done, closed_done, jobs_after, leads_done, orders_done, turned_done}
 use Rattle.outcome_laws.proofs.MadeThings.{Unless, making_ends, setting_ends}
 use Rattle.outcome_laws.proofs.MovedThings.{moving_ends}
+use Rattle.outcome_laws.proofs.RemovedThings.{removal_ends}
 use Rattle.outcome_laws.proofs.Owed.{owed_still}
 
 if_same : {A : Type 0} (b : Bool) (x y : A) → b ≡ true → (if b then x else y) ≡ x
@@ -229,6 +230,17 @@ module _ (told : Rattle.history_laws.proofs.Knowing.Said) (dirty dirty_after : L
   work_ends replies (SetMode s) (Make new) course t calls f0 f1 walks knows k = absurd t
   work_ends replies (Move s) (Make new) course t calls f0 f1 walks knows k = absurd t
   work_ends replies (SetMode s) (Move new) course t calls f0 f1 walks knows k = absurd t
+  work_ends replies (RemoveEmptied r) (RemoveEmptied new) course t calls f0 f1 walks knows k = removal_ends r passed begun told.tree t.0 k
+  work_ends replies (RemoveEmptied r) (Copy new) course t calls f0 f1 walks knows k = absurd t
+  work_ends replies (RemoveEmptied r) (Delete new) course t calls f0 f1 walks knows k = absurd t
+  work_ends replies (RemoveEmptied r) (SetMode new) course t calls f0 f1 walks knows k = absurd t
+  work_ends replies (RemoveEmptied r) (Move new) course t calls f0 f1 walks knows k = absurd t
+  work_ends replies (Copy c) (RemoveEmptied new) course t calls f0 f1 walks knows k = absurd t
+  work_ends replies (Delete d) (RemoveEmptied new) course t calls f0 f1 walks knows k = absurd t
+  work_ends replies (SetMode s) (RemoveEmptied new) course t calls f0 f1 walks knows k = absurd t
+  work_ends replies (Move s) (RemoveEmptied new) course t calls f0 f1 walks knows k = absurd t
+  work_ends replies (RemoveEmptied r) (Make new) course t calls f0 f1 walks knows k = absurd t
+  work_ends replies (Make m) (RemoveEmptied new) course t calls f0 f1 walks knows k = absurd t
 
   ends : (job new : Running) (course : Course) → TellsOn course job (Ended Finished part) new → (calls f0 f1 : ℕ) → WalksOn IsUnclaimed job.replies course job.work new.work (Ended Finished part) calls dirty dirty_after (Some log) (Some now) f0 f1 → ((ending : Rattle.job_reports.specs.declared.report.Ending.Ending) → course ≡ Ends ending → ending ≡ Aborted) → WorkKnows told dirty marks log course job.work
       → CourseDone course passed begun told.tree (current log) job.work → IsOutcome (item_in job.work) passed begun told.tree

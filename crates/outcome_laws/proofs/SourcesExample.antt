@@ -2,7 +2,6 @@
 use Rattle.std.proofs.Common.{◌≡◌, Bool, pos, true, false, ◌||◌, List, [], ◌∷◌, refl, sym, subst, inl, inr, Some, None, true≢false}
 use Rattle.std.specs.Option.{option_map}
 use Rattle.mc_text.specs.Routes.{Route, same_path}
-use Rattle.tree_trait.specs.FileSystem.{value}
 use Rattle.tree_trait.specs.Change.{Sets, Syncs, CallLog}
 use Rattle.tree_trait.proofs.Visible.{same_path-true}
 use Rattle.job_reports.specs.declared.report.Ending.TheVariants.{Finished}

@@ -9,7 +9,7 @@ use Rattle.tree_trait.specs.Shape.{IsTree}
 use Rattle.tree_trait.specs.Change.{CallLog, current}
 use Rattle.tree_trait.specs.CrashImages.{all_settled}
 use Rattle.tree_trait.proofs.Visible.{same_path-self}
-use Rattle.job_reports.specs.Jobs.{Item, Copies, Moves, Removes, Makes, MakesLink, Sets}
+use Rattle.job_reports.specs.Jobs.{Item, Copies, Moves, Removes, Makes, MakesLink, Sets, RemovesEmptied}
 use Rattle.session_history.specs.declared.history.Event.{Event}
 use Rattle.session_history.specs.declared.history.Event.TheVariants.{Key, Look, Sought, Order, Step, Next, Closed}
 use Rattle.session_history.specs.declared.history.Event.TheVariants as event
@@ -43,6 +43,9 @@ outcome_same (Removes top) passed begun v w same k = λ rest reached. ap (λ (s 
 outcome_same (Makes made) passed begun v w same k = λ reached. ap (λ (s : Spot). s.value) (same made (or_left _ _ (same_path-self made))) ∙ k reached
 outcome_same (MakesLink made text) passed begun v w same k = λ reached. ap (λ (s : Spot). s.value) (same made (or_left _ _ (same_path-self made))) ∙ k reached
 outcome_same (Sets thing mode) passed begun v w same k = λ reached. ap (λ (s : Spot). option_map (λ x. x.mode) s.value) (same thing (or_left _ _ (same_path-self thing))) ∙ k reached
+outcome_same (RemovesEmptied folder) passed begun v w same k =
+    let here = same folder (or_left _ _ (same_path-self folder)) in
+    record { gone = λ reached. ap (λ (s : Spot). s.value) here ∙ k.gone reached; stays = λ among. here ∙ k.stays among }
 
 -- where an entry ends is a moment, and so is where the one before it ended
 moment_below : (newest g : List Entry) (e x : Entry) (calls : ℕ) → IsMoment newest (e ∷ x ∷ g) (e ∷ x ∷ g) calls → IsMoment newest (x ∷ g) (x ∷ g) x.calls

@@ -105,7 +105,7 @@ IsPlain (Removed path) = ⊥
 IsPlain (Made path) = ⊥
 IsPlain (Set path) = ⊥
 IsPlain (Kept path) = ⊥
-IsPlain (Merges pair names) = ⊥
+IsPlain (Merges transfer pair names) = ⊥
 IsPlain (Moved pair) = ⊥
 
 pub says_plain : (did : Did) → SaysPassed did → IsPlain did
@@ -130,7 +130,7 @@ of_file f moved (Removed path) t = absurd t
 of_file f moved (Made path) t = absurd t
 of_file f moved (Set path) t = absurd t
 of_file f moved (Kept path) t = absurd t
-of_file f moved (Merges pair names) t = absurd t
+of_file f moved (Merges transfer pair names) t = absurd t
 of_file f moved (Moved pair) t = absurd t
 
 of_part : (facts : SourceFacts) (f moved : Copying) (did : Did) → TellsMade facts f did moved → IsPlain did
@@ -146,7 +146,7 @@ of_part facts f moved (Skipped path cause) t = absurd t
 of_part facts f moved (Cleaned part) t = absurd t
 of_part facts f moved Barrier t = absurd t
 of_part facts f moved (Asked question) t = absurd t
-of_part facts f moved (Merges pair names) t = absurd t
+of_part facts f moved (Merges transfer pair names) t = absurd t
 of_part facts f moved (Moved pair) t = absurd t
 of_part facts f moved (Ended ending part) t = absurd t
 
@@ -164,7 +164,7 @@ of_link l moved (Removed path) t = absurd t
 of_link l moved (Made path) t = absurd t
 of_link l moved (Set path) t = absurd t
 of_link l moved (Kept path) t = absurd t
-of_link l moved (Merges pair names) t = absurd t
+of_link l moved (Merges transfer pair names) t = absurd t
 of_link l moved (Moved pair) t = absurd t
 
 -- names that are met, once the next one is done with
@@ -225,7 +225,7 @@ module _ (now : CallLog) (v was : View) (kept : Bool) (work : Option WorkItem) (
   told (Made path) new plain s = absurd plain
   told (Set path) new plain s = absurd plain
   told (Kept path) new plain s = absurd plain
-  told (Merges pair names) new plain s = absurd plain
+  told (Merges transfer pair names) new plain s = absurd plain
   told (Moved pair) new plain s = absurd plain
 
   -- a step at a file or a link

@@ -12,7 +12,7 @@ use Rattle.job_reports.specs.declared.answer.Answer.{Answer}
 use Rattle.job_answers.specs.declared.replies.Replies.{Replies}
 use Rattle.job_reports.specs.declared.report.Did.{Did}
 use Rattle.job_reports.specs.declared.report.Did.TheVariants.{Began, Chunk, Placed, Removed, Made, Set, Kept, Skipped, Cleaned, Barrier, Asked, Merges, Moved, Troubled, Ended}
-use Rattle.job_reports.specs.Jobs.{Item, Copies, Moves, Removes, Makes, MakesLink, Sets}
+use Rattle.job_reports.specs.Jobs.{Item, Copies, Moves, Removes, Makes, MakesLink, Sets, RemovesEmptied}
 use Rattle.session_history.specs.declared.history.JobOrder.{JobOrder}
 use Rattle.session_history.specs.declared.history.JobOrder.TheVariants.{Answered}
 use Rattle.mode_setting.specs.Settings as settings
@@ -22,7 +22,7 @@ use Rattle.thing_making.specs.declared.new_thing.NewThing.TheVariants as thing
 use Rattle.copy_move.specs.declared.run.Course.{Course}
 use Rattle.copy_move.specs.declared.run.Course.TheVariants.{GoesOn, Asking, InTrouble, OwedSyncFailed, Skips, Ends}
 use Rattle.copy_move.specs.declared.work.Work.{Work}
-use Rattle.copy_move.specs.declared.work.Work.TheVariants.{Copy, Delete, Make, Move, SetMode}
+use Rattle.copy_move.specs.declared.work.Work.TheVariants.{Copy, Delete, Make, Move, SetMode, RemoveEmptied}
 use Rattle.copy_move.specs.Deletions as deletions
 use Rattle.copy_move.specs.Deletions.{Deleting}
 use Rattle.thing_making.specs.Makings as makings
@@ -41,6 +41,7 @@ use Rattle.outcome_laws.proofs.CopyTouches.{tree_touches}
 use Rattle.outcome_laws.proofs.Doing.{CourseDone, WorkDone}
 use Rattle.outcome_laws.proofs.MadeThings.{Unless, unless_of}
 use Rattle.outcome_laws.proofs.MovedThings.{moving_touches}
+use Rattle.outcome_laws.proofs.RemovedThings.{removal_touches}
 
 -- this holds of a job that goes so, unless it makes its last steps
 abbrev pub UnlessEnding : Course → Type 0 → Type 0
@@ -69,7 +70,7 @@ unless_map (Made made) A B to a = to a
 unless_map (Set path) A B to a = to a
 unless_map (Kept kept) A B to a = to a
 unless_map (Asked question) A B to a = to a
-unless_map (Merges pair names) A B to a = to a
+unless_map (Merges transfer pair names) A B to a = to a
 unless_map (Moved pair) A B to a = to a
 unless_map (Skipped path cause) A B to a = to a
 unless_map (Cleaned part) A B to a = to a
@@ -97,7 +98,7 @@ kept_after (Made made) v was new h = h
 kept_after (Set path) v was new h = h
 kept_after (Kept kept) v was new h = h
 kept_after (Asked question) v was new h = h
-kept_after (Merges pair names) v was new h = h
+kept_after (Merges transfer pair names) v was new h = h
 kept_after (Moved pair) v was new h = h
 kept_after (Skipped path cause) v was new h = h
 kept_after (Cleaned part) v was new h = h
@@ -112,6 +113,7 @@ placed_off (Some (Removes top)) path v p off = refl
 placed_off (Some (Makes made)) path v p off = refl
 placed_off (Some (MakesLink made text)) path v p off = refl
 placed_off (Some (Sets thing mode)) path v p off = refl
+placed_off (Some (RemovesEmptied folder)) path v p off = refl
 placed_off None path v p off = refl
 
 set_off : (item : Option Item) (path : Route) (v : View) (p : Route) → same_path p path ≡ false → set_by item path v p ≡ v p
@@ -121,6 +123,7 @@ set_off (Some (Removes top)) path v p off = refl
 set_off (Some (Makes made)) path v p off = refl
 set_off (Some (MakesLink made text)) path v p off = refl
 set_off (Some (Sets thing mode)) path v p off = put_off v path (option_map (with_mode mode) (v path).value) p off
+set_off (Some (RemovesEmptied folder)) path v p off = refl
 set_off None path v p off = refl
 
 apart : (item : Item) (path p : Route) → touches item path ≡ true → touches item p ≡ false → same_path p path ≡ false
@@ -135,7 +138,7 @@ step_else (Began part) log item v on = λ p off. refl
 step_else (Chunk count) log item v on = λ p off. refl
 step_else (Kept kept) log item v on = λ p off. refl
 step_else (Asked question) log item v on = λ p off. refl
-step_else (Merges pair names) log item v on = λ p off. refl
+step_else (Merges transfer pair names) log item v on = λ p off. refl
 step_else (Moved pair) log item v on = λ p off. moved_off pair v p (false_from_ne_true _ (λ of. both_ways _ off (on p of)))
 step_else (Skipped path cause) log item v on = λ p off. refl
 step_else (Cleaned part) log item v on = λ p off. refl
@@ -152,7 +155,7 @@ deletion_touches : (d new : Deleting) (did : Did) (path : Route) → deletions.T
 deletion_touches d new (Removed p) path (off, within, at) is = subst (λ (q : Route). is_prefix d.path q ≡ true) (sym (one_path p path is)) within
 deletion_touches d new (Kept p) path t is = absurd is
 deletion_touches d new (Asked question) path t is = absurd t
-deletion_touches d new (Merges pair names) path t is = absurd t
+deletion_touches d new (Merges transfer pair names) path t is = absurd t
 deletion_touches d new (Moved pair) path t is = absurd t
 deletion_touches d new (Skipped p why) path t is = absurd is
 deletion_touches d new (Troubled trouble) path t is = absurd is
@@ -181,7 +184,7 @@ making_touches m new (Placed p) path t is = absurd t
 making_touches m new (Removed p) path t is = absurd t
 making_touches m new (Kept kept) path t is = absurd t
 making_touches m new (Asked question) path t is = absurd t
-making_touches m new (Merges pair names) path t is = absurd t
+making_touches m new (Merges transfer pair names) path t is = absurd t
 making_touches m new (Moved pair) path t is = absurd t
 making_touches m new (Skipped p why) path t is = absurd t
 making_touches m new (Cleaned part) path t is = absurd t
@@ -198,7 +201,7 @@ setting_touches s new (Placed p) path t is = absurd t
 setting_touches s new (Removed p) path t is = absurd t
 setting_touches s new (Kept kept) path t is = absurd t
 setting_touches s new (Asked question) path t is = absurd t
-setting_touches s new (Merges pair names) path t is = absurd t
+setting_touches s new (Merges transfer pair names) path t is = absurd t
 setting_touches s new (Moved pair) path t is = absurd t
 setting_touches s new (Skipped p why) path t is = absurd is
 setting_touches s new (Cleaned part) path t is = absurd t
@@ -232,6 +235,17 @@ module _ (dirty dirty_after : List Route) (log now : CallLog) (passed : List Rou
   work_touches replies (SetMode x) (Make new) did path calls faults faults_after t walks k is = absurd t
   work_touches replies (Move x) (Make new) did path calls faults faults_after t walks k is = absurd t
   work_touches replies (SetMode x) (Move new) did path calls faults faults_after t walks k is = absurd t
+  work_touches replies (RemoveEmptied r) (RemoveEmptied new) did path calls faults faults_after t walks k is = removal_touches r new did path t is
+  work_touches replies (RemoveEmptied x) (Copy new) did path calls faults faults_after t walks k is = absurd t
+  work_touches replies (RemoveEmptied x) (Delete new) did path calls faults faults_after t walks k is = absurd t
+  work_touches replies (RemoveEmptied x) (SetMode new) did path calls faults faults_after t walks k is = absurd t
+  work_touches replies (RemoveEmptied x) (Move new) did path calls faults faults_after t walks k is = absurd t
+  work_touches replies (Copy x) (RemoveEmptied new) did path calls faults faults_after t walks k is = absurd t
+  work_touches replies (Delete x) (RemoveEmptied new) did path calls faults faults_after t walks k is = absurd t
+  work_touches replies (SetMode x) (RemoveEmptied new) did path calls faults faults_after t walks k is = absurd t
+  work_touches replies (Move x) (RemoveEmptied new) did path calls faults faults_after t walks k is = absurd t
+  work_touches replies (RemoveEmptied r) (Make new) did path calls faults faults_after t walks k is = absurd t
+  work_touches replies (Make x) (RemoveEmptied new) did path calls faults faults_after t walks k is = absurd t
 
   -- so a step leaves what the job doesn't touch
   still : (job new : Running) (did : Did) (was : ℕ → View) → IsSame job new → IsAsBegun v (was job.id) (item_in job.work) → ((path : Route) → IsChanged did path → touches (item_in job.work) path ≡ true)

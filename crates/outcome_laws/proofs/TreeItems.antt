@@ -55,7 +55,7 @@ file_paths f moved (Made path) t = absurd t
 file_paths f moved (Set path) t = absurd t
 file_paths f moved (Kept path) t = absurd t
 file_paths f moved (Asked question) t = absurd t
-file_paths f moved (Merges pair names) t = absurd t
+file_paths f moved (Merges transfer pair names) t = absurd t
 file_paths f moved (Moved pair) t = absurd t
 file_paths f moved (Skipped path cause) t = absurd t
 
@@ -72,7 +72,7 @@ link_paths l moved (Made path) t = absurd t
 link_paths l moved (Set path) t = absurd t
 link_paths l moved (Kept path) t = absurd t
 link_paths l moved (Asked question) t = absurd t
-link_paths l moved (Merges pair names) t = absurd t
+link_paths l moved (Merges transfer pair names) t = absurd t
 link_paths l moved (Moved pair) t = absurd t
 link_paths l moved (Skipped path cause) t = absurd t
 
@@ -212,7 +212,7 @@ module _ (now : CallLog) (v : View) (passed : List Route) (top : Pair) where
   file_changes around f moved (Set path) m t d = absurd t
   file_changes around f moved (Kept path) m t d = absurd t
   file_changes around f moved (Asked question) m t d = absurd t
-  file_changes around f moved (Merges pair names) m t d = absurd t
+  file_changes around f moved (Merges transfer pair names) m t d = absurd t
   file_changes around f moved (Moved pair) m t d = absurd t
   file_changes around f moved (Skipped path cause) m t d = absurd t
 
@@ -231,7 +231,7 @@ module _ (now : CallLog) (v : View) (passed : List Route) (top : Pair) where
   link_changes around l moved (Set path) m t d = absurd t
   link_changes around l moved (Kept path) m t d = absurd t
   link_changes around l moved (Asked question) m t d = absurd t
-  link_changes around l moved (Merges pair names) m t d = absurd t
+  link_changes around l moved (Merges transfer pair names) m t d = absurd t
   link_changes around l moved (Moved pair) m t d = absurd t
   link_changes around l moved (Skipped path cause) m t d = absurd t
 
@@ -316,7 +316,7 @@ module _ (now : CallLog) (v : View) (passed : List Route) (top : Pair) where
         by (Cleaned part) is t = absurd t
         by Barrier is t = absurd t
         by (Asked question) is t = absurd t
-        by (Merges pair names) is t = absurd t
+        by (Merges transfer pair names) is t = absurd t
         by (Moved pair) is t = absurd t
         by (Ended ending part) is t = absurd t
 

@@ -7,7 +7,7 @@ use Rattle.tree_trait.specs.Shape.{IsTree}
 use Rattle.tree_trait.specs.Change.{CallLog, current}
 use Rattle.tree_trait.specs.CrashImages.{all_settled}
 use Rattle.job_reports.specs.declared.job.Job.{Job}
-use Rattle.job_reports.specs.Jobs.{Item, Copies, Moves, Removes, Makes, MakesLink, Sets}
+use Rattle.job_reports.specs.Jobs.{Item, Copies, Moves, Removes, Makes, MakesLink, Sets, RemovesEmptied}
 use Rattle.session_history.specs.declared.history.Event.{Event}
 use Rattle.session_history.specs.declared.history.Event.TheVariants.{Key, Look, Sought, Order, Step, Next, Closed}
 use Rattle.session_history.specs.declared.history.Event.TheVariants as event
@@ -28,6 +28,7 @@ is_copied (Removes top) path = false
 is_copied (Makes made) path = false
 is_copied (MakesLink made text) path = false
 is_copied (Sets thing mode) path = false
+is_copied (RemovesEmptied folder) path = false
 
 -- whether a job has done all with the item hangs on this path
 abbrev pub concerns : Item → Route → Bool

@@ -1,18 +1,22 @@
--- What stands at the target of a copy or a move is replaced, kept or asked about only as was answered; in the words of the history alone. Histories stand newest first here.
-use Rattle.std.specs.Prelude.{◌≡◌, ℕ, ⊤, ◌==◌, Bool, true, false, ◌&&◌, not, if◌then◌else◌, List, [], ◌∷◌, length, is_some, Some, None}
+-- What stands at the target of a copy or a move is replaced, kept or asked about only as was answered, a folder that is merged is merged whole, and one that was emptied is removed only where nothing
+-- lies in it; in the words of the history alone. Histories stand newest first here.
+use Rattle.std.specs.Prelude.{◌≡◌, ◌⊎◌, ◌↔◌, ℕ, ◌<◌, ⊤, ◌==◌, Bool, true, false, ◌&&◌, not, if◌then◌else◌, List, [], ◌∷◌, length, is_some, Some, None}
+use Rattle.std.specs.Option.{option_map}
 use Rattle.mc_text.specs.Routes.{Route}
 use Rattle.mc_text.specs.declared.kind.Kind.{Kind}
 use Rattle.tree_trait.specs.FileSystem.{Value, View}
 use Rattle.tree_trait.specs.Refusals.{folder_kind}
 use Rattle.tree_trait.specs.Shape.{IsTree}
 use Rattle.tree_trait.specs.Change.{CallLog, current}
-use Rattle.tree_trait.specs.CrashImages.{all_settled}
+use Rattle.tree_trait.specs.CrashImages.{Among, all_settled}
 use Rattle.job_reports.specs.declared.answer.Answer.{Answer}
 use Rattle.job_reports.specs.declared.answer.Answer.TheVariants.{Yes, No, All, Update, Nothing, SizeDiffers, Retry, Skip, SkipAll, Abort}
+use Rattle.job_reports.specs.declared.job.Pair.{Pair}
 use Rattle.job_reports.specs.declared.question.Question.{Question}
 use Rattle.job_reports.specs.declared.report.Did.{Did}
 use Rattle.job_reports.specs.declared.report.Did.TheVariants.{Began, Chunk, Placed, Removed, Made, Set, Kept, Skipped, Cleaned, Barrier, Asked, Merges, Moved, Troubled, Ended}
-use Rattle.job_reports.specs.Jobs.{Item, Copies, Moves}
+use Rattle.job_reports.specs.declared.report.Transfer.TheVariants.{ByCopy, ByMove}
+use Rattle.job_reports.specs.Jobs.{Item, Copies, Moves, RemovesEmptied}
 use Rattle.job_reports.specs.Paths.{folder_of}
 use Rattle.job_answers.specs.declared.replies.Decision.TheVariants.{Ask, Keep, Replace}
 use Rattle.job_answers.specs.declared.replies.Replies.{Replies}
@@ -41,7 +45,7 @@ asks_by (Kept path) = false
 asks_by (Skipped path cause) = false
 asks_by (Cleaned part) = false
 asks_by Barrier = false
-asks_by (Merges pair names) = false
+asks_by (Merges transfer pair names) = false
 asks_by (Moved pair) = false
 asks_by (Troubled trouble) = false
 asks_by (Ended ending part) = false
@@ -111,8 +115,13 @@ pub record IsMoveQuestion (v : View) (source target : Route) (question : Questio
   pub source_is : IsSizedAs (λ kind. folder_kind kind ≡ false) v source question.source_size
   pub target_is : IsSized v target question.target_size
 
--- A move asks where no answer that stands decides; it keeps what stands at its target where one says so; and it goes there, by which that is replaced if anything
--- stands there, only where one says that.
+-- These are the names of all that stands in the folder at the source, where each thing has one that can be told; so a merge leaves nothing out.
+pub record IsMergedWhole (v : View) (pair : Pair) (names : List (List ℕ)) : Type 0 where
+  pub all : (name : List ℕ) → Among names name ↔ (is_some (v (name ∷ pair.source)).value ≡ true)
+  pub named : option_map (λ x. x.unnamed) (v pair.source).value ≡ Some 0
+
+-- A move asks where no answer that stands decides; it keeps what stands at its target where one says so; of a folder that is merged all that lies in it is told, to be moved; and it goes there, by
+-- which that is replaced if anything stands there, only where one says that.
 abbrev pub IsMovedAsAnswered : Replies → Route → Route → View → Did → Type 0
 IsMovedAsAnswered replies source target v (Asked question) = IsMoveQuestion v source target question × (decided replies question ≡ Ask)
 IsMovedAsAnswered replies source target v (Kept path) = (path ≡ target) × ((question : Question) × IsMoveQuestion v source target question × (decided replies question ≡ Keep))
@@ -126,14 +135,14 @@ IsMovedAsAnswered replies source target v (Removed path) = ⊥
 IsMovedAsAnswered replies source target v (Made made) = ⊥
 IsMovedAsAnswered replies source target v (Set path) = ⊥
 IsMovedAsAnswered replies source target v (Cleaned part) = ⊥
-IsMovedAsAnswered replies source target v (Merges pair names) = ⊥
+IsMovedAsAnswered replies source target v (Merges transfer pair names) = (transfer ≡ ByMove) × (pair ≡ record { source = source; target = target }) × IsMergedWhole v pair names
 IsMovedAsAnswered replies source target v (Skipped path cause) = ⊤
 IsMovedAsAnswered replies source target v Barrier = ⊤
 IsMovedAsAnswered replies source target v (Troubled trouble) = ⊤
 IsMovedAsAnswered replies source target v (Ended ending part) = ⊤
 
--- A copy asks where no answer that stands decides; it keeps what stands at its target where one says so; and it begins a part beside its target, by which that is replaced if anything stands
--- there, only where one says that.
+-- A copy asks where no answer that stands decides; it keeps what stands at its target where one says so; of a folder that is merged all that lies in it is told, to be copied; and it begins a part
+-- beside its target, by which that is replaced if anything stands there, only where one says that.
 abbrev pub IsAsAnswered : Replies → Route → Route → View → Did → Type 0
 IsAsAnswered replies source target v (Asked question) = IsQuestionOf v source target question × (decided replies question ≡ Ask)
 IsAsAnswered replies source target v (Kept path) = (path ≡ target) × ((question : Question) × IsQuestionOf v source target question × (decided replies question ≡ Keep))
@@ -147,10 +156,32 @@ IsAsAnswered replies source target v (Set path) = ⊤
 IsAsAnswered replies source target v (Skipped path cause) = ⊤
 IsAsAnswered replies source target v (Cleaned part) = ⊤
 IsAsAnswered replies source target v Barrier = ⊤
-IsAsAnswered replies source target v (Merges pair names) = ⊤
+IsAsAnswered replies source target v (Merges transfer pair names) = (transfer ≡ ByCopy) × (pair ≡ record { source = source; target = target }) × IsMergedWhole v pair names
 IsAsAnswered replies source target v (Moved pair) = ⊤
 IsAsAnswered replies source target v (Troubled trouble) = ⊤
 IsAsAnswered replies source target v (Ended ending part) = ⊤
+
+-- something lies in the folder at this path, under a name, or under one that can't be told
+abbrev pub HoldsSome : View → Route → Type 0
+HoldsSome v path = ((name : List ℕ) × (is_some (v (name ∷ path)).value ≡ true)) ⊎ ((x : Value) × ((v path).value ≡ Some x) × (0 < x.unnamed))
+
+-- The removal of an emptied folder asks nothing. It removes the folder only where nothing lies in that, and keeps it only where something does.
+abbrev pub IsRemovedIfEmpty : Route → View → Did → Type 0
+IsRemovedIfEmpty path v (Removed gone) = (gone ≡ path) × (HoldsSome v path → ⊥)
+IsRemovedIfEmpty path v (Kept kept) = (kept ≡ path) × HoldsSome v path
+IsRemovedIfEmpty path v (Skipped passed cause) = ⊤
+IsRemovedIfEmpty path v Barrier = ⊤
+IsRemovedIfEmpty path v (Troubled trouble) = ⊤
+IsRemovedIfEmpty path v (Ended ending part) = ⊤
+IsRemovedIfEmpty path v (Asked question) = ⊥
+IsRemovedIfEmpty path v (Began part) = ⊥
+IsRemovedIfEmpty path v (Chunk count) = ⊥
+IsRemovedIfEmpty path v (Placed placed) = ⊥
+IsRemovedIfEmpty path v (Made made) = ⊥
+IsRemovedIfEmpty path v (Set given) = ⊥
+IsRemovedIfEmpty path v (Cleaned part) = ⊥
+IsRemovedIfEmpty path v (Merges transfer pair names) = ⊥
+IsRemovedIfEmpty path v (Moved pair) = ⊥
 
 -- Wherever in a history a job that works on such an item reports something, that is as was answered to it before.
 abbrev pub Follows : (Route → Route → Item) → (Replies → Route → Route → View → Did → Type 0) → CallLog → CallLog → List Entry → Type 0
@@ -159,10 +190,17 @@ Follows item IsAs opening now newest =
     → e.what ≡ Step id did → live_item id (live_jobs older) ≡ Some (item source target) → IsMoment newest (e ∷ older) (e ∷ older) e.calls
     → IsAs (replies_said id older) source target (replayed_tree opening now older) did
 
--- so it is of a job that copies, and of one that moves
+-- Wherever in a history a job that removes an emptied folder reports something, that is by what lies in the folder.
+abbrev pub FollowsContents : CallLog → CallLog → List Entry → Type 0
+FollowsContents opening now newest =
+    (e : Entry) (older : List Entry) (id : ℕ) (did : Did) (path : Route)
+    → e.what ≡ Step id did → live_item id (live_jobs older) ≡ Some (RemovesEmptied path) → IsMoment newest (e ∷ older) (e ∷ older) e.calls → IsRemovedIfEmpty path (replayed_tree opening now older) did
+
+-- so it is of a job that copies, of one that moves, and of one that removes an emptied folder
 pub record FollowsAnswers (opening now : CallLog) (newest : List Entry) : Type 0 where
   pub copies : Follows Copies IsAsAnswered opening now newest
   pub moves : Follows Moves IsMovedAsAnswered opening now newest
+  pub emptied : FollowsContents opening now newest
 
 abbrev pub AnsweredLaw : Type 0
 AnsweredLaw = (opening now : CallLog) (newest : List Entry) (stand : Stand)

@@ -11,7 +11,7 @@ use Rattle.tree_trait.specs.Change.{CallLog, current}
 use Rattle.tree_trait.specs.CrashImages.{Among, all_settled}
 use Rattle.job_reports.specs.declared.report.Did.{Did}
 use Rattle.job_reports.specs.declared.report.Did.TheVariants.{Began, Chunk, Placed, Removed, Made, Set, Kept, Skipped, Cleaned, Barrier, Asked, Merges, Moved, Troubled, Ended}
-use Rattle.job_reports.specs.Jobs.{Item, Copies, Moves, Removes, Makes, MakesLink, Sets}
+use Rattle.job_reports.specs.Jobs.{Item, Copies, Moves, Removes, Makes, MakesLink, Sets, RemovesEmptied}
 use Rattle.session_history.specs.declared.history.Event.{Event}
 use Rattle.session_history.specs.declared.history.Event.TheVariants.{Key, Look, Sought, Order, Step, Next, Closed}
 use Rattle.session_history.specs.declared.history.Event.TheVariants as event
@@ -23,8 +23,8 @@ use Rattle.history_laws.specs.Replayed.{new_folder, new_link, nothing_there, pla
 use Rattle.history_laws.specs.Traces.{IsTraced, Stand}
 use Rattle.outcome_laws.specs.Begun.{tree_begun}
 
--- What was passed over once a job has reported this: what it skipped, and a folder that is merged with that at its target, since what lies in it is copied after it, each
--- thing as a source of its own.
+-- What was passed over once a job has reported this: what it skipped, and a folder that is merged with that at its target, since what lies in it is copied or moved after
+-- it, each thing as a source of its own.
 abbrev pub passed_by : Did → List Route → List Route
 passed_by (Skipped path cause) before = path ∷ before
 passed_by (Began part) before = before
@@ -35,14 +35,15 @@ passed_by (Made made) before = before
 passed_by (Set path) before = before
 passed_by (Kept kept) before = before
 passed_by (Asked question) before = before
-passed_by (Merges pair names) before = pair.source ∷ before
+passed_by (Merges transfer pair names) before = pair.source ∷ before
 passed_by (Moved pair) before = before
 passed_by (Cleaned part) before = before
 passed_by Barrier before = before
 passed_by (Troubled trouble) before = before
 passed_by (Ended ending part) before = before
 
--- a job that copies or moves passes over its source where it keeps what stands at its target; one that deletes, or makes, passes over nothing where it keeps a folder
+-- a job that copies or moves passes over its source where it keeps what stands at its target, and one that removes an emptied folder that where it keeps it; one that
+-- deletes, or makes, passes over nothing where it keeps a folder
 abbrev pub kept_of : Option Item → List Route → List Route
 kept_of (Some (Copies source target)) before = source ∷ before
 kept_of (Some (Moves source target)) before = source ∷ before
@@ -50,6 +51,7 @@ kept_of (Some (Removes path)) before = before
 kept_of (Some (Makes path)) before = before
 kept_of (Some (MakesLink path text)) before = before
 kept_of (Some (Sets path mode)) before = before
+kept_of (Some (RemovesEmptied path)) before = path ∷ before
 kept_of None before = before
 
 -- what a job that works on this has passed over once it has reported this, and the source of a copy or a move whose target stays as it was
@@ -63,7 +65,7 @@ passed_in item (Removed path) before = before
 passed_in item (Made made) before = before
 passed_in item (Set path) before = before
 passed_in item (Asked question) before = before
-passed_in item (Merges pair names) before = passed_by (Merges pair names) before
+passed_in item (Merges transfer pair names) before = passed_by (Merges transfer pair names) before
 passed_in item (Moved pair) before = before
 passed_in item (Cleaned part) before = before
 passed_in item Barrier before = before
@@ -128,6 +130,11 @@ pub record IsMoved (source target : Route) (passed : List Route) (begun v : View
   pub went : (Among passed source → ⊥) → (rest : Route) → (v (rest ++ source) ≡ nothing_there) × (v (rest ++ target) ≡ begun (rest ++ source))
   pub stays : Among passed source → (rest : Route) → (v (rest ++ source) ≡ begun (rest ++ source)) × (v (rest ++ target) ≡ begun (rest ++ target))
 
+-- Nothing stands where the emptied folder was; but where it was passed over it is as it was.
+pub record IsEmptiedGone (path : Route) (passed : List Route) (begun v : View) : Type 0 where
+  pub gone : (Among passed path → ⊥) → (v path).value ≡ None
+  pub stays : Among passed path → v path ≡ begun path
+
 -- All that a job was to do with its item is done in this tree, which was another one where it began with that; but for what it passed over.
 abbrev pub IsOutcome : Item → List Route → View → View → Type 0
 IsOutcome (Copies source target) passed begun v = IsCopied source target passed v
@@ -136,6 +143,7 @@ IsOutcome (Removes path) passed begun v = IsGone path passed v
 IsOutcome (Makes path) passed begun v = IsMade path new_folder passed v
 IsOutcome (MakesLink path text) passed begun v = IsMade path (new_link text) passed v
 IsOutcome (Sets path mode) passed begun v = IsSet path mode passed v
+IsOutcome (RemovesEmptied path) passed begun v = IsEmptiedGone path passed begun v
 
 -- This entry, after the older ones, tells that the job with this number is done with this item: it is finished, or goes on with the next one.
 pub record Finishes (e : Entry) (older : List Entry) (id : ℕ) (item : Item) : Type 0 where

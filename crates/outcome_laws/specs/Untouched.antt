@@ -4,7 +4,7 @@ use Rattle.mc_text.specs.Routes.{Route, is_prefix, same_path}
 use Rattle.tree_trait.specs.Shape.{IsTree}
 use Rattle.tree_trait.specs.Change.{CallLog, current}
 use Rattle.tree_trait.specs.CrashImages.{all_settled}
-use Rattle.job_reports.specs.Jobs.{Item, Copies, Moves, Removes, Makes, MakesLink, Sets}
+use Rattle.job_reports.specs.Jobs.{Item, Copies, Moves, Removes, Makes, MakesLink, Sets, RemovesEmptied}
 use Rattle.session_history.specs.declared.history.Entry.{Entry}
 use Rattle.session_history.specs.Entries.{IsMoment}
 use Rattle.history_laws.specs.Replayed.{replayed_tree}
@@ -12,7 +12,7 @@ use Rattle.history_laws.specs.Traces.{IsTraced, Stand}
 use Rattle.outcome_laws.specs.Begun.{tree_begun}
 use Rattle.outcome_laws.specs.Outcomes.{Finishes}
 
--- a path that a job may change: what it makes, deletes or gives a mode; where it copies or deletes, also what lies in that; where it moves, so of both its paths
+-- a path that a job may change: what it makes, removes or gives a mode; where it copies or deletes, also what lies in that; where it moves, so of both its paths
 abbrev pub touches : Item → Route → Bool
 touches (Copies source target) path = is_prefix target path
 touches (Moves source target) path = is_prefix source path || is_prefix target path
@@ -20,6 +20,7 @@ touches (Removes top) path = is_prefix top path
 touches (Makes made) path = same_path path made
 touches (MakesLink made text) path = same_path path made
 touches (Sets thing mode) path = same_path path thing
+touches (RemovesEmptied folder) path = same_path path folder
 
 -- Wherever in a history a job is done with an item, each path that this doesn't touch shows what it showed where the job began with it.
 abbrev pub LeavesAlone : CallLog → CallLog → List Entry → Type 0

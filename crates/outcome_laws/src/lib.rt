@@ -27,7 +27,8 @@ pub fn what_a_finished_job_has_done_with_all()
     ensures { AllSourcesLaw }
 {}
 
-/// What a copy or a move replaces, keeps or asks about at its target is as was answered to it.
+/// What a copy or a move replaces, keeps or asks about at its target is as was answered to it. A folder that it merges is merged whole, and an
+/// emptied folder is removed only where nothing lies in it, and kept only where something does.
 pub fn what_was_answered_decides()
     ensures { AnsweredLaw }
 {}
