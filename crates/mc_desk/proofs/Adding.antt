@@ -130,7 +130,7 @@ in_turn id (Ended NoMemory part) left h = tt
 in_turn id (BeganPart part) left h = tt
 in_turn id (Chunk bytes) left h = tt
 in_turn id (Asked question) left h = tt
-in_turn id (Merges pair names) left h = tt
+in_turn id (Merges transfer pair names) left h = tt
 in_turn id (Moved pair) left h = tt
 in_turn id (Set path) left h = tt
 in_turn id (Placed path) left h = tt
@@ -361,7 +361,7 @@ module _ (contents contents_after : Option CallLog) (faults : ℕ) (old new : Se
   unseen_step id (BeganPart part) b = refl
   unseen_step id (Chunk bytes) b = refl
   unseen_step id (Asked question) b = refl
-  unseen_step id (Merges pair names) b = refl
+  unseen_step id (Merges transfer pair names) b = refl
   unseen_step id (Moved pair) b = refl
   unseen_step id (Set path) b = refl
   unseen_step id (Placed path) b = refl

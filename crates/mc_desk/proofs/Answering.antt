@@ -3,7 +3,7 @@ use Rattle.std.proofs.Common.{◌≡◌, ℕ, false, [], ◌∷◌, refl, ◌∙
 use Rattle.std.specs.Prelude.{if◌then◌else◌}
 use Rattle.std.specs.Option.{option_map}
 use Rattle.copy_move.specs.declared.work.Work.{Work}
-use Rattle.copy_move.specs.declared.work.Work.TheVariants.{Copy, Delete, Make, Move, SetMode}
+use Rattle.copy_move.specs.declared.work.Work.TheVariants.{Copy, Delete, Make, Move, SetMode, RemoveEmptied}
 use Rattle.mc_text.specs.Routes.{Route}
 use Rattle.job_reports.specs.declared.waits.Waits.{Waits}
 use Rattle.job_reports.specs.declared.row.JobKind.{JobKind}
@@ -26,6 +26,7 @@ work_part id (Delete d) = refl
 work_part id (Make m) = refl
 work_part id (Move m) = refl
 work_part id (SetMode s) = refl
+work_part id (RemoveEmptied r) = refl
 
 pub part_told : (job : Running) → part_of (told job).work ≡ part_of job.work
 part_told job = work_part job.id job.work
@@ -44,6 +45,7 @@ kind_told id (Delete d) = refl
 kind_told id (Make m) = refl
 kind_told id (Move m) = refl
 kind_told id (SetMode s) = refl
+kind_told id (RemoveEmptied r) = refl
 
 path_told : (id : ℕ) (work : Work) → path_of (work_told id work) ≡ path_of work
 path_told id (Copy c) = refl
@@ -51,6 +53,7 @@ path_told id (Delete d) = refl
 path_told id (Make m) = refl
 path_told id (Move m) = refl
 path_told id (SetMode s) = refl
+path_told id (RemoveEmptied r) = refl
 
 abbrev row_with : Running → Option Waits → JobKind → Route → JobRow
 row_with job t kind path =

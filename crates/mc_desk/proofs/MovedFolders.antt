@@ -70,6 +70,7 @@ module _ (m w : Moving) (dirty dirty_after : List Route) where
   folders_move (Kept path) (was, path_is, is) left = inl (between Take PassedOver was (ap (λ (k : Moving). k.stage) is) left)
   folders_move (Skipped path cause) (was, path_is, kind, is) left = inl (between Take PassedOver was (ap (λ (k : Moving). k.stage) is) left)
   folders_move (Asked question) (was, is) left = inl (still is left)
+  folders_move (Merges transfer pair names) (was, merge, is) left = inl (between Take PassedOver was (ap (λ (k : Moving). k.stage) is) left)
   folders_move (Troubled trouble) (barrier, goes, told, is) left = inl (still is left)
   folders_move (Ended Finished part) (over, none, is) left = inl (still is left)
   folders_move (Ended Aborted part) t left = absurd t
@@ -82,4 +83,3 @@ module _ (m w : Moving) (dirty dirty_after : List Route) where
   folders_move (Made made) t left = absurd t
   folders_move (Set path) t left = absurd t
   folders_move (Cleaned part) t left = absurd t
-  folders_move (Merges pair names) t left = absurd t

@@ -12,7 +12,7 @@ use Rattle.job_reports.specs.declared.report.Ending.TheVariants.{Finished, Abort
 use Rattle.session_history.specs.declared.history.Event.TheVariants.{Step}
 use Rattle.session_history.specs.declared.history.Entry.{Entry}
 use Rattle.copy_move.specs.declared.work.Work.{Work}
-use Rattle.copy_move.specs.declared.work.Work.TheVariants.{Copy, Delete, Make, Move, SetMode}
+use Rattle.copy_move.specs.declared.work.Work.TheVariants.{Copy, Delete, Make, Move, SetMode, RemoveEmptied}
 use Rattle.copy_move.specs.declared.run.Course.{Course}
 use Rattle.copy_move.specs.declared.run.Course.TheVariants.{GoesOn, Asking, InTrouble, OwedSyncFailed, Skips, Ends}
 use Rattle.copy_move.specs.Deletions.{Deleting, DeletionLeaves}
@@ -22,6 +22,9 @@ use Rattle.thing_making.specs.declared.making.MakingStage.{MakingStage}
 use Rattle.thing_making.specs.declared.making.MakingStage.TheVariants as making
 use Rattle.thing_making.specs.Makings as makings
 use Rattle.thing_moving.specs.Movings.{Moving, with_moves}
+use Rattle.folder_removal.specs.declared.removal.RemovalStage.{RemovalStage}
+use Rattle.folder_removal.specs.declared.removal.RemovalStage.TheVariants as removal
+use Rattle.folder_removal.specs.Removals as removals
 use Rattle.mode_setting.specs.Settings as settings
 use Rattle.copy_move.specs.Jobs.{Running, TellsOn, WorkTells}
 use Rattle.copy_move.specs.Settling.{WorkLeaves, is_own, with_change}
@@ -47,6 +50,18 @@ making_finishes m new Aborted part t = absurd t
 making_finishes m new Killed part t = absurd t
 making_finishes m new NoMemory part t = absurd t
 
+removal_clean : (stage : RemovalStage) → removals.is_done stage ≡ true → removals.is_dirty stage ≡ false
+removal_clean removal.Remove h = absurd (false≢true h)
+removal_clean removal.Sync h = absurd (false≢true h)
+removal_clean removal.Finish h = refl
+removal_clean removal.PassedOver h = refl
+
+removal_finishes : (r new : removals.Removing) (ending : Ending) (part : Option Route) → removals.Tells r (Ended ending part) new → (ending ≡ Finished) × (removals.is_dirty r.stage ≡ false)
+removal_finishes r new Finished part t = (refl, removal_clean r.stage t.0)
+removal_finishes r new Aborted part t = absurd t
+removal_finishes r new Killed part t = absurd t
+removal_finishes r new NoMemory part t = absurd t
+
 setting_finishes : (s new : settings.Setting) (ending : Ending) (part : Option Route) → settings.Tells s (Ended ending part) new → (ending ≡ Finished) × (settings.is_dirty s.stage ≡ false)
 setting_finishes s new Finished part t = (refl, ap settings.is_dirty t.0)
 setting_finishes s new Aborted part t = absurd t
@@ -62,7 +77,7 @@ making_synced m new (Ended ending part) t was now = absurd (true≢false (sym wa
 making_synced m new (Began part) t was now = absurd t
 making_synced m new (Chunk count) t was now = absurd t
 making_synced m new (Asked question) t was now = absurd t
-making_synced m new (Merges pair names) t was now = absurd t
+making_synced m new (Merges transfer pair names) t was now = absurd t
 making_synced m new (Moved pair) t was now = absurd t
 making_synced m new (Set path) t was now = absurd t
 making_synced m new (Placed path) t was now = absurd t
@@ -70,6 +85,24 @@ making_synced m new (Removed made) t was now = absurd t
 making_synced m new (Kept kept) t was now = absurd t
 making_synced m new (Skipped path cause) t was now = absurd t
 making_synced m new (Cleaned part) t was now = absurd t
+
+-- so is the folder around one that was removed
+removal_synced : (r new : removals.Removing) (did : Did) → removals.Tells r did new → removals.is_dirty r.stage ≡ true → removals.is_dirty new.stage ≡ false → did ≡ Barrier
+removal_synced r new Barrier t was now = refl
+removal_synced r new (Removed path) t was now = absurd (true≢false (sym was ∙ ap removals.is_dirty t.0))
+removal_synced r new (Kept path) t was now = absurd (true≢false (sym was ∙ ap removals.is_dirty t.0))
+removal_synced r new (Skipped path cause) t was now = absurd (true≢false (sym was ∙ ap removals.is_dirty t.0))
+removal_synced r new (Troubled trouble) t was now = absurd (true≢false (sym was ∙ (sym (ap (λ (n : removals.Removing). removals.is_dirty n.stage) t.3) ∙ now)))
+removal_synced r new (Ended ending part) t was now = absurd (true≢false (sym was ∙ (removal_finishes r new ending part t).1))
+removal_synced r new (Began part) t was now = absurd t
+removal_synced r new (Chunk count) t was now = absurd t
+removal_synced r new (Asked question) t was now = absurd t
+removal_synced r new (Merges transfer pair names) t was now = absurd t
+removal_synced r new (Moved pair) t was now = absurd t
+removal_synced r new (Set path) t was now = absurd t
+removal_synced r new (Placed path) t was now = absurd t
+removal_synced r new (Made path) t was now = absurd t
+removal_synced r new (Cleaned part) t was now = absurd t
 
 -- so is a thing that was given a mode
 setting_synced : (s new : settings.Setting) (did : Did) → settings.Tells s did new → settings.is_dirty s.stage ≡ true → settings.is_dirty new.stage ≡ false → did ≡ Barrier
@@ -80,7 +113,7 @@ setting_synced s new (Ended ending part) t was now = absurd (true≢false (sym w
 setting_synced s new (Began part) t was now = absurd t
 setting_synced s new (Chunk count) t was now = absurd t
 setting_synced s new (Asked question) t was now = absurd t
-setting_synced s new (Merges pair names) t was now = absurd t
+setting_synced s new (Merges transfer pair names) t was now = absurd t
 setting_synced s new (Moved pair) t was now = absurd t
 setting_synced s new (Placed path) t was now = absurd t
 setting_synced s new (Removed path) t was now = absurd t
@@ -126,7 +159,7 @@ module _ (job : Option Running) (newest older : List Entry) (dirty dirty_after :
   deletion_moves live d new before after is work (Began part) did_is t h = absurd t
   deletion_moves live d new before after is work (Chunk bytes) did_is t h = absurd t
   deletion_moves live d new before after is work (Asked question) did_is t h = absurd t
-  deletion_moves live d new before after is work (Merges pair names) did_is t h = absurd t
+  deletion_moves live d new before after is work (Merges transfer pair names) did_is t h = absurd t
   deletion_moves live d new before after is work (Moved pair) did_is t h = absurd t
   deletion_moves live d new before after is work (Set path) did_is t h = absurd t
   deletion_moves live d new before after is work (Placed path) did_is t h = absurd t
@@ -140,11 +173,8 @@ module _ (job : Option Running) (newest older : List Entry) (dirty dirty_after :
       (λ was now. making_synced m w did t was (ap begun same ∙ now)) h
     where
       begun : Work → Bool
-      begun (Copy c) = false
-      begun (Delete d) = false
       begun (Make x) = makings.is_dirty x.stage
-      begun (Move m) = false
-      begun (SetMode s) = false
+      begun other = false
   work_moves live (Move m) (Move w) (Move new) before after is work same t h =
       moving_moves (folders_move m w dirty dirty_after did t (h ∙ ap (λ s. with_moves m.stage s m.pair dirty) (sym (stage_of same))))
     where
@@ -155,54 +185,25 @@ module _ (job : Option Running) (newest older : List Entry) (dirty dirty_after :
       (λ was now. setting_synced s w did t was (ap begun same ∙ now)) h
     where
       begun : Work → Bool
-      begun (Copy c) = false
-      begun (Delete d) = false
-      begun (Make m) = false
-      begun (Move m) = false
       begun (SetMode x) = settings.is_dirty x.stage
+      begun other = false
   work_moves live (Copy c) (Copy w) (Copy new) before after is work same t h =
       folder_moves live h.folder is (subst (λ x. is_own x h.folder ≡ true) (sym work) h.own) h.was h.now h.synced h.list
-  work_moves live (Copy c) (Delete w) new before after is work same t h = absurd t
-  work_moves live (Copy c) (Make w) new before after is work same t h = absurd t
-  work_moves live (Copy c) (Move w) new before after is work same t h = absurd t
-  work_moves live (Copy c) (SetMode w) new before after is work same t h = absurd t
-  work_moves live (Copy c) (Copy w) (Delete new) before after is work same t h = absurd h
-  work_moves live (Copy c) (Copy w) (Make new) before after is work same t h = absurd h
-  work_moves live (Copy c) (Copy w) (Move new) before after is work same t h = absurd h
-  work_moves live (Copy c) (Copy w) (SetMode new) before after is work same t h = absurd h
-  work_moves live (Delete d) (Copy w) new before after is work same t h = absurd t
-  work_moves live (Make m) (Copy w) new before after is work same t h = absurd t
-  work_moves live (Move m) (Copy w) new before after is work same t h = absurd t
-  work_moves live (SetMode s) (Copy w) new before after is work same t h = absurd t
-  work_moves live (Delete d) (Delete w) (Copy new) before after is work same t h = absurd h
-  work_moves live (Make m) (Make w) (Copy new) before after is work same t h = absurd h
-  work_moves live (Move m) (Move w) (Copy new) before after is work same t h = absurd h
-  work_moves live (SetMode s) (SetMode w) (Copy new) before after is work same t h = absurd h
-  work_moves live (SetMode s) (Delete w) new before after is work same t h = absurd t
-  work_moves live (SetMode s) (Make w) new before after is work same t h = absurd t
-  work_moves live (Move s) (Make w) new before after is work same t h = absurd t
-  work_moves live (SetMode s) (Move w) new before after is work same t h = absurd t
-  work_moves live (SetMode s) (SetMode w) (Delete new) before after is work same t h = absurd h
-  work_moves live (SetMode s) (SetMode w) (Make new) before after is work same t h = absurd h
-  work_moves live (Move s) (Move w) (Make new) before after is work same t h = absurd h
-  work_moves live (SetMode s) (SetMode w) (Move new) before after is work same t h = absurd h
-  work_moves live (Delete d) (SetMode w) new before after is work same t h = absurd t
-  work_moves live (Delete d) (Delete w) (SetMode new) before after is work same t h = absurd h
-  work_moves live (Make m) (SetMode w) new before after is work same t h = absurd t
-  work_moves live (Make m) (Move w) new before after is work same t h = absurd t
-  work_moves live (Move m) (SetMode w) new before after is work same t h = absurd t
-  work_moves live (Make m) (Make w) (SetMode new) before after is work same t h = absurd h
-  work_moves live (Make m) (Make w) (Move new) before after is work same t h = absurd h
-  work_moves live (Move m) (Move w) (SetMode new) before after is work same t h = absurd h
-  work_moves live (Delete d) (Make w) new before after is work same t h = absurd t
-  work_moves live (Delete d) (Move w) new before after is work same t h = absurd t
-  work_moves live (Delete d) (Delete w) (Make new) before after is work same t h = absurd h
-  work_moves live (Delete d) (Delete w) (Move new) before after is work same t h = absurd h
-  work_moves live (Make m) (Delete w) new before after is work same t h = absurd t
-  work_moves live (Move m) (Delete w) new before after is work same t h = absurd t
-  work_moves live (Make m) (Make w) (Delete new) before after is work same t h = absurd h
-  work_moves live (Move m) (Move w) (Delete new) before after is work same t h = absurd h
   work_moves live (Delete d) (Delete w) (Delete new) before after is work same t h = deletion_moves live d w before after is work did refl t h
+  work_moves live (RemoveEmptied r) (RemoveEmptied w) (RemoveEmptied new) before after is work same t h =
+      folder_moves live (folder_of r.path) is (subst (λ x. is_own x (folder_of r.path) ≡ true) (sym work) (same_path-self (folder_of r.path))) (removals.is_dirty r.stage) (removals.is_dirty new.stage)
+      (λ was now. removal_synced r w did t was (ap begun same ∙ now)) h
+    where
+      begun : Work → Bool
+      begun (RemoveEmptied x) = removals.is_dirty x.stage
+      begun other = false
+  work_moves live (Copy c) (Copy w) new before after is work same t h = absurd h
+  work_moves live (Delete d) (Delete w) new before after is work same t h = absurd h
+  work_moves live (Make m) (Make w) new before after is work same t h = absurd h
+  work_moves live (Move m) (Move w) new before after is work same t h = absurd h
+  work_moves live (SetMode s) (SetMode w) new before after is work same t h = absurd h
+  work_moves live (RemoveEmptied r) (RemoveEmptied w) new before after is work same t h = absurd h
+  work_moves live old stepped new before after is work same t h = absurd t
 
   tries : (folder : Route) (refusal : Option TreeError) (d : Did) → did ≡ d → dirty_after ≡ after_try d refusal folder dirty → Moves
   tries folder None Barrier is left = synced folder is left
@@ -210,7 +211,7 @@ module _ (job : Option Running) (newest older : List Entry) (dirty dirty_after :
   tries folder refusal (Began part) is left = inl left
   tries folder refusal (Chunk bytes) is left = inl left
   tries folder refusal (Asked question) is left = inl left
-  tries folder refusal (Merges pair names) is left = inl left
+  tries folder refusal (Merges transfer pair names) is left = inl left
   tries folder refusal (Moved pair) is left = inl left
   tries folder refusal (Set path) is left = inl left
   tries folder refusal (Placed path) is left = inl left

@@ -35,7 +35,7 @@ step_numbered n did None h live is = absurd cc
 step_numbered n (BeganPart part) (Some job) h live is = let same : job.id ≡ live.id = cc in sym same ∙ h job refl
 step_numbered n (Chunk bytes) (Some job) h live is = let same : job.id ≡ live.id = cc in sym same ∙ h job refl
 step_numbered n (Asked question) (Some job) h live is = let same : job.id ≡ live.id = cc in sym same ∙ h job refl
-step_numbered n (Merges pair names) (Some job) h live is = let same : job.id ≡ live.id = cc in sym same ∙ h job refl
+step_numbered n (Merges transfer pair names) (Some job) h live is = let same : job.id ≡ live.id = cc in sym same ∙ h job refl
 step_numbered n (Moved pair) (Some job) h live is = let same : job.id ≡ live.id = cc in sym same ∙ h job refl
 step_numbered n (Set path) (Some job) h live is = let same : job.id ≡ live.id = cc in sym same ∙ h job refl
 step_numbered n (Placed path) (Some job) h live is = let same : job.id ≡ live.id = cc in sym same ∙ h job refl

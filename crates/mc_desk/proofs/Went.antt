@@ -75,8 +75,8 @@ module _ (start : Option Start) (opening contents contents_after : Option CallLo
   stays_so (inl h) = (let f = finishes_so h in let k = f.1 in subst (λ part. Finishes live stepped part old.dirty new.dirty contents contents_after) k.none k)
   stays_so (inr h) =
       let m = merge_so did h in
-      merge_stays IsUnclaimed m.0 m.1 made old.dirty new.dirty contents contents_after before after live stepped
-      (subst (λ d. RunStep IsUnclaimed (step_made live stepped d made old.dirty new.dirty contents contents_after before after)) m.2 steps)
+      merge_stays IsUnclaimed m.0 m.1 m.2 made old.dirty new.dirty contents contents_after before after live stepped
+      (subst (λ d. RunStep IsUnclaimed (step_made live stepped d made old.dirty new.dirty contents contents_after before after)) m.3 steps)
 
   same_dirty : (finishes did ≡ true) ⊎ (merges did ≡ true) → new.dirty ≡ old.dirty
   same_dirty h = (let f = stays_so h in f.list)

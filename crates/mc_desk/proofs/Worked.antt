@@ -21,7 +21,7 @@ use Rattle.job_answers.specs.Answers.{answered as then_after, to_barrier, to_tro
 use Rattle.job_answers.specs.declared.answer.Waiting.TheVariants as waiting
 use Rattle.job_reports.specs.declared.report.Cause.{Cause}
 use Rattle.copy_move.specs.declared.work.Work.{Work}
-use Rattle.copy_move.specs.declared.work.Work.TheVariants.{Copy, Delete, Make, Move, SetMode}
+use Rattle.copy_move.specs.declared.work.Work.TheVariants.{Copy, Delete, Make, Move, SetMode, RemoveEmptied}
 use Rattle.copy_move.specs.declared.run.Course.{Course}
 use Rattle.copy_move.specs.declared.run.Course.TheVariants.{GoesOn, Asking, InTrouble, OwedSyncFailed, Skips, Ends}
 use Rattle.copy_move.specs.Jobs.{MayAnswer, Running, answered, answered_on, begun_work, kind_of, path_of, taken_anew, waiting_on, waits_on, with_skips}
@@ -115,6 +115,7 @@ still_does course answer job t = go course answer
     anew (Make m) = refl
     anew (Move m) = refl
     anew (SetMode s) = refl
+    anew (RemoveEmptied r) = refl
 
     skipping : (cause : Cause) (work : Work) → row (with_skips cause work) ≡ row work
     skipping cause (Copy c) = refl
@@ -122,6 +123,7 @@ still_does course answer job t = go course answer
     skipping cause (Make m) = refl
     skipping cause (Move m) = refl
     skipping cause (SetMode s) = refl
+    skipping cause (RemoveEmptied r) = refl
 
     go : (course : Course) (answer : Answer) → ready_row (row_of (answered_on course answer job) t) ≡ ready_row (row_of job t)
     go (InTrouble halt) Retry = anew job.work

@@ -14,6 +14,7 @@ use Rattle.mc_desk.specs.declared.standing.Standing.{Standing}
 use Rattle.mc_desk.specs.Standings.{awaited}
 use Rattle.mc_desk.specs.Desks.{IsDesk, MovesDirty, Seen, rank_of, seen_of}
 use Rattle.mc_desk.proofs.Adding.{entry}
+use Rattle.job_sources.proofs.Following.{step_follows}
 use Rattle.job_sources.proofs.Nearer.{given_up_falls}
 use Rattle.mc_desk.proofs.Went.{desk_went, went_keys, went_moves, went_nearer}
 use Rattle.mc_desk.proofs.Whole.{closed_goes_on, desk_gave_up, room_left}
@@ -24,6 +25,10 @@ returns-then-waits-clause-nearer g c closed live =
     let is : c.self.inside.standing.job ≡ Some c.in-Some.job = sym c.take.ensures.value ∙ c.in-Some.is in
     let waits : waits_on c.in-Some.job.course ≡ true = sym c.waits.ensures ∙ c.if-waits.true in
     absurd (both_ways _ (closed_goes_on _ _ _ _ _ c.in-Some.job c.self.invariant.desk (ap (λ (d : Seen). d.tally.closed) c.self.view_is ∙ closed) is) waits)
+
+-- each source that the step leaves can be worked
+pub go_on-what-requires : goal.go_on-what-requires
+go_on-what-requires g c = record { follows = step_follows _ c.in-Some.job c.step-made.new.self _ _ _ _ _ _ _ c.step-made.result.did c.step-made.ensures.steps }
 
 pub invariant_of-self-then-is_err : goal.invariant_of-self-then-is_err
 invariant_of-self-then-is_err g c =
