@@ -1,4 +1,4 @@
-"""Checks of F6: things are renamed, folders with all that lies in them, and what stands at a target is asked about; a folder onto a folder and other mounts are troubles."""
+"""Checks of F6: things are renamed, folders with all that lies in them, what stands at a target is asked about, a folder is merged with one; other mounts are troubles."""
 import os
 import shutil
 import subprocess
@@ -125,7 +125,7 @@ def check_moved_links(program, base, check):
 
 
 def check_moved_folders(program, base, check):
-    """A folder goes with all that lies in it, and is the same folder still. One that comes onto a folder is asked about, and stays."""
+    """A folder goes with all that lies in it, and is the same folder still."""
     source, target = place(base, "folders", {"d": {"x": 70000, "e": {"l": "x", "p": None}}, "e": {}, "f": 5}, {})
     before = things_in(source)
     status, _, same = run(program, [source, target], tagged(3) + [F10])
@@ -136,16 +136,51 @@ def check_moved_folders(program, base, check):
     status, _, same = run(program, [target, source], [DOWN, F6, ENTER, EMPTY + b"e/", ENTER, F10])
     check("a folder is moved into the one beside it", status == 0 and same and things_in(os.path.join(target, "e")) == {"d.old": before["d"]})
 
-    for keys, goes in [([b"s"], "ef"), ([b"a"], "ef"), ([b"r", b"s"], "ef"), ([b"b"], ""), ([ESCAPE], "")]:
-        source, target = place(base, "folder onto folder", {"d": {"x": 3}, "e": {}, "f": 5}, {"d": {"y": 5}})
-        before, stands = things_in(source), things_in(target)
-        status, told, same = run(program, [source, target], tagged(3) + keys + [F10])
-        stays = things_in(source) == {name: thing for name, thing in before.items() if name not in goes}
-        check(f"a folder that comes onto a folder is asked about: {keys}", status == 0 and same and stays and things_in(target) == {**stands, **{name: before[name] for name in goes}})
-        box = ["already there", os.path.join(target, "d"), "r Retry  s Skip  a Skip all  b Abort"]
-        check("the box of such a folder names the one that stands", shows(told, told.screens[4], box))
-        shutil.rmtree(source)
-        shutil.rmtree(target)
+
+def check_merged_moves(program, base, check):
+    """A folder that comes onto a folder is merged with it: what lies in it is moved, and it is removed where nothing stays."""
+    rounds = 0
+
+    def merged(sources, targets, keys, names=1):
+        """The folders before and after, whether the session went well, and what it told. Many things are moved at once if they are tagged."""
+        nonlocal rounds
+        rounds += 1
+        source, target = place(base, f"merged {rounds}", sources, targets)
+        before, stood = things_in(source), things_in(target)
+        first = MOVE if names == 1 else tagged(names)
+        status, told, same = run(program, [source, target], first + keys + [F10])
+        return source, target, before, stood, status == 0 and same, told
+
+    inside = {"x": 3, "y": 5}
+    source, target, before, stood, well, told = merged({"d": inside}, {"d": {"y": 7}}, [b"n"])
+    sizes = {name: os.lstat(os.path.join(target, "d", name)).st_size for name in os.listdir(os.path.join(target, "d"))}
+    check("a merge moves what is not there, and keeps what was answered so", well and sizes == {"x": 3, "y": 7} and list(before["d"][1][1]) != [] and os.listdir(os.path.join(source, "d")) == ["y"])
+    check("the folder that is left is kept without a question, and the file alone is asked about", b"directory not empty" not in told and sum(b"Target exists" in bytes("\n".join(screen.rows()), "utf-8") for screen in told.screens) >= 1)
+    for keys in [[b"y"], [b"a"], [ENTER], [b"s"]]:
+        source, target, before, stood, well, _ = merged({"d": inside}, {"d": {"y": 7, "z": 1}}, keys)
+        now = {name: os.lstat(os.path.join(target, "d", name)).st_size for name in os.listdir(os.path.join(target, "d"))}
+        check(f"a merge moves all, and the emptied folder is gone: {keys}", well and os.listdir(source) == [] and now == {"x": 3, "y": 5, "z": 1})
+        check(f"the folder at the target is the same one: {keys}", os.lstat(os.path.join(target, "d")).st_ino == stood["d"][0])
+
+    deep = {"d": {"e": {"k": {"m": 3}, "l": "m"}, "f": {}, "g": {"h": 5}}, "z": 1}
+    source, target, before, _, well, _ = merged(deep, {"d": {"e": {"k": {"n": 7}}, "f": {}}}, [], 2)
+    kept = things_at(target)[1]
+    check("folders are merged as deep as they stand on both sides, and others go whole", well and os.listdir(source) == [] and sorted(kept) == ["d", "z"] and sorted(kept["d"][1]) == ["e", "f", "g"] and sorted(kept["d"][1]["e"][1]["k"][1]) == ["m", "n"])
+    check("what goes whole is the same still", os.lstat(os.path.join(target, "d", "g")).st_ino is not None and kept["d"][1]["g"][1]["h"] == before["d"][1][1]["g"][1]["h"])
+
+    source, target, _, _, well, told = merged({"d": {"x": 3, "y": {"in": 1}, "z": 5}, "e": {"w": 1}}, {"d": {"x": {}, "y": 4}, "e": {"w": {}}}, [b"a"], 2)
+    left = things_at(source)[1]
+    check("what is in trouble in a merge is skipped with all that meets the same, also in a later folder", well and sorted(left) == ["d", "e"] and sorted(left["d"][1]) == ["x", "y"] and sorted(left["e"][1]) == ["w"] and "z" in things_at(target)[1]["d"][1])
+    check("and it is told once", b"target is of another kind" in told)
+
+    source, target, _, _, well, _ = merged({"d": {"w": 1, "x": 3, "y": 5}}, {"d": {"x": 7, "y": 9}}, [b"y", b"b"])
+    check("an abort in a merge leaves what was moved, and all else", well and os.listdir(os.path.join(source, "d")) == ["y"] and sorted(os.listdir(os.path.join(target, "d"))) == ["w", "x", "y"])
+
+    source, target = place(base, "no names", {"d": {"x": 3}}, {"d": {}})
+    with open(os.path.join(os.fsencode(source), b"d", b"\xff"), "wb"):
+        pass
+    status, told, same = run(program, [source, target], MOVE + [b"s", F10])
+    check("a folder with a name that is no text isn't merged", status == 0 and same and b"can't be shown" in told and len(os.listdir(os.path.join(source, "d"))) == 2 and os.listdir(os.path.join(target, "d")) == [])
 
 
 def check_mount_within(program, base, check):
@@ -225,6 +260,7 @@ def check_moves(program, base, check):
     check_moves_over_files(program, base, check)
     check_moved_links(program, base, check)
     check_moved_folders(program, base, check)
+    check_merged_moves(program, base, check)
     check_mount_within(program, base, check)
     check_other_mounts(program, base, check)
     check_barred_moves(program, base, check)

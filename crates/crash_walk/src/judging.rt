@@ -36,6 +36,8 @@ pub fn tell_left<T: Tree>(page: &mut Page, image: &mut T, scene: Scene) {
         Scene::LeftMove => tell_copy(page, image),
         Scene::FolderMove => tell_tree(page, image),
         Scene::LeftFolderMove => tell_tree(page, image),
+        Scene::Merge => tell_merge(page, image),
+        Scene::KeptMerge => tell_merge(page, image),
     }
 }
 
@@ -188,16 +190,37 @@ fn tell_tree<T: Tree>(page: &mut Page, image: &mut T) {
     tell_tree_at(page, image, "/s/d", "/s/d/e", "/s/d/l");
 }
 
+/// What stands of a folder that is moved onto another: there, and where it was.
+fn tell_merge<T: Tree>(page: &mut Page, image: &mut T) {
+    tell_folder(page, image, "/t/d");
+    page.put(", in it ");
+    tell_file(page, image, "/t/d/e", COPIED, "missing");
+    page.put(" and ");
+    tell_target_link(page, image, "/t/d/l");
+    page.put(", beside them ");
+    tell_beside(page, image, "/t/d", "e l");
+    page.put(", the source ");
+    tell_folder(page, image, "/s/d");
+    page.put(", in it ");
+    tell_file(page, image, "/s/d/e", COPIED, "missing");
+    page.put(" and ");
+    tell_link(page, image, "/s/d/l", "x");
+}
+
 /// With which mode a folder stands, and what stands of the file and the link in it.
 fn tell_tree_at<T: Tree>(page: &mut Page, image: &mut T, folder: &str, file: &str, link: &str) {
-    match Path::parse(page.alloc(), folder) {
-        Ok(folder) => tell_folder_mode(page, image, &folder),
-        Err(_error) => page.fail(),
-    }
+    tell_folder(page, image, folder);
     page.put(", its file ");
     tell_file(page, image, file, COPIED, "missing");
     page.put(", its link ");
     tell_link(page, image, link, "e");
+}
+
+fn tell_folder<T: Tree>(page: &mut Page, image: &mut T, folder: &str) {
+    match Path::parse(page.alloc(), folder) {
+        Ok(folder) => tell_folder_mode(page, image, &folder),
+        Err(_error) => page.fail(),
+    }
 }
 
 fn tell_folder_mode<T: Tree>(page: &mut Page, image: &mut T, path: &Path) {

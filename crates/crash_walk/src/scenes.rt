@@ -41,6 +41,10 @@ pub enum Scene {
     FolderMove,
     /// It is moved, and the syncs are refused likewise. The second job, which deletes the file in it, makes both before that.
     LeftFolderMove,
+    /// It is moved onto a folder, which the answer to the question allows to replace a file there.
+    Merge,
+    /// It is moved onto a folder where that file stays, so the link that would replace it stays, and the folder with it.
+    KeptMerge,
 }
 
 impl Scene {
@@ -67,6 +71,8 @@ impl Scene {
             Scene::LeftFolderMove => {
                 "/s/d is moved and neither folder synced, then /t/d/e is deleted"
             }
+            Scene::Merge => "/s/d is moved onto /t/d with all that lies in it",
+            Scene::KeptMerge => "/s/d is moved onto /t/d, where /t/d/l stays",
         }
     }
 
@@ -100,6 +106,8 @@ impl Scene {
             Scene::LeftMove => "folder /s 755\nfolder /t 755\nfile /s/e 640 hello",
             Scene::FolderMove => FOLDER_TO_MOVE,
             Scene::LeftFolderMove => FOLDER_TO_MOVE,
+            Scene::Merge => FOLDER_TO_MERGE,
+            Scene::KeptMerge => FOLDER_TO_MERGE,
             _ => "folder /a 755\nfile /a/x 644 hi\nfile /a/y 644 hi",
         }
     }
@@ -134,6 +142,8 @@ impl Scene {
             Scene::LeftMove => Some(session("/s", "/t", MOVING_AND_DELETING)),
             Scene::FolderMove => Some(session("/s", "/t", MOVING)),
             Scene::LeftFolderMove => Some(session("/s", "/t", MOVING_AND_DELETING_IN_IT)),
+            Scene::Merge => Some(session("/s", "/t", MOVING_OVER)),
+            Scene::KeptMerge => Some(session("/s", "/t", MOVING_BESIDE)),
             Scene::NewLink => None,
             Scene::Mode => None,
             Scene::LeftMode => None,
@@ -148,6 +158,10 @@ const FILE_OVER_FILE: &str = "folder /s 755\nfolder /t 755\nfile /s/e 640 hello\
 /// A folder with a file and a link in it, and one into which it is to come.
 const FOLDER_TO_MOVE: &str =
     "folder /s 755\nfolder /t 755\nfolder /s/d 750\nfile /s/d/e 640 hello\nlink /s/d/l e";
+
+/// The same folder, and one of its name, in which a file has the name of the link.
+const FOLDER_TO_MERGE: &str =
+    "folder /s 755\nfolder /t 755\nfolder /s/d 750\nfile /s/d/e 640 hello\nlink /s/d/l x\nfolder /t/d 711\nfile /t/d/l 600 old";
 
 /// A session by keys: the folders of its panels, and the bytes of its keys.
 #[derive(Clone, Copy)]
@@ -235,6 +249,9 @@ const MOVING: &[u8] = b"\x1b[B\x1b[17~\r\r\x1b[21~";
 
 /// Down, F6, Enter at the mask, Enter at the target, y in the box of the question, F10.
 const MOVING_OVER: &[u8] = b"\x1b[B\x1b[17~\r\ry\x1b[21~";
+
+/// The same, but n.
+const MOVING_BESIDE: &[u8] = b"\x1b[B\x1b[17~\r\rn\x1b[21~";
 
 /// Down, F6, Enter, Enter, b in the box of the refused sync, Tab, Down, F8, Enter, F10.
 const MOVING_AND_DELETING: &[u8] = b"\x1b[B\x1b[17~\r\rb\t\x1b[B\x1b[19~\r\x1b[21~";

@@ -73,7 +73,7 @@ fn type_byte(page: &mut Page, desk: &mut MuteDesk, byte: u8) {
 /// Steps the job that is due, and looks at it.
 fn settle(page: &mut Page, desk: &mut MuteDesk) {
     if let Some(job) = desk.due() {
-        for _ in 0..8 {
+        for _ in 0..12 {
             if desk.is_ready(job) {
                 desk.step(page.alloc(), 0);
             }

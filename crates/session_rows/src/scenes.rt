@@ -82,6 +82,9 @@ fn things_in(scene: &str) -> &'static str {
         "standing tree" => {
             "folder /s 755\nfolder /s/a 750\nfolder /s/a/d 700\nfile /s/a/d/z 644 hi\nfile /s/a/x 640 new\nfile /s/a/y 644 more\nfile /s/b 640 hey\nfolder /a 711\nfolder /a/d 755\nfile /a/x 600 old\nfile /a/y 604 less!\nfile /b 600 old"
         }
+        "folders in trouble" => {
+            "folder /s 755\nfolder /s/d 750\nfolder /s/d/e 700\nfile /s/d/e/z 644 hi\nfile /s/d/x 640 new\nfile /s/d/y 644 more\nfolder /s/f 755\nfile /s/f/x 640 new\nfolder /t 755\nfolder /t/d 711\nfolder /t/d/e 755\nfolder /t/d/x 755\nfolder /t/f 755\nfolder /t/f/x 755"
+        }
         "no files" => "folder /a 755\nlink /a/l x\nother /a/p",
         "things to view" => {
             "folder /a 755\nfolder /a/d 755\nfile /a/x 644 one\\ntwo\\nthree\\nfour\\nfive\\nsix\\nseven\\neight\\nnine\\nten\\neleven\\ntwelve\\n\nfile /a/u 0 no\nother /a/p\nlink /a/l x\nlink /a/m d\nlink /a/n none"

@@ -125,7 +125,7 @@ fn word_of(did: &Did) -> &'static str {
         Did::Cleaned(_) => " cleaned",
         Did::Barrier => " barrier",
         Did::Asked(_) => " asked",
-        Did::Merges(_, _) => " merged",
+        Did::Merges(_, _, _) => " merged",
         Did::Moved(_) => " moved",
         Did::Troubled(trouble) => match trouble.cause {
             Cause::Tree(TreeError::Denied) => " denied",
