@@ -1,10 +1,11 @@
 //! A job, as far as it asks: what was answered, and what it waits with.
 ghost use Rattle.std.specs.Prelude.{◌<◌};
 
+use crate::standing::Standing;
 use crate::words::{
     answer_of, cause_of, error_word, kind_of, number_at, second_at, then_word, word_at,
 };
-use job_answers::{Decision, Origin, Placing, Standing, Then, Waiting, placing_of, waiting_in};
+use job_answers::{Decision, Origin, Placing, Then, Waiting, placing_of, waiting_in};
 use job_reports::{Question, Trouble};
 use mc_text::{Kind, Path};
 use row_page::{Page, two_fields};

@@ -2,6 +2,7 @@
 #![tactic(auto)]
 
 mod asked;
+mod standing;
 mod words;
 
 use asked::Asked;

@@ -2,4 +2,3 @@ pub mod Answers
 pub mod Decisions
 pub mod Questions
 pub mod Skipping
-pub mod Standings

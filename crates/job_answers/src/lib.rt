@@ -5,10 +5,8 @@ mod answer;
 mod placing;
 mod replies;
 mod skips;
-mod standing;
 
 pub use answer::{Then, Waiting, then_after, waiting_in};
 pub use placing::{Origin, Placing, placing_of};
 pub use replies::{Decision, ItemAnswer, Replies, Rule};
 pub use skips::{CauseKind, SkippedRefusals, Skips, kind_of};
-pub use standing::Standing;

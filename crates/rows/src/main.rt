@@ -1,4 +1,4 @@
-//! Runs the rows of formats, the tree in memory, plans, copies, resolving, listings, answers, modes, moves, merges and saves.
+//! Runs the rows of formats, the tree in memory, plans, copies, resolving, listings, answers, modes and saves.
 #![tactic(auto)]
 
 use row_page::{Fault, Page};
@@ -18,8 +18,6 @@ impl Sections for Libraries {
             "listings" => listing_rows::tell_rows(page, rows),
             "answers" => answer_rows::tell_rows(page, rows),
             "modes" => setting_rows::tell_rows(page, rows),
-            "moves" => move_rows::tell_rows(page, rows),
-            "merges" => merge_rows::tell_rows(page, rows),
             "saving" => saving_rows::tell_rows(page, rows),
             _ => page.fail(),
         }

@@ -1,11 +1,5 @@
 //! What was answered to the questions and the troubles of a job.
-ghost use Rattle.std.specs.Prelude.{◌≡◌, Some};
-ghost use Rattle.job_answers.specs.Answers.{answered};
-ghost use Rattle.job_answers.specs.Standings.{decision_of, nothing_answered, passes_over as passes, standing_after};
-
-use crate::answer::{Then, Waiting, then_after};
-use crate::replies::{Decision, Replies};
-use crate::skips::{Skips, kind_of};
+use job_answers::{Decision, Replies, Skips, Then, Waiting, kind_of, then_after};
 use job_reports::{Answer, AnswerError, Cause, Question, Trouble};
 
 /// What was answered in a job so far, and still holds.
@@ -17,9 +11,7 @@ pub struct Standing {
 
 impl Standing {
     /// Nothing was answered.
-    pub fn new() -> Standing
-        ensures { result ≡ nothing_answered }
-    {
+    pub fn new() -> Standing {
         Standing {
             replies: Replies::new(),
             skips: Skips::new(),
@@ -27,24 +19,21 @@ impl Standing {
     }
 
     /// Whether the item replaces what stands at its target, or that is to be asked.
-    pub fn decide(&self, question: &Question) -> Decision
-        ensures { result ≡ decision_of self.now question.now }
-    {
+    pub fn decide(&self, question: &Question) -> Decision {
         self.replies.decide(question)
     }
 
     /// Whether a trouble is skipped without a question. At a barrier nothing is skipped.
-    pub fn passes_over(&self, trouble: &Trouble) -> bool
-        ensures { result ≡ passes self.now trouble.now }
-    {
+    pub fn passes_over(&self, trouble: &Trouble) -> bool {
         self.skips.passes_over(trouble)
     }
 
     /// Takes an answer, and says what the job does then. An answer that isn't taken changes nothing. It takes no memory.
-    pub fn answer(&mut self, waiting: Option<Waiting>, answer: Answer) -> Result<Then, AnswerError>
-        ensures answered { result ≡ answered waiting answer }
-        ensures stands { self.new ≡ standing_after waiting answer self.old }
-    {
+    pub fn answer(
+        &mut self,
+        waiting: Option<Waiting>,
+        answer: Answer,
+    ) -> Result<Then, AnswerError> {
         match waiting {
             Some(Waiting::Question) => self.replies.note(answer),
             Some(Waiting::Trouble(cause)) => self.note_skip(cause, answer),
@@ -54,16 +43,12 @@ impl Standing {
     }
 
     /// The next item is at hand. An answer for the one before holds no more.
-    pub fn next_item(&mut self)
-        ensures { self.new ≡ record self.old { replies = record self.old.replies { item = None } } }
-    {
+    pub fn next_item(&mut self) {
         self.replies = self.replies.for_next();
     }
 
     /// Keeps what is answered to a trouble with this cause.
-    fn note_skip(&mut self, cause: Cause, answer: Answer)
-        ensures { self.new ≡ standing_after (Some (Waiting.Trouble cause)) answer self.old }
-    {
+    fn note_skip(&mut self, cause: Cause, answer: Answer) {
         match answer {
             Answer::SkipAll => self.skips.insert(kind_of(cause)),
             Answer::Retry | Answer::Skip | Answer::Abort => {}

@@ -1,6 +1,0 @@
-mod Listed
-mod Left
-mod Reached
-mod Stepped
-mod Doing
-mod Beside

@@ -1,4 +1,0 @@
-mod Renamed
-mod Settled
-mod Still
-mod Stepped

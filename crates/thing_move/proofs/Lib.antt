@@ -1,3 +1,0 @@
-mod Looked
-mod Taken
-mod Stepping

@@ -1,4 +1,0 @@
-pub mod Takings
-pub mod Moves
-pub mod MoveSteps
-pub mod MoveEnds
