@@ -1,8 +1,10 @@
 // Copies a folder with all that lies in it as `cp -r` does, and brings each file and each folder onto the disk: `yardstick FROM TO`.
+// Gives each file of a folder a mode as `chmod` does, and brings it onto the disk: `yardstick --mode MODE FOLDER`.
 #include <dirent.h>
 #include <err.h>
 #include <fcntl.h>
 #include <stdio.h>
+#include <stdlib.h>
 #include <string.h>
 #include <sys/stat.h>
 #include <unistd.h>
@@ -54,8 +56,27 @@ static void copy_folder(const char *from, const char *to, mode_t mode) {
     sync_and_close(open(to, O_RDONLY | O_DIRECTORY), to);
 }
 
+static void set_modes(const char *folder, mode_t mode) {
+    char path[4096];
+    DIR *names = opendir(folder);
+    if (names == NULL)
+        err(1, "%s", folder);
+    for (struct dirent *entry; (entry = readdir(names)) != NULL;) {
+        if (strcmp(entry->d_name, ".") == 0 || strcmp(entry->d_name, "..") == 0)
+            continue;
+        snprintf(path, sizeof path, "%s/%s", folder, entry->d_name);
+        if (chmod(path, mode) != 0)
+            err(1, "%s", path);
+        sync_and_close(open(path, O_RDONLY), path);
+    }
+    closedir(names);
+}
+
 int main(int count, char **words) {
-    if (count != 3)
-        errx(2, "usage: yardstick FROM TO");
-    copy_thing(words[1], words[2]);
+    if (count == 4 && strcmp(words[1], "--mode") == 0)
+        set_modes(words[3], (mode_t)strtoul(words[2], NULL, 8));
+    else if (count == 3)
+        copy_thing(words[1], words[2]);
+    else
+        errx(2, "usage: yardstick FROM TO, or yardstick --mode MODE FOLDER");
 }
