@@ -30,7 +30,7 @@ use Rattle.folder_removal.specs.Removals as removals
 use Rattle.copy_move.specs.ModeSettings.{SettingLeaves}
 use Rattle.mode_setting.specs.Settings as settings
 
--- the folder that holds what a job places, removes, or gives a mode; of a move that of the target, which lies on the mount of the other
+-- the folder that holds what a job places, removes, or gives a mode; of a move that of the target, which a renaming finds on the mount of the other
 abbrev pub changed_folder : Work → Route
 changed_folder (Copy c) = folder_of c.top.target
 changed_folder (Delete d) = folder_of d.path

@@ -242,7 +242,7 @@ impl Work {
         }
     }
 
-    /// The folder that holds what is placed, removed or given a mode; of a move that of its target, which lies on the mount of the other.
+    /// The folder that holds what is placed, removed or given a mode; of a move that of its target, which a renaming finds on the mount of the other.
     pub(crate) fn folder(&self) -> &Path
         ensures { result.now ≡ changed_folder self.now }
     {

@@ -155,7 +155,8 @@ pub record HasOutcomes (opening now : CallLog) (newest : List Entry) : Type 0 wh
 abbrev pub IsOutcomeRun : CallLog → CallLog → List Entry → Type 0
 IsOutcomeRun opening now newest = IsTree (current opening) → all_settled opening.changes ≡ true → HasOutcomes opening now newest
 
--- What stands at the target of a copy or a move is replaced, kept or asked about only as was answered before.
+-- What stands at the target of a copy or a move is replaced, kept or asked about only as was answered before; a folder that is merged is merged whole; and one that a merge has
+-- emptied is removed only where nothing lies in it, and kept only where something does.
 abbrev pub IsAnsweredRun : CallLog → CallLog → List Entry → Type 0
 IsAnsweredRun opening now newest = IsTree (current opening) → all_settled opening.changes ≡ true → FollowsAnswers opening now newest
 

@@ -264,7 +264,7 @@ module _ (log : CallLog) (v : View) (top : Pair) (unclaimed : Route → Type 0) 
   takes_as shows (inr (inr (inr (inl t)))) = (let w = t.works in other_as replies top.source top.target v did (told_other w.report did w.says))
   takes_as shows (inr (inr (inr (inr (inl t))))) =
       let is = t.is log refl in
-      subst As (sym t.says) (refl, merges t.pair t.names t.says, merged_whole v log shows t.pair t.names is.0.0 is.2)
+      subst As (sym t.says) (refl, merges t.pair t.names t.says, merged_whole v log shows t.pair t.names is.0.0 is.2 t.in_order)
   takes_as shows (inr (inr (inr (inr (inr (inl t)))))) =
       let is = t.is log refl in
       let q = top_question t.pair is.0 Keep t.next t.top shows is.1 in

@@ -120,7 +120,7 @@ lists = record { names = λ n. (leads n, listed n (bytes_eq name n) refl); unnam
 
 is_merged : IsMerged small outer (name ∷ [])
 is_merged = record {
-  meets = record { source = meta outer.source Folder 0 0o755; target = meta outer.target Folder 0 0o755; of_source = from_stands; of_target = to_stands; meets = refl };
+  meets = record { source = meta outer.source Folder 0 0o755; target = meta outer.target Folder 0 0o755; of_source = from_stands; of_target = to_stands; meets = refl; together = refl };
   lists = (refl, lists);
 }
 
@@ -129,7 +129,7 @@ short n (inl is) = subst (λ x. IsShort (x ∷ outer.source) × IsShort (x ∷ o
 short n (inr none) = absurd none
 
 may_merge : MayMerge outer ByMove outer (name ∷ [])
-may_merge = record { by_move = refl; its = refl; held = refl; apart = refl; short = short; few = omega arith }
+may_merge = record { by_move = refl; its = refl; held = refl; apart = refl; short = short; in_order = (tt, tt); few = omega arith }
 
 abbrev merged_entries : List Entry
 merged_entries = entry 0 (Step 1 (Merges ByMove outer (name ∷ []))) ∷ begun_entries

@@ -6,6 +6,7 @@ use Rattle.mc_text.specs.Routes.{Route}
 use Rattle.tree_trait.specs.Calls.{Stat}
 use Rattle.tree_trait.specs.Change.{CallLog, current, found}
 use Rattle.tree_trait.specs.FileSystem.{Value, View, find, lookup, node, value}
+use Rattle.tree_trait.specs.Answers.{IsAscending}
 use Rattle.tree_trait.specs.Refusals.{refusal_of}
 use Rattle.tree_trait.proofs.Walking.{stat-found}
 use Rattle.job_reports.specs.declared.job.Pair.{Pair}
@@ -29,10 +30,11 @@ module _ (v : View) (log : CallLog) (shows : ShowsTree v log) where
       ∙ (map_some (λ k. value (node (current log) k)) (find (current log) (name ∷ path))
       ∙ ap (λ o. is_some (option_and_then (λ f. lookup (current log).names f name) o)) at)
 
-  pub merged_whole : (pair : Pair) (names : List (List ℕ)) → refusal_of (current log) (Stat pair.source) ≡ None → Lists (current log) pair.source names → IsMergedWhole v pair names
-  merged_whole pair names there (may, lists) =
+  pub merged_whole : (pair : Pair) (names : List (List ℕ)) → refusal_of (current log) (Stat pair.source) ≡ None → Lists (current log) pair.source names → IsAscending names → IsMergedWhole v pair names
+  merged_whole pair names there (may, lists) in_order =
       let at = stat-found (current log) pair.source there in
       record {
+        in_order = in_order;
         all = λ name.
             let same = shown_below pair.source (found (current log) pair.source) at name in
             let both = lists.names name in

@@ -82,7 +82,7 @@ module _ (v : View) (log : CallLog) (tree : IsTree (current log)) (shows : Shows
   moved_as replies m new (Asked question) after t (d, none) = question_is m.pair replies question Ask d
   moved_as replies m new (Merges transfer pair names) after (stage, may, new_is) (merged, none) =
       let from = (let meets = merged.meets in meets.of_source) in
-      (may.by_move, may.its, subst (λ (p : Pair). IsMergedWhole v p names) (sym may.its) (merged_whole v log shows m.pair names from.there merged.lists))
+      (may.by_move, may.its, subst (λ (p : Pair). IsMergedWhole v p names) (sym may.its) (merged_whole v log shows m.pair names from.there merged.lists may.in_order))
   moved_as replies m new (Skipped path cause) after t called = tt
   moved_as replies m new Barrier after t called = tt
   moved_as replies m new (Troubled trouble) after t called = tt

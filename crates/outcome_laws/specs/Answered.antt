@@ -5,6 +5,7 @@ use Rattle.std.specs.Option.{option_map}
 use Rattle.mc_text.specs.Routes.{Route}
 use Rattle.mc_text.specs.declared.kind.Kind.{Kind}
 use Rattle.tree_trait.specs.FileSystem.{Value, View}
+use Rattle.tree_trait.specs.Answers.{IsAscending}
 use Rattle.tree_trait.specs.Refusals.{folder_kind}
 use Rattle.tree_trait.specs.Shape.{IsTree}
 use Rattle.tree_trait.specs.Change.{CallLog, current}
@@ -115,8 +116,9 @@ pub record IsMoveQuestion (v : View) (source target : Route) (question : Questio
   pub source_is : IsSizedAs (λ kind. folder_kind kind ≡ false) v source question.source_size
   pub target_is : IsSized v target question.target_size
 
--- These are the names of all that stands in the folder at the source, where each thing has one that can be told; so a merge leaves nothing out.
+-- These are the names of all that stands in the folder at the source, each once and in their order, where each thing has one that can be told; so a merge leaves nothing out.
 pub record IsMergedWhole (v : View) (pair : Pair) (names : List (List ℕ)) : Type 0 where
+  pub in_order : IsAscending names
   pub all : (name : List ℕ) → Among names name ↔ (is_some (v (name ∷ pair.source)).value ≡ true)
   pub named : option_map (λ x. x.unnamed) (v pair.source).value ≡ Some 0
 

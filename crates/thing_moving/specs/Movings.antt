@@ -4,7 +4,7 @@ use Rattle.std.specs.Prelude.{◌≡◌, ◌⊎◌, ℕ, ◌≤◌, ◌^◌, Boo
 use Rattle.mc_text.specs.Routes.{Route, parent_of, same_path}
 use Rattle.tree_trait.specs.Calls.{Rename, SyncFolder}
 use Rattle.tree_trait.specs.Change.{CallLog, current}
-use Rattle.tree_trait.specs.Answers.{Performs}
+use Rattle.tree_trait.specs.Answers.{IsAscending, Performs}
 use Rattle.tree_trait.specs.declared.calls.TreeError.{TreeError}
 use Rattle.job_reports.specs.declared.job.Pair.{Pair}
 use Rattle.job_reports.specs.declared.report.Cause.{Cause}
@@ -110,14 +110,15 @@ abbrev pub with_moves : MovingStage → MovingStage → Pair → List Route → 
 with_moves old new pair dirty =
     with_change (is_dirty old) (is_dirty new) (folder_of pair.source) (with_change (owes_target old) (owes_target new) (folder_of pair.target) dirty)
 
--- A folder is merged with the one at its target: what lies in it, by these names, is moved, and can be told, with its targets. It is no root, and neither of the two
--- is the other.
+-- A folder is merged with the one at its target: what lies in it, by these names in their order, is moved, and can be told, with its targets. It is no root, and neither
+-- of the two is the other.
 pub record MayMerge (moved : Pair) (transfer : Transfer) (pair : Pair) (names : List (List ℕ)) : Type 0 where
   pub by_move : transfer ≡ ByMove
   pub its : pair ≡ moved
   pub held : is_some (parent_of pair.source) ≡ true
   pub apart : same_path pair.source pair.target ≡ false
   pub short : AreShort pair names
+  pub in_order : IsAscending names
   pub few : length names ≤ 2 ^ 64
 
 -- What a step may report that goes on, and where the move stands then. Once two folders are merged nothing is left to be done: what lies in the source are sources of

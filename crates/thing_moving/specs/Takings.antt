@@ -5,7 +5,7 @@ use Rattle.mc_text.specs.declared.kind.Kind.{Kind}
 use Rattle.tree_trait.specs.declared.file_system.FileSystem.{FileSystem}
 use Rattle.tree_trait.specs.declared.calls.Meta.{Meta}
 use Rattle.tree_trait.specs.declared.calls.TreeError.TheVariants as refused
-use Rattle.tree_trait.specs.Answers.{IsMeta}
+use Rattle.tree_trait.specs.Answers.{IsAscending, IsMeta}
 use Rattle.tree_trait.specs.CrashImages.{Among}
 use Rattle.tree_trait.specs.Calls.{Stat}
 use Rattle.tree_trait.specs.Refusals.{folder_kind, refusal_of}
@@ -59,13 +59,25 @@ pub record MayMove (s : FileSystem) (pair : Pair) (replies : Replies) : Type 0 w
 abbrev pub IsKept : FileSystem → Pair → Replies → Type 0
 IsKept s pair replies = (question : Question) × IsDecided s pair replies question Keep
 
--- A folder comes onto a folder.
+-- A folder comes onto a folder on the same mount.
 pub record MeetsFolder (s : FileSystem) (pair : Pair) : Type 0 where
   pub source : Meta
   pub target : Meta
   pub of_source : Stands s pair.source source
   pub of_target : Stands s pair.target target
   pub meets : placing_at (Moved source.kind) (Some target.kind) ≡ Merges
+  pub together : source.mount ≡ target.mount
+
+-- The trouble of a folder that comes onto a folder on another mount: the two aren't merged.
+pub record MeetsOtherMount (s : FileSystem) (pair : Pair) (cause : Cause) (path : Option Route) : Type 0 where
+  pub source : Meta
+  pub target : Meta
+  pub of_source : Stands s pair.source source
+  pub of_target : Stands s pair.target target
+  pub meets : placing_at (Moved source.kind) (Some target.kind) ≡ Merges
+  pub apart : source.mount ≡ target.mount → ⊥
+  pub cause_is : cause ≡ why.Tree refused.CrossMount
+  pub path_is : path ≡ Some pair.target
 
 -- The two are merged: what lies in the source, by these names, is moved into the one at the target, each thing by a move of its own.
 pub record IsMerged (s : FileSystem) (pair : Pair) (names : List (List ℕ)) : Type 0 where
@@ -79,12 +91,12 @@ Takes s pair replies taking.Keeps = IsKept s pair replies
 Takes s pair replies (taking.Asks question) = IsDecided s pair replies question Ask
 Takes s pair replies (taking.Merges names) = IsMerged s pair names
 
--- all that lies in a folder that is merged can be told, and so can its target
+-- all that lies in a folder that is merged can be told, with its target, in the order of the names
 abbrev pub IsTold : Pair → Taking → Type 0
 IsTold pair taking.Moves = ⊤
 IsTold pair taking.Keeps = ⊤
 IsTold pair (taking.Asks question) = ⊤
-IsTold pair (taking.Merges names) = AreShort pair names
+IsTold pair (taking.Merges names) = AreShort pair names × IsAscending names
 
 -- The trouble of a folder that comes onto a folder: it can't be listed, or not all its names can be shown; or something in it has too long a path, or would at its
 -- target.
@@ -106,11 +118,15 @@ pub record StandsInTheWay (s : FileSystem) (pair : Pair) (cause : Cause) (path :
   pub of_target : Stands s pair.target target
   pub meets : placing_at (Moved source.kind) (Some target.kind) ≡ TargetKind kind
 
--- the trouble before a thing is renamed: a look was refused, a folder can't be merged, something stands in the way, or there was no memory
+-- the trouble of a thing that comes onto something: a folder can't be merged, or stands on another mount, or something stands in the way
+abbrev pub OntoStops : FileSystem → Pair → Cause → Option Route → Type 0
+OntoStops s pair cause path = MergeStops s pair cause path ⊎ (MeetsOtherMount s pair cause path ⊎ StandsInTheWay s pair cause path)
+
+-- the trouble before a thing is renamed: a look was refused, what stands at its target stops it, or there was no memory
 abbrev pub LooksStop : FileSystem → Pair → Cause → Option Route → Type 0
 LooksStop s pair cause path =
     (StatStops s pair.source cause path ⊎ TargetStops s pair.target cause path)
-    ⊎ ((MergeStops s pair cause path ⊎ StandsInTheWay s pair cause path) ⊎ ((cause ≡ why.Memory) × (path ≡ None)))
+    ⊎ (OntoStops s pair cause path ⊎ ((cause ≡ why.Memory) × (path ≡ None)))
 
 -- what is decided of what comes onto something
 abbrev pub Decides : Pair → Replies → Meta → Meta → Result Taking Trouble → Type 0

@@ -1,10 +1,10 @@
 //! The move of one thing, of a folder with all that lies in it, a call of the tree at each step: it is looked at and renamed, the folder of its
 //! target is synced, then the one in which it was, and only then is it finished, so that a thing whose move is finished is on the disk where it
-//! went.
+//! went. A folder that comes onto a folder is not renamed: what lies in it is told, to be moved by others, and nothing is changed.
 ghost use Rattle.std.specs.Prelude.{◌≡◌, false, true, Some, Err};
 ghost use Rattle.mc_text.specs.Routes.{parent_of, same_path};
 ghost use Rattle.tree_trait.specs.Change.{current};
-ghost use Rattle.tree_trait.specs.Answers.{IfKnown};
+ghost use Rattle.tree_trait.specs.Answers.{IfKnown, IsAscending};
 ghost use Rattle.job_reports.specs.Paths.{folder_of};
 ghost use Rattle.job_reports.specs.Stops.{calls_made_for};
 ghost use Rattle.job_answers.specs.Skipping.{kind_in, with_kind};
@@ -285,7 +285,7 @@ impl ThingMoving {
     /// The two folders are merged: what lies in the source, by these names, are sources of their own, so the move is done with it. The paths of
     /// the report come first, as those of a renaming do.
     fn merge(&mut self, alloc: Global, names: Names) -> StepResult
-        requires told { AreShort self.old.pair names }
+        requires told { AreShort self.old.pair names × IsAscending names }
         ensures did { IsMergedOr self.old names result.did self.new }
         ensures calls { result.calls ≡ 0 }
     {

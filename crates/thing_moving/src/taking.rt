@@ -1,9 +1,13 @@
 //! What comes of a thing that is to be moved: the looks at it and at its target, and what the answers that stand decide.
-ghost use Rattle.std.specs.Prelude.{IfOk, MatchResult};
+ghost use Rattle.std.specs.Prelude.{◌≡◌, IfOk, MatchResult, Some};
 ghost use Rattle.tree_trait.specs.Change.{current};
-ghost use Rattle.tree_trait.specs.Answers.{IfKnown};
+ghost use Rattle.tree_trait.specs.Answers.{IfKnown, IsAscending};
 ghost use Rattle.job_reports.specs.Reading.{Peeks};
-ghost use Rattle.thing_moving.specs.Takings.{Decides, IsTold, LooksStop, Stands, Takes};
+ghost use Rattle.job_answers.specs.declared.placing.Origin.TheVariants.{Moved};
+ghost use Rattle.job_answers.specs.declared.placing.Placing.TheVariants.{Merges};
+ghost use Rattle.job_answers.specs.Questions.{placing_at};
+ghost use Rattle.tree_copy.specs.Taking.{AreShort};
+ghost use Rattle.thing_moving.specs.Takings.{Decides, IsMerged, IsTold, LooksStop, Stands, Takes};
 
 use file_copy::{look, look_at_target};
 use job_answers::{Decision, Origin, Placing, Replies, placing_of};
@@ -11,7 +15,7 @@ use job_reports::{Cause, Pair, Question, Trouble, out_of_memory, trouble_with_pa
 use mc_text::Names;
 use std::alloc::Global;
 use tree_copy::names_to_merge;
-use tree_trait::{Meta, Tree};
+use tree_trait::{Meta, Tree, TreeError};
 
 /// What comes of a thing that is to be moved.
 #[derive(Debug, Drop)]
@@ -70,7 +74,7 @@ fn onto<T: Tree>(
 {
     match placing_of(Origin::Moved(source.kind), Some(target.kind)) {
         Placing::Asks => by_answer(alloc, pair, replies, source, target),
-        Placing::Merges => match names_to_merge(alloc, tree, pair) {
+        Placing::Merges => match names_to_move(alloc, tree, pair, source, target) {
             Ok(names) => Ok(Taking::Merges(names)),
             Err(trouble) => Err(trouble),
         },
@@ -82,6 +86,28 @@ fn onto<T: Tree>(
         // What comes onto something is asked about or merged, or that is in its way.
         _ => unreachable!(),
     }
+}
+
+/// The names in a folder that comes onto a folder, by which what lies in it is moved. The two lie on one mount, since nothing can be renamed to another.
+fn names_to_move<T: Tree>(
+    alloc: Global,
+    tree: &mut T,
+    pair: &Pair,
+    source: Meta,
+    target: Meta,
+) -> Result<Names, Trouble>
+    requires stand { IfKnown (T.contents tree.old) (λ log. Stands (current log) pair.now.source source × Stands (current log) pair.now.target target) }
+    requires meets { placing_at (Moved source.kind) (Some target.kind) ≡ Merges }
+    ensures known { IfKnown (T.contents tree.old) (λ log. MatchResult result (IsMerged (current log) pair.now)
+        (λ trouble. LooksStop (current log) pair.now trouble.cause trouble.path)) }
+    ensures told { IfOk result (λ names. AreShort pair.now names × IsAscending names) }
+    ensures peeks { Peeks result (T.contents tree.old) (T.contents tree.new)
+        (T.fault_count tree.old) (T.fault_count tree.new) }
+{
+    if source.mount != target.mount {
+        return Err(trouble_with_path(alloc, Cause::Tree(TreeError::CrossMount), &pair.target));
+    }
+    names_to_merge(alloc, tree, pair)
 }
 
 /// Whether what stands at the target is replaced, by the answers that stand.
