@@ -209,6 +209,19 @@ def other_mounts(base):
             yield folder
 
 
+def check_twin_on_other_mount(program, base, target, check):
+    """A folder, be it empty, isn't merged with the one of its name on another mount."""
+    source = folder_with(base, "mount from", {})
+    twin = os.path.join(target, "d")
+    os.mkdir(os.path.join(source, "d"))
+    os.mkdir(twin)
+    status, told, same = run(program, [source, target], [DOWN, F6, ENTER, ENTER, b"s", F10])
+    said = b"other mount" in told and os.fsencode(twin) in told
+    check(f"nor is a folder merged with one there ({target})", status == 0 and same and said and os.listdir(source) == ["d"] and os.listdir(target) == ["d"])
+    os.rmdir(twin)
+    shutil.rmtree(source)
+
+
 def check_other_mounts(program, base, check):
     """Nothing is moved to another mount yet."""
     tried = False
@@ -219,6 +232,7 @@ def check_other_mounts(program, base, check):
         said = b"other mount" in told and os.fsencode(os.path.join(target, "x")) in told
         check(f"to another mount nothing is moved ({target})", status == 0 and same and said and things_in(source) == before and os.listdir(target) == [])
         shutil.rmtree(source)
+        check_twin_on_other_mount(program, base, target, check)
         tried = True
     if not tried:
         print("there is no other mount: a move to one was not tried")

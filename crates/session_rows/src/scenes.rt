@@ -31,19 +31,29 @@ fn plant_scene(page: &mut Page, tree: &mut MemTree, scene: &str)
     requires few { length tree.old.log.opening.mounts < 1000 }
 {
     match scene.strip_prefix("room for ") {
-        Some(room) => plant_beside_mount(page, tree, number(room) as u64),
+        Some(room) => plant_beside_mount(page, tree, room, "folder /s 755\nfile /s/x 640 hi"),
+        None => plant_twin_or_things(page, tree, scene),
+    }
+}
+
+fn plant_twin_or_things(page: &mut Page, tree: &mut MemTree, scene: &str)
+    requires unused { tree.old.log.changes ≡ [] }
+    requires few { length tree.old.log.opening.mounts < 1000 }
+{
+    match scene.strip_prefix("empty twin, room for ") {
+        Some(room) => plant_beside_mount(page, tree, room, "folder /s 755\nfolder /s/t 755"),
         None => put_things::<FileThings>(page, tree, things_in(scene)),
     }
 }
 
-/// The folder `/s`, in it the file `x` of mode 640, and the folder `/t` on a mount whose files may have so many bytes.
-fn plant_beside_mount(page: &mut Page, tree: &mut MemTree, room: u64)
+/// These things, in the folder `/s`, and the folder `/t` on a mount whose files may have so many bytes.
+fn plant_beside_mount(page: &mut Page, tree: &mut MemTree, room: &str, things: &str)
     requires unused { tree.old.log.changes ≡ [] }
     requires few { length tree.old.log.opening.mounts < 1000 }
 {
-    let mounted = mount(page.alloc(), tree, room);
+    let mounted = mount(page.alloc(), tree, number(room) as u64);
     page.need(mounted);
-    put_things::<FileThings>(page, tree, "folder /s 755\nfile /s/x 640 hi");
+    put_things::<FileThings>(page, tree, things);
 }
 
 fn mount(alloc: Global, tree: &mut MemTree, room: u64) -> bool
