@@ -1,5 +1,5 @@
 -- Each step of the removal of an emptied folder leaves fewer steps to be made.
-use Rattle.std.proofs.Common.{◌≡◌, ℕ, ◌<◌, false, sym, subst, arith}
+use Rattle.std.proofs.Common.{◌≡◌, ◌<◌, false, sym, subst, arith}
 use Rattle.std.proofs.lemmas.Bool.{true≢false}
 use Rattle.job_reports.specs.declared.report.Ending.{Ending}
 use Rattle.job_reports.specs.declared.report.Did.{Did}

@@ -11,7 +11,7 @@ use Rattle.job_reports.specs.declared.job.Pair.{Pair}
 use Rattle.job_reports.specs.declared.question.Question.{Question}
 use Rattle.job_reports.specs.declared.report.Cause.{Cause}
 use Rattle.job_reports.specs.declared.report.Did.{Did}
-use Rattle.job_reports.specs.declared.report.Did.TheVariants.{Asked, Kept, Merges, Moved, Skipped, Troubled}
+use Rattle.job_reports.specs.declared.report.Did.TheVariants.{Asked, Kept, Merges, Skipped, Troubled}
 use Rattle.job_reports.specs.declared.report.Trouble.{Trouble}
 use Rattle.tree_copy.specs.declared.copy.Stage.{Stage}
 use Rattle.tree_copy.specs.declared.copy.Stage.TheVariants.{Going}

@@ -1,6 +1,5 @@
 -- What a history doesn't tell of a job has no part in its answers.
 use Rattle.std.proofs.Common.{◌≡◌, ℕ, false, [], ◌∷◌, refl, ◌∙◌, ap, Option, Some, None}
-use Rattle.std.specs.Prelude.{if◌then◌else◌}
 use Rattle.std.specs.Option.{option_map}
 use Rattle.copy_move.specs.declared.work.Work.{Work}
 use Rattle.copy_move.specs.declared.work.Work.TheVariants.{Copy, Delete, Make, Move, SetMode, RemoveEmptied}

@@ -1,10 +1,8 @@
 -- The close of a session leaves a whole desk.
-use Rattle.std.proofs.Common.{◌≡◌, ℕ, ◌+◌, ◌≤◌, ◌∷◌, Bool, true, false, List, [], refl, sym, ◌∙◌, ap, subst, Option, Some, None, arith}
-use Rattle.std.specs.Option.{option_map}
+use Rattle.std.proofs.Common.{◌≡◌, ℕ, ◌+◌, ◌≤◌, ◌∷◌, Bool, true, false, List, [], refl, sym, ap, subst, Option, None}
 use Rattle.key_screen.specs.declared.keys.Key.{Key as KeyType}
 use Rattle.mc_text.specs.Routes.{Route}
 use Rattle.tree_trait.specs.Change.{CallLog}
-use Rattle.session_history.specs.declared.history.Entry.{Entry}
 use Rattle.session_history.specs.declared.history.Event.TheVariants.{Closed, Key}
 use Rattle.copy_move.proofs.Telling.{closed_told}
 use Rattle.mc_ui.specs.Screens.{Screen}
@@ -16,7 +14,7 @@ use Rattle.mc_desk.specs.Outputs.{Output}
 use Rattle.mc_desk.specs.Shown.{PutsNothing}
 use Rattle.mc_desk.specs.Standings.{awaited, closed_standing}
 use Rattle.mc_desk.specs.Tallies.{Tally, faults_in}
-use Rattle.mc_desk.specs.Desks.{IsDesk, Seen, seen_of}
+use Rattle.mc_desk.specs.Desks.{IsDesk, seen_of}
 use Rattle.mc_desk.proofs.Adding.{entry}
 use Rattle.mc_desk.proofs.Whole.{desk_closed, desk_lost}
 

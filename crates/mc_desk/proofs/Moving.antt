@@ -33,7 +33,7 @@ use Rattle.tree_trait.proofs.Visible.{same_path-self}
 use Rattle.job_reports.specs.Paths.{folder_of, without}
 use Rattle.copy_move.specs.Steps.{LeavesDirty, RunStep, step_made}
 use Rattle.history_laws.proofs.Intact.{own_folder}
-use Rattle.mc_desk.specs.Desks.{HasMoved, HasRemoved, HasSynced, JoinsBoth, JoinsDirty, MovesDirty, RemovesDirty}
+use Rattle.mc_desk.specs.Desks.{HasMoved, HasRemoved, HasSynced, MovesDirty}
 use Rattle.mc_desk.proofs.Adding.{entry}
 use Rattle.mc_desk.proofs.MovedFolders.{FoldersMove, folders_move}
 

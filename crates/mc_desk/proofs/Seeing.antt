@@ -1,19 +1,17 @@
 -- What a terminal shows of a session, entry by entry, follows from how its entries follow one another.
-use Rattle.std.proofs.Common.{◌≡◌, ◌⊎◌, ℕ, ◌≤◌, Bool, true, false, List, [], ◌∷◌, ◌++◌, length, take, refl, sym, ◌∙◌, ap, subst, inl, inr, Option, Some, None, length-append, arith}
+use Rattle.std.proofs.Common.{◌≡◌, ◌⊎◌, ℕ, Bool, true, false, List, [], ◌∷◌, ◌++◌, length, take, refl, sym, ◌∙◌, ap, subst, inl, inr, Option, Some, None, length-append, arith}
 use Rattle.std.specs.Prelude.{not}
 use Rattle.std.proofs.lemmas.Bool.{false≢true, true≢false}
 use Rattle.std.proofs.lemmas.List.{take-append-le}
 use Rattle.tree_trait.specs.Change.{CallLog}
-use Rattle.tree_trait.specs.Answers.{IfKnown}
 use Rattle.key_screen.specs.Grids.{CellGrid}
 use Rattle.session_history.specs.declared.history.Event.{Event}
 use Rattle.session_history.specs.declared.history.Event.TheVariants.{Key, Look, Sought, Began, Order, Step, Next, Closed}
 use Rattle.session_history.specs.declared.history.Entry.{Entry}
-use Rattle.mc_ui.specs.Screens.{Screen}
 use Rattle.mc_desk.specs.declared.starts.Start.{Start}
 use Rattle.mc_desk.specs.Sessions.{IsSession, SessionState}
-use Rattle.mc_desk.specs.Shown.{CutsFrame, DrawsFrame, EventDraws, Put, PutsFrame, ShowsOverAny, frame_due, none_before}
-use Rattle.mc_desk.specs.ShownEntries.{CameTo, CutsEntry, NoneDraws, ShowsEach, ShowsEntry, draws}
+use Rattle.mc_desk.specs.Shown.{DrawsFrame, EventDraws, Put, ShowsOverAny, none_before}
+use Rattle.mc_desk.specs.ShownEntries.{CameTo, CutsEntry, ShowsEach, ShowsEntry, draws}
 
 take_all : (xs : List ℕ) → take (length xs) xs ≡ xs
 take_all [] = refl

@@ -1,5 +1,5 @@
 -- What the terminal of a desk shows, from call to call.
-use Rattle.std.proofs.Common.{◌≡◌, ℕ, ◌∷◌, Bool, true, false, List, [], refl, sym, ◌∙◌, ap, subst, Option, Some, None, Result, Ok, Err, OnOk}
+use Rattle.std.proofs.Common.{◌≡◌, ℕ, ◌∷◌, true, false, List, [], refl, sym, ◌∙◌, ap, subst, Option, Some, None, Result, Ok, Err, OnOk}
 use Rattle.std.specs.Prelude.{if◌then◌else◌}
 use Rattle.std.proofs.lemmas.Bool.{false≢true, true≢false}
 use Rattle.tree_trait.specs.declared.devices.SinkError.{SinkError}
@@ -15,7 +15,7 @@ use Rattle.mc_desk.specs.Standings.{event_of}
 use Rattle.history_log.specs.Told.{waits_told}
 use Rattle.mc_desk.specs.Desks.{IsShown, Seen, ShowsDesk, frame_now}
 use Rattle.mc_desk.specs.Outputs.{FitsScreen, Output, ShowsFrame, ShowsLast}
-use Rattle.mc_desk.specs.Shown.{Put, ShowsOverAny, none_before}
+use Rattle.mc_desk.specs.Shown.{ShowsOverAny, none_before}
 use Rattle.mc_screen.specs.Drawings.{Display, HasSizeOf}
 use Rattle.mc_ui.specs.Screens.{HasSameSize}
 use Rattle.mc_desk.specs.Tallies.{Tally, can_step, tally}

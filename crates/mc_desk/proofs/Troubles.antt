@@ -32,7 +32,6 @@ use Rattle.mc_ui.specs.Screens.{Screen}
 use Rattle.mc_desk.specs.declared.starts.Start.{Start}
 use Rattle.history_log.specs.Told.{is_report, reported_waits, waits_told}
 use Rattle.mc_desk.specs.LiveRows.{question_in, row_of, state_with, trouble_in, waits_in}
-use Rattle.mc_desk.specs.Shown.{Put}
 use Rattle.mc_desk.specs.Sessions.{Before, EventLeads, IsSession, SessionState, before_entry}
 
 -- a job that waits waits with this

@@ -2,7 +2,7 @@
 use Rattle.std.proofs.Common.{◌≡◌, ℕ, ◌≤◌, ◌∷◌, ◌++◌, Bool, true, false, List, [], refl, sym, inl, inr, Result, ◌∙◌, ap, subst, Option, Some, None, arith}
 use Rattle.std.specs.Prelude.{if◌then◌else◌, not, IsOk}
 use Rattle.std.specs.Option.{option_map}
-use Rattle.std.proofs.lemmas.Bool.{false≢true, true≢false}
+use Rattle.std.proofs.lemmas.Bool.{false≢true}
 use Rattle.key_screen.specs.Grids.{CellGrid}
 use Rattle.tree_trait.specs.declared.devices.SinkError.{SinkError}
 use Rattle.key_screen.specs.declared.keys.Key.{Key as KeyType}

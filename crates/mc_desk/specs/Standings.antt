@@ -1,5 +1,5 @@
 -- What a session has come to, as the desk keeps it, and what a key's request, a look and the close make of that.
-use Rattle.std.specs.Prelude.{◌≡◌, ℕ, Bool, true, false, ⊤, if◌then◌else◌, List, [], ◌∷◌, Option, Some, None}
+use Rattle.std.specs.Prelude.{◌≡◌, ℕ, Bool, true, false, ⊤, if◌then◌else◌, List, [], Option, Some, None}
 use Rattle.std.specs.Option.{option_map}
 use Rattle.session_history.specs.declared.history.Event.{Event}
 use Rattle.session_history.specs.declared.history.Event.TheVariants as event

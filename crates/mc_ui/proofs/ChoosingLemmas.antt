@@ -1,5 +1,5 @@
 -- What the key that opens a box on what is selected makes of the screen.
-use Rattle.std.proofs.Common.{◌≡◌, List, [], ◌∷◌, refl, ◌∙◌, sym, ap, subst, Option, Result, Ok, Err}
+use Rattle.std.proofs.Common.{◌≡◌, List, [], ◌∷◌, ◌∙◌, sym, ap, subst, Option, Result, Ok, Err}
 use Rattle.std.specs.Prelude.{IfOk}
 use Rattle.mc_text.specs.declared.error.NoMemory.{NoMemory}
 use Rattle.tree_trait.specs.FileSystem.{View}

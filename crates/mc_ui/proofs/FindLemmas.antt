@@ -15,7 +15,6 @@ use Rattle.tagging.specs.Patterns.{PatternText}
 use Rattle.session_history.specs.Refusals.{AreRefused}
 use Rattle.find_mode.specs.declared.act.FindAct.{FindAct}
 use Rattle.find_mode.specs.declared.act.FindAct.TheVariants.{Stays, Refused, Goes, Leaves}
-use Rattle.find_mode.specs.declared.act.FindRefusal.{FindRefusal}
 use Rattle.find_mode.specs.declared.act.FindRefusal.TheVariants.{NoWay, NoPattern}
 use Rattle.find_mode.specs.declared.asking.Asked.{Asked}
 use Rattle.find_mode.specs.declared.asking.Asked.TheVariants.{Start, Names, Content}

@@ -1,5 +1,5 @@
 -- What a key was refused while things are sought has its cause in the tree, and tells of a fault only where the tree's count has risen.
-use Rattle.std.proofs.Common.{◌≡◌, ℕ, Bool, true, false, List, [], ◌∷◌, refl, sym, ◌∙◌, ap, subst, arith, Option, Some, None, Result, Ok, Err}
+use Rattle.std.proofs.Common.{◌≡◌, ℕ, true, false, List, [], ◌∷◌, refl, sym, ◌∙◌, ap, subst, arith, Option, Result, Ok, Err}
 use Rattle.std.specs.Prelude.{◌≤◌, IfOk}
 use Rattle.std.proofs.lemmas.Bool.{false≢true}
 use Rattle.mc_text.specs.declared.error.NoMemory.{NoMemory}

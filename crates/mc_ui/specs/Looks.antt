@@ -8,7 +8,7 @@ use Rattle.job_reports.specs.Waits.{waits_of}
 use Rattle.session_history.specs.declared.refusal.Refusal.{Refusal}
 use Rattle.session_history.specs.declared.refusal.Refusal.TheVariants.{Resolve}
 use Rattle.panel_pair.specs.declared.looking.Unread.{Unread}
-use Rattle.panel_pair.specs.Looks.{IsRereadOf, ShowsLooks, ShowsReread, unread_of}
+use Rattle.panel_pair.specs.Looks.{ShowsLooks}
 use Rattle.panel_pair.specs.Looks as pair
 use Rattle.panel_pair.specs.Pairs.{PairState}
 use Rattle.panel_pair.specs.Readings.{listed}

@@ -1,6 +1,6 @@
 -- What a key or a look makes of the screen: the two panels, the box that stands over them, a message over these, and a file that is viewed
 -- over all.
-use Rattle.std.specs.Prelude.{◌≡◌, ◌≢◌, ◌⊎◌, ℕ, Bool, true, false, is_some, MatchBool, ⊤, if◌then◌else◌, List, [], ◌∷◌, Option, Some, None, Ok, Err}
+use Rattle.std.specs.Prelude.{◌≡◌, ◌≢◌, ℕ, Bool, true, false, is_some, MatchBool, ⊤, if◌then◌else◌, List, [], ◌∷◌, Option, Some, None, Ok, Err}
 use Rattle.mc_text.specs.Routes.{Route}
 use Rattle.tree_trait.specs.FileSystem.{View as TreeView}
 use Rattle.tree_trait.specs.Change.{CallLog}

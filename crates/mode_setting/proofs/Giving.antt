@@ -1,5 +1,5 @@
 -- A mode that wasn't given: the trouble is told, or the thing keeps its mode.
-use Rattle.std.proofs.Common.{◌≡◌, ℕ, Bool, true, false, not, ◌&&◌, List, [], ◌∷◌, refl, sym, subst, inl, inr, Option, Result, Err}
+use Rattle.std.proofs.Common.{◌≡◌, ℕ, Bool, true, false, not, ◌&&◌, [], ◌∷◌, refl, sym, subst, inl, inr, Option, Result, Err}
 use Rattle.std.proofs.lemmas.Bool.{false≢true}
 use Rattle.mc_text.specs.Routes.{Route}
 use Rattle.tree_trait.specs.Calls.{SetMode}

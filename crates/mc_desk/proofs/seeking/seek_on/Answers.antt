@@ -1,5 +1,5 @@
 -- Each step goes on from where the one before it left the screen.
-use Rattle.std.proofs.Common.{rules, ◌≡◌, ◌≤◌, ◌<◌, ◌+◌, true, false, ◌∙◌, refl, inl, inr, arith}
+use Rattle.std.proofs.Common.{rules, ◌≡◌, ◌≤◌, ◌+◌, true, false, ◌∙◌, refl, inl, inr, arith}
 use Rattle.mc_ui.specs.Seekings.{is_seeking}
 use Rattle.mc_desk.proofs.SeekSteps.{left_fewer, may_have_lacked, not_none, one_step_more, some_made}
 use Rattle.mc_desk.proofs.seeking.seek_on.Goals as goal

@@ -1,5 +1,5 @@
 -- The opening is a session of no entries.
-use Rattle.std.proofs.Common.{◌∙◌, sym, subst, arith, ap}
+use Rattle.std.proofs.Common.{sym, subst, arith, ap}
 use Rattle.mc_desk.specs.Outputs.{FitsScreen}
 use Rattle.mc_desk.specs.Starts.{IsOpened}
 use Rattle.mc_screen.specs.Drawings.{Display}

@@ -1,22 +1,20 @@
 -- A step is written down as it was made; a closed desk's job never waits.
-use Rattle.std.proofs.Common.{rules, Result, Ok, Err, ◌≡◌, ◌+◌, ◌^◌, ◌≤◌, ◌||◌, ◌++◌, Option, None, Some, List, [], refl, ap, sym, ◌∙◌, ◌∷◌, ◌<◌, length, min, subst, true, false, arith}
+use Rattle.std.proofs.Common.{rules, Result, Ok, Err, ◌≡◌, ◌+◌, ◌^◌, ◌≤◌, ◌||◌, None, Some, refl, ap, sym, ◌∙◌, ◌∷◌, ◌<◌, length, min, subst, true, false, arith}
 use Rattle.std.specs.Prelude.{OnOk, is_err}
-use Rattle.std.specs.Option.{is_none, option_map}
+use Rattle.std.specs.Option.{option_map}
 use Rattle.std.proofs.lemmas.Bool.{both_ways, true≢false}
-use Rattle.key_screen.specs.declared.keys.Key.{Key as KeyType}
 use Rattle.job_reports.specs.declared.report.Did.TheVariants.{Ended}
 use Rattle.job_reports.specs.declared.report.Ending.TheVariants.{NoMemory}
 use Rattle.session_history.specs.declared.history.Event.TheVariants.{Step}
-use Rattle.copy_move.specs.Jobs.{Running, waits_on}
-use Rattle.copy_move.specs.Told.{if_closed, told}
-use Rattle.mc_desk.specs.Tallies.{Tally, keys_in}
+use Rattle.copy_move.specs.Jobs.{waits_on}
+use Rattle.copy_move.specs.Told.{told}
+use Rattle.mc_desk.specs.Tallies.{Tally}
 use Rattle.mc_desk.specs.declared.standing.Standing.{Standing}
 use Rattle.mc_desk.specs.Standings.{awaited}
-use Rattle.mc_desk.specs.Desks.{IsDesk, MovesDirty, Seen, rank_of, seen_of}
+use Rattle.mc_desk.specs.Desks.{MovesDirty, Seen, rank_of, seen_of}
 use Rattle.mc_desk.proofs.Adding.{entry}
 use Rattle.job_sources.proofs.Following.{step_follows}
-use Rattle.job_sources.proofs.Nearer.{given_up_falls}
-use Rattle.mc_desk.proofs.Went.{desk_went, went_keys, went_moves, went_nearer}
+use Rattle.mc_desk.proofs.Went.{desk_went, went_moves, went_nearer}
 use Rattle.mc_desk.proofs.Whole.{closed_goes_on, desk_gave_up, room_left}
 use Rattle.mc_desk.proofs.session.Session.step.Goals as goal
 

@@ -1,5 +1,5 @@
 -- Where nothing is to be looked at, the frame drawn last is the desk's.
-use Rattle.std.proofs.Common.{◌≡◌, false, ap, subst, sym, ◌∙◌}
+use Rattle.std.proofs.Common.{ap, subst, sym, ◌∙◌}
 use Rattle.mc_desk.specs.Desks.{Seen, ShowsDesk, seen_of}
 use Rattle.mc_desk.specs.Shown.{ShowsOverAny}
 use Rattle.mc_desk.specs.Tallies.{Tally}

@@ -1,5 +1,5 @@
 -- The screen is that of what choosing came to.
-use Rattle.std.proofs.Common.{◌≡◌, [], refl, rules, ap, IfOk}
+use Rattle.std.proofs.Common.{◌≡◌, refl, rules, ap, IfOk}
 use Rattle.job_plans.specs.declared.choosing.Choice.TheVariants as choice
 use Rattle.job_plans.specs.Reading.{sight}
 use Rattle.session_history.specs.declared.refusal.PlanError.TheVariants.{NoSelection, TooLong}
