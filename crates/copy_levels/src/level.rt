@@ -2,6 +2,9 @@
 use folder_copy::FolderCopy;
 use subtree_walk::Opened;
 
+/// What is copied may lie so many levels below the folder that holds it: 256 below itself, and one.
+pub const LEVELS: u32 = 257;
+
 /// The names in the source that are yet to be met, and the copy of the folder itself.
 #[derive(Debug, Drop)]
 pub struct Level {

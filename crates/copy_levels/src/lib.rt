@@ -5,5 +5,5 @@ mod around;
 mod level;
 mod stack;
 
-pub use level::Level;
-pub use stack::{LEVELS, Stack};
+pub use level::{LEVELS, Level};
+pub use stack::Stack;

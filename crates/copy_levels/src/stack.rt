@@ -6,7 +6,7 @@ ghost use Rattle.subtree_walk.specs.Places.{is_empty, is_one_of};
 ghost use Rattle.copy_levels.specs.Levels.{IsLeft, LeavesClean, NearestSyncs, closed, coming, dirtied, emptied, entered, is_around_dirty, is_sync_next, made_levels, outermost, owed_at, owes, passed, target_around, with_copy};
 
 use crate::around::{is_nearest_dirty, sync_nearest, target_of_nearest};
-use crate::level::Level;
+use crate::level::{LEVELS, Level};
 use folder_copy::{FolderCopy, FolderStep, NamesState, Stage};
 use job_reports::{Cause, Did, LastStepResult};
 use mc_text::{Name, Names, NoMemory, Path};
@@ -15,9 +15,6 @@ use std::marker::Model;
 use std::mem;
 use subtree_walk::{Around, Opened};
 use tree_trait::Tree;
-
-/// What is copied may lie so many levels below the folder that holds it: 256 below itself, and one.
-pub const LEVELS: u32 = 257;
 
 /// The folder that is worked, and those around it. The outermost is the folder that holds what is copied.
 #[derive(Debug, Drop)]
