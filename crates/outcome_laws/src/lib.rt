@@ -7,24 +7,18 @@ ghost use Rattle.outcome_laws.specs.Keeps.{KeptLaw};
 ghost use Rattle.outcome_laws.specs.Outcomes.{OutcomeLaw};
 ghost use Rattle.outcome_laws.specs.Untouched.{UntouchedLaw};
 
-/// Where a job is done with one of its sources, all that it was to do with it is done, but for what it passed over.
+/// Where a job is done with one of its sources, all that it was to do with it is done, but for what it passed over; and that is still so at its end,
+/// where no later one touches what concerns that source.
 pub fn what_a_finished_job_has_done()
-    ensures { OutcomeLaw }
+    ensures done { OutcomeLaw }
+    ensures with_all { AllSourcesLaw }
 {}
 
-/// And each path that it doesn't touch for that source shows what it showed where the job began with it.
+/// And each path that it doesn't touch for that source shows what it showed where the job began with it; where it kept the file or the link at its target,
+/// or merged a folder with that there, each path does.
 pub fn what_a_finished_job_left_alone()
-    ensures { UntouchedLaw }
-{}
-
-/// Where it kept the file or the link at its target, or merged a folder with that there, each path shows what it showed where the job began with it.
-pub fn what_a_job_that_kept_a_target_left()
-    ensures { KeptLaw }
-{}
-
-/// So what it did with one source is still so at its end, where no later one touches what concerns that.
-pub fn what_a_finished_job_has_done_with_all()
-    ensures { AllSourcesLaw }
+    ensures untouched { UntouchedLaw }
+    ensures kept { KeptLaw }
 {}
 
 /// What a copy or a move replaces, keeps or asks about at its target is as was answered to it. A folder that it merges is merged whole, and an
