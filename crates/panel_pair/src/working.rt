@@ -66,26 +66,14 @@ impl Panels {
         ensures carried { IfErr result CarriesCause }
     {
         match command {
-            PanelCommand::Move(base) => {
-                self.current.move_by(page, base);
-                Ok(())
-            }
-            PanelCommand::SwitchPanel => {
-                self.switch();
-                Ok(())
-            }
-            PanelCommand::SwapPanels => {
-                mem::swap(&mut self.current, &mut self.other);
-                Ok(())
-            }
+            PanelCommand::Move(base) => Ok(self.current.move_by(page, base)),
+            PanelCommand::SwitchPanel => Ok(self.switch()),
+            PanelCommand::SwapPanels => Ok(mem::swap(&mut self.current, &mut self.other)),
             PanelCommand::Enter => {
                 self.current.enter(alloc, tree, page)?;
                 Ok(())
             }
-            PanelCommand::ReadAgain => {
-                self.current.read_again(alloc, tree, page)?;
-                Ok(())
-            }
+            PanelCommand::ReadAgain => Ok(self.current.read_again(alloc, tree, page)?),
             PanelCommand::Back => {
                 self.current.turn(alloc, tree, page, Turn::Earlier)?;
                 Ok(())
@@ -94,46 +82,23 @@ impl Panels {
                 self.current.turn(alloc, tree, page, Turn::Later)?;
                 Ok(())
             }
-            PanelCommand::GoTo(path) => {
-                self.current.go_to_path(alloc, tree, page, path)?;
-                Ok(())
-            }
-            PanelCommand::Toggle => {
-                self.current.toggle(alloc, page)?;
-                Ok(())
-            }
-            PanelCommand::Invert => {
-                self.current.invert(alloc)?;
-                Ok(())
-            }
-            PanelCommand::Select(pattern) => {
-                self.current.select(alloc, &pattern)?;
-                Ok(())
-            }
-            PanelCommand::Unselect(pattern) => {
-                self.current.unselect(alloc, &pattern)?;
-                Ok(())
-            }
-            PanelCommand::Compare => {
-                compare_panels(alloc, &mut self.current, &mut self.other)?;
-                Ok(())
-            }
-            PanelCommand::Arrange(arrangement) => {
-                self.current.arrange(alloc, page, arrangement)?;
-                Ok(())
-            }
-            PanelCommand::ShowColumns(format) => {
-                self.current.set_format(page, format);
-                Ok(())
-            }
-            PanelCommand::ShowBrief => {
-                self.current.set_brief(page);
-                Ok(())
-            }
-            PanelCommand::ToggleHidden => {
-                toggle_hidden(alloc, page, &mut self.current, &mut self.other)?;
-                Ok(())
-            }
+            PanelCommand::GoTo(path) => Ok(self.current.go_to_path(alloc, tree, page, path)?),
+            PanelCommand::Toggle => Ok(self.current.toggle(alloc, page)?),
+            PanelCommand::Invert => Ok(self.current.invert(alloc)?),
+            PanelCommand::Select(pattern) => Ok(self.current.select(alloc, &pattern)?),
+            PanelCommand::Unselect(pattern) => Ok(self.current.unselect(alloc, &pattern)?),
+            PanelCommand::Compare => Ok(compare_panels(alloc, &mut self.current, &mut self.other)?),
+            PanelCommand::Arrange(arrangement) => Ok(
+                self.current.arrange(alloc, page, arrangement)?,
+            ),
+            PanelCommand::ShowColumns(format) => Ok(self.current.set_format(page, format)),
+            PanelCommand::ShowBrief => Ok(self.current.set_brief(page)),
+            PanelCommand::ToggleHidden => Ok(toggle_hidden(
+                alloc,
+                page,
+                &mut self.current,
+                &mut self.other,
+            )?),
             PanelCommand::SwitchPatterns => {
                 self.patterns = other_kind(self.patterns);
                 Ok(())
