@@ -34,17 +34,19 @@ fn main(rt: HostRuntime) -> io::Result<ExitCode> {
     let Ok(mut env) = surroundings(&rt) else {
         return Ok(ExitCode::from(5));
     };
+    let terminal = enter(&rt, words.as_slice(), &mut env);
+    let status = run(rt, words.as_slice(), &env);
+    leave(&rt, &terminal, status);
+    Ok(ExitCode::from(status))
+}
+
+/// One run over the real devices. Answers its status.
+fn run(rt: HostRuntime, words: &[Text], env: &Env) -> u8 {
     let tree = HostTree::new(rt);
     let screen = StdoutSink::new(rt);
     let mut keys = StdinSource::new(rt);
     let spawner = ShSpawner::new(rt);
     let clock = HostClock::new(rt);
-    let terminal = if prints_alone(rt.alloc(), words.as_slice(), &env) {
-        Terminal::Untouched
-    } else {
-        let _filled = fill_size(&rt, &mut env);
-        make_raw(&rt)
-    };
     let outcome = mc_run::<
         Brand,
         HostTree<HostRuntime>,
@@ -55,8 +57,8 @@ fn main(rt: HostRuntime) -> io::Result<ExitCode> {
         Open,
     >(
         rt.alloc(),
-        words.as_slice(),
-        &env,
+        words,
+        env,
         tree,
         screen,
         &mut keys,
@@ -64,9 +66,16 @@ fn main(rt: HostRuntime) -> io::Result<ExitCode> {
         &clock,
         &Open,
     );
-    let status = outcome.status;
-    leave(&rt, &terminal, status);
-    Ok(ExitCode::from(status))
+    outcome.status
+}
+
+/// Makes the terminal ready for a session, and asks it for its size. Where a text is printed alone it isn't touched.
+fn enter(rt: &HostRuntime, words: &[Text], env: &mut Env) -> Terminal {
+    if prints_alone(rt.alloc(), words, env) {
+        return Terminal::Untouched;
+    }
+    let _filled = fill_size(rt, env);
+    make_raw(rt)
 }
 
 /// Whether a run on these words prints a text, and does nothing else.
