@@ -174,7 +174,7 @@ module _ (replies : Replies) (old new : Moving) (before after : Option CallLog) 
     -- a look stopped it
     pub steps_stopped : (t : Trouble) → IfKnown before (λ log. LooksStop (current log) old.pair t.cause t.path) → t.barrier ≡ false
         → (t.cause ≡ Tree refused.Fault → HasRisen faults faults_after) → NotTaken old t did new → MovingStep replies old new did calls before after faults faults_after
-    steps_stopped t looks apart fault (inl passes) =
+    steps_stopped t looks apart fault (inl (memory, passes)) =
         steps_passed did calls t (look_stops t looks) (none_counted before after calls count same) (omega (arith, count)) (none_unknown before after same) later fault passes at apart
     steps_stopped t looks apart fault (inr (is, new_is)) = steps_unmade is new_is
 

@@ -6,7 +6,7 @@ use Rattle.tree_trait.specs.declared.calls.TreeError.TheVariants.{Fault, Memory}
 use Rattle.tree_trait.specs.Change.{CallLog}
 use Rattle.tree_trait.specs.Answers.{IfKnown, HasRisen}
 use Rattle.job_reports.specs.declared.report.Cause.{Cause}
-use Rattle.job_reports.specs.declared.report.Cause.TheVariants.{Tree}
+use Rattle.job_reports.specs.declared.report.Cause.TheVariants.{Memory as NoMemory, Tree}
 use Rattle.job_reports.specs.declared.report.Ending.{Ending}
 use Rattle.job_reports.specs.declared.report.Did.{Did}
 use Rattle.job_reports.specs.declared.report.Did.TheVariants.{Kept, Merges, Skipped, Troubled}
@@ -64,10 +64,10 @@ abbrev pub NotRenamed : Moving → TreeError → Did → Moving → Type 0
 NotRenamed old Memory did new = (did ≡ Troubled (out_of_memory_at false)) × (new ≡ old)
 NotRenamed old e did new = PassesOver old (trouble_at e old.pair.target false) old.pair.source did new
 
--- this trouble stops the thing before it is renamed, or there was no memory for the report
+-- this trouble stops the thing before it is renamed, or there was no memory, for a look or for the report; that is always told
 abbrev pub NotTaken : Moving → Trouble → Did → Moving → Type 0
 NotTaken old trouble did new =
-    PassesOver old trouble old.pair.source did new ⊎ ((did ≡ Troubled (out_of_memory_at false)) × (new ≡ old))
+    ((trouble.cause ≡ NoMemory → ⊥) × PassesOver old trouble old.pair.source did new) ⊎ ((did ≡ Troubled (out_of_memory_at false)) × (new ≡ old))
 
 -- what stands at the target stays, or there was no memory for the report
 abbrev pub Keeps : Moving → Did → Moving → Type 0

@@ -122,10 +122,10 @@ pub record StandsInTheWay (s : FileSystem) (pair : Pair) (cause : Cause) (path :
 abbrev pub OntoStops : FileSystem → Pair → Cause → Option Route → Type 0
 OntoStops s pair cause path = MergeStops s pair cause path ⊎ (MeetsOtherMount s pair cause path ⊎ StandsInTheWay s pair cause path)
 
--- the trouble before a thing is renamed: a look was refused, what stands at its target stops it, or there was no memory
+-- the trouble before a thing is renamed: the look at it was refused, or that at its target, what stands there stops it, or there was no memory
 abbrev pub LooksStop : FileSystem → Pair → Cause → Option Route → Type 0
 LooksStop s pair cause path =
-    (StatStops s pair.source cause path ⊎ TargetStops s pair.target cause path)
+    (StatStops s pair.source cause path ⊎ (CanMove s pair × TargetStops s pair.target cause path))
     ⊎ (OntoStops s pair cause path ⊎ ((cause ≡ why.Memory) × (path ≡ None)))
 
 -- what is decided of what comes onto something

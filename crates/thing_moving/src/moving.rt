@@ -297,12 +297,15 @@ impl ThingMoving {
         without_call(Did::Merges(Transfer::ByMove, pair, names))
     }
 
-    /// A look at the thing was refused, or it can't be moved.
+    /// A look at the thing was refused, or it can't be moved. Want of memory is always told.
     fn passed_or_troubled(&mut self, alloc: Global, trouble: Trouble) -> StepResult
         requires apart { trouble.barrier ≡ false }
         ensures did { NotTaken self.old trouble result.did self.new }
         ensures calls { result.calls ≡ 0 }
     {
+        if let Cause::Memory = trouble.cause {
+            return without_call(Did::Troubled(out_of_memory(false)));
+        }
         let Ok(source) = self.pair().source.copy(alloc) else {
             return without_call(Did::Troubled(out_of_memory(false)));
         };
