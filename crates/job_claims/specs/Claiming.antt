@@ -2,8 +2,8 @@
 use Rattle.std.specs.Prelude.{ℕ, Bool, true, false, ◌&&◌, ◌||◌, List, [], ◌∷◌, map, Option, option_map, option_and_then, slice_get}
 use Rattle.std.specs.List.{list_any, position, flat_map}
 use Rattle.mc_text.specs.Routes.{Route}
+use Rattle.job_reports.specs.declared.job.Pair.{Pair}
 use Rattle.job_claims.specs.declared.claim.Claim.{Claim}
-use Rattle.op_plan.specs.declared.job.Pair.{Pair}
 use Rattle.op_plan.specs.declared.job.Job.{Job}
 use Rattle.op_plan.specs.declared.job.Job.TheVariants.{Copy, Move, Delete, MakeFolder, SetMode, MakeLink, Save}
 use Rattle.op_plan.specs.Meeting.{meet}

@@ -4,8 +4,9 @@ ghost use Rattle.std.specs.List.{list_any, position};
 ghost use Rattle.job_claims.specs.Claiming.{claims, clash, clashes, first_clash, of_pairs, all_written};
 
 use crate::claim::{Claim, Claims};
+use job_reports::Pair;
 use mc_text::{NoMemory, Path};
-use op_plan::{Job, Pair};
+use op_plan::Job;
 use std::alloc::Global;
 
 /// What a job claims: a copy reads its sources; all else is written.

@@ -1,8 +1,8 @@
 -- What the pairs of a sound job are, one beside the others.
 use Rattle.std.specs.Prelude.{Bool, true, ◌&&◌, not, List, [], ◌∷◌}
 use Rattle.std.specs.List.{list_all}
+use Rattle.job_reports.specs.declared.job.Pair.{Pair}
 use Rattle.op_plan.specs.Meeting.{meet}
-use Rattle.op_plan.specs.declared.job.Pair.{Pair}
 
 -- two pairs have nothing in common
 abbrev pub are_apart : Pair → Pair → Bool

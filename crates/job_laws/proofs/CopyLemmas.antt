@@ -6,9 +6,9 @@ use Rattle.std.specs.List.{list_any}
 use Rattle.std.proofs.lemmas.Bool.{cases_Bool, both_ways, or_parts, and_parts, and_from, and_right, false_from_ne_true}
 use Rattle.mc_text.specs.Routes.{Route, same_path, is_prefix}
 use Rattle.tree_trait.specs.FileSystem.{Value, Spot, View, put}
+use Rattle.job_reports.specs.declared.job.Pair.{Pair}
 use Rattle.job_laws.specs.Views.{holding, apply}
 use mathlib.Core.Path.{fun_ext}
-use Rattle.op_plan.specs.declared.job.Pair.{Pair}
 use Rattle.op_plan.specs.declared.job.Job.TheVariants.{Copy}
 use Rattle.job_laws.specs.Works.{Part, Make, Place, Set, Remove, Work, Did, is_part, folder, with_mode, made_for, mode_or, source_of, from_source, copies, does, after_works}
 use Rattle.job_laws.specs.Outcome.{is_work, done, copied, outcome}

@@ -2,7 +2,7 @@
 use Rattle.std.proofs.Common.{◌≡◌, Bool, true, false, ◌++◌, refl, ◌∙◌, ap, inl, inr, ◌⊎◌}
 use Rattle.mc_text.specs.Routes.{Route}
 use Rattle.tree_trait.specs.FileSystem.{Spot, View}
-use Rattle.op_plan.specs.declared.job.Pair.{Pair}
+use Rattle.job_reports.specs.declared.job.Pair.{Pair}
 use Rattle.job_laws.specs.Works.{Remove, Place}
 use Rattle.job_laws.specs.Outcome.{Decisions, AtTarget, AtSource, is_carried, moved}
 use Rattle.job_laws.specs.Keeping.{KeptLaw}

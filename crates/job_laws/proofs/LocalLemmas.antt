@@ -6,6 +6,7 @@ use Rattle.std.proofs.lemmas.Bool.{cases_Bool, both_ways, or_cases, or_left, or_
 use Rattle.mc_text.specs.Routes.{Route, same_path, is_prefix}
 use Rattle.tree_trait.specs.FileSystem.{Spot, View}
 use Rattle.tree_trait.specs.Refusals.{holder}
+use Rattle.job_reports.specs.declared.job.Pair.{Pair}
 use Rattle.op_plan.specs.Meeting.{meet}
 use Rattle.job_claims.specs.Claiming.{claim, all_written, of_pairs, claims, clashes}
 use Rattle.job_laws.specs.Ways.{below}
@@ -13,7 +14,6 @@ use Rattle.job_laws.specs.Views.{nothing, holding, Change, Nothing, Puts, Carrie
 use Rattle.job_laws.specs.Near.{is_written, is_near}
 use mathlib.Core.Path.{fun_ext}
 use Rattle.job_claims.specs.declared.claim.Claim.{Claim}
-use Rattle.op_plan.specs.declared.job.Pair.{Pair}
 use Rattle.op_plan.specs.declared.job.Job.{Job}
 use Rattle.op_plan.specs.declared.job.Job.TheVariants.{Copy, Move, Delete, MakeFolder, SetMode, MakeLink, Save}
 use Rattle.job_laws.specs.Works.{Part, Make, Place, Set, Remove, Work, Did, is_part, made_for, with_mode, mode_or, covers, is_one_of, source_of, from_source, sources, copies, moves, Plain, deleting, making, setting, linking, saving, plainly, change}

@@ -6,11 +6,11 @@ use Rattle.std.proofs.lemmas.Bool.{cases_Bool, both_ways, or_left, or_right, or_
 use Rattle.mc_text.specs.Routes.{Route, same_path, is_prefix}
 use Rattle.tree_trait.specs.FileSystem.{Value, Spot, View, put}
 use Rattle.tree_trait.specs.Refusals.{holder}
+use Rattle.job_reports.specs.declared.job.Pair.{Pair}
 use Rattle.op_plan.specs.Meeting.{meet}
 use Rattle.job_laws.specs.Ways.{below}
 use Rattle.job_laws.specs.Views.{nothing, Nothing, Puts, Carries, holding, carry, apply, mount_of, one_mount}
 use mathlib.Core.Path.{fun_ext}
-use Rattle.op_plan.specs.declared.job.Pair.{Pair}
 use Rattle.op_plan.specs.declared.job.Job.TheVariants.{Move}
 use Rattle.job_laws.specs.Works.{Part, Make, Place, Set, Remove, Work, Did, is_part, with_mode, made_for, mode_or, covers, sources, source_of, moves, does, after_works}
 use Rattle.job_laws.specs.Outcome.{Decisions, is_work, done, copied, Spotted, AtTarget, AtSource, Elsewhere, place, is_carried, moved, outcome}

@@ -5,9 +5,9 @@ use Rattle.std.specs.Option.{option_map_or}
 use Rattle.std.specs.List.{list_all}
 use Rattle.std.proofs.lemmas.Bool.{false≢true, both_ways, or_cases, or_left, or_right, or_parts, and_parts, not-true}
 use Rattle.mc_text.specs.Routes.{Route, is_prefix}
+use Rattle.job_reports.specs.declared.job.Pair.{Pair}
 use Rattle.op_plan.specs.Meeting.{meet}
 use Rattle.job_laws.specs.Ways.{below}
-use Rattle.op_plan.specs.declared.job.Pair.{Pair}
 use Rattle.job_laws.specs.Works.{source_of, sources, covers}
 use Rattle.job_laws.specs.Outcome.{AtTarget, AtSource, place}
 use Rattle.job_laws.proofs.Apart.{are_apart, all_apart}

@@ -5,10 +5,10 @@ use Rattle.std.specs.Option.{option_map}
 use Rattle.std.proofs.lemmas.Bool.{false≢true, or_cases, or_left, or_right, and_parts, and_from}
 use Rattle.mc_text.specs.Routes.{Route}
 use Rattle.tree_trait.specs.FileSystem.{Value, Spot, View}
+use Rattle.job_reports.specs.declared.job.Pair.{Pair}
 use Rattle.job_laws.specs.Views.{nothing, holding, one_mount}
 use Rattle.mc_text.specs.declared.kind.Kind.{Kind}
 use Rattle.mc_text.specs.declared.kind.Kind.TheVariants.{File, Folder, Link, Other}
-use Rattle.op_plan.specs.declared.job.Pair.{Pair}
 use Rattle.op_plan.specs.declared.job.Job.TheVariants.{Copy, Move, Delete, MakeFolder, SetMode, MakeLink, Save}
 use Rattle.job_laws.specs.Works.{Part, Make, Place, Set, Remove, is_part, folder, made_for, source_of, Plain, deleting, making, setting, linking, saving}
 use Rattle.job_laws.specs.Outcome.{Decisions, Spotted, AtTarget, AtSource, Elsewhere, place, is_carried, moved, plain_left, outcome}

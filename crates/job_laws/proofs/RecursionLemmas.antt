@@ -4,10 +4,10 @@ use Rattle.std.specs.Prelude.{◌||◌, is_some}
 use Rattle.std.proofs.lemmas.Bool.{cases_Bool, or_cases, false≢true}
 use Rattle.mc_text.specs.Routes.{Route, same_path, is_prefix}
 use Rattle.tree_trait.specs.FileSystem.{View, put}
+use Rattle.job_reports.specs.declared.job.Pair.{Pair}
 use Rattle.job_laws.specs.Ways.{below}
 use Rattle.job_laws.specs.Views.{holding}
 use mathlib.Core.Path.{fun_ext}
-use Rattle.op_plan.specs.declared.job.Pair.{Pair}
 use Rattle.op_plan.specs.declared.job.Job.TheVariants.{Copy}
 use Rattle.job_laws.specs.Works.{Make, Place, source_of}
 use Rattle.job_laws.specs.Outcome.{Decisions, copied, outcome}

@@ -4,7 +4,7 @@ use Rattle.std.specs.Prelude.{◌||◌, ◌&&◌, not}
 use Rattle.std.specs.List.{list_any, list_all}
 use Rattle.std.proofs.lemmas.Bool.{or_parts, and_from}
 use Rattle.mc_text.specs.Routes.{Route}
-use Rattle.op_plan.specs.declared.job.Pair.{Pair}
+use Rattle.job_reports.specs.declared.job.Pair.{Pair}
 use Rattle.op_plan.specs.Meeting.{meet, has_two}
 use Rattle.op_plan.specs.Checks.{sources_in, targets_from}
 use Rattle.op_plan.specs.Soundness.{ArePairsApart}

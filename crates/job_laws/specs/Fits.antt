@@ -3,9 +3,9 @@ use Rattle.std.specs.Prelude.{◌≡◌, Bool, true, false, ◌&&◌, List, [], 
 use Rattle.std.specs.List.{list_any}
 use Rattle.mc_text.specs.Routes.{Route, is_prefix}
 use Rattle.tree_trait.specs.FileSystem.{View}
+use Rattle.job_reports.specs.declared.job.Pair.{Pair}
 use Rattle.op_plan.specs.Meeting.{meet}
 use Rattle.op_plan.specs.Soundness.{IsSound}
-use Rattle.op_plan.specs.declared.job.Pair.{Pair}
 use Rattle.op_plan.specs.declared.job.Job.{Job}
 use Rattle.op_plan.specs.declared.job.Job.TheVariants.{Copy, Move, Delete, MakeFolder, SetMode, MakeLink, Save}
 use Rattle.job_laws.specs.Works.{Part, Make, Place, Set, Remove, Work, Did, is_part, source_of, after_works}

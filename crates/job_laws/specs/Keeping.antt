@@ -2,7 +2,7 @@
 use Rattle.std.specs.Prelude.{◌≡◌, ◌⊎◌, Bool, true, ◌||◌, List, ◌++◌}
 use Rattle.mc_text.specs.Routes.{Route}
 use Rattle.tree_trait.specs.FileSystem.{View}
-use Rattle.op_plan.specs.declared.job.Pair.{Pair}
+use Rattle.job_reports.specs.declared.job.Pair.{Pair}
 use Rattle.job_laws.specs.Works.{Remove, Place}
 use Rattle.job_laws.specs.Outcome.{Decisions, AtTarget, place, moved}
 use Rattle.op_plan.specs.Soundness.{ArePairsApart}

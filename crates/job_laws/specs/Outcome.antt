@@ -4,9 +4,9 @@ use Rattle.std.specs.Option.{option_map, option_map_or}
 use Rattle.std.specs.List.{list_any}
 use Rattle.mc_text.specs.Routes.{Route, same_path}
 use Rattle.tree_trait.specs.FileSystem.{Value, Spot, View}
+use Rattle.job_reports.specs.declared.job.Pair.{Pair}
 use Rattle.job_laws.specs.Ways.{below}
 use Rattle.job_laws.specs.Views.{nothing, holding, one_mount}
-use Rattle.op_plan.specs.declared.job.Pair.{Pair}
 use Rattle.op_plan.specs.declared.job.Job.{Job}
 use Rattle.op_plan.specs.declared.job.Job.TheVariants.{Copy, Move, Delete, MakeFolder, SetMode, MakeLink, Save}
 use Rattle.job_laws.specs.Works.{Part, Make, Place, Set, Remove, Work, Did, is_part, folder, made_for, source_of, Plain, deleting, making, setting, linking, saving}

@@ -2,7 +2,7 @@
 use Rattle.std.specs.Prelude.{◌≡◌, ℕ, Bool, true, false, ◌||◌, if◌then◌else◌, List, [], ◌∷◌}
 use Rattle.mc_text.specs.Routes.{Route, same_path, is_prefix}
 use Rattle.tree_trait.specs.FileSystem.{View, put}
-use Rattle.op_plan.specs.declared.job.Pair.{Pair}
+use Rattle.job_reports.specs.declared.job.Pair.{Pair}
 use Rattle.op_plan.specs.declared.job.Job.TheVariants.{Copy}
 use Rattle.job_laws.specs.Works.{Make, Place}
 use Rattle.job_laws.specs.Outcome.{Decisions, copied, outcome}

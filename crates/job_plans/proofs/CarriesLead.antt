@@ -4,10 +4,10 @@ use Rattle.std.specs.Prelude.{IfOk}
 use Rattle.mc_text.specs.declared.error.NoMemory.{NoMemory}
 use Rattle.mc_text.specs.Routes.{Route}
 use Rattle.tree_trait.specs.Change.{CallLog}
+use Rattle.job_reports.specs.declared.job.Pair.{Pair}
 use Rattle.op_plan.specs.declared.error.PlanError.{PlanError}
 use Rattle.op_plan.specs.declared.job.Job.{Job as Planned}
 use Rattle.op_plan.specs.declared.job.Job.TheVariants as planned
-use Rattle.op_plan.specs.declared.job.Pair.{Pair}
 use Rattle.op_plan.specs.declared.request.Request.{Request}
 use Rattle.op_plan.specs.Answering.{HasPlanCause}
 use Rattle.op_plan.specs.Asking.{ArePairsFor, IsJobFor}
@@ -78,12 +78,11 @@ module _ (how : Carry) (paths : List Route) (mask : List ℕ) (from : Route) (ty
         (pairs, record { not_home = not_home; asked_for = asked; apart = sound; planned = known }, at.0, at.1)
     leads pairs (Refuses refusal) not_home sound asked known at = absurd at
 
-    pub carry_leads : (request : Request) (job : Planned) (pairs : List Pair) (result : Result JobPlan NoMemory) → is_below_home typed ≡ false
+    pub carry_leads : (request : Request) (job : Planned) (pairs : List Pair) (plan : JobPlan) → is_below_home typed ≡ false
         → request_is request → IsSound job → IsJobFor request job → IsPlanned contents request (Ok job)
-        → job ≡ planned_as how pairs → IfOk result (BeginsCarry how pairs)
-        → IfOk result (CarryLeads how contents paths mask from typed)
-    carry_leads request job pairs (Err e) not_home is sound asked known are told = tt
-    carry_leads request job pairs (Ok plan) not_home is sound asked known are told =
+        → job ≡ planned_as how pairs → BeginsCarry how pairs plan
+        → CarryLeads how contents paths mask from typed plan
+    carry_leads request job pairs plan not_home is sound asked known are told =
         leads pairs plan not_home (keeps_apart how pairs (subst IsSound are sound)) (are_for request job pairs is are asked)
         (subst (λ (j : Planned). IsPlanned contents (carry_request how paths mask from typed) (Ok j)) are
         (subst (λ (r : Request). IsPlanned contents r (Ok job)) is known))

@@ -16,11 +16,11 @@ use Rattle.resolving.specs.declared.walking.Wanted.TheVariants.{FolderAlone}
 use Rattle.resolving.specs.Errors.{Answers}
 use Rattle.resolving.specs.Resolution.{resolved}
 use Rattle.tagging.specs.declared.glob.GlobPart.{GlobPart}
+use Rattle.job_reports.specs.declared.job.Pair.{Pair}
 use Rattle.op_plan.specs.declared.mask.MaskPiece.{MaskPiece}
 use Rattle.op_plan.specs.declared.mask.MaskPiece.TheVariants.{Star}
 use Rattle.op_plan.specs.declared.error.PlanError.{PlanError}
 use Rattle.op_plan.specs.declared.error.PlanError.TheVariants as place
-use Rattle.op_plan.specs.declared.job.Pair.{Pair}
 use Rattle.op_plan.specs.declared.job.Job.TheVariants as planned
 use Rattle.op_plan.specs.Answering.{CarriesPlanCause, Plans, and_then, or_bad_mask, unless}
 use Rattle.op_plan.specs.Checks.{all_there, into_itself, is_too_long, nested, none_across, none_into, none_nested, none_same, none_twice, paired, some_source, sources_in, targets_from, targets_in, there_or, two_to_one}

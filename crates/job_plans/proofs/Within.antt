@@ -5,7 +5,6 @@ use Rattle.std.specs.List.{list_all, list_any}
 use Rattle.std.proofs.lemmas.List.Folds.{list_all-map, list_any_at}
 use Rattle.mc_text.specs.Routes.{Route, is_prefix, same_path, spelled}
 use Rattle.tagging.specs.declared.glob.GlobPart.{GlobPart}
-use Rattle.op_plan.specs.declared.job.Pair.{Pair as PlannedPair}
 use Rattle.op_plan.specs.declared.mask.MaskPiece.{MaskPiece}
 use Rattle.op_plan.specs.declared.mask.MaskPiece.TheVariants.{Star}
 use Rattle.op_plan.specs.Asking.{ArePairsFor, ArePlaced}
@@ -22,7 +21,7 @@ use Rattle.box_words.specs.Chosen.{can_be_chosen, is_within}
 use Rattle.box_words.specs.declared.carry.Carry.{Carry}
 use Rattle.box_words.specs.declared.carry.Carry.TheVariants as carry
 use Rattle.job_plans.specs.Choices.{are_several, is_too_long, paths_in}
-use Rattle.job_plans.specs.Plans.{can_be_carried, can_go, carry_job, delete_plan, lie_within, mode_plan, reported}
+use Rattle.job_plans.specs.Plans.{can_be_carried, can_go, carry_plan, delete_plan, lie_within, mode_plan}
 use Rattle.job_plans.proofs.Firsts.{Each}
 
 both : (a b : Bool) → a ≡ true → b ≡ true → (a && b) ≡ true
@@ -107,17 +106,17 @@ left_within : (pattern : Option (List GlobPart)) (paths : List Route) → can_be
 left_within None paths h = each_within paths h
 left_within (Some pattern) paths h = each_kept (λ path. is_within path ≡ true) (has_match pattern) paths (each_within paths h)
 
-placed_within : (pattern : Option (List GlobPart)) (mask : List MaskPiece) (pairs : List PlannedPair) → ArePlaced pattern mask pairs
+placed_within : (pattern : Option (List GlobPart)) (mask : List MaskPiece) (pairs : List Pair) → ArePlaced pattern mask pairs
     → Each (λ path. is_within path ≡ true) (targets_from pairs)
 placed_within pattern mask pairs at =
     subst (λ (l : List Route). Each (λ path. is_within path ≡ true) l) (sym at.targets) (all_pass is_within (paths_in at.folder at.names) (in_folder at.folder at.names))
 
-pairs_within : (pairs : List PlannedPair) → Each (λ path. is_within path ≡ true) (sources_in pairs) → Each (λ path. is_within path ≡ true) (targets_from pairs)
+pairs_within : (pairs : List Pair) → Each (λ path. is_within path ≡ true) (sources_in pairs) → Each (λ path. is_within path ≡ true) (targets_from pairs)
     → Each (λ pair. lie_within pair ≡ true) pairs
 pairs_within [] from to = tt
 pairs_within (pair ∷ pairs) from to = (both (is_within pair.source) (is_within pair.target) from.0 to.0, pairs_within pairs from.1 to.1)
 
-targets_within : (pattern : Option (List GlobPart)) (mask : List MaskPiece) (pairs : List PlannedPair)
+targets_within : (pattern : Option (List GlobPart)) (mask : List MaskPiece) (pairs : List Pair)
     → ArePlaced pattern mask pairs ⊎ ArePlaced pattern (Star ∷ []) pairs → Each (λ path. is_within path ≡ true) (targets_from pairs)
 targets_within pattern mask pairs (inl at) = placed_within pattern mask pairs at
 targets_within pattern mask pairs (inr at) = placed_within pattern (Star ∷ []) pairs at
@@ -144,8 +143,8 @@ fewer (source ∷ sources) target targets h =
     neither_of (list_any (meet source) targets) (list_any (λ source. list_any (meet source) targets) sources)
     (none_of (meet source target) (list_any (meet source) targets) at.0).1 (fewer sources target targets at.1)
 
-apart_each : (pairs : List PlannedPair) → list_any (λ source. list_any (meet source) (targets_from pairs)) (sources_in pairs) ≡ false
-    → Each (λ (pair : PlannedPair). same_path pair.source pair.target ≡ false) pairs
+apart_each : (pairs : List Pair) → list_any (λ source. list_any (meet source) (targets_from pairs)) (sources_in pairs) ≡ false
+    → Each (λ (pair : Pair). same_path pair.source pair.target ≡ false) pairs
 apart_each [] h = tt
 apart_each (pair ∷ pairs) h =
     let at = none_of (list_any (meet pair.source) (targets_from (pair ∷ pairs)))
@@ -154,21 +153,21 @@ apart_each (pair ∷ pairs) h =
     let front = none_of (is_prefix pair.source pair.target) (is_prefix pair.target pair.source) first.0 in
     (other_path pair.source pair.target front.0, apart_each pairs (fewer (sources_in pairs) pair.target (targets_from pairs) at.1))
 
-goes : (how : Carry) (pair : PlannedPair) → lie_within pair ≡ true → same_path pair.source pair.target ≡ false → can_go how pair ≡ true
+goes : (how : Carry) (pair : Pair) → lie_within pair ≡ true → same_path pair.source pair.target ≡ false → can_go how pair ≡ true
 goes carry.Copy pair within apart = within
 goes carry.Move pair within apart = both (lie_within pair) (not (same_path pair.source pair.target)) within (ap not apart)
 
-all_go : (how : Carry) (pairs : List PlannedPair) → Each (λ pair. lie_within pair ≡ true) pairs
-    → Each (λ (pair : PlannedPair). same_path pair.source pair.target ≡ false) pairs → Each (λ pair. can_go how pair ≡ true) pairs
+all_go : (how : Carry) (pairs : List Pair) → Each (λ pair. lie_within pair ≡ true) pairs
+    → Each (λ (pair : Pair). same_path pair.source pair.target ≡ false) pairs → Each (λ pair. can_go how pair ≡ true) pairs
 all_go how [] within apart = tt
 all_go how (pair ∷ pairs) within apart = (goes how pair within.0 apart.0, all_go how pairs within.1 apart.1)
 
-some_carried : (how : Carry) (pairs : List PlannedPair) → (pairs ≡ [] → ⊥) → Each (λ pair. can_go how pair ≡ true) pairs → can_be_carried how pairs ≡ true
+some_carried : (how : Carry) (pairs : List Pair) → (pairs ≡ [] → ⊥) → Each (λ pair. can_go how pair ≡ true) pairs → can_be_carried how pairs ≡ true
 some_carried how [] some h = absurd (some refl)
 some_carried how (pair ∷ pairs) some h = pass_all (can_go how) (pair ∷ pairs) h
 
 -- what was asked for has sources and targets in folders, and none of it is moved to where it is
-pub carried_within : (how : Carry) (paths : List Route) (mask typed : List ℕ) (pairs : List PlannedPair) → can_be_chosen paths ≡ true
+pub carried_within : (how : Carry) (paths : List Route) (mask typed : List ℕ) (pairs : List Pair) → can_be_chosen paths ≡ true
     → ArePairsFor paths mask typed pairs → ArePairsApart pairs → can_be_carried how pairs ≡ true
 carried_within how paths mask typed pairs within asked sound =
     some_carried how pairs sound.some (all_go how pairs
@@ -177,26 +176,24 @@ carried_within how paths mask typed pairs within asked sound =
     (targets_within _ _ pairs asked.targets_are))
     (apart_each pairs sound.across))
 
-copies_work : (pairs : List PlannedPair) → Each (λ pair. can_go carry.Copy pair ≡ true) pairs
-    → list_all is_workable (map (λ (pair : Pair). plan.Copy (pair ∷ [])) (reported pairs)) ≡ true
+copies_work : (pairs : List Pair) → Each (λ pair. can_go carry.Copy pair ≡ true) pairs
+    → list_all is_workable (map (λ (pair : Pair). plan.Copy (pair ∷ [])) pairs) ≡ true
 copies_work [] h = refl
 copies_work (pair ∷ pairs) h =
-    both (can_go carry.Copy pair) (list_all is_workable (map (λ (pair : Pair). plan.Copy (pair ∷ [])) (reported pairs))) h.0 (copies_work pairs h.1)
+    both (can_go carry.Copy pair) (list_all is_workable (map (λ (pair : Pair). plan.Copy (pair ∷ [])) pairs)) h.0 (copies_work pairs h.1)
 
-moves_work : (pairs : List PlannedPair) → Each (λ pair. can_go carry.Move pair ≡ true) pairs
-    → list_all is_workable (map (λ (pair : Pair). plan.Move (pair ∷ [])) (reported pairs)) ≡ true
+moves_work : (pairs : List Pair) → Each (λ pair. can_go carry.Move pair ≡ true) pairs
+    → list_all is_workable (map (λ (pair : Pair). plan.Move (pair ∷ [])) pairs) ≡ true
 moves_work [] h = refl
 moves_work (pair ∷ pairs) h =
-    both (can_go carry.Move pair) (list_all is_workable (map (λ (pair : Pair). plan.Move (pair ∷ [])) (reported pairs))) h.0 (moves_work pairs h.1)
+    both (can_go carry.Move pair) (list_all is_workable (map (λ (pair : Pair). plan.Move (pair ∷ [])) pairs)) h.0 (moves_work pairs h.1)
 
-some_work : (how : Carry) (pair : PlannedPair) (pairs : List PlannedPair) → Each (λ pair. can_go how pair ≡ true) (pair ∷ pairs)
-    → are_workable (carry_job how (reported (pair ∷ pairs))) ≡ true
+some_work : (how : Carry) (pair : Pair) (pairs : List Pair) → Each (λ pair. can_go how pair ≡ true) (pair ∷ pairs)
+    → are_workable (carry_plan how (pair ∷ pairs)) ≡ true
 some_work carry.Copy pair pairs h = copies_work (pair ∷ pairs) h
 some_work carry.Move pair pairs h = moves_work (pair ∷ pairs) h
 
 -- and can be worked
-pub carry_works : (how : Carry) (pairs : List PlannedPair) (told : List Pair) → can_be_carried how pairs ≡ true → told ≡ reported pairs
-    → are_workable (carry_job how told) ≡ true
-carry_works how [] told within is = absurd cc
-carry_works how (pair ∷ pairs) told within is =
-    ap (λ (l : List Pair). are_workable (carry_job how l)) is ∙ some_work how pair pairs (all_pass (can_go how) (pair ∷ pairs) within)
+pub carry_works : (how : Carry) (pairs : List Pair) → can_be_carried how pairs ≡ true → are_workable (carry_plan how pairs) ≡ true
+carry_works how [] within = absurd cc
+carry_works how (pair ∷ pairs) within = some_work how pair pairs (all_pass (can_go how) (pair ∷ pairs) within)

@@ -3,10 +3,10 @@ use Rattle.std.specs.Prelude.{◌≡◌, ◌⊎◌, ℕ, true, false, List, Opti
 use Rattle.mc_text.specs.Routes.{Route}
 use Rattle.tree_trait.specs.Change.{CallLog, current}
 use Rattle.tree_trait.specs.Answers.{IfKnown}
+use Rattle.job_reports.specs.declared.job.Pair.{Pair}
 use Rattle.op_plan.specs.declared.error.PlanError.{PlanError}
 use Rattle.op_plan.specs.declared.job.Job.{Job as Planned}
 use Rattle.op_plan.specs.declared.job.Job.TheVariants as planned
-use Rattle.op_plan.specs.declared.job.Pair.{Pair as PlannedPair}
 use Rattle.op_plan.specs.declared.request.Request.{Request}
 use Rattle.op_plan.specs.declared.request.Request.TheVariants as asked
 use Rattle.op_plan.specs.Answering.{Plans}
@@ -31,7 +31,7 @@ carry_request carry.Copy paths mask from typed = asked.Copy paths mask from type
 carry_request carry.Move paths mask from typed = asked.Move paths mask from typed
 
 -- the plan of such a request, and that a plan is one
-abbrev pub planned_as : Carry → List PlannedPair → Planned
+abbrev pub planned_as : Carry → List Pair → Planned
 planned_as carry.Copy pairs = planned.Copy pairs
 planned_as carry.Move pairs = planned.Move pairs
 
@@ -46,7 +46,7 @@ IsPlanned contents request result = IfKnown contents (λ log. Plans (plan_of (cu
 
 -- Sources are to be copied or moved to their targets: they are those that were asked for, in their order, none of the sources and the targets
 -- is, holds or lies in another, and they are what the plan comes to. What stands at a target is the job's to ask about.
-pub record AreCarried (how : Carry) (contents : Option CallLog) (paths : List Route) (mask : List ℕ) (from : Route) (typed : List ℕ) (pairs : List PlannedPair) : Type 0 where
+pub record AreCarried (how : Carry) (contents : Option CallLog) (paths : List Route) (mask : List ℕ) (from : Route) (typed : List ℕ) (pairs : List Pair) : Type 0 where
   pub not_home : is_below_home typed ≡ false
   pub asked_for : ArePairsFor paths mask typed pairs
   pub apart : ArePairsApart pairs
@@ -67,10 +67,10 @@ CarryRefused how contents paths mask from typed refusal =
 -- what planning to copy or to move things comes to: the plan, or why it is refused
 abbrev pub CarryLeads : Carry → Option CallLog → List Route → List ℕ → Route → List ℕ → JobPlan → Type 0
 CarryLeads how contents paths mask from typed (Begins plan) =
-    (pairs : List PlannedPair) × AreCarried how contents paths mask from typed pairs × (plan ≡ carry_plan how pairs) × (are_workable plan ≡ true)
+    (pairs : List Pair) × AreCarried how contents paths mask from typed pairs × (plan ≡ carry_plan how pairs) × (are_workable plan ≡ true)
 CarryLeads how contents paths mask from typed (Refuses refusal) = CarryRefused how contents paths mask from typed refusal
 
 -- the job of sources with their targets
-abbrev pub BeginsCarry : Carry → List PlannedPair → JobPlan → Type 0
+abbrev pub BeginsCarry : Carry → List Pair → JobPlan → Type 0
 BeginsCarry how pairs (Begins plan) = (plan ≡ carry_plan how pairs) × (are_workable plan ≡ true)
 BeginsCarry how pairs (Refuses refusal) = ⊥

@@ -1,10 +1,9 @@
 -- What a box may ask of, and the plans that it confirms.
-use Rattle.std.specs.Prelude.{◌≡◌, ℕ, Bool, true, false, ◌&&◌, not, is_some, nat_le, ⊤, List, [], ◌∷◌, length, map, Option, Some, None}
+use Rattle.std.specs.Prelude.{◌≡◌, ℕ, Bool, true, false, ◌&&◌, not, is_some, nat_le, ⊤, List, [], ◌∷◌, length, Option, Some, None}
 use Rattle.std.specs.List.{list_all}
 use Rattle.std.specs.Option.{option_map}
 use Rattle.mc_text.specs.Routes.{Route, same_path, spelled}
 use Rattle.tree_trait.specs.FileSystem.{Value, View}
-use Rattle.op_plan.specs.declared.job.Pair.{Pair as PlannedPair}
 use Rattle.job_reports.specs.declared.job.Job.{Job}
 use Rattle.job_reports.specs.declared.job.Job.TheVariants as plan
 use Rattle.job_reports.specs.declared.job.Pair.{Pair}
@@ -29,27 +28,20 @@ delete_plan paths = plan.Delete paths
 abbrev pub mode_plan : List Route → ℕ → Job
 mode_plan paths mode = plan.SetMode paths mode
 
--- sources with their targets, as jobs have them
-abbrev pub reported : List PlannedPair → List Pair
-reported = map (λ (pair : PlannedPair). record { source = pair.source; target = pair.target })
-
 -- the job that copies these, each with all that lies in it, or moves them
-abbrev pub carry_job : Carry → List Pair → Job
-carry_job carry.Copy pairs = plan.Copy pairs
-carry_job carry.Move pairs = plan.Move pairs
-
-abbrev pub carry_plan : Carry → List PlannedPair → Job
-carry_plan how pairs = carry_job how (reported pairs)
+abbrev pub carry_plan : Carry → List Pair → Job
+carry_plan carry.Copy pairs = plan.Copy pairs
+carry_plan carry.Move pairs = plan.Move pairs
 
 -- at least one source with its target, of which each lies in a folder; nothing is moved to where it is
-abbrev pub lie_within : PlannedPair → Bool
+abbrev pub lie_within : Pair → Bool
 lie_within pair = is_within pair.source && is_within pair.target
 
-abbrev pub can_go : Carry → PlannedPair → Bool
+abbrev pub can_go : Carry → Pair → Bool
 can_go carry.Copy pair = lie_within pair
 can_go carry.Move pair = lie_within pair && not (same_path pair.source pair.target)
 
-abbrev pub can_be_carried : Carry → List PlannedPair → Bool
+abbrev pub can_be_carried : Carry → List Pair → Bool
 can_be_carried how [] = false
 can_be_carried how (pair ∷ pairs) = list_all (can_go how) (pair ∷ pairs)
 

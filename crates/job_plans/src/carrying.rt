@@ -1,7 +1,7 @@
 //! The plans of the jobs that a box confirms.
 ghost use Rattle.std.specs.Prelude.{◌≡◌, ◌<◌, true, IfOk};
 ghost use Rattle.session_history.specs.Sources.{are_workable};
-ghost use Rattle.job_plans.specs.Plans.{can_be_carried, carry_job, delete_plan, mode_plan, reported as reported_pairs};
+ghost use Rattle.job_plans.specs.Plans.{can_be_carried, carry_plan, delete_plan, mode_plan};
 ghost use Rattle.job_plans.specs.Carrying.{BeginsCarry, CarryLeads, IsPlanOf, carry_request, planned_as};
 ghost use Rattle.job_plans.specs.Choices.{plan_refusals};
 ghost use Rattle.job_plans.specs.Places.{is_below_home};
@@ -10,9 +10,9 @@ ghost use Rattle.job_plans.specs.Reading.{ReadsTree};
 use crate::home::is_below_home;
 use crate::refused::{refuse, refused};
 use box_words::{Carry, Chosen};
-use job_reports::{Job, Pair, Pairs};
+use job_reports::{Job, Pairs};
 use mc_text::{NoMemory, Path, Paths, Text};
-use op_plan::{Job as Planned, Pair as PlannedPair, Pairs as PlannedPairs, Request, make_plan};
+use op_plan::{Job as Planned, Request, make_plan};
 use session_history::{PlanError, Refusal};
 use std::alloc::Global;
 use tree_trait::ReadTree;
@@ -46,7 +46,7 @@ pub fn plan_carry<T: ReadTree>(
     }
     let request = request_of(alloc, carry, chosen, mask, from, typed)?;
     match make_plan(alloc, tree, request) {
-        Ok(job) => plan_to(alloc, carry, pairs_of(carry, job)),
+        Ok(job) => Ok(plan_to(carry, pairs_of(carry, job))),
         Err(error) => refused(error),
     }
 }
@@ -90,7 +90,7 @@ fn request_to(carry: Carry, sources: Paths, mask: Text, from: Path, to: Text) ->
 }
 
 /// The sources of such a plan, each with its target.
-fn pairs_of(carry: Carry, job: Planned) -> PlannedPairs
+fn pairs_of(carry: Carry, job: Planned) -> Pairs
     requires { IsPlanOf carry job }
     ensures { job ≡ planned_as carry result }
 {
@@ -103,34 +103,21 @@ fn pairs_of(carry: Carry, job: Planned) -> PlannedPairs
 
 /// The plan of the job that copies or moves sources to their targets.
 #[tactic(auto, using(crate::proofs::Within::carry_works))]
-fn plan_to(alloc: Global, carry: Carry, pairs: PlannedPairs) -> Result<JobPlan, NoMemory>
+fn plan_to(carry: Carry, pairs: Pairs) -> JobPlan
     requires within { can_be_carried carry pairs ≡ true }
-    ensures { IfOk result (BeginsCarry carry pairs) }
+    ensures { BeginsCarry carry pairs result }
 {
-    let told = reported(alloc, pairs)?;
-    Ok(JobPlan::Begins(job_of(carry, told)))
+    JobPlan::Begins(job_of(carry, pairs))
 }
 
 /// The job of its kind.
 fn job_of(carry: Carry, pairs: Pairs) -> Job
-    ensures { result ≡ carry_job carry pairs }
+    ensures { result ≡ carry_plan carry pairs }
 {
     match carry {
         Carry::Copy => Job::Copy(pairs),
         Carry::Move => Job::Move(pairs),
     }
-}
-
-/// The pairs of a plan, as jobs have them.
-fn reported(alloc: Global, pairs: PlannedPairs) -> Result<Pairs, NoMemory>
-    ensures { IfOk result (λ told. told ≡ reported_pairs pairs) }
-{
-    let PlannedPairs(pairs) = pairs;
-    let mut told = Vec::with_capacity(alloc, pairs.len())?;
-    for PlannedPair { source, target } in pairs {
-        told.push(Pair { source, target })?;
-    }
-    Ok(Pairs(told))
 }
 
 /// The setting of the mode of things.

@@ -37,6 +37,26 @@ impl Model for Pairs {
     ghost view = { λ l. l.0.items };
 }
 
+impl Pairs {
+    /// The members.
+    pub fn as_slice(&self) -> &[Pair]
+        ensures { result.now ≡ self.now }
+    {
+        self.0.as_slice()
+    }
+
+    /// The same list once more.
+    pub fn copy(&self, alloc: Global) -> Result<Pairs, NoMemory>
+        ensures { IfOk result (λ copy. copy ≡ self.now) }
+    {
+        let mut copies = Vec::new(alloc);
+        for pair in &self.0 {
+            copies.push(pair.copy(alloc)?)?;
+        }
+        Ok(Pairs(copies))
+    }
+}
+
 /// A job, as it was planned.
 #[derive(Debug, Drop)]
 pub enum Job {

@@ -6,7 +6,7 @@ use Rattle.std.specs.List.{list_any, find}
 use Rattle.std.specs.Str.{bytes_eq}
 use Rattle.std.proofs.lemmas.Bool.{both_ways, or_parts, or_right, false_from_ne_true}
 use Rattle.mc_text.specs.Routes.{Route, same_path, is_prefix}
-use Rattle.op_plan.specs.declared.job.Pair.{Pair}
+use Rattle.job_reports.specs.declared.job.Pair.{Pair}
 use Rattle.op_plan.specs.declared.error.PlanError.TheVariants.{SameFile}
 use Rattle.op_plan.specs.Meeting.{meet, first_across, with_first}
 use Rattle.op_plan.specs.Answering.{and_then, unless}

@@ -3,9 +3,9 @@ use Rattle.std.proofs.Common.{◌≡◌, ◌∙◌, List, ℕ, ◌∷◌, [], ap
 use Rattle.std.specs.Prelude.{map, IfOk, chars}
 use Rattle.mc_text.specs.Routes.{Route}
 use Rattle.tagging.specs.declared.glob.GlobPart.{GlobPart}
+use Rattle.job_reports.specs.declared.job.Pair.{Pair}
 use Rattle.op_plan.specs.declared.mask.MaskPiece.{MaskPiece}
 use Rattle.op_plan.specs.declared.mask.MaskPiece.TheVariants.{Star}
-use Rattle.op_plan.specs.declared.job.Pair.{Pair}
 use Rattle.op_plan.specs.declared.error.PlanError.{PlanError}
 use Rattle.op_plan.specs.Masks.{pieces_of}
 use Rattle.op_plan.specs.Naming.{pattern_in, chosen, names_for}

@@ -7,8 +7,8 @@ use Rattle.std.proofs.lemmas.Bool.{both_ways, or_cases, or_left, or_right, false
 use Rattle.mc_text.specs.Routes.{Route, is_prefix, last_of}
 use Rattle.tagging.specs.declared.glob.GlobPart.{GlobPart}
 use Rattle.resolving.specs.declared.error.ResolveError.TheVariants.{TooLong}
+use Rattle.job_reports.specs.declared.job.Pair.{Pair}
 use Rattle.op_plan.specs.declared.mask.MaskPiece.TheVariants.{Star}
-use Rattle.op_plan.specs.declared.job.Pair.{Pair}
 use Rattle.op_plan.specs.declared.error.PlanError.{PlanError}
 use Rattle.op_plan.specs.declared.error.PlanError.TheVariants.{Target, Memory}
 use Rattle.op_plan.specs.Meeting.{meet, has_two}

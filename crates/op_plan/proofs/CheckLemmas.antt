@@ -9,7 +9,7 @@ use Rattle.std.proofs.lemmas.List.{get_or_default, take-map, length-map, get_or-
 use Rattle.std.proofs.lemmas.List.Folds.{list_any_more}
 use Rattle.std.proofs.lemmas.Option.{slice_get-get_or}
 use Rattle.mc_text.specs.Routes.{Route, same_path}
-use Rattle.op_plan.specs.declared.job.Pair.{Pair}
+use Rattle.job_reports.specs.declared.job.Pair.{Pair}
 use Rattle.op_plan.specs.declared.error.PlanError.TheVariants.{Nested, SameFile, TwoToOne}
 use Rattle.op_plan.specs.Meeting.{meet, has_two, first_across, with_first}
 use Rattle.op_plan.specs.Sorting.{AreFirst}

@@ -12,11 +12,11 @@ use Rattle.std.proofs.lemmas.List.{length-append}
 use Rattle.std.proofs.lemmas.List.Sorted.{IsPermutation-map}
 use Rattle.mc_text.specs.Routes.{Route, is_prefix, last_of}
 use Rattle.tree_trait.specs.Answers.{name_cmp}
+use Rattle.job_reports.specs.declared.job.Pair.{Pair}
 use Rattle.op_plan.specs.Meeting.{meet, has_two}
 use Rattle.op_plan.specs.Sorting.{route_cmp, has_neighbours}
 use Rattle.op_plan.proofs.Paths.{bool_same, prefix-way, prefix-from, same_name, same_name-from}
 use Rattle.op_plan.proofs.Sorted.{neighbours-sorted, neighbours-map, sorted-map}
-use Rattle.op_plan.specs.declared.job.Pair.{Pair}
 use Rattle.op_plan.specs.Checks.{targets_from, none_twice}
 use Rattle.op_plan.proofs.CheckLemmas.{twice-none}
 use Rattle.op_plan.proofs.Twos.{list_any-same, two-map, two-permutation}

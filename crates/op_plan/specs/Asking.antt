@@ -2,11 +2,11 @@
 use Rattle.std.specs.Prelude.{◌≡◌, ◌⊎◌, ℕ, List, [], ◌∷◌, map, chars, Option, Some}
 use Rattle.mc_text.specs.Routes.{Route, last_of}
 use Rattle.tagging.specs.declared.glob.GlobPart.{GlobPart}
+use Rattle.job_reports.specs.declared.job.Pair.{Pair}
 use Rattle.op_plan.specs.declared.mask.MaskPiece.{MaskPiece}
 use Rattle.op_plan.specs.declared.mask.MaskPiece.TheVariants.{Star}
 use Rattle.op_plan.specs.declared.request.Request.{Request}
 use Rattle.op_plan.specs.declared.request.Request.TheVariants as asked
-use Rattle.op_plan.specs.declared.job.Pair.{Pair}
 use Rattle.op_plan.specs.declared.job.Job.{Job}
 use Rattle.op_plan.specs.declared.job.Job.TheVariants.{Copy, Move, Delete, MakeFolder, SetMode, MakeLink, Save}
 use Rattle.op_plan.specs.Masks.{pieces_of}

@@ -7,7 +7,7 @@ use Rattle.tree_trait.specs.declared.file_system.FileSystem.{FileSystem}
 use Rattle.tree_trait.specs.Calls.{Stat}
 use Rattle.tree_trait.specs.Refusals.{refusal_of}
 use Rattle.resolving.specs.declared.error.ResolveError.TheVariants.{TooLong}
-use Rattle.op_plan.specs.declared.job.Pair.{Pair}
+use Rattle.job_reports.specs.declared.job.Pair.{Pair}
 use Rattle.op_plan.specs.declared.error.PlanError.{PlanError}
 use Rattle.op_plan.specs.declared.error.PlanError.TheVariants.{NoSelection, Nested, Source, Target, SameFile, IntoItself, TwoToOne}
 use Rattle.op_plan.specs.Meeting.{meet, first_two, first_across}

@@ -3,9 +3,9 @@ use Rattle.std.specs.Prelude.{◌≡◌, ◌≢◌, ◌≤◌, false, List, [], 
 use Rattle.std.specs.List.{list_any}
 use Rattle.mc_text.specs.Routes.{Route}
 use Rattle.tree_trait.specs.Answers.{IsLinkText}
+use Rattle.job_reports.specs.declared.job.Pair.{Pair}
 use Rattle.op_plan.specs.declared.request.Request.{Request}
 use Rattle.op_plan.specs.declared.request.Request.TheVariants as asked
-use Rattle.op_plan.specs.declared.job.Pair.{Pair}
 use Rattle.op_plan.specs.declared.job.Job.{Job}
 use Rattle.op_plan.specs.declared.job.Job.TheVariants.{Copy, Move, Delete, MakeFolder, SetMode, MakeLink, Save}
 use Rattle.op_plan.specs.declared.sources.Sources.{Sources}

@@ -5,7 +5,7 @@ ghost use Rattle.std.specs.Option.{option_map_or};
 ghost use Rattle.std.specs.Str.{bytes_eq};
 ghost use Rattle.std.specs.BTreeSet.{contains_text};
 ghost use Rattle.mc_text.specs.Routes.{Route, is_prefix, same_path};
-ghost use Rattle.op_plan.specs.declared.job.Pair.{Pair};
+ghost use Rattle.job_reports.specs.declared.job.Pair.{Pair};
 ghost use Rattle.op_plan.specs.Answering.{Plans, is_fault, CarriesPlanCause, IsPlaceError};
 ghost use Rattle.op_plan.specs.Meeting.{meet, has_two};
 ghost use Rattle.op_plan.specs.Digests.{name_of, IsChild, LieBeside};
@@ -15,8 +15,8 @@ ghost use Rattle.op_plan.specs.Soundness.{ArePairsApart};
 
 use crate::digest::are_told_apart;
 use crate::error::PlanError;
-use crate::job::{Pair, Pairs};
 use crate::meeting::{first_meeting, last_name, meet};
+use job_reports::{Pair, Pairs};
 use mc_text::{Name, NoMemory, Path, PathError, Paths};
 use resolving::ResolveError;
 use std::alloc::Global;

@@ -1,61 +1,9 @@
 //! Jobs: what will be done, and to which paths.
-ghost use Rattle.std.specs.Prelude.{◌≡◌, ◌++◌, [], ◌∷◌, IfOk};
+ghost use Rattle.std.specs.Prelude.{◌≡◌, IfOk};
 
+use job_reports::Pairs;
 use mc_text::{Bytes, NoMemory, Path, Paths, Text};
 use std::alloc::Global;
-use std::marker::Model;
-
-/// A source, and where it goes.
-#[derive(Debug, Drop)]
-pub struct Pair {
-    pub source: Path,
-    pub target: Path,
-}
-
-impl Pair {
-    /// The same pair once more.
-    pub fn copy(&self, alloc: Global) -> Result<Pair, NoMemory>
-        ensures { IfOk result (λ copy. copy ≡ self.now) }
-    {
-        Ok(Pair {
-            source: self.source.copy(alloc)?,
-            target: self.target.copy(alloc)?,
-        })
-    }
-}
-
-/// Some pairs.
-#[derive(Debug, Drop)]
-pub struct Pairs(pub Vec<Pair>);
-
-impl Model for Pairs {
-    ghost use Rattle.std.specs.Prelude.{List};
-    ghost use Rattle.op_plan.specs.declared.job.Pair.{Pair};
-
-    ghost Value = { List Pair };
-
-    ghost view = { λ l. l.0.items };
-}
-
-impl Pairs {
-    /// The members.
-    pub fn as_slice(&self) -> &[Pair]
-        ensures { result.now ≡ self.now }
-    {
-        self.0.as_slice()
-    }
-
-    /// The same list once more.
-    pub fn copy(&self, alloc: Global) -> Result<Pairs, NoMemory>
-        ensures { IfOk result (λ copy. copy ≡ self.now) }
-    {
-        let mut copies = Vec::new(alloc);
-        for pair in &self.0 {
-            copies.push(pair.copy(alloc)?)?;
-        }
-        Ok(Pairs(copies))
-    }
-}
 
 /// A job, as it was planned.
 #[derive(Debug, Drop)]

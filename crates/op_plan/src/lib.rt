@@ -14,7 +14,7 @@ mod request;
 mod sources;
 
 pub use error::PlanError;
-pub use job::{Job, Pair, Pairs};
+pub use job::Job;
 pub use mask::MaskPiece;
 pub use meeting::meet;
 pub use plan::{is_link_text, make_plan, plan_place};

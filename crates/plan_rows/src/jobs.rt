@@ -2,8 +2,9 @@
 use crate::fields::paths_of;
 use crate::telling::tell_path;
 use job_claims::{Claim, Claims, claims, clash};
+use job_reports::{Pair, Pairs};
 use mc_text::{Bytes, Path, Text};
-use op_plan::{Job, Pair, Pairs};
+use op_plan::Job;
 use row_page::{Page, two_fields};
 use std::alloc::Global;
 

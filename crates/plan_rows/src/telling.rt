@@ -1,6 +1,7 @@
 //! Jobs and refusals, told on a line.
+use job_reports::Pair;
 use mc_text::Path;
-use op_plan::{Job, Pair, PlanError};
+use op_plan::{Job, PlanError};
 use resolving::ResolveError;
 use row_page::Page;
 use std::convert::AsStr;

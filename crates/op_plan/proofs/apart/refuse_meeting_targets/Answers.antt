@@ -1,7 +1,7 @@
 -- two targets that meet are found by their positions
 use Rattle.std.proofs.Common.{◌≡◌, ◌∙◌, ap, sym, subst, Err, List}
 use Rattle.mc_text.specs.Routes.{Route}
-use Rattle.op_plan.specs.declared.job.Pair.{Pair}
+use Rattle.job_reports.specs.declared.job.Pair.{Pair}
 use Rattle.op_plan.specs.declared.error.PlanError.TheVariants.{TwoToOne}
 use Rattle.op_plan.specs.Checks.{targets_from}
 use Rattle.op_plan.specs.Sorting.{AreFirst, IsFirstMeeting}

@@ -1,6 +1,6 @@
 use Rattle.std.proofs.Common.{◌∙◌, sym, ap, Err}
 use Rattle.mc_text.specs.Routes.{Route}
-use Rattle.op_plan.specs.declared.job.Pair.{Pair}
+use Rattle.job_reports.specs.declared.job.Pair.{Pair}
 use Rattle.op_plan.specs.declared.error.PlanError.TheVariants.{SameFile}
 use Rattle.op_plan.proofs.CheckLemmas.{same-none, same-some}
 use Rattle.op_plan.proofs.apart.refuse_same.Goals as goal
