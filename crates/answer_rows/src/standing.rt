@@ -1,12 +1,11 @@
 //! What was answered to the questions and the troubles of a job.
-use job_answers::{Decision, Replies, Skips, Then, Waiting, kind_of, then_after};
+use job_answers::{Decision, Replies, Then, Waiting, then_after};
 use job_reports::{Answer, AnswerError, Cause, Question, Trouble};
 
 /// What was answered in a job so far, and still holds.
 #[derive(Clone, Copy, Debug, Drop)]
 pub struct Standing {
     replies: Replies,
-    skips: Skips,
 }
 
 impl Standing {
@@ -14,7 +13,6 @@ impl Standing {
     pub fn new() -> Standing {
         Standing {
             replies: Replies::new(),
-            skips: Skips::new(),
         }
     }
 
@@ -25,7 +23,7 @@ impl Standing {
 
     /// Whether a trouble is skipped without a question. At a barrier nothing is skipped.
     pub fn passes_over(&self, trouble: &Trouble) -> bool {
-        self.skips.passes_over(trouble)
+        self.replies.skips().passes_over(trouble)
     }
 
     /// Takes an answer, and says what the job does then. An answer that isn't taken changes nothing. It takes no memory.
@@ -50,7 +48,7 @@ impl Standing {
     /// Keeps what is answered to a trouble with this cause.
     fn note_skip(&mut self, cause: Cause, answer: Answer) {
         match answer {
-            Answer::SkipAll => self.skips.insert(kind_of(cause)),
+            Answer::SkipAll => self.replies.skip_all(cause),
             Answer::Retry | Answer::Skip | Answer::Abort => {}
             Answer::Yes | Answer::No => {}
             Answer::All | Answer::Update | Answer::Nothing | Answer::SizeDiffers => {}

@@ -3,6 +3,7 @@ use Rattle.std.proofs.Common.{◌≡◌, [], ◌∷◌, refl, sym, ◌∙◌, ap
 use Rattle.mc_text.specs.Routes.{Route}
 use Rattle.job_reports.specs.declared.report.Did.TheVariants.{Troubled}
 use Rattle.job_reports.specs.declared.report.Trouble.{Trouble}
+use Rattle.job_answers.specs.declared.replies.Replies.{Replies}
 use Rattle.mode_setting.specs.Settings.{Setting}
 use Rattle.mode_setting.specs.Settings as settings
 use Rattle.tree_deletion.specs.Standing as standing
@@ -26,11 +27,11 @@ making_barrier making.Sync (name ∷ folder) trouble (e, is) = ap (λ (t : Troub
 making_barrier making.Finish path trouble h = absurd h
 making_barrier making.PassedOver path trouble h = absurd h
 
-pub work_barrier : (old new : Work) (trouble : Trouble) → WorkTells old (Troubled trouble) new → trouble.barrier ≡ at_barrier new
-work_barrier (Copy c) (Copy new) trouble t = t.barred trouble refl
-work_barrier (Delete d) (Delete new) trouble t = t.0 ∙ sym (ap standing.at_barrier t.1.stage_is)
-work_barrier (Make m) (Make new) trouble t = making_barrier m.stage m.path trouble t.0 ∙ sym (ap (λ (x : Making). makings.at_barrier x.stage) t.1)
-work_barrier (Move m) (Move new) trouble (barrier, undone, cause, is) = barrier ∙ sym (ap (λ (x : Moving). movings.at_barrier x.stage) is)
-work_barrier (SetMode s) (SetMode new) trouble (barrier, cause, is) = barrier ∙ sym (ap (λ (x : Setting). settings.at_barrier x.stage) is)
-work_barrier (RemoveEmptied r) (RemoveEmptied new) trouble (barrier, undone, cause, is) = barrier ∙ sym (ap (λ (x : Removing). removals.at_barrier x.stage) is)
-work_barrier old new trouble t = absurd t
+pub work_barrier : (replies : Replies) (old new : Work) (trouble : Trouble) → WorkTells replies old (Troubled trouble) new → trouble.barrier ≡ at_barrier new
+work_barrier replies (Copy c) (Copy new) trouble t = t.barred trouble refl
+work_barrier replies (Delete d) (Delete new) trouble t = t.0 ∙ sym (ap standing.at_barrier t.1.stage_is)
+work_barrier replies (Make m) (Make new) trouble t = making_barrier m.stage m.path trouble t.0 ∙ sym (ap (λ (x : Making). makings.at_barrier x.stage) t.1)
+work_barrier replies (Move m) (Move new) trouble (barrier, undone, cause, is) = barrier ∙ sym (ap (λ (x : Moving). movings.at_barrier x.stage) is)
+work_barrier replies (SetMode s) (SetMode new) trouble (barrier, cause, is) = barrier ∙ sym (ap (λ (x : Setting). settings.at_barrier x.stage) is)
+work_barrier replies (RemoveEmptied r) (RemoveEmptied new) trouble (barrier, undone, cause, is) = barrier ∙ sym (ap (λ (x : Removing). removals.at_barrier x.stage) is)
+work_barrier replies old new trouble t = absurd t

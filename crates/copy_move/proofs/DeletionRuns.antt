@@ -19,7 +19,8 @@ use Rattle.job_reports.specs.Paths.{folder_of, without}
 use Rattle.job_reports.specs.Reports.{IsFault}
 use Rattle.job_reports.specs.Stops.{cause_of, out_of_memory_at, sync_answer}
 use Rattle.job_reports.specs.declared.report.StepResult.{StepResult}
-use Rattle.job_answers.specs.Skipping.{holds, kind_in}
+use Rattle.job_answers.specs.Skipping.{holds, is_passed_over, kind_in, passed_cause}
+use Rattle.job_answers.specs.declared.replies.Replies.{Replies}
 use Rattle.job_answers.specs.declared.skips.Skips.{Skips as Kinds}
 use Rattle.tree_deletion.specs.declared.deletion.Stage.{Stage}
 use Rattle.tree_deletion.specs.declared.deletion.Stage.TheVariants.{Begin, Going, Sync}
@@ -30,7 +31,7 @@ use Rattle.tree_deletion.specs.Inside.{IsInside}
 use Rattle.tree_deletion.specs.Standing.{End, Item, Thing, after_item, at_barrier, item}
 use Rattle.tree_deletion.specs.Steps.{IsProgress, KeepsRest, LastSteps, RemovalLeaves, Skips, SyncSteps, Syncs, TakesOff, Tries, WorkCalls, WorkLeaves, WorkSteps, Works, after_try as machine_try, next_try, path_of, removal_of}
 use Rattle.tree_deletion.proofs.Staying.{descends_inside, item_inside, skip_falls, skip_inside, skip_less, work_inside}
-use Rattle.copy_move.specs.Deletions.{Deleting, DeletionCalls, DeletionLeaves, IsAtStage, IsRefused, Tells, is_passed_over, left_in, machine_of, passed_cause}
+use Rattle.copy_move.specs.Deletions.{Deleting, DeletionCalls, DeletionLeaves, IsAtStage, IsRefused, Tells, left_in, machine_of}
 use Rattle.copy_move.specs.Deletions as deletions
 use Rattle.copy_move.specs.declared.run.Course.{Course}
 use Rattle.copy_move.specs.declared.run.Course.TheVariants.{GoesOn}
@@ -63,15 +64,15 @@ stands_among (first ∷ rest) zero folder h = inl (let e : folder ≡ first = cc
 stands_among (first ∷ rest) (suc at) folder h = inr (stands_among rest at folder h)
 
 -- the machine and what is seen of it
-abbrev pub seen : Deletion → ℕ → Kinds → Deleting
-seen m tried skips = record { path = m.path; stage = m.stage; depth = m.depth; place = m.walk.place; tried = tried; skips = skips }
+abbrev pub seen : Deletion → ℕ → Deleting
+seen m tried = record { path = m.path; stage = m.stage; depth = m.depth; place = m.walk.place; tried = tried }
 
 folder_is : (path folder : Route) → parent_of path ≡ Some folder → folder ≡ folder_of path
 folder_is [] folder h = absurd (let f : ⊥ = cc in f)
 folder_is (name ∷ up) folder h = let e : up ≡ folder = cc in sym e
 
-pub machine_is : (m : Deletion) (tried : ℕ) (skips : Kinds) → parent_of m.path ≡ Some m.folder → m ≡ machine_of (seen m tried skips) m.walk.spare
-machine_is m tried skips h = ap (λ f. (let d : Deletion = record m { folder = f } in d)) (folder_is m.path m.folder h)
+pub machine_is : (m : Deletion) (tried : ℕ) → parent_of m.path ≡ Some m.folder → m ≡ machine_of (seen m tried) m.walk.spare
+machine_is m tried h = ap (λ f. (let d : Deletion = record m { folder = f } in d)) (folder_is m.path m.folder h)
 
 sync_is : (stage : Stage) → at_barrier stage ≡ true → stage ≡ Sync
 sync_is Sync h = refl
@@ -79,7 +80,7 @@ sync_is Begin h = absurd (false≢true h)
 sync_is Going h = absurd (false≢true h)
 
 itself : (d : Deleting) → IsAtStage d d.stage d
-itself d = record { path_is = refl; stage_is = refl; tried_is = refl; skips_is = refl }
+itself d = record { path_is = refl; stage_is = refl; tried_is = refl }
 
 -- a report that isn't a skip tells of a fault where it is one
 pub met_by : (course : Course) (P : Did → Type 0) (did : Did) → ((path : Route) (cause : Cause) → P (Skipped path cause) → ⊥) → P did → MeetsFault course did → IsFault did
@@ -100,11 +101,11 @@ met_by course P Barrier none p h = h
 met_by course P (Ended ending part) none p h = h
 
 -- a step that syncs
-module _ (m : Deletion) (tried : ℕ) (skips : Kinds) (holds : parent_of m.path ≡ Some m.folder) (barrier : at_barrier m.stage ≡ true) (dirty dirty_after : List Route) (before after : Option CallLog) where
-  sync_tells : (did : Did) → Syncs m did dirty dirty_after before after → Tells (seen m tried skips) did (seen m tried skips)
-  sync_tells Barrier s = (sync_is m.stage barrier, itself (seen m tried skips))
-  sync_tells (Troubled trouble) (e, folder, own, is, left, called) = (ap (λ (t : Trouble). t.barrier) is ∙ sym barrier, itself (seen m tried skips))
-  sync_tells (Ended Finished part) (ending, part_is, none, same, after_is) = (sync_is m.stage barrier, part_is, itself (seen m tried skips))
+module _ (m : Deletion) (tried : ℕ) (replies : Replies) (holds : parent_of m.path ≡ Some m.folder) (barrier : at_barrier m.stage ≡ true) (dirty dirty_after : List Route) (before after : Option CallLog) where
+  sync_tells : (did : Did) → Syncs m did dirty dirty_after before after → Tells replies (seen m tried) did (seen m tried)
+  sync_tells Barrier s = (sync_is m.stage barrier, itself (seen m tried))
+  sync_tells (Troubled trouble) (e, folder, own, is, left, called) = (ap (λ (t : Trouble). t.barrier) is ∙ sym barrier, itself (seen m tried))
+  sync_tells (Ended Finished part) (ending, part_is, none, same, after_is) = (sync_is m.stage barrier, part_is, itself (seen m tried))
   sync_tells (Ended Aborted part) (ending, part_is, none, same, after_is) = absurd (let f : ⊥ = cc in f)
   sync_tells (Ended Killed part) (ending, part_is, none, same, after_is) = absurd (let f : ⊥ = cc in f)
   sync_tells (Ended NoMemory part) (ending, part_is, none, same, after_is) = absurd (let f : ⊥ = cc in f)
@@ -141,7 +142,7 @@ module _ (m : Deletion) (tried : ℕ) (skips : Kinds) (holds : parent_of m.path 
   own_is : (folder : Route) → IsOwn m.folder m.path dirty folder → IsOwn (folder_of m.path) m.path dirty folder
   own_is folder own = subst (λ up. IsOwn up m.path dirty folder) (folder_is m.path m.folder holds) own
 
-  sync_leaves : (did : Did) → Syncs m did dirty dirty_after before after → DeletionLeaves (seen m tried skips) did dirty dirty_after before after
+  sync_leaves : (did : Did) → Syncs m did dirty dirty_after before after → DeletionLeaves (seen m tried) did dirty dirty_after before after
   sync_leaves Barrier (folder, own, left, called) = (folder, own_is folder own, left, called)
   sync_leaves (Troubled trouble) (e, folder, own, is, left, called) = left
   sync_leaves (Ended ending part) (ending_is, part_is, none, same, after_is) = (subst (λ up. Rattle.tree_deletion.specs.Folders.NoneOf up m.path dirty) (folder_is m.path m.folder holds) none, same)
@@ -175,9 +176,9 @@ module _ (m : Deletion) (tried : ℕ) (skips : Kinds) (holds : parent_of m.path 
   no_progress (Skipped path cause) s h = s
   no_progress (Cleaned part) s h = s
 
-  pub step_syncs : (did : Did) (calls f0 f1 : ℕ) → SyncSteps m did calls dirty dirty_after before after f0 f1 → DeletionStep (seen m tried skips) (seen m tried skips) did calls dirty dirty_after before after f0 f1
+  pub step_syncs : (did : Did) (calls f0 f1 : ℕ) → SyncSteps m did calls dirty dirty_after before after f0 f1 → DeletionStep replies (seen m tried) (seen m tried) did calls dirty dirty_after before after f0 f1
   step_syncs did calls f0 f1 s = record {
-    goes = inr (m.walk.spare, subst (λ (x : Deletion). SyncSteps x did calls dirty dirty_after before after f0 f1) (machine_is m tried skips holds) s, refl);
+    goes = inr (m.walk.spare, subst (λ (x : Deletion). SyncSteps x did calls dirty dirty_after before after f0 f1) (machine_is m tried holds) s, refl);
     tells = sync_tells did s.syncs;
     called = sync_calls did s.syncs;
     leaves = sync_leaves did s.syncs;
@@ -220,19 +221,19 @@ removal_leaves (Thing thing) path dirty dirty_after before after is leaves done 
 removal_leaves (End folder) path dirty dirty_after before after is leaves done = inr (leaves, λ log known. subst (λ p. Performs {A = Unit {0}} log (RemoveFolder p) (Ok tt) after) (sym is) (done log known))
 
 -- a step that works
-module _ (m new : Deletion) (tried : ℕ) (skips : Kinds) (holds : parent_of m.path ≡ Some m.folder) (inside : IsInside m) (going : at_barrier m.stage ≡ false) where
+module _ (m new : Deletion) (tried : ℕ) (replies : Replies) (holds : parent_of m.path ≡ Some m.folder) (inside : IsInside m) (going : at_barrier m.stage ≡ false) where
   module _ (mid : Deletion) (on : IsOnStage m mid) (within : IsInside mid) where
-    work_tells : (did : Did) → Works mid did new → Tells (seen m tried skips) did (seen new tried skips)
+    work_tells : (did : Did) → Works mid did new → Tells replies (seen m tried) did (seen new tried)
     work_tells (Removed path) (path_is, bare, d) = (
       going,
       subst (λ p. is_prefix p path ≡ true) on.path_is (subst (λ p. is_prefix mid.path p ≡ true) (sym path_is) (item_inside mid within)),
-      record { path_is = d.path_is ∙ on.path_is; stage_is = d.stage_is ∙ ap (λ p. after_item p path Going) on.path_is; tried_is = refl; skips_is = refl },
+      record { path_is = d.path_is ∙ on.path_is; stage_is = d.stage_is ∙ ap (λ p. after_item p path Going) on.path_is; tried_is = refl },
     )
     work_tells (Kept path) (path_is, spared, d) = (
       going,
-      record { path_is = d.path_is ∙ on.path_is; stage_is = d.stage_is ∙ (ap (λ p. after_item p path mid.stage) on.path_is ∙ ap (after_item m.path path) on.stage_is); tried_is = refl; skips_is = refl },
+      record { path_is = d.path_is ∙ on.path_is; stage_is = d.stage_is ∙ (ap (λ p. after_item p path mid.stage) on.path_is ∙ ap (after_item m.path path) on.stage_is); tried_is = refl },
     )
-    work_tells (Troubled trouble) (barrier, a) = (barrier ∙ sym going, record { path_is = a.path_is ∙ on.path_is; stage_is = a.stage_is ∙ on.stage_is; tried_is = refl; skips_is = refl })
+    work_tells (Troubled trouble) (barrier, a) = (barrier ∙ sym going, record { path_is = a.path_is ∙ on.path_is; stage_is = a.stage_is ∙ on.stage_is; tried_is = refl })
     work_tells (Began part) w = absurd w
     work_tells (Chunk count) w = absurd w
     work_tells (Asked question) w = absurd w
@@ -282,7 +283,7 @@ module _ (m new : Deletion) (tried : ℕ) (skips : Kinds) (holds : parent_of m.p
     work_calls (Ended ending part) log after w h = absurd w
 
     work_leaves : (did : Did) (dirty dirty_after : List Route) (before after : Option CallLog) → Works mid did new → WorkLeaves (item mid) did dirty dirty_after → IfKnown before (λ log. WorkCalls mid did log after)
-        → DeletionLeaves (seen m tried skips) did dirty dirty_after before after
+        → DeletionLeaves (seen m tried) did dirty dirty_after before after
     work_leaves (Removed path) dirty dirty_after before after w leaves called = removal_leaves (item mid) path dirty dirty_after before after w.0 leaves (λ log known. (called log known).1)
     work_leaves (Kept path) dirty dirty_after before after w leaves called = leaves
     work_leaves (Troubled trouble) dirty dirty_after before after w leaves called = leaves
@@ -310,10 +311,10 @@ module _ (m new : Deletion) (tried : ℕ) (skips : Kinds) (holds : parent_of m.p
     still_holds = ap parent_of same_place.0 ∙ (holds ∙ ap (λ f. Some f) (sym same_place.1))
 
     -- the same step, as it is seen
-    pub on_way : WorkSteps (machine_of (seen m tried skips) m.walk.spare) new did calls dirty dirty_after before after f0 f1
-    on_way = subst (λ (x : Deletion). WorkSteps x new did calls dirty dirty_after before after f0 f1) (machine_is m tried skips holds) s
+    pub on_way : WorkSteps (machine_of (seen m tried) m.walk.spare) new did calls dirty dirty_after before after f0 f1
+    on_way = subst (λ (x : Deletion). WorkSteps x new did calls dirty dirty_after before after f0 f1) (machine_is m tried holds) s
 
-    fewer_worked : (x : Did) → (IsProgress x ≡ true → left_in (seen new tried skips) < left_in (seen m tried skips)) → Works s.mid x new → is_decided x ≡ true → left_in (seen new tried skips) < left_in (seen m tried skips)
+    fewer_worked : (x : Did) → (IsProgress x ≡ true → left_in (seen new tried) < left_in (seen m tried)) → Works s.mid x new → is_decided x ≡ true → left_in (seen new tried) < left_in (seen m tried)
     fewer_worked (Skipped path cause) falls w h = absurd w
     fewer_worked (Removed path) falls w h = falls h
     fewer_worked (Kept path) falls w h = falls h
@@ -334,19 +335,19 @@ module _ (m new : Deletion) (tried : ℕ) (skips : Kinds) (holds : parent_of m.p
     worked_inside = work_inside m new did calls dirty dirty_after before after f0 f1 s inside
 
     -- what it tells, and what it says of the dirty folders
-    pub worked_tells : Tells (seen m tried skips) did (seen new tried skips)
+    pub worked_tells : Tells replies (seen m tried) did (seen new tried)
     worked_tells = work_tells s.mid on_stage (descends_inside before m s.mid s.entered s.descends inside) did (let w = s.working in w.works)
 
-    pub worked_leaves : DeletionLeaves (seen m tried skips) did dirty dirty_after before after
+    pub worked_leaves : DeletionLeaves (seen m tried) did dirty dirty_after before after
     worked_leaves = let w = s.working in work_leaves s.mid on_stage (descends_inside before m s.mid s.entered s.descends inside) did dirty dirty_after before after w.works w.leaves w.called
 
     -- what was worked is reported
-    pub step_works : passed_cause skips did ≡ None → DeletionStep (seen m tried skips) (seen new tried skips) did calls dirty dirty_after before after f0 f1
+    pub step_works : passed_cause replies.skips did ≡ None → DeletionStep replies (seen m tried) (seen new tried) did calls dirty dirty_after before after f0 f1
     step_works none =
         let w = s.working in
         let within = descends_inside before m s.mid s.entered s.descends inside in
         record {
-          goes = inl (did, new, m.walk.spare, new.walk.spare, on_way, inl (none, refl, sym (machine_is new tried skips still_holds)));
+          goes = inl (did, new, m.walk.spare, new.walk.spare, on_way, inl (none, refl, sym (machine_is new tried still_holds)));
           tells = work_tells s.mid on_stage within did w.works;
           called = λ log known. work_calls s.mid on_stage within did log after w.works (w.called log known);
           leaves = work_leaves s.mid on_stage within did dirty dirty_after before after w.works w.leaves w.called;
@@ -359,7 +360,7 @@ module _ (m new : Deletion) (tried : ℕ) (skips : Kinds) (holds : parent_of m.p
         }
 
 -- a skip
-module _ (cause : Cause) (m new : Deletion) (tried : ℕ) (skips : Kinds) (inside : IsInside m) where
+module _ (cause : Cause) (m new : Deletion) (tried : ℕ) (inside : IsInside m) where
   takes_keeps : (path : Route) (mid : Deletion) → TakesOff path m mid → KeepsRest m mid
   takes_keeps path mid (inl t) = t.1.1
   takes_keeps path mid (inr (long, l)) = l.rest
@@ -369,24 +370,24 @@ module _ (cause : Cause) (m new : Deletion) (tried : ℕ) (skips : Kinds) (insid
       let k = takes_keeps path mid takes in (ap (λ (d : Deletion). d.path) new_is ∙ k.path_is, ap (λ (d : Deletion). d.folder) new_is ∙ k.folder_is)
   skip_keeps did (inr (did_is, new_is)) = (ap (λ (d : Deletion). d.path) new_is, ap (λ (d : Deletion). d.folder) new_is)
 
-  pub skip_made : (did : Did) → parent_of m.path ≡ Some m.folder → Skips cause m did new → DeletionSkips cause (seen m tried skips) did (seen new tried skips)
+  pub skip_made : (did : Did) → parent_of m.path ≡ Some m.folder → Skips cause m did new → DeletionSkips cause (seen m tried) did (seen new tried)
   skip_made did holds s = record {
     passes =
         let k = skip_keeps did s in
         let still : parent_of new.path ≡ Some new.folder = ap parent_of k.0 ∙ (holds ∙ ap (λ f. Some f) (sym k.1)) in (
           m.walk.spare,
           new.walk.spare,
-          subst (λ (x : Deletion). Skips cause x did (machine_of (seen new tried skips) new.walk.spare)) (machine_is m tried skips holds) (subst (λ (x : Deletion). Skips cause m did x) (machine_is new tried skips still) s),
+          subst (λ (x : Deletion). Skips cause x did (machine_of (seen new tried) new.walk.spare)) (machine_is m tried holds) (subst (λ (x : Deletion). Skips cause m did x) (machine_is new tried still) s),
         );
     skips = by s;
     no_more = skip_falls cause m new did s inside;
   }
     where
-      by : Skips cause m did new → ((path : Route) × (did ≡ Skipped path cause) × IsAtStage (seen m tried skips) (after_item m.path path m.stage) (seen new tried skips)) ⊎ ((did ≡ Troubled (Rattle.job_reports.specs.Stops.out_of_memory_at (at_barrier m.stage))) × (seen new tried skips ≡ seen m tried skips))
+      by : Skips cause m did new → ((path : Route) × (did ≡ Skipped path cause) × IsAtStage (seen m tried) (after_item m.path path m.stage) (seen new tried)) ⊎ ((did ≡ Troubled (Rattle.job_reports.specs.Stops.out_of_memory_at (at_barrier m.stage))) × (seen new tried ≡ seen m tried))
       by (inl (path, did_is, (mid, takes, new_is))) =
           let k = takes_keeps path mid takes in
-          inl (path, did_is, record { path_is = ap (λ (d : Deletion). d.path) new_is ∙ k.path_is; stage_is = ap (λ (d : Deletion). d.stage) new_is; tried_is = refl; skips_is = refl })
-      by (inr (did_is, new_is)) = inr (did_is, ap (λ (d : Deletion). seen d tried skips) new_is)
+          inl (path, did_is, record { path_is = ap (λ (d : Deletion). d.path) new_is ∙ k.path_is; stage_is = ap (λ (d : Deletion). d.stage) new_is; tried_is = refl })
+      by (inr (did_is, new_is)) = inr (did_is, ap (λ (d : Deletion). seen d tried) new_is)
 
 -- the trouble that is passed over
 passed_is : (skips : Kinds) (did : Did) (cause : Cause) → passed_cause skips did ≡ Some cause → (trouble : Trouble) × (did ≡ Troubled trouble) × (holds skips (kind_in cause) ≡ true) × (trouble.cause ≡ cause)
@@ -417,70 +418,69 @@ work_refusal mid trouble log after (inl (same, stops)) = inl same
 work_refusal mid trouble log after (inr (e, is, saw, h)) = inr (e, ap (λ (t : Trouble). t.cause) is, removal_refused (item mid) log e after h)
 
 -- what is in such a trouble is passed over in the same step
-module _ (m worked new : Deletion) (tried : ℕ) (skips : Kinds) (names_folder : parent_of m.path ≡ Some m.folder) (inside : IsInside m) (going : at_barrier m.stage ≡ false) (did : Did) (calls : ℕ) (dirty dirty_after : List Route) (before after : Option CallLog)
+module _ (m worked new : Deletion) (tried : ℕ) (replies : Replies) (names_folder : parent_of m.path ≡ Some m.folder) (inside : IsInside m) (going : at_barrier m.stage ≡ false) (did : Did) (calls : ℕ) (dirty dirty_after : List Route) (before after : Option CallLog)
     (f0 f1 : ℕ) (s : WorkSteps m worked did calls dirty dirty_after before after f0 f1) where
   within : IsInside worked
-  within = worked_inside m worked tried skips names_folder inside going did calls dirty dirty_after before after f0 f1 s
+  within = worked_inside m worked tried replies names_folder inside going did calls dirty dirty_after before after f0 f1 s
 
   still_names : parent_of worked.path ≡ Some worked.folder
-  still_names = still_holds m worked tried skips names_folder inside going did calls dirty dirty_after before after f0 f1 s
+  still_names = still_holds m worked tried replies names_folder inside going did calls dirty dirty_after before after f0 f1 s
 
-  module _ (cause : Cause) (rdid : Did) (passed : passed_cause skips did ≡ Some cause) (skip : Skips cause worked rdid new) where
-    trouble : (t : Trouble) × (did ≡ Troubled t) × (holds skips (kind_in cause) ≡ true) × (t.cause ≡ cause)
-    trouble = passed_is skips did cause passed
+  module _ (cause : Cause) (rdid : Did) (passed : passed_cause replies.skips did ≡ Some cause) (skip : Skips cause worked rdid new) where
+    trouble : (t : Trouble) × (did ≡ Troubled t) × (holds replies.skips (kind_in cause) ≡ true) × (t.cause ≡ cause)
+    trouble = passed_is replies.skips did cause passed
 
     -- the machine stands where it stood when it met the trouble
-    stands : (trouble.0.barrier ≡ at_barrier m.stage) × IsAtStage (seen m tried skips) m.stage (seen worked tried skips)
-    stands = subst (λ d. Tells (seen m tried skips) d (seen worked tried skips)) trouble.1 (worked_tells m worked tried skips names_folder inside going did calls dirty dirty_after before after f0 f1 s)
+    stands : (trouble.0.barrier ≡ at_barrier m.stage) × IsAtStage (seen m tried) m.stage (seen worked tried)
+    stands = subst (λ d. Tells replies (seen m tried) d (seen worked tried)) trouble.1 (worked_tells m worked tried replies names_folder inside going did calls dirty dirty_after before after f0 f1 s)
 
     refusal : (log : CallLog) → before ≡ Some log → (after ≡ Some log) ⊎ ((e : TreeError) × (trouble.0.cause ≡ cause_of e) × IsRefused log e after)
     refusal log known = let w = s.working in work_refusal s.mid trouble.0 log after (subst (λ d. WorkCalls s.mid d log after) trouble.1 (w.called log known))
 
     same_folders : dirty_after ≡ dirty
-    same_folders = subst (λ d. DeletionLeaves (seen m tried skips) d dirty dirty_after before after) trouble.1 (worked_leaves m worked tried skips names_folder inside going did calls dirty dirty_after before after f0 f1 s)
+    same_folders = subst (λ d. DeletionLeaves (seen m tried) d dirty dirty_after before after) trouble.1 (worked_leaves m worked tried replies names_folder inside going did calls dirty dirty_after before after f0 f1 s)
 
     apart : at_barrier worked.stage ≡ false
     apart = ap at_barrier stands.1.stage_is ∙ going
 
     keeps : (new.path ≡ worked.path) × (new.folder ≡ worked.folder)
-    keeps = skip_keeps cause worked new tried skips within rdid skip
+    keeps = skip_keeps cause worked new tried within rdid skip
 
     holds_then : parent_of new.path ≡ Some new.folder
     holds_then = ap parent_of keeps.0 ∙ (still_names ∙ ap (λ f. Some f) (sym keeps.1))
 
-    goes_on : Goes (seen m tried skips) (seen new tried skips) rdid calls dirty dirty_after before after f0 f1
+    goes_on : Goes replies (seen m tried) (seen new tried) rdid calls dirty dirty_after before after f0 f1
     goes_on = inl (
       did,
       worked,
       m.walk.spare,
       new.walk.spare,
-      on_way m worked tried skips names_folder inside going did calls dirty dirty_after before after f0 f1 s,
-      inr (cause, passed, refl, subst (λ (x : Deletion). Skips cause worked rdid x) (machine_is new tried skips holds_then) skip),
+      on_way m worked tried replies names_folder inside going did calls dirty dirty_after before after f0 f1 s,
+      inr (cause, passed, refl, subst (λ (x : Deletion). Skips cause worked rdid x) (machine_is new tried holds_then) skip),
     )
 
     -- it is reported with the cause of its trouble
     reported : (path : Route) (mid : Deletion) → rdid ≡ Skipped path cause → TakesOff path worked mid → new ≡ record mid { stage = after_item worked.path path worked.stage }
-        → DeletionStep (seen m tried skips) (seen new tried skips) rdid calls dirty dirty_after before after f0 f1
+        → DeletionStep replies (seen m tried) (seen new tried) rdid calls dirty dirty_after before after f0 f1
     reported path mid is takes new_is =
         let w = s.working in
         let at = stands.1 in
         record {
           goes = goes_on;
-          tells = subst (λ d. Tells (seen m tried skips) d (seen new tried skips)) (sym is) (
+          tells = subst (λ d. Tells replies (seen m tried) d (seen new tried)) (sym is) (
             going,
             trouble.2,
             record {
               path_is = keeps.0 ∙ at.path_is;
               stage_is = ap (λ (d : Deletion). d.stage) new_is ∙ (ap (λ p. after_item p path worked.stage) at.path_is ∙ ap (after_item m.path path) at.stage_is);
               tried_is = refl;
-              skips_is = refl;
             },
           );
           called = λ log known. subst (λ d. DeletionCalls d log after) (sym is) (elim (refusal log known) [
             | inl same ↦ inl same
             | inr refused ↦ inr (refused.0, sym trouble.3 ∙ refused.1, refused.2)
           ]);
-          leaves = subst (λ d. DeletionLeaves (seen m tried skips) d dirty dirty_after before after) (sym is) same_folders;
+          leaves = subst (λ d. DeletionLeaves (seen m tried) d dirty dirty_after before after) (sym is) same_folders;
           fewer = λ h. let less = skip_less path worked mid new apart takes new_is within in let most = s.no_more in omega (arith, less, most);
           counted = w.counted;
           few = w.few;
@@ -490,24 +490,23 @@ module _ (m worked new : Deletion) (tried : ℕ) (skips : Kinds) (names_folder :
         }
 
     -- there is no memory for that
-    forgotten : rdid ≡ Troubled (out_of_memory_at (at_barrier worked.stage)) → new ≡ worked → DeletionStep (seen m tried skips) (seen new tried skips) rdid calls dirty dirty_after before after f0 f1
+    forgotten : rdid ≡ Troubled (out_of_memory_at (at_barrier worked.stage)) → new ≡ worked → DeletionStep replies (seen m tried) (seen new tried) rdid calls dirty dirty_after before after f0 f1
     forgotten is new_is =
         let w = s.working in
         let at = stands.1 in
         let memory : rdid ≡ Troubled (out_of_memory_at false) = is ∙ ap (λ b. Troubled (out_of_memory_at b)) apart in
         record {
           goes = goes_on;
-          tells = subst (λ d. Tells (seen m tried skips) d (seen new tried skips)) (sym memory) (
+          tells = subst (λ d. Tells replies (seen m tried) d (seen new tried)) (sym memory) (
             sym going,
             record {
               path_is = ap (λ (d : Deletion). d.path) new_is ∙ at.path_is;
               stage_is = ap (λ (d : Deletion). d.stage) new_is ∙ at.stage_is;
               tried_is = refl;
-              skips_is = refl;
             },
           );
           called = λ log known. subst (λ d. DeletionCalls d log after) (sym memory) (elim (refusal log known) [ inl same ↦ inl same | inr refused ↦ inr (refused.0, inr refl, refused.2) ]);
-          leaves = subst (λ d. DeletionLeaves (seen m tried skips) d dirty dirty_after before after) (sym memory) same_folders;
+          leaves = subst (λ d. DeletionLeaves (seen m tried) d dirty dirty_after before after) (sym memory) same_folders;
           fewer = λ h. absurd (false≢true (sym (ap is_decided memory) ∙ h));
           counted = w.counted;
           few = w.few;
@@ -516,29 +515,29 @@ module _ (m worked new : Deletion) (tried : ℕ) (skips : Kinds) (names_folder :
           fault = λ h. absurd (let f : MeetsFault GoesOn (Troubled (out_of_memory_at false)) = subst (MeetsFault GoesOn) memory h in let no : ⊥ = cc in no);
         }
 
-    pub passes_over : DeletionStep (seen m tried skips) (seen new tried skips) rdid calls dirty dirty_after before after f0 f1
+    pub passes_over : DeletionStep replies (seen m tried) (seen new tried) rdid calls dirty dirty_after before after f0 f1
     passes_over = by skip
       where
-        by : Skips cause worked rdid new → DeletionStep (seen m tried skips) (seen new tried skips) rdid calls dirty dirty_after before after f0 f1
+        by : Skips cause worked rdid new → DeletionStep replies (seen m tried) (seen new tried) rdid calls dirty dirty_after before after f0 f1
         by (inl (path, is, (mid, takes, new_is))) = reported path mid is takes new_is
         by (inr (is, new_is)) = forgotten is new_is
 
   -- either
-  pub works_or_passes : (result : StepResult) → OrPassedOver skips (step_result did calls) worked new result → DeletionStep (seen m tried skips) (seen new tried skips) result.did result.calls dirty dirty_after before after f0 f1
+  pub works_or_passes : (result : StepResult) → OrPassedOver replies.skips (step_result did calls) worked new result → DeletionStep replies (seen m tried) (seen new tried) result.did result.calls dirty dirty_after before after f0 f1
   works_or_passes result (inl (none, result_is, new_is)) =
-      subst (λ (r : StepResult). DeletionStep (seen m tried skips) (seen new tried skips) r.did r.calls dirty dirty_after before after f0 f1) (sym result_is)
-      (subst (λ (x : Deletion). DeletionStep (seen m tried skips) (seen x tried skips) did calls dirty dirty_after before after f0 f1) (sym new_is)
-      (step_works m worked tried skips names_folder inside going did calls dirty dirty_after before after f0 f1 s none))
+      subst (λ (r : StepResult). DeletionStep replies (seen m tried) (seen new tried) r.did r.calls dirty dirty_after before after f0 f1) (sym result_is)
+      (subst (λ (x : Deletion). DeletionStep replies (seen m tried) (seen x tried) did calls dirty dirty_after before after f0 f1) (sym new_is)
+      (step_works m worked tried replies names_folder inside going did calls dirty dirty_after before after f0 f1 s none))
   works_or_passes result (inr (cause, passed, count, skip)) =
-      subst (λ n. DeletionStep (seen m tried skips) (seen new tried skips) result.did n dirty dirty_after before after f0 f1) (sym count) (passes_over cause result.did passed skip)
+      subst (λ n. DeletionStep replies (seen m tried) (seen new tried) result.did n dirty dirty_after before after f0 f1) (sym count) (passes_over cause result.did passed skip)
 
   -- and the machine stays in the thing
-  pub then_inside : (result : StepResult) → OrPassedOver skips (step_result did calls) worked new result → (parent_of new.path ≡ Some new.folder) × IsInside new
+  pub then_inside : (result : StepResult) → OrPassedOver replies.skips (step_result did calls) worked new result → (parent_of new.path ≡ Some new.folder) × IsInside new
   then_inside result (inl (none, result_is, new_is)) = (subst (λ (x : Deletion). parent_of x.path ≡ Some x.folder) (sym new_is) still_names, subst IsInside (sym new_is) within)
   then_inside result (inr (cause, passed, count, skip)) = (holds_then cause result.did passed skip, skip_inside cause worked new result.did skip within)
 
 -- a last step
-module _ (ending : Ending) (m : Deletion) (from next : ℕ) (skips : Kinds) (holds : parent_of m.path ≡ Some m.folder) (calls : ℕ) (left : Option TreeError) (dirty dirty_after : List Route) (before after : Option CallLog) (f0 f1 : ℕ) where
+module _ (ending : Ending) (m : Deletion) (from next : ℕ) (holds : parent_of m.path ≡ Some m.folder) (calls : ℕ) (left : Option TreeError) (dirty dirty_after : List Route) (before after : Option CallLog) (f0 f1 : ℕ) where
   near_by : (e : Option TreeError) (at : ℕ) (folder : Route) → from ≤ at → at < length dirty → slice_get dirty at ≡ Some folder → dirty_after ≡ machine_try e folder dirty → next ≡ next_try e at
       → length dirty_after + (length dirty_after - next) < length dirty + (length dirty - from)
   near_by None at folder least few stands dirty_is next_is =
@@ -553,16 +552,16 @@ module _ (ending : Ending) (m : Deletion) (from next : ℕ) (skips : Kinds) (hol
   try_is (Some e) folder h = h
 
   abbrev Last : Did → Type 0
-  Last did = LastDeletionStep ending (seen m from skips) (seen m next skips) did calls left dirty dirty_after before after f0 f1
+  Last did = LastDeletionStep ending (seen m from) (seen m next) did calls left dirty dirty_after before after f0 f1
 
-  tries_it : (did : Did) → LastSteps ending m from next did calls left dirty dirty_after before after f0 f1 → TriesNext ending (seen m from skips) (seen m next skips) did calls left dirty dirty_after before after f0 f1
-  tries_it did s = ((m.walk.spare, subst (λ (x : Deletion). LastSteps ending x from next did calls left dirty dirty_after before after f0 f1) (machine_is m from skips holds) s), refl)
+  tries_it : (did : Did) → LastSteps ending m from next did calls left dirty dirty_after before after f0 f1 → TriesNext ending (seen m from) (seen m next) did calls left dirty dirty_after before after f0 f1
+  tries_it did s = ((m.walk.spare, subst (λ (x : Deletion). LastSteps ending x from next did calls left dirty dirty_after before after f0 f1) (machine_is m from holds) s), refl)
 
   by_did : (did : Did) → LastSteps ending m from next did calls left dirty dirty_after before after f0 f1 → Tries ending m from next did left dirty dirty_after before after → Last did
   by_did Barrier s (at, folder, own, stands, dirty_is, next_is, called) = record {
     tries = tries_it Barrier s;
     folder = folder;
-    tells = (refl, refl, refl);
+    tells = (refl, refl);
     called = λ log known. (folder, sync_answer left, called log known);
     own = subst (λ up. is_of up m.path folder ≡ true) (folder_is m.path m.folder holds) (subst (λ f. is_of m.folder m.path f ≡ true) (let e : own.kept ≡ folder = (let a = own.stands in let b = stands in let c : Some own.kept ≡ Some folder = sym a ∙ b in cc) in e) own.is);
     dirty_is = try_is left folder dirty_is;
@@ -577,7 +576,7 @@ module _ (ending : Ending) (m : Deletion) (from next : ℕ) (skips : Kinds) (hol
   by_did (Ended how part) s (none, how_is, part_is, left_is, dirty_is, next_is, after_is) = record {
     tries = tries_it (Ended how part) s;
     folder = folder_of m.path;
-    tells = (how_is, part_is, refl, refl, refl);
+    tells = (how_is, part_is, refl, refl);
     called = λ log known. after_is ∙ known;
     own = or_left _ _ (same_path-self (folder_of m.path));
     dirty_is = dirty_is;

@@ -1,11 +1,10 @@
--- What the step that finishes a source leaves: it makes no call, no folder gets dirty or clean by it, and its number, its part, what it passes over and what was answered stay.
+-- What the step that finishes a source leaves: it makes no call, no folder gets dirty or clean by it, and its number, its part and what was answered stay.
 use Rattle.std.proofs.Common.{◌≡◌, ℕ, Bool, true, false, refl, sym, ◌∙◌, ap, subst, inl, inr, List, Option, Some, None}
 use Rattle.std.specs.Option.{option_map}
 use Rattle.mc_text.specs.Routes.{Route}
 use Rattle.tree_trait.specs.Change.{CallLog}
 use Rattle.tree_trait.specs.Answers.{IfKnown}
 use Rattle.job_answers.specs.declared.replies.Replies.{Replies}
-use Rattle.job_answers.specs.declared.skips.Skips.{Skips as SkippedKinds}
 use Rattle.job_reports.specs.declared.job.Job.{Job}
 use Rattle.job_reports.specs.declared.report.Did.TheVariants.{Barrier, Ended, Skipped, Troubled}
 use Rattle.job_reports.specs.declared.report.Ending.{Ending}
@@ -21,8 +20,7 @@ use Rattle.copy_move.specs.declared.run.Course.{Course}
 use Rattle.copy_move.specs.declared.run.Course.TheVariants.{GoesOn, Asking, InTrouble, OwedSyncFailed, Skips, Ends}
 use Rattle.copy_move.specs.declared.work.Work.{Work}
 use Rattle.copy_move.specs.declared.work.Work.TheVariants.{Copy, Delete, Make, Move, SetMode, RemoveEmptied}
-use Rattle.copy_move.specs.Jobs.{CallsOn, Running, TellsOn, WorkCalls, WorkTells, WorkWinds, first_work, part_of, passing_over, skips_of}
-use Rattle.copy_move.specs.Ranks.{work_rank}
+use Rattle.copy_move.specs.Jobs.{CallsOn, Running, TellsOn, WorkCalls, WorkTells, WorkWinds, first_work, part_of}
 use Rattle.copy_move.specs.Settling.{WorkLeaves}
 use Rattle.copy_move.specs.Steps.{LeavesDirty, RunStep, SyncsOwed, Walks, WalksOn, step_made}
 use Rattle.copy_move.specs.Told.{running, told, turned, work_told}
@@ -34,21 +32,20 @@ pub record Finishes (job new : Running) (part : Option Route) (dirty dirty_after
   pub goes : job.course ≡ GoesOn
   pub none : part ≡ None
   pub number : new.id ≡ job.id
-  pub skips : skips_of new.work ≡ skips_of job.work
   pub replies : new.replies ≡ job.replies
   pub stays : part_of new.work ≡ part_of job.work
   pub list : dirty_after ≡ dirty
   pub log : (log : CallLog) → before ≡ Some log → after ≡ Some log
 
--- the work tells no part, and keeps the one that it has, and what it passes over
-work_stays : (old new : Work) (part : Option Route) → WorkTells old (Ended Finished part) new → (part ≡ None) × (part_of new ≡ part_of old) × (skips_of new ≡ skips_of old)
-work_stays (Copy c) (Copy new) part t = (let a = t.after in (t.may, a.part, a.skips))
-work_stays (Delete d) (Delete new) part (stage, none, at) = (none, refl, at.skips_is)
-work_stays (Make m) (Make new) part (done, none, is) = (none, refl, refl)
-work_stays (Move m) (Move new) part (done, none, is) = (none, refl, ap (λ (k : movings.Moving). k.skips) is)
-work_stays (SetMode s) (SetMode new) part (stage, none, is) = (none, refl, ap (λ (k : settings.Setting). k.skips) is)
-work_stays (RemoveEmptied r) (RemoveEmptied new) part (done, none, is) = (none, refl, ap (λ (k : removals.Removing). k.skips) is)
-work_stays old new part h = absurd h
+-- the work tells no part, and keeps the one that it has
+work_stays : (replies : Replies) (old new : Work) (part : Option Route) → WorkTells replies old (Ended Finished part) new → (part ≡ None) × (part_of new ≡ part_of old)
+work_stays replies (Copy c) (Copy new) part t = (let a = t.after in (t.may, a.part))
+work_stays replies (Delete d) (Delete new) part (stage, none, at) = (none, refl)
+work_stays replies (Make m) (Make new) part (done, none, is) = (none, refl)
+work_stays replies (Move m) (Move new) part (done, none, is) = (none, refl)
+work_stays replies (SetMode s) (SetMode new) part (stage, none, is) = (none, refl)
+work_stays replies (RemoveEmptied r) (RemoveEmptied new) part (done, none, is) = (none, refl)
+work_stays replies old new part h = absurd h
 
 -- it makes no call
 work_calls : (unclaimed : Route → Type 0) (replies : Replies) (old new : Work) (part : Option Route) (log : CallLog) (after : Option CallLog) → WorkCalls unclaimed replies old (Ended Finished part) new log after → after ≡ Some log
@@ -67,7 +64,7 @@ no_change false folder dirty = refl
 
 -- no folder gets dirty or clean by it
 module _ (unclaimed : Route → Type 0) (part : Option Route) (calls : ℕ) (dirty dirty_after : List Route) (before after : Option CallLog) (f0 f1 : ℕ) where
-  work_list : (replies : Replies) (old new : Work) → WorkTells old (Ended Finished part) new → WorkLeaves old (Ended Finished part) new dirty dirty_after before after
+  work_list : (replies : Replies) (old new : Work) → WorkTells replies old (Ended Finished part) new → WorkLeaves old (Ended Finished part) new dirty dirty_after before after
       → Walks unclaimed replies old new (Ended Finished part) calls dirty dirty_after before after f0 f1 → dirty_after ≡ dirty
   work_list replies (Copy c) (Copy new) tells leaves walks = (finish_is_still walks.free replies c new part calls dirty dirty_after before after walks.since f1 walks.steps).0
   work_list replies (Delete d) (Delete new) tells leaves walks = leaves.1
@@ -104,13 +101,12 @@ module _ (unclaimed : Route → Type 0) (job new : Running) (part : Option Route
       → Finishes job new part dirty dirty_after before after
   by GoesOn is (work, tells, new_is) called leaves walks =
       let same : new.work ≡ work = ap (λ (r : Running). r.work) new_is in
-      let here = subst (λ w. WorkTells job.work (Ended Finished part) w) (sym same) tells in
-      let stays = work_stays job.work new.work part here in
+      let here = subst (λ w. WorkTells job.replies job.work (Ended Finished part) w) (sym same) tells in
+      let stays = work_stays job.replies job.work new.work part here in
       record {
         goes = is;
         none = stays.0;
         number = ap (λ (r : Running). r.id) new_is;
-        skips = stays.2;
         replies = ap (λ (r : Running). r.replies) new_is;
         stays = stays.1;
         list = work_list unclaimed part calls dirty dirty_after before after f0 f1 job.replies job.work new.work here leaves walks;
@@ -127,53 +123,25 @@ module _ (unclaimed : Route → Type 0) (job new : Running) (part : Option Route
   finish_stays (inl o) = (let s = o.own in by job.course refl s.tells s.called o.leaves o.walks)
   finish_stays (inr s) = owed s.path s.synced
 
--- The next source's work, whatever is passed over, has as many steps as one that is just begun.
-pub passing_rank : (skips : SkippedKinds) (work : Work) → work_rank (passing_over skips work) ≡ work_rank work
-passing_rank skips (Copy c) = refl
-passing_rank skips (Delete d) = refl
-passing_rank skips (Make m) = refl
-passing_rank skips (Move m) = refl
-passing_rank skips (SetMode s) = refl
-passing_rank skips (RemoveEmptied r) = refl
-
--- What a history tells of a job that goes on with its next source.
-skips_kept : (id : ℕ) (work : Work) → skips_of (work_told id work) ≡ skips_of work
-skips_kept id (Copy c) = refl
-skips_kept id (Delete d) = refl
-skips_kept id (Make m) = refl
-skips_kept id (Move m) = refl
-skips_kept id (SetMode s) = refl
-skips_kept id (RemoveEmptied r) = refl
-
-passing_told : (id : ℕ) (skips : SkippedKinds) (work : Work) → work_told id (passing_over skips work) ≡ passing_over skips (work_told id work)
-passing_told id skips (Copy c) = refl
-passing_told id skips (Delete d) = refl
-passing_told id skips (Make m) = refl
-passing_told id skips (Move m) = refl
-passing_told id skips (SetMode s) = refl
-passing_told id skips (RemoveEmptied r) = refl
-
 -- the job with this number that begins so, and keeps of what was answered what holds for all items
 abbrev next_job : ℕ → Replies → Work → Running
 next_job id replies work = record { id = id; work = work; course = GoesOn; replies = record replies { item = None } }
 
-abbrev turns : ℕ → SkippedKinds → Replies → Option Work → Option Running
-turns id skips replies work = option_map (λ w. next_job id replies (passing_over skips w)) work
+abbrev turns : ℕ → Replies → Option Work → Option Running
+turns id replies work = option_map (next_job id replies) work
 
-turns_told : (id : ℕ) (skips : SkippedKinds) (replies : Replies) (work : Option Work) → option_map told (option_map (running id) work) ≡ option_map (running id) work → option_map told (turns id skips replies work) ≡ turns id skips replies work
-turns_told id skips replies None h = refl
-turns_told id skips replies (Some w) h =
+turns_told : (id : ℕ) (replies : Replies) (work : Option Work) → option_map told (option_map (running id) work) ≡ option_map (running id) work → option_map told (turns id replies work) ≡ turns id replies work
+turns_told id replies None h = refl
+turns_told id replies (Some w) h =
     let same : Some (told (running id w)) ≡ Some (running id w) = h in
     let told_so : work_told id w ≡ w = (let e : told (running id w) ≡ running id w = cc in ap (λ (r : Running). r.work) e) in
-    ap (λ k. Some (next_job id replies k)) (passing_told id skips w ∙ ap (passing_over skips) told_so)
+    ap (λ k. Some (next_job id replies k)) told_so
 
+-- What a history tells of a job that goes on with its next source.
 pub turned_told : (next : Job) (job : Running) → option_map told (turned next job) ≡ turned next (told job)
-turned_told next job =
-    turns_told job.id (skips_of job.work) job.replies (first_work job.id next) (began_told job.id next)
-    ∙ ap (λ skips. turns job.id skips job.replies (first_work job.id next)) (sym (skips_kept job.id job.work))
+turned_told next job = turns_told job.id job.replies (first_work job.id next) (began_told job.id next)
 
 -- A job goes on with its next source as it stood before the step that finished the one before.
-pub turned_alike : (next : Job) (job new : Running) → new.id ≡ job.id → skips_of new.work ≡ skips_of job.work → new.replies ≡ job.replies → turned next new ≡ turned next job
-turned_alike next job new number skips replies =
-    ap (λ id. turns id (skips_of new.work) new.replies (first_work id next)) number
-    ∙ (ap (λ kinds. turns job.id kinds new.replies (first_work job.id next)) skips ∙ ap (λ said. turns job.id (skips_of job.work) said (first_work job.id next)) replies)
+pub turned_alike : (next : Job) (job new : Running) → new.id ≡ job.id → new.replies ≡ job.replies → turned next new ≡ turned next job
+turned_alike next job new number replies =
+    ap (λ id. turns id new.replies (first_work id next)) number ∙ ap (λ said. turns job.id said (first_work job.id next)) replies

@@ -1,5 +1,5 @@
 -- What the steps of a job make of the dirty folders.
-use Rattle.std.proofs.Common.{◌≡◌, ◌⊎◌, ℕ, ◌+◌, ◌-◌, ◌*◌, ◌<◌, ◌≤◌, Bool, true, false, List, [], ◌∷◌, ◌++◌, length, refl, sym, ◌∙◌, ap, subst, inl, inr, Option, Some, None, arith}
+use Rattle.std.proofs.Common.{◌≡◌, ◌⊎◌, ℕ, ◌+◌, ◌*◌, ◌<◌, ◌≤◌, Bool, true, false, List, [], ◌∷◌, ◌++◌, length, refl, sym, ◌∙◌, ap, subst, inl, inr, Option, Some, None, arith}
 use Rattle.std.proofs.lemmas.Bool.{true≢false}
 use Rattle.std.proofs.lemmas.List.{length-append}
 use Rattle.std.specs.Prelude.{if◌then◌else◌}
@@ -93,7 +93,7 @@ module _ (unclaimed : Route → Type 0) (replies : Replies) (d new : Deleting) (
   removal_more : (path : Route) → length (without path (joined (folder_of path) dirty)) ≤ length dirty + 1
   removal_more path = let less = fewer path (joined (folder_of path) dirty) in let more = joined_more (folder_of path) dirty in omega (arith, less, more)
 
-  falls_by : (x : Did) → deletions.Tells d x new → deletions.DeletionLeaves d x dirty dirty_after before after → (is_decided x ≡ true → left_in new < left_in d) → ends x ≡ false
+  falls_by : (x : Did) → deletions.Tells replies d x new → deletions.DeletionLeaves d x dirty dirty_after before after → (is_decided x ≡ true → left_in new < left_in d) → ends x ≡ false
       → rank_at dirty_after (course_after x) (Delete new) < rank_at dirty GoesOn (Delete d)
   falls_by (Removed path) t (inl h) less going = let low = less refl in let more = subst (λ xs. length xs ≤ length dirty + 1) (sym h.0) (joined_more (folder_of path) dirty) in omega (arith, low, more)
   falls_by (Removed path) t (inr h) less going = let low = less refl in let more = subst (λ xs. length xs ≤ length dirty + 1) (sym h.0) (removal_more path) in omega (arith, low, more)
@@ -116,7 +116,7 @@ module _ (unclaimed : Route → Type 0) (replies : Replies) (d new : Deleting) (
   falls_by (Skipped path cause) t h less going = let low = less refl in let same = ap length h in omega (arith, low, same)
   falls_by (Cleaned part) t h less going = absurd t
 
-  pub deletion_steps : DeletionStep d new did calls dirty dirty_after before after f0 f1 → WorkSteps unclaimed replies (Delete d) (Delete new) did calls dirty dirty_after before after f0 f1
+  pub deletion_steps : DeletionStep replies d new did calls dirty dirty_after before after f0 f1 → WorkSteps unclaimed replies (Delete d) (Delete new) did calls dirty dirty_after before after f0 f1
   deletion_steps s = record {
     tells = s.tells;
     walks = s.goes;

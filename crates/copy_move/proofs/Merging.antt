@@ -1,5 +1,5 @@
--- What the step that merges leaves: it makes no call, no folder gets dirty or clean by it, and the job's number, its part, what it passes over and what was answered stay. And
--- which folders are merged: by a copy or a move, those of its own.
+-- What the step that merges leaves: it makes no call, no folder gets dirty or clean by it, and the job's number, its part and what was answered stay. And which folders are merged: by a
+-- copy or a move, those of its own.
 use Rattle.std.proofs.Common.{◌≡◌, ℕ, refl, sym, ◌∙◌, ap, subst, inl, inr, List, Option, Some, None}
 use Rattle.mc_text.specs.Routes.{Route}
 use Rattle.tree_trait.specs.Change.{CallLog}
@@ -19,7 +19,7 @@ use Rattle.copy_move.specs.declared.run.Course.{Course}
 use Rattle.copy_move.specs.declared.run.Course.TheVariants.{GoesOn, Asking, InTrouble, OwedSyncFailed, Skips, Ends}
 use Rattle.copy_move.specs.declared.work.Work.{Work}
 use Rattle.copy_move.specs.declared.work.Work.TheVariants.{Copy, Delete, Make, Move, SetMode, RemoveEmptied}
-use Rattle.copy_move.specs.Jobs.{CallsOn, Running, TellsOn, WorkCalls, WorkTells, WorkWinds, part_of, skips_of}
+use Rattle.copy_move.specs.Jobs.{CallsOn, Running, TellsOn, WorkCalls, WorkTells, WorkWinds, part_of}
 use Rattle.copy_move.specs.Settling.{WorkLeaves}
 use Rattle.copy_move.specs.Steps.{LeavesDirty, RunStep, SyncsOwed, Walks, WalksOn, step_made}
 use Rattle.copy_move.specs.TreeCopies as trees
@@ -28,7 +28,6 @@ use Rattle.copy_move.proofs.Finishing.{Finishes}
 -- what the work keeps, with the list of dirty folders and the tree's log
 record Keeps (old new : Work) (dirty dirty_after : List Route) (before after : Option CallLog) : Type 0 where
   pub stays : part_of new ≡ part_of old
-  pub skips : skips_of new ≡ skips_of old
   pub list : dirty_after ≡ dirty
   pub log : (log : CallLog) → before ≡ Some log → after ≡ Some log
 
@@ -48,36 +47,35 @@ FitsMerge transfer pair names (Copy c) (Copy new) = (transfer ≡ ByCopy) × Mer
 FitsMerge transfer pair names (Move m) (Move new) = (m.stage ≡ Take) × MayMerge m.pair transfer pair names × (new ≡ record m { stage = PassedOver })
 FitsMerge transfer pair names old new = ⊥
 
-copy_fits : (transfer : Transfer) (pair : Pair) (names : List (List ℕ)) (c new : SubtreeCopying) → trees.Tells c (Merges transfer pair names) new → FitsMerge transfer pair names (Copy c) (Copy new)
-copy_fits ByCopy pair names c new t = (refl, t.merged pair names refl)
-copy_fits ByMove pair names c new t = absurd t.may
+copy_fits : (transfer : Transfer) (pair : Pair) (names : List (List ℕ)) (replies : Replies) (c new : SubtreeCopying) → trees.Tells replies c (Merges transfer pair names) new → FitsMerge transfer pair names (Copy c) (Copy new)
+copy_fits ByCopy pair names replies c new t = (refl, t.merged pair names refl)
+copy_fits ByMove pair names replies c new t = absurd t.may
 
-pub merge_fits : (transfer : Transfer) (pair : Pair) (names : List (List ℕ)) (old new : Work) → WorkTells old (Merges transfer pair names) new → FitsMerge transfer pair names old new
-merge_fits transfer pair names (Copy c) (Copy new) t = copy_fits transfer pair names c new t
-merge_fits transfer pair names (Delete d) (Delete new) t = t
-merge_fits transfer pair names (Make m) (Make new) t = t
-merge_fits transfer pair names (Move m) (Move new) t = t
-merge_fits transfer pair names (SetMode s) (SetMode new) t = t
-merge_fits transfer pair names (RemoveEmptied r) (RemoveEmptied new) t = t
-merge_fits transfer pair names old new t = absurd t
+pub merge_fits : (transfer : Transfer) (pair : Pair) (names : List (List ℕ)) (replies : Replies) (old new : Work) → WorkTells replies old (Merges transfer pair names) new → FitsMerge transfer pair names old new
+merge_fits transfer pair names replies (Copy c) (Copy new) t = copy_fits transfer pair names replies c new t
+merge_fits transfer pair names replies (Delete d) (Delete new) t = t
+merge_fits transfer pair names replies (Make m) (Make new) t = t
+merge_fits transfer pair names replies (Move m) (Move new) t = t
+merge_fits transfer pair names replies (SetMode s) (SetMode new) t = t
+merge_fits transfer pair names replies (RemoveEmptied r) (RemoveEmptied new) t = t
+merge_fits transfer pair names replies old new t = absurd t
 
 -- a copy merges as one
 copy_keeps : (unclaimed : Route → Type 0) (replies : Replies) (c new : SubtreeCopying) (pair : Pair) (names : List (List ℕ)) (calls : ℕ) (dirty dirty_after : List Route) (before after : Option CallLog) (f0 f1 : ℕ) (transfer : Transfer)
-    → trees.Tells c (Merges transfer pair names) new → trees.Goes unclaimed replies c new (Merges transfer pair names) calls dirty dirty_after before after f0 f1 → Keeps (Copy c) (Copy new) dirty dirty_after before after
+    → trees.Tells replies c (Merges transfer pair names) new → trees.Goes unclaimed replies c new (Merges transfer pair names) calls dirty dirty_after before after f0 f1 → Keeps (Copy c) (Copy new) dirty dirty_after before after
 copy_keeps unclaimed replies c new pair names calls dirty dirty_after before after f0 f1 ByCopy t walks =
     let still = merge_is_still walks.free replies c new pair names calls dirty dirty_after before after walks.since f1 walks.steps in
     let a = t.after in
-    record { stays = a.part; skips = a.skips; list = still.0; log = still.1 }
+    record { stays = a.part; list = still.0; log = still.1 }
 copy_keeps unclaimed replies c new pair names calls dirty dirty_after before after f0 f1 ByMove t walks = absurd t.may
 
 module _ (unclaimed : Route → Type 0) (transfer : Transfer) (pair : Pair) (names : List (List ℕ)) (calls : ℕ) (dirty dirty_after : List Route) (before after : Option CallLog) (f0 f1 : ℕ) where
   -- A copy or a move merges.
-  work_keeps : (replies : Replies) (old new : Work) → WorkTells old (Merges transfer pair names) new → Walks unclaimed replies old new (Merges transfer pair names) calls dirty dirty_after before after f0 f1
+  work_keeps : (replies : Replies) (old new : Work) → WorkTells replies old (Merges transfer pair names) new → Walks unclaimed replies old new (Merges transfer pair names) calls dirty dirty_after before after f0 f1
       → WorkLeaves old (Merges transfer pair names) new dirty dirty_after before after → IfKnown before (λ log. WorkCalls unclaimed replies old (Merges transfer pair names) new log after) → Keeps old new dirty dirty_after before after
   work_keeps replies (Copy c) (Copy new) t walks leaves called = copy_keeps unclaimed replies c new pair names calls dirty dirty_after before after f0 f1 transfer t walks
   work_keeps replies (Move m) (Move new) t walks leaves called = record {
     stays = refl;
-    skips = ap (λ (n : Moving). n.skips) t.2;
     list = leaves ∙ (ap (λ s. with_moves s new.stage m.pair dirty) t.0 ∙ ap (λ (n : Moving). with_moves Take n.stage m.pair dirty) t.2);
     log = λ log is. (called log is).1;
   }
@@ -96,12 +94,11 @@ module _ (unclaimed : Route → Type 0) (transfer : Transfer) (pair : Pair) (nam
         → LeavesDirty course job.work (Merges transfer pair names) new.work dirty dirty_after before after → IfKnown before (λ log. CallsOn unclaimed course job (Merges transfer pair names) new log after) → Finishes job new None dirty dirty_after before after
     by GoesOn is (work, tells, new_is) walks leaves called =
         let same : new.work ≡ work = ap (λ (r : Running). r.work) new_is in
-        let keeps = work_keeps job.replies job.work new.work (subst (λ w. WorkTells job.work (Merges transfer pair names) w) (sym same) tells) walks leaves called in
+        let keeps = work_keeps job.replies job.work new.work (subst (λ w. WorkTells job.replies job.work (Merges transfer pair names) w) (sym same) tells) walks leaves called in
         record {
           goes = is;
           none = refl;
           number = ap (λ (r : Running). r.id) new_is;
-          skips = keeps.skips;
           replies = ap (λ (r : Running). r.replies) new_is;
           stays = keeps.stays;
           list = keeps.list;

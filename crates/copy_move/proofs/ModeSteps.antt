@@ -34,50 +34,50 @@ use Rattle.copy_move.proofs.FolderSteps.{one_more, tried_more, tries_after, weig
 use Rattle.thing_making.proofs.MakingRuns.{same_log}
 
 -- a setting stays at its path
-pub setting_stays : (s new : Setting) (did : Did) → Tells s did new → new.path ≡ s.path
-setting_stays s new (Set path) (at, path_is, is) = ap (λ (n : Setting). n.path) is
-setting_stays s new Barrier (at, is) = ap (λ (n : Setting). n.path) is
-setting_stays s new (Troubled trouble) (barrier, told, is) = ap (λ (n : Setting). n.path) is
-setting_stays s new (Ended Finished part) (at, none, is) = ap (λ (n : Setting). n.path) is
-setting_stays s new (Ended Aborted part) t = absurd t
-setting_stays s new (Ended Killed part) t = absurd t
-setting_stays s new (Ended NoMemory part) t = absurd t
-setting_stays s new (Began part) t = absurd t
-setting_stays s new (Chunk count) t = absurd t
-setting_stays s new (Asked question) t = absurd t
-setting_stays s new (Merges transfer pair names) t = absurd t
-setting_stays s new (Moved pair) t = absurd t
-setting_stays s new (Placed path) t = absurd t
-setting_stays s new (Removed path) t = absurd t
-setting_stays s new (Made path) t = absurd t
-setting_stays s new (Kept path) t = absurd t
-setting_stays s new (Skipped path cause) (at, path_is, passes, is) = ap (λ (n : Setting). n.path) is
-setting_stays s new (Cleaned part) t = absurd t
+pub setting_stays : (replies : Replies) (s new : Setting) (did : Did) → Tells replies s did new → new.path ≡ s.path
+setting_stays replies s new (Set path) (at, path_is, is) = ap (λ (n : Setting). n.path) is
+setting_stays replies s new Barrier (at, is) = ap (λ (n : Setting). n.path) is
+setting_stays replies s new (Troubled trouble) (barrier, told, is) = ap (λ (n : Setting). n.path) is
+setting_stays replies s new (Ended Finished part) (at, none, is) = ap (λ (n : Setting). n.path) is
+setting_stays replies s new (Ended Aborted part) t = absurd t
+setting_stays replies s new (Ended Killed part) t = absurd t
+setting_stays replies s new (Ended NoMemory part) t = absurd t
+setting_stays replies s new (Began part) t = absurd t
+setting_stays replies s new (Chunk count) t = absurd t
+setting_stays replies s new (Asked question) t = absurd t
+setting_stays replies s new (Merges transfer pair names) t = absurd t
+setting_stays replies s new (Moved pair) t = absurd t
+setting_stays replies s new (Placed path) t = absurd t
+setting_stays replies s new (Removed path) t = absurd t
+setting_stays replies s new (Made path) t = absurd t
+setting_stays replies s new (Kept path) t = absurd t
+setting_stays replies s new (Skipped path cause) (at, path_is, passes, is) = ap (λ (n : Setting). n.path) is
+setting_stays replies s new (Cleaned part) t = absurd t
 
 pub setting_winds_there : (ending : Ending) (s new : Setting) (last : LastStepResult) (before after : Option CallLog) (f0 f1 : ℕ) → Winds ending s new last before after f0 f1 → new.path ≡ s.path
 setting_winds_there ending s new last before after f0 f1 (inl w) = ap (λ (n : Setting). n.path) w.1
 setting_winds_there ending s new last before after f0 f1 (inr w) = ap (λ (n : Setting). n.path) w.1
 
 -- what was given its mode before, and is synced, isn't given one again
-pub clean_setting : (s new : Setting) (did : Did) → Tells s did new → is_fresh s.stage ≡ false → is_dirty s.stage ≡ false → is_dirty new.stage ≡ false
-clean_setting s new (Set path) (at, path_is, is) changed clean = absurd (true≢false (sym (ap is_fresh at) ∙ changed))
-clean_setting s new Barrier (at, is) changed clean = ap (λ (n : Setting). is_dirty n.stage) is
-clean_setting s new (Troubled trouble) (barrier, told, is) changed clean = ap (λ (n : Setting). is_dirty n.stage) is ∙ clean
-clean_setting s new (Ended Finished part) (at, none, is) changed clean = ap (λ (n : Setting). is_dirty n.stage) is ∙ clean
-clean_setting s new (Ended Aborted part) t changed clean = absurd t
-clean_setting s new (Ended Killed part) t changed clean = absurd t
-clean_setting s new (Ended NoMemory part) t changed clean = absurd t
-clean_setting s new (Began part) t changed clean = absurd t
-clean_setting s new (Chunk count) t changed clean = absurd t
-clean_setting s new (Asked question) t changed clean = absurd t
-clean_setting s new (Merges transfer pair names) t changed clean = absurd t
-clean_setting s new (Moved pair) t changed clean = absurd t
-clean_setting s new (Placed path) t changed clean = absurd t
-clean_setting s new (Removed path) t changed clean = absurd t
-clean_setting s new (Made path) t changed clean = absurd t
-clean_setting s new (Kept path) t changed clean = absurd t
-clean_setting s new (Skipped path cause) (at, path_is, passes, is) changed clean = ap (λ (n : Setting). is_dirty n.stage) is
-clean_setting s new (Cleaned part) t changed clean = absurd t
+pub clean_setting : (replies : Replies) (s new : Setting) (did : Did) → Tells replies s did new → is_fresh s.stage ≡ false → is_dirty s.stage ≡ false → is_dirty new.stage ≡ false
+clean_setting replies s new (Set path) (at, path_is, is) changed clean = absurd (true≢false (sym (ap is_fresh at) ∙ changed))
+clean_setting replies s new Barrier (at, is) changed clean = ap (λ (n : Setting). is_dirty n.stage) is
+clean_setting replies s new (Troubled trouble) (barrier, told, is) changed clean = ap (λ (n : Setting). is_dirty n.stage) is ∙ clean
+clean_setting replies s new (Ended Finished part) (at, none, is) changed clean = ap (λ (n : Setting). is_dirty n.stage) is ∙ clean
+clean_setting replies s new (Ended Aborted part) t changed clean = absurd t
+clean_setting replies s new (Ended Killed part) t changed clean = absurd t
+clean_setting replies s new (Ended NoMemory part) t changed clean = absurd t
+clean_setting replies s new (Began part) t changed clean = absurd t
+clean_setting replies s new (Chunk count) t changed clean = absurd t
+clean_setting replies s new (Asked question) t changed clean = absurd t
+clean_setting replies s new (Merges transfer pair names) t changed clean = absurd t
+clean_setting replies s new (Moved pair) t changed clean = absurd t
+clean_setting replies s new (Placed path) t changed clean = absurd t
+clean_setting replies s new (Removed path) t changed clean = absurd t
+clean_setting replies s new (Made path) t changed clean = absurd t
+clean_setting replies s new (Kept path) t changed clean = absurd t
+clean_setting replies s new (Skipped path cause) (at, path_is, passes, is) changed clean = ap (λ (n : Setting). is_dirty n.stage) is
+clean_setting replies s new (Cleaned part) t changed clean = absurd t
 
 -- one that has given no mode has left nothing dirty
 pub fresh_setting : (stage : Stage) → is_fresh stage ≡ true → is_dirty stage ≡ false
@@ -91,26 +91,26 @@ dirty_at Give h = absurd (false≢true h)
 dirty_at Done h = absurd (false≢true h)
 
 -- each step leaves fewer
-pub setting_falls : (old new : Setting) (did : Did) → Tells old did new → ends did ≡ false → rank_on (course_after did) (SetMode new) < work_rank (SetMode old)
-setting_falls old new (Set path) (at, path_is, is) h =
+pub setting_falls : (replies : Replies) (old new : Setting) (did : Did) → Tells replies old did new → ends did ≡ false → rank_on (course_after did) (SetMode new) < work_rank (SetMode old)
+setting_falls replies old new (Set path) (at, path_is, is) h =
     subst (λ (n : Setting). setting_rank n.stage < setting_rank old.stage) (sym is) (subst (λ s. 5 < setting_rank s) (sym at) (omega arith))
-setting_falls old new Barrier (at, is) h =
+setting_falls replies old new Barrier (at, is) h =
     subst (λ (n : Setting). setting_rank n.stage < setting_rank old.stage) (sym is) (subst (λ s. 4 < setting_rank s) (sym at) (omega arith))
-setting_falls old new (Troubled trouble) (at, told, is) h =
+setting_falls replies old new (Troubled trouble) (at, told, is) h =
     subst (λ (n : Setting). last_setting_steps n.stage < setting_rank old.stage) (sym is) (setting_tried_low old.stage)
-setting_falls old new (Ended ending part) t h = absurd (true≢false h)
-setting_falls old new (Began part) t h = absurd t
-setting_falls old new (Chunk count) t h = absurd t
-setting_falls old new (Asked question) t h = absurd t
-setting_falls old new (Merges transfer pair names) t h = absurd t
-setting_falls old new (Moved pair) t h = absurd t
-setting_falls old new (Placed path) t h = absurd t
-setting_falls old new (Removed path) t h = absurd t
-setting_falls old new (Made path) t h = absurd t
-setting_falls old new (Kept path) t h = absurd t
-setting_falls old new (Skipped path cause) (at, path_is, passes, is) h =
+setting_falls replies old new (Ended ending part) t h = absurd (true≢false h)
+setting_falls replies old new (Began part) t h = absurd t
+setting_falls replies old new (Chunk count) t h = absurd t
+setting_falls replies old new (Asked question) t h = absurd t
+setting_falls replies old new (Merges transfer pair names) t h = absurd t
+setting_falls replies old new (Moved pair) t h = absurd t
+setting_falls replies old new (Placed path) t h = absurd t
+setting_falls replies old new (Removed path) t h = absurd t
+setting_falls replies old new (Made path) t h = absurd t
+setting_falls replies old new (Kept path) t h = absurd t
+setting_falls replies old new (Skipped path cause) (at, path_is, passes, is) h =
     subst (λ (n : Setting). setting_rank n.stage < setting_rank old.stage) (sym is) (subst (λ s. 4 < setting_rank s) (sym at) (omega arith))
-setting_falls old new (Cleaned part) t h = absurd t
+setting_falls replies old new (Cleaned part) t h = absurd t
 
 -- so does one that keeps its mode
 unset_falls : (stage : Stage) → setting_rank (skipped stage) < 10
@@ -138,7 +138,7 @@ fault_so (Ended ending part) h = h
 
 -- a step
 module _ (unclaimed : Route → Type 0) (replies : Replies) (s new : Setting) (did : Did) (calls : ℕ) (dirty dirty_after : List Route) (before after : Option CallLog) (f0 f1 : ℕ) where
-  pub setting_steps : StepsOn s new did calls before after f0 f1 → dirty_after ≡ with_change (is_dirty s.stage) (is_dirty new.stage) s.path dirty
+  pub setting_steps : StepsOn replies s new did calls before after f0 f1 → dirty_after ≡ with_change (is_dirty s.stage) (is_dirty new.stage) s.path dirty
       → WorkSteps unclaimed replies (SetMode s) (SetMode new) did calls dirty dirty_after before after f0 f1
   setting_steps made leaves = record {
     tells = made.tells;
@@ -151,16 +151,16 @@ module _ (unclaimed : Route → Type 0) (replies : Replies) (s new : Setting) (d
     later = made.later;
     fault = λ h. made.fault (fault_so did h);
     falls = λ going.
-        let low = setting_falls s new did made.tells going in
+        let low = setting_falls replies s new did made.tells going in
         let more = subst (λ xs. length xs ≤ length dirty + 1) (sym leaves) (one_more (is_dirty s.stage) (is_dirty new.stage) s.path dirty) in
         weighs_less (rank_on (course_after did) (SetMode new)) (setting_rank s.stage) (length dirty_after) (length dirty) (tries_left (course_after did) (SetMode new) dirty_after) low more (tries_after did (SetMode new) dirty_after);
   }
 
 -- there was no memory to remember the thing: no call was made
-pub none_given : (s : Setting) (did : Did) (calls : ℕ) (contents : Option CallLog) (f : ℕ) → is_fresh s.stage ≡ true → did ≡ Troubled (out_of_memory_at false) → calls ≡ 0 → StepsOn s s did calls contents contents f f
-none_given s did calls contents f fresh is count =
-    subst (λ d. StepsOn s s d calls contents contents f f) (sym is)
-    (subst (λ n. StepsOn s s (Troubled (out_of_memory_at false)) n contents contents f f) (sym count) (record {
+pub none_given : (replies : Replies) (s : Setting) (did : Did) (calls : ℕ) (contents : Option CallLog) (f : ℕ) → is_fresh s.stage ≡ true → did ≡ Troubled (out_of_memory_at false) → calls ≡ 0 → StepsOn replies s s did calls contents contents f f
+none_given replies s did calls contents f fresh is count =
+    subst (λ d. StepsOn replies s s d calls contents contents f f) (sym is)
+    (subst (λ n. StepsOn replies s s (Troubled (out_of_memory_at false)) n contents contents f f) (sym count) (record {
       tells = (barred s.stage fresh, inr refl, refl);
       called = λ log known. stops log s.stage fresh known;
       counted = λ log known now has. same_log log now contents known has;

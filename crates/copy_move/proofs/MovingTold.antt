@@ -35,7 +35,7 @@ pub moving_in_trouble : (m : Moving) (trouble : Trouble) → trouble.barrier ≡
 moving_in_trouble m trouble h = ap (λ b. if b then OwedSyncFailed trouble.cause else InTrouble (halt_of trouble)) (moving_bars m.stage trouble.barrier h)
 
 -- a move that goes on
-pub moving_told : (id : ℕ) (replies : Replies) (old new : Moving) (did : Did) → Tells old did new → ends did ≡ false
+pub moving_told : (id : ℕ) (replies : Replies) (old new : Moving) (did : Did) → Tells replies old did new → ends did ≡ false
     → after_step did (told (moves_on id replies old GoesOn)) ≡ Some (told (moves_on id replies new (course_after did)))
 moving_told id replies old new (Moved pair) (at, pair_is, is) h = rw is refl
 moving_told id replies old new (Kept path) (at, path_is, is) h = rw is refl

@@ -101,32 +101,32 @@ synced_low SyncSource pair dirty h = one_rank 4 5 (length (without (folder_of pa
 synced_low Finish pair dirty h = absurd (false≢true h)
 synced_low PassedOver pair dirty h = absurd (false≢true h)
 
-moving_falls : (m new : Moving) (did : Did) (dirty : List Route) → Tells m did new → ends did ≡ false → Falls m.stage (rank_on (course_after did) (Move new)) new.stage m.pair dirty
-moving_falls m new (Moved pair) dirty (at, pair_is, is) h =
+moving_falls : (replies : Replies) (m new : Moving) (did : Did) (dirty : List Route) → Tells replies m did new → ends did ≡ false → Falls m.stage (rank_on (course_after did) (Move new)) new.stage m.pair dirty
+moving_falls replies m new (Moved pair) dirty (at, pair_is, is) h =
     subst (λ (n : Moving). Falls m.stage (moving_rank n.stage) n.stage m.pair dirty) (sym is) (subst (λ s. Falls s 6 SyncTarget m.pair dirty) (sym at) (renamed_low m.pair dirty))
-moving_falls m new (Kept path) dirty (at, path_is, is) h =
+moving_falls replies m new (Kept path) dirty (at, path_is, is) h =
     subst (λ (n : Moving). Falls m.stage (moving_rank n.stage) n.stage m.pair dirty) (sym is) (subst (λ s. Falls s 4 PassedOver m.pair dirty) (sym at) (passed_low m.pair dirty))
-moving_falls m new (Merges transfer pair names) dirty (at, merges, is) h =
+moving_falls replies m new (Merges transfer pair names) dirty (at, merges, is) h =
     subst (λ (n : Moving). Falls m.stage (moving_rank n.stage) n.stage m.pair dirty) (sym is) (subst (λ s. Falls s 4 PassedOver m.pair dirty) (sym at) (passed_low m.pair dirty))
-moving_falls m new (Skipped path cause) dirty (at, path_is, passes, is) h =
+moving_falls replies m new (Skipped path cause) dirty (at, path_is, passes, is) h =
     subst (λ (n : Moving). Falls m.stage (moving_rank n.stage) n.stage m.pair dirty) (sym is) (subst (λ s. Falls s 4 PassedOver m.pair dirty) (sym at) (passed_low m.pair dirty))
-moving_falls m new Barrier dirty (owed, is) h =
+moving_falls replies m new Barrier dirty (owed, is) h =
     subst (λ (n : Moving). Falls m.stage (moving_rank n.stage) n.stage m.pair dirty) (sym is) (synced_low m.stage m.pair dirty owed)
-moving_falls m new (Asked question) dirty (at, is) h =
+moving_falls replies m new (Asked question) dirty (at, is) h =
     subst (λ (n : Moving). Falls m.stage (last_moving_steps n.stage) n.stage m.pair dirty) (sym is) (stands_low (last_moving_steps m.stage) m.stage m.pair dirty (moving_tried_low m.stage))
-moving_falls m new (Troubled trouble) dirty (barrier, undone, cause, is) h =
+moving_falls replies m new (Troubled trouble) dirty (barrier, undone, cause, is) h =
     subst (λ (n : Moving). Falls m.stage (last_moving_steps n.stage) n.stage m.pair dirty) (sym is) (stands_low (last_moving_steps m.stage) m.stage m.pair dirty (moving_tried_low m.stage))
-moving_falls m new (Ended Finished part) dirty t h = absurd cc
-moving_falls m new (Ended Aborted part) dirty t h = absurd t
-moving_falls m new (Ended Killed part) dirty t h = absurd t
-moving_falls m new (Ended NoMemory part) dirty t h = absurd t
-moving_falls m new (Began part) dirty t h = absurd t
-moving_falls m new (Chunk count) dirty t h = absurd t
-moving_falls m new (Set path) dirty t h = absurd t
-moving_falls m new (Placed path) dirty t h = absurd t
-moving_falls m new (Removed path) dirty t h = absurd t
-moving_falls m new (Made path) dirty t h = absurd t
-moving_falls m new (Cleaned part) dirty t h = absurd t
+moving_falls replies m new (Ended Finished part) dirty t h = absurd cc
+moving_falls replies m new (Ended Aborted part) dirty t h = absurd t
+moving_falls replies m new (Ended Killed part) dirty t h = absurd t
+moving_falls replies m new (Ended NoMemory part) dirty t h = absurd t
+moving_falls replies m new (Began part) dirty t h = absurd t
+moving_falls replies m new (Chunk count) dirty t h = absurd t
+moving_falls replies m new (Set path) dirty t h = absurd t
+moving_falls replies m new (Placed path) dirty t h = absurd t
+moving_falls replies m new (Removed path) dirty t h = absurd t
+moving_falls replies m new (Made path) dirty t h = absurd t
+moving_falls replies m new (Cleaned part) dirty t h = absurd t
 
 with_tries : (low high few many tries : ℕ) → 3 * low + (few + few) < 3 * high + (many + many) → tries ≡ few → 3 * low + (few + tries) < 3 * high + (many + many)
 with_tries low high few many tries less is = omega (arith, less, is)
@@ -165,7 +165,7 @@ module _ (unclaimed : Route → Type 0) (replies : Replies) (m new : Moving) (di
     fault = λ h. s.fault (fault_so did h);
     falls = λ going.
         with_tries (rank_on (course_after did) (Move new)) (moving_rank m.stage) (length dirty_after) (length dirty) (tries_left (course_after did) (Move new) dirty_after)
-        (subst (λ xs. weight (rank_on (course_after did) (Move new)) xs < weight (moving_rank m.stage) dirty) (sym leaves) (moving_falls m new did dirty s.tells going))
+        (subst (λ xs. weight (rank_on (course_after did) (Move new)) xs < weight (moving_rank m.stage) dirty) (sym leaves) (moving_falls replies m new did dirty s.tells going))
         (tries_after did (Move new) dirty_after);
   }
 

@@ -5,6 +5,7 @@ use Rattle.job_reports.specs.declared.report.Ending.{Ending}
 use Rattle.job_reports.specs.declared.report.Did.{Did}
 use Rattle.job_reports.specs.declared.report.Did.TheVariants.{Removed, Kept, Skipped, Barrier, Troubled, Ended}
 use Rattle.job_reports.specs.Reports.{ends}
+use Rattle.job_answers.specs.declared.replies.Replies.{Replies}
 use Rattle.folder_removal.specs.declared.removal.RemovalStage.{RemovalStage}
 use Rattle.folder_removal.specs.declared.removal.RemovalStage.TheVariants.{Remove, Sync, Finish, PassedOver}
 use Rattle.folder_removal.specs.Removals.{Removing, Tells, Winds, skipped}
@@ -34,19 +35,19 @@ unremoved_falls Finish = omega arith
 unremoved_falls PassedOver = omega arith
 
 -- a step
-pub removal_falls : (r new : Removing) (did : Did) → Tells r did new → ends did ≡ false → rank_on (course_after did) (RemoveEmptied new) < removal_rank r.stage
-removal_falls r new (Removed path) (at, path_is, is) h =
+pub removal_falls : (replies : Replies) (r new : Removing) (did : Did) → Tells replies r did new → ends did ≡ false → rank_on (course_after did) (RemoveEmptied new) < removal_rank r.stage
+removal_falls replies r new (Removed path) (at, path_is, is) h =
     subst (λ (n : Removing). removal_rank n.stage < removal_rank r.stage) (sym is) (subst (λ s. 5 < removal_rank s) (sym at) (omega arith))
-removal_falls r new (Kept path) (at, path_is, is) h =
+removal_falls replies r new (Kept path) (at, path_is, is) h =
     subst (λ (n : Removing). removal_rank n.stage < removal_rank r.stage) (sym is) (subst (λ s. 4 < removal_rank s) (sym at) (omega arith))
-removal_falls r new (Skipped path cause) (at, path_is, passes, is) h =
+removal_falls replies r new (Skipped path cause) (at, path_is, passes, is) h =
     subst (λ (n : Removing). removal_rank n.stage < removal_rank r.stage) (sym is) (subst (λ s. 4 < removal_rank s) (sym at) (omega arith))
-removal_falls r new Barrier (at, is) h =
+removal_falls replies r new Barrier (at, is) h =
     subst (λ (n : Removing). removal_rank n.stage < removal_rank r.stage) (sym is) (subst (λ s. 4 < removal_rank s) (sym at) (omega arith))
-removal_falls r new (Troubled trouble) (barrier, undone, cause, is) h =
+removal_falls replies r new (Troubled trouble) (barrier, undone, cause, is) h =
     subst (λ (n : Removing). last_removal_steps n.stage < removal_rank r.stage) (sym is) (removal_tried_low r.stage)
-removal_falls r new (Ended ending part) t h = absurd (true≢false h)
-removal_falls r new did t h = absurd t
+removal_falls replies r new (Ended ending part) t h = absurd (true≢false h)
+removal_falls replies r new did t h = absurd t
 
 -- a last step
 pub last_removal_falls : (ending : Ending) (r new : Removing) (did : Did) → Winds ending r did new → ends did ≡ false → last_removal_steps new.stage < last_removal_steps r.stage

@@ -33,7 +33,7 @@ pub removal_in_trouble : (r : Removing) (trouble : Trouble) → trouble.barrier 
 removal_in_trouble r trouble h = ap (λ b. if b then OwedSyncFailed trouble.cause else InTrouble (halt_of trouble)) (removal_bars r.stage trouble.barrier h)
 
 -- a removal that goes on
-pub removal_told : (id : ℕ) (replies : Replies) (old new : Removing) (did : Did) → Tells old did new → ends did ≡ false
+pub removal_told : (id : ℕ) (replies : Replies) (old new : Removing) (did : Did) → Tells replies old did new → ends did ≡ false
     → after_step did (told (removes_on id replies old GoesOn)) ≡ Some (told (removes_on id replies new (course_after did)))
 removal_told id replies old new (Removed path) (at, path_is, is) h = rw is refl
 removal_told id replies old new (Kept path) (at, path_is, is) h = rw is refl

@@ -33,7 +33,7 @@ fault_so did h = absurd h
 
 -- a step
 module _ (unclaimed : Route → Type 0) (replies : Replies) (r new : Removing) (did : Did) (calls : ℕ) (dirty dirty_after : List Route) (before after : Option CallLog) (f0 f1 : ℕ) where
-  pub removal_steps : RemovalStep r new did calls before after f0 f1 → dirty_after ≡ with_change (is_dirty r.stage) (is_dirty new.stage) (folder_of r.path) dirty
+  pub removal_steps : RemovalStep replies r new did calls before after f0 f1 → dirty_after ≡ with_change (is_dirty r.stage) (is_dirty new.stage) (folder_of r.path) dirty
       → WorkSteps unclaimed replies (RemoveEmptied r) (RemoveEmptied new) did calls dirty dirty_after before after f0 f1
   removal_steps s leaves = record {
     tells = s.tells;
@@ -46,7 +46,7 @@ module _ (unclaimed : Route → Type 0) (replies : Replies) (r new : Removing) (
     later = s.later;
     fault = λ h. s.fault (fault_so did h);
     falls = λ going.
-        let low = removal_falls r new did s.tells going in
+        let low = removal_falls replies r new did s.tells going in
         let more = subst (λ xs. length xs ≤ length dirty + 1) (sym leaves) (one_more (is_dirty r.stage) (is_dirty new.stage) (folder_of r.path) dirty) in
         weighs_less (rank_on (course_after did) (RemoveEmptied new)) (removal_rank r.stage) (length dirty_after) (length dirty) (tries_left (course_after did) (RemoveEmptied new) dirty_after) low more (tries_after did (RemoveEmptied new) dirty_after);
   }

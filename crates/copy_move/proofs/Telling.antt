@@ -4,7 +4,6 @@ use Rattle.std.specs.Prelude.{is_some, ◌&&◌, nat_le, not, if◌then◌else�
 use Rattle.std.specs.Option.{option_map}
 use Rattle.mc_text.specs.Routes.{Route, parent_of, same_path}
 use Rattle.std.proofs.lemmas.Bool.{false≢true}
-use Rattle.job_reports.specs.declared.report.Cause.{Cause}
 use Rattle.job_reports.specs.declared.report.Trouble.{Trouble}
 use Rattle.job_reports.specs.declared.report.Ending.{Ending}
 use Rattle.job_reports.specs.declared.report.Ending.TheVariants.{Finished, Aborted, Killed, NoMemory}
@@ -38,10 +37,9 @@ use Rattle.mode_setting.specs.declared.setting.Stage.{Stage as SettingStage}
 use Rattle.mode_setting.specs.declared.setting.Stage.TheVariants as setting
 use Rattle.mode_setting.specs.Settings.{Setting}
 use Rattle.mode_setting.specs.Settings as settings
-use Rattle.copy_move.specs.Jobs.{Running, JobTells, TellsOn, WorkTells, WorkWinds, answered, answered_on, copies, course_after, deletes, first_work, halt_of, is_fresh, makes, moves, removes_emptied, sets, PassesOver, taken_anew, unreported_skip, with_skips}
+use Rattle.copy_move.specs.Jobs.{Running, JobTells, TellsOn, WorkTells, WorkWinds, answered, answered_on, copies, course_after, deletes, first_work, halt_of, is_fresh, makes, moves, removes_emptied, sets, PassesOver, taken_anew, unreported_skip}
 use Rattle.job_reports.specs.Reports.{ends}
 use Rattle.job_answers.specs.declared.replies.Replies.{Replies}
-use Rattle.job_answers.specs.declared.skips.Skips.{Skips as Kinds}
 use Rattle.job_reports.specs.declared.job.Pair.{Pair}
 use Rattle.tree_copy.specs.declared.copy.Stage.{Stage as TreeStage}
 use Rattle.tree_copy.specs.declared.copy.Stage.TheVariants as tree_stage
@@ -62,29 +60,25 @@ job_of id replies work course = record { id = id; work = work; course = course; 
 
 -- a deletion at this stage is told so, wherever its walk stands
 abbrev told_at : Deleting → DeletionStage → Work
-told_at d stage = Delete (record { path = d.path; stage = stage; depth = Top; place = unopened; tried = 0; skips = d.skips })
+told_at d stage = Delete (record { path = d.path; stage = stage; depth = Top; place = unopened; tried = 0 })
 
-told_same : (id : ℕ) (d new : Deleting) → new.path ≡ d.path → new.skips ≡ d.skips → told_at d new.stage ≡ work_told id (Delete new)
-told_same id d new path_is skips_is =
-    ap (λ p. Delete (record { path = p; stage = new.stage; depth = Top; place = unopened; tried = 0; skips = d.skips })) (sym path_is)
-    ∙ ap (λ k. Delete (record { path = new.path; stage = new.stage; depth = Top; place = unopened; tried = 0; skips = k })) (sym skips_is)
+told_same : (id : ℕ) (d new : Deleting) → new.path ≡ d.path → told_at d new.stage ≡ work_told id (Delete new)
+told_same id d new path_is = ap (λ p. Delete (record { path = p; stage = new.stage; depth = Top; place = unopened; tried = 0 })) (sym path_is)
 
 stage_is_told : (id : ℕ) (d new : Deleting) (stage : DeletionStage) → IsAtStage d stage new → told_at d stage ≡ work_told id (Delete new)
-stage_is_told id d new stage at =
-    ap (told_at d) (sym at.stage_is) ∙ told_same id d new at.path_is at.skips_is
+stage_is_told id d new stage at = ap (told_at d) (sym at.stage_is) ∙ told_same id d new at.path_is
 
 -- a copy is told by its parts
-told_is : (id : ℕ) (c new : SubtreeCopying) (stage : TreeStage) (part : Option Route) → new.top ≡ c.top → new.at.stage ≡ stage → tree.part_of new.at.item ≡ part → new.skips ≡ c.skips
-    → Copy (trees.told_at id c.top stage part c.skips) ≡ work_told id (Copy new)
-told_is id c new stage part top_is stage_is part_is skips_is =
-    ap (λ t. Copy (trees.told_at id t stage part c.skips)) (sym top_is)
-    ∙ (ap (λ s. Copy (trees.told_at id new.top s part c.skips)) (sym stage_is)
-    ∙ (ap (λ p. Copy (trees.told_at id new.top new.at.stage p c.skips)) (sym part_is)
-    ∙ ap (λ k. Copy (trees.told_at id new.top new.at.stage (tree.part_of new.at.item) k)) (sym skips_is)))
+told_is : (id : ℕ) (c new : SubtreeCopying) (stage : TreeStage) (part : Option Route) → new.top ≡ c.top → new.at.stage ≡ stage → tree.part_of new.at.item ≡ part
+    → Copy (trees.told_at id c.top stage part) ≡ work_told id (Copy new)
+told_is id c new stage part top_is stage_is part_is =
+    ap (λ t. Copy (trees.told_at id t stage part)) (sym top_is)
+    ∙ (ap (λ s. Copy (trees.told_at id new.top s part)) (sym stage_is)
+    ∙ ap (λ p. Copy (trees.told_at id new.top new.at.stage p)) (sym part_is))
 
 -- where a report changes nothing of that
 told_so : (id : ℕ) (c new : SubtreeCopying) (did : Did) → IsAfter did c new → part_after did (tree.part_of c.at.item) ≡ tree.part_of c.at.item → after_report did c.at.stage ≡ c.at.stage → work_told id (Copy c) ≡ work_told id (Copy new)
-told_so id c new did a part stage = told_is id c new c.at.stage (tree.part_of c.at.item) a.top (a.stage ∙ stage) (a.part ∙ part) a.skips
+told_so id c new did a part stage = told_is id c new c.at.stage (tree.part_of c.at.item) a.top (a.stage ∙ stage) (a.part ∙ part)
 
 skipped_told : (id : ℕ) (work new : Work) (path : Route) → PassesOver work path new → skipped path (work_told id work) ≡ work_told id new
 skipped_told id (Copy c) (Copy new) path (cause, a) = told_so id c new (Skipped path cause) a refl refl
@@ -95,15 +89,15 @@ skipped_told id (SetMode s) (SetMode new) path (path_is, new_is) = ap SetMode (s
 skipped_told id (RemoveEmptied r) (RemoveEmptied new) path (path_is, new_is) = ap RemoveEmptied (sym new_is)
 skipped_told id old new path h = absurd h
 
-retries_told : (id : ℕ) (top : Pair) (stage : TreeStage) (part : Option Route) (skips : Kinds) → tree.retries (trees.told_at id top stage part skips) ≡ trees.told_at id top stage part skips
-retries_told id top stage None skips = refl
-retries_told id top stage (Some part) skips = refl
+retries_told : (id : ℕ) (top : Pair) (stage : TreeStage) (part : Option Route) → tree.retries (trees.told_at id top stage part) ≡ trees.told_at id top stage part
+retries_told id top stage None = refl
+retries_told id top stage (Some part) = refl
 
 anew_told : (id : ℕ) (work : Work) → taken_anew (work_told id work) ≡ work_told id (taken_anew work)
 anew_told id (Copy c) =
     let law = told_law in
     let k = law.retry c in
-    ap Copy (retries_told id c.top c.at.stage (tree.part_of c.at.item) c.skips) ∙ told_is id c (tree.retries c) c.at.stage (tree.part_of c.at.item) refl k.stage k.part refl
+    ap Copy (retries_told id c.top c.at.stage (tree.part_of c.at.item)) ∙ told_is id c (tree.retries c) c.at.stage (tree.part_of c.at.item) refl k.stage k.part
 anew_told id (Delete d) = refl
 anew_told id (Make m) = refl
 anew_told id (Move m) = refl
@@ -159,7 +153,7 @@ pub skip_in_trouble : (id : ℕ) (work : Work) → course_told (work_told id wor
 skip_in_trouble id work = in_trouble id work (out_of_memory_at false) (and_none (is_fresh work))
 
 -- a deletion that goes on
-deletion_told : (id : ℕ) (replies : Replies) (old new : Deleting) (did : Did) → deletions.Tells old did new → ends did ≡ false
+deletion_told : (id : ℕ) (replies : Replies) (old new : Deleting) (did : Did) → deletions.Tells replies old did new → ends did ≡ false
     → after_step did (told (job_of id replies (Delete old) GoesOn)) ≡ Some (told (job_of id replies (Delete new) (course_after did)))
 deletion_told id replies old new (Removed path) (going, within, at) h = ap (λ w. Some (job_of id replies w GoesOn)) (stage_is_told id old new (after_item old.path path deletion.Going) at)
 deletion_told id replies old new (Kept path) (going, at) h = ap (λ w. Some (job_of id replies w GoesOn)) (stage_is_told id old new (after_item old.path path old.stage) at)
@@ -205,7 +199,7 @@ making_told id replies old new (Skipped path cause) t h = absurd t
 making_told id replies old new (Cleaned part) t h = absurd t
 
 -- a setting that goes on
-setting_told : (id : ℕ) (replies : Replies) (old new : Setting) (did : Did) → settings.Tells old did new → ends did ≡ false
+setting_told : (id : ℕ) (replies : Replies) (old new : Setting) (did : Did) → settings.Tells replies old did new → ends did ≡ false
     → after_step did (told (job_of id replies (SetMode old) GoesOn)) ≡ Some (told (job_of id replies (SetMode new) (course_after did)))
 setting_told id replies old new (Set path) (from, path_is, is) h = rw is refl
 setting_told id replies old new Barrier (from, is) h = rw is (ap (λ stage. Some (job_of id replies (SetMode (record old { stage = modes.after_sync stage })) GoesOn)) from)
@@ -234,13 +228,13 @@ begun_before : (stage : TreeStage) → (is_tree_fresh stage ≡ true → ⊥) �
 begun_before tree_stage.Begin h = absurd (h refl)
 begun_before tree_stage.Going h = refl
 
-tree_told : (id : ℕ) (replies : Replies) (old new : SubtreeCopying) (did : Did) → trees.Tells old did new → ends did ≡ false
+tree_told : (id : ℕ) (replies : Replies) (old new : SubtreeCopying) (did : Did) → trees.Tells replies old did new → ends did ≡ false
     → after_step did (told (job_of id replies (Copy old) GoesOn)) ≡ Some (told (job_of id replies (Copy new) (course_after did)))
-tree_told id replies old new (Began part) t h = (let a = t.after in ap (λ w. Some (job_of id replies w GoesOn)) (told_is id old new tree_stage.Going (Some part) a.top a.stage a.part a.skips))
-tree_told id replies old new (Placed path) t h = (let a = t.after in ap (λ w. Some (job_of id replies w GoesOn)) (told_is id old new tree_stage.Going None a.top a.stage a.part a.skips))
-tree_told id replies old new (Cleaned part) t h = (let a = t.after in ap (λ w. Some (job_of id replies w GoesOn)) (told_is id old new tree_stage.Going None a.top a.stage a.part a.skips))
-tree_told id replies old new (Made path) t h = (let a = t.after in ap (λ w. Some (job_of id replies w GoesOn)) (told_is id old new tree_stage.Going (tree.part_of old.at.item) a.top a.stage a.part a.skips))
-tree_told id replies old new (Set path) t h = (let a = t.after in ap (λ w. Some (job_of id replies w GoesOn)) (told_is id old new tree_stage.Going (tree.part_of old.at.item) a.top a.stage a.part a.skips))
+tree_told id replies old new (Began part) t h = (let a = t.after in ap (λ w. Some (job_of id replies w GoesOn)) (told_is id old new tree_stage.Going (Some part) a.top a.stage a.part))
+tree_told id replies old new (Placed path) t h = (let a = t.after in ap (λ w. Some (job_of id replies w GoesOn)) (told_is id old new tree_stage.Going None a.top a.stage a.part))
+tree_told id replies old new (Cleaned part) t h = (let a = t.after in ap (λ w. Some (job_of id replies w GoesOn)) (told_is id old new tree_stage.Going None a.top a.stage a.part))
+tree_told id replies old new (Made path) t h = (let a = t.after in ap (λ w. Some (job_of id replies w GoesOn)) (told_is id old new tree_stage.Going (tree.part_of old.at.item) a.top a.stage a.part))
+tree_told id replies old new (Set path) t h = (let a = t.after in ap (λ w. Some (job_of id replies w GoesOn)) (told_is id old new tree_stage.Going (tree.part_of old.at.item) a.top a.stage a.part))
 tree_told id replies old new (Chunk count) t h = ap (λ w. Some (job_of id replies w GoesOn)) (told_so id old new (Chunk count) t.after refl (sym (begun_before old.at.stage t.first)))
 tree_told id replies old new Barrier t h = ap (λ w. Some (job_of id replies w GoesOn)) (told_so id old new Barrier t.after refl (sym (begun_before old.at.stage t.first)))
 tree_told id replies old new (Skipped path cause) t h = ap (λ w. Some (job_of id replies w GoesOn)) (told_so id old new (Skipped path cause) t.after refl refl)
@@ -256,8 +250,8 @@ tree_told id replies old new (Ended ending part) t h = absurd cc
 
 tree_winds : (id : ℕ) (replies : Replies) (ending : Ending) (old new : SubtreeCopying) (did : Did) → IsWound ending old did new → ends did ≡ false
     → after_step did (told (job_of id replies (Copy old) (Ends ending))) ≡ Some (told (job_of id replies (Copy new) (Ends ending)))
-tree_winds id replies ending old new (Cleaned part) w h = ap (λ x. Some (job_of id replies x (Ends ending))) (told_is id old new old.at.stage None w.top w.stage w.part w.skips)
-tree_winds id replies ending old new Barrier w h = ap (λ x. Some (job_of id replies x (Ends ending))) (told_is id old new old.at.stage (tree.part_of old.at.item) w.top w.stage w.part w.skips)
+tree_winds id replies ending old new (Cleaned part) w h = ap (λ x. Some (job_of id replies x (Ends ending))) (told_is id old new old.at.stage None w.top w.stage w.part)
+tree_winds id replies ending old new Barrier w h = ap (λ x. Some (job_of id replies x (Ends ending))) (told_is id old new old.at.stage (tree.part_of old.at.item) w.top w.stage w.part)
 tree_winds id replies ending old new (Ended how part) w h = absurd cc
 tree_winds id replies ending old new (Began part) w h = absurd w.may
 tree_winds id replies ending old new (Chunk count) w h = absurd w.may
@@ -275,7 +269,7 @@ tree_winds id replies ending old new (Troubled trouble) w h = absurd w.may
 -- the last steps
 deletion_winds : (id : ℕ) (replies : Replies) (ending : Ending) (old new : Deleting) (did : Did) → deletions.Winds ending old did new → ends did ≡ false
     → after_step did (told (job_of id replies (Delete old) (Ends ending))) ≡ Some (told (job_of id replies (Delete new) (Ends ending)))
-deletion_winds id replies ending old new Barrier (path_is, stage_is, skips_is) h = ap (λ w. Some (job_of id replies w (Ends ending))) (ap (told_at old) (sym stage_is) ∙ told_same id old new path_is skips_is)
+deletion_winds id replies ending old new Barrier (path_is, stage_is) h = ap (λ w. Some (job_of id replies w (Ends ending))) (ap (told_at old) (sym stage_is) ∙ told_same id old new path_is)
 deletion_winds id replies ending old new (Ended how part) t h = absurd cc
 deletion_winds id replies ending old new (Began part) t h = absurd t
 deletion_winds id replies ending old new (Chunk count) t h = absurd t
@@ -327,7 +321,7 @@ setting_winds id replies ending old new (Skipped path cause) t h = absurd t
 setting_winds id replies ending old new (Cleaned part) t h = absurd t
 setting_winds id replies ending old new (Troubled trouble) t h = absurd t
 
-goes_told : (id : ℕ) (replies : Replies) (old new : Work) (did : Did) → WorkTells old did new → ends did ≡ false
+goes_told : (id : ℕ) (replies : Replies) (old new : Work) (did : Did) → WorkTells replies old did new → ends did ≡ false
     → after_step did (told (job_of id replies old GoesOn)) ≡ Some (told (job_of id replies new (course_after did)))
 goes_told id replies (Copy c) (Copy new) did t h = tree_told id replies c new did t h
 goes_told id replies (Delete d) (Delete new) did t h = deletion_told id replies d new did t h
@@ -379,14 +373,6 @@ step_told job new Barrier t = sym (told_follows job new Barrier t refl)
 step_told job new (Troubled trouble) t = sym (told_follows job new (Troubled trouble) t refl)
 step_told job new (Ended ending part) t = refl
 
-skips_told : (id : ℕ) (cause : Cause) (work : Work) → work_told id (with_skips cause work) ≡ with_skips cause (work_told id work)
-skips_told id cause (Copy c) = refl
-skips_told id cause (Delete d) = refl
-skips_told id cause (Make m) = refl
-skips_told id cause (Move m) = refl
-skips_told id cause (SetMode s) = refl
-skips_told id cause (RemoveEmptied r) = refl
-
 -- an answer, and the beginning of a job, are told whole
 pub answered_told : (answer : Answer) (job : Running) → told (answered answer job) ≡ answered answer (told job)
 answered_told answer job = answers job.course answer
@@ -394,7 +380,7 @@ answered_told answer job = answers job.course answer
     answers : (course : Course) (answer : Answer) → told (answered_on course answer (job_of job.id job.replies job.work course)) ≡ answered_on course answer (told (job_of job.id job.replies job.work course))
     answers (InTrouble halt) Retry = ap (λ w. job_of job.id job.replies w GoesOn) (sym (anew_told job.id job.work))
     answers (InTrouble halt) Skip = refl
-    answers (InTrouble halt) SkipAll = ap (λ w. job_of job.id job.replies w (Skips halt.cause)) (skips_told job.id halt.cause job.work)
+    answers (InTrouble halt) SkipAll = refl
     answers (InTrouble halt) Abort = refl
     answers (InTrouble halt) Yes = refl
     answers (InTrouble halt) No = refl

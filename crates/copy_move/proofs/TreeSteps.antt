@@ -105,7 +105,7 @@ module _ (free : Route → Bool) (replies : Replies) (c new : SubtreeCopying) (d
   after_it : IsAfter did c new
   after_it = (let law = told_law in law.step free replies c new did calls dirty dirty_after before after f0 f1 s g.can)
 
-  tells : IsInPlace c.top c.at → Tells c did new
+  tells : IsInPlace c.top c.at → Tells replies c did new
   tells place = record {
     may = (let law = reporting_law in law.step free replies c new did calls dirty dirty_after before after f0 f1 s);
     after = after_it;

@@ -19,11 +19,13 @@ use Rattle.tree_deletion.specs.Folders as folders
 use Rattle.tree_deletion.specs.Standing.{after_item, at_barrier}
 use Rattle.tree_deletion.specs.Steps.{IsProgress, LastSteps, Skips as MachineSkips, SyncSteps, WorkSteps}
 use Rattle.tree_deletion.specs.declared.deletion.Deletion.{Deletion}
+use Rattle.job_answers.specs.declared.replies.Replies.{Replies}
 use Rattle.job_answers.specs.declared.skips.Skips.{Skips}
+use Rattle.job_answers.specs.Skipping.{passed_cause}
 use Rattle.job_reports.specs.declared.report.StepResult.{StepResult}
 use Rattle.copy_move.specs.declared.run.Course.TheVariants.{GoesOn}
 use Rattle.copy_move.specs.Faults.{MeetsFault}
-use Rattle.copy_move.specs.Deletions.{Deleting, DeletionCalls, DeletionLeaves, IsAtStage, LastCalls, Tells, TellsTried, Winds, left_in, machine_of, passed_cause}
+use Rattle.copy_move.specs.Deletions.{Deleting, DeletionCalls, DeletionLeaves, IsAtStage, LastCalls, Tells, TellsTried, Winds, left_in, machine_of}
 
 abbrev pub step_result : Did → ℕ → StepResult
 step_result did calls = record { did = did; calls = calls }
@@ -40,11 +42,11 @@ OrPassedOver skips worked old new result =
 
 -- what the machine does in a step: it works on what it comes to, and passes over that where it is in a trouble of a kind that is
 -- skipped; or it syncs a folder
-abbrev pub Goes : Deleting → Deleting → Did → ℕ → List Route → List Route → Option CallLog → Option CallLog → ℕ → ℕ → Type 0
-Goes old new did calls dirty dirty_after before after faults faults_after =
+abbrev pub Goes : Replies → Deleting → Deleting → Did → ℕ → List Route → List Route → Option CallLog → Option CallLog → ℕ → ℕ → Type 0
+Goes replies old new did calls dirty dirty_after before after faults faults_after =
     ((worked : Did) × (mid : Deletion) × (spare : ℕ) × (spare_after : ℕ)
     × WorkSteps (machine_of old spare) mid worked calls dirty dirty_after before after faults faults_after
-    × OrPassedOver old.skips (step_result worked calls) mid (machine_of new spare_after) (step_result did calls))
+    × OrPassedOver replies.skips (step_result worked calls) mid (machine_of new spare_after) (step_result did calls))
     ⊎ ((spare : ℕ) × SyncSteps (machine_of old spare) did calls dirty dirty_after before after faults faults_after × (new ≡ old))
 
 -- what the machine does in a last step: it tries the next folder that it may have changed, from the first on, and ends where none is left
@@ -61,9 +63,9 @@ is_decided did = IsProgress did
 -- A step: it is one of the machine; what it reports is allowed, the deletion is then as it says, it is the call of the tree that it
 -- says, and it reports a fault, or passes something over for one, only where the tree's count has risen. Where it decides a thing fewer are left. It counts the changing
 -- calls that it made.
-pub record DeletionStep (old new : Deleting) (did : Did) (calls : ℕ) (dirty dirty_after : List Route) (before after : Option CallLog) (faults faults_after : ℕ) : Type 0 where
-  pub goes : Goes old new did calls dirty dirty_after before after faults faults_after
-  pub tells : Tells old did new
+pub record DeletionStep (replies : Replies) (old new : Deleting) (did : Did) (calls : ℕ) (dirty dirty_after : List Route) (before after : Option CallLog) (faults faults_after : ℕ) : Type 0 where
+  pub goes : Goes replies old new did calls dirty dirty_after before after faults faults_after
+  pub tells : Tells replies old did new
   pub called : IfKnown before (λ log. DeletionCalls did log after)
   pub leaves : DeletionLeaves old did dirty dirty_after before after
   pub fewer : is_decided did ≡ true → left_in new < left_in old

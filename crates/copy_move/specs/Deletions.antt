@@ -1,22 +1,20 @@
 -- The deletion of a thing with all that lies in it, as the history of its job tells of it: what a step may report where the
 -- deletion stands, and where it stands then; and what a report says of the tree's calls. What it is to remove next is said in
 -- tree_deletion.
-use Rattle.std.specs.Prelude.{◌≡◌, ◌⊎◌, ℕ, Bool, true, false, not, ◌&&◌, if◌then◌else◌, List, Option, Some, None, Result, Ok, Err}
+use Rattle.std.specs.Prelude.{◌≡◌, ◌⊎◌, ℕ, true, false, List, Option, Some, None, Result, Ok, Err}
 use Rattle.mc_text.specs.Routes.{Route, is_prefix}
 use Rattle.tree_trait.specs.Calls.{RemoveFile, RemoveFolder, SyncFolder}
 use Rattle.tree_trait.specs.Change.{CallLog}
 use Rattle.tree_trait.specs.Answers.{IfKnown, Performs}
 use Rattle.tree_trait.specs.declared.calls.TreeError.{TreeError}
-use Rattle.job_reports.specs.declared.report.Cause.{Cause}
 use Rattle.job_reports.specs.declared.report.Ending.{Ending}
 use Rattle.job_reports.specs.declared.report.Ending.TheVariants.{Finished}
 use Rattle.job_reports.specs.declared.report.Did.{Did}
 use Rattle.job_reports.specs.declared.report.Did.TheVariants.{Removed, Kept, Skipped, Barrier, Troubled, Ended}
-use Rattle.job_reports.specs.declared.report.Trouble.{Trouble}
 use Rattle.job_reports.specs.Paths.{folder_of, without}
 use Rattle.job_reports.specs.Stops.{cause_of, out_of_memory_at, sync_answer}
-use Rattle.job_answers.specs.Skipping.{holds, kind_in, no_skips}
-use Rattle.job_answers.specs.declared.skips.Skips.{Skips}
+use Rattle.job_answers.specs.Skipping.{holds, kind_in}
+use Rattle.job_answers.specs.declared.replies.Replies.{Replies}
 use Rattle.subtree_walk.specs.Places.{Place, unopened}
 use Rattle.tree_deletion.specs.declared.deletion.Depth.{Depth}
 use Rattle.tree_deletion.specs.declared.deletion.Depth.TheVariants.{Top}
@@ -34,12 +32,10 @@ pub record Deleting : Type 0 where
   pub place : Place
   -- in last steps those dirty folders were tried that stand before this place
   pub tried : ℕ
-  -- troubles of these kinds are passed over without a question
-  pub skips : Skips
 
 -- a deletion just begun
 abbrev pub started : Route → Deleting
-started path = record { path = path; stage = Begin; depth = Top; place = unopened; tried = 0; skips = no_skips }
+started path = record { path = path; stage = Begin; depth = Top; place = unopened; tried = 0 }
 
 -- the machine of it, with room for so many folders more
 abbrev pub machine_of : Deleting → ℕ → Deletion
@@ -54,32 +50,22 @@ pub record IsAtStage (d : Deleting) (stage : Stage) (new : Deleting) : Type 0 wh
   pub path_is : new.path ≡ d.path
   pub stage_is : new.stage ≡ stage
   pub tried_is : new.tried ≡ d.tried
-  pub skips_is : new.skips ≡ d.skips
-
--- a trouble is passed over without a question where `Skip all` was answered to one of its kind, and it isn't at a barrier
-abbrev pub is_passed_over : Skips → Trouble → Bool
-is_passed_over skips trouble = not trouble.barrier && holds skips (kind_in trouble.cause)
-
--- the cause of such a trouble, which is never told
-abbrev pub passed_cause : Skips → Did → Option Cause
-passed_cause skips (Troubled trouble) = if is_passed_over skips trouble then Some trouble.cause else None
-passed_cause skips did = None
 
 -- What a step may report that goes on, and where the deletion stands then. What is removed is the thing, or lies in it; what is passed
 -- over is in a trouble of a kind to which `Skip all` was answered.
-abbrev pub Tells : Deleting → Did → Deleting → Type 0
-Tells d (Removed path) new = (at_barrier d.stage ≡ false) × (is_prefix d.path path ≡ true) × IsAtStage d (after_item d.path path Going) new
-Tells d (Kept path) new = (at_barrier d.stage ≡ false) × IsAtStage d (after_item d.path path d.stage) new
-Tells d (Skipped path cause) new = (at_barrier d.stage ≡ false) × (holds d.skips (kind_in cause) ≡ true) × IsAtStage d (after_item d.path path d.stage) new
-Tells d (Troubled trouble) new = (trouble.barrier ≡ at_barrier d.stage) × IsAtStage d d.stage new
-Tells d Barrier new = (d.stage ≡ Sync) × IsAtStage d d.stage new
-Tells d (Ended Finished part) new = (d.stage ≡ Sync) × (part ≡ None) × IsAtStage d d.stage new
-Tells d did new = ⊥
+abbrev pub Tells : Replies → Deleting → Did → Deleting → Type 0
+Tells replies d (Removed path) new = (at_barrier d.stage ≡ false) × (is_prefix d.path path ≡ true) × IsAtStage d (after_item d.path path Going) new
+Tells replies d (Kept path) new = (at_barrier d.stage ≡ false) × IsAtStage d (after_item d.path path d.stage) new
+Tells replies d (Skipped path cause) new = (at_barrier d.stage ≡ false) × (holds replies.skips (kind_in cause) ≡ true) × IsAtStage d (after_item d.path path d.stage) new
+Tells replies d (Troubled trouble) new = (trouble.barrier ≡ at_barrier d.stage) × IsAtStage d d.stage new
+Tells replies d Barrier new = (d.stage ≡ Sync) × IsAtStage d d.stage new
+Tells replies d (Ended Finished part) new = (d.stage ≡ Sync) × (part ≡ None) × IsAtStage d d.stage new
+Tells replies d did new = ⊥
 
 -- What a last step may report: a sync that is owed is tried once, and the job ends as it was ordered.
 abbrev pub Winds : Ending → Deleting → Did → Deleting → Type 0
-Winds ending d Barrier new = (new.path ≡ d.path) × (new.stage ≡ d.stage) × (new.skips ≡ d.skips)
-Winds ending d (Ended how part) new = (how ≡ ending) × (part ≡ None) × (new.path ≡ d.path) × (new.stage ≡ d.stage) × (new.skips ≡ d.skips)
+Winds ending d Barrier new = (new.path ≡ d.path) × (new.stage ≡ d.stage)
+Winds ending d (Ended how part) new = (how ≡ ending) × (part ≡ None) × (new.path ≡ d.path) × (new.stage ≡ d.stage)
 Winds ending d did new = ⊥
 
 -- a removal, or a sync, was refused

@@ -8,9 +8,7 @@ use Rattle.job_answers.specs.declared.answer.Waiting.{Waiting}
 use Rattle.job_answers.specs.declared.answer.Waiting.TheVariants as waits
 use Rattle.job_answers.specs.declared.replies.Replies.{Replies}
 use Rattle.job_answers.specs.Answers as answers
-use Rattle.job_answers.specs.Decisions.{with_reply}
-use Rattle.job_answers.specs.Skipping.{kind_in, no_skips, with_kind}
-use Rattle.job_answers.specs.declared.skips.Skips.{Skips as SkippedKinds}
+use Rattle.job_answers.specs.Decisions.{with_reply, with_skips}
 use Rattle.job_reports.specs.declared.report.Trouble.{Trouble}
 use Rattle.job_reports.specs.declared.report.Ending.{Ending}
 use Rattle.job_reports.specs.declared.report.Ending.TheVariants.{Aborted}
@@ -57,7 +55,7 @@ use Rattle.mode_setting.specs.Settings.{setting}
 use Rattle.mode_setting.specs.Settings as settings
 use Rattle.mode_setting.specs.SettingSteps.{SettingCalls}
 
--- a live job: its number, what it does, whether it goes on, and what was answered to its questions so far
+-- a live job: its number, what it does, whether it goes on, and what was answered to its questions and troubles so far
 pub record Running : Type 0 where
   pub id : ℕ
   pub work : Work
@@ -168,45 +166,18 @@ taken_anew (Move m) = Move m
 taken_anew (SetMode s) = SetMode s
 taken_anew (RemoveEmptied r) = RemoveEmptied r
 
--- The work once troubles of this kind are passed over without a question. One that makes one thing comes to no later one.
-abbrev pub with_skips : Cause → Work → Work
-with_skips cause (Copy c) = Copy (record c { skips = with_kind (kind_in cause) c.skips })
-with_skips cause (Delete d) = Delete (record d { skips = with_kind (kind_in cause) d.skips })
-with_skips cause (Make m) = Make m
-with_skips cause (Move m) = Move (record m { skips = with_kind (kind_in cause) m.skips })
-with_skips cause (SetMode s) = SetMode (record s { skips = with_kind (kind_in cause) s.skips })
-with_skips cause (RemoveEmptied r) = RemoveEmptied (record r { skips = with_kind (kind_in cause) r.skips })
-
--- the work after an answer by which what stands next is left as it is
-abbrev pub skipping_by : Answer → Cause → Work → Work
-skipping_by SkipAll cause work = with_skips cause work
-skipping_by Yes cause work = work
-skipping_by No cause work = work
-skipping_by All cause work = work
-skipping_by Update cause work = work
-skipping_by Nothing cause work = work
-skipping_by SizeDiffers cause work = work
-skipping_by Retry cause work = work
-skipping_by Skip cause work = work
-skipping_by Abort cause work = work
-
--- the kinds of troubles that the work passes over without a question
-abbrev pub skips_of : Work → SkippedKinds
-skips_of (Copy c) = c.skips
-skips_of (Delete d) = d.skips
-skips_of (Make m) = no_skips
-skips_of (Move m) = m.skips
-skips_of (SetMode s) = s.skips
-skips_of (RemoveEmptied r) = r.skips
-
--- the work where these kinds are passed over
-abbrev pub passing_over : SkippedKinds → Work → Work
-passing_over skips (Copy c) = Copy (record c { skips = skips })
-passing_over skips (Delete d) = Delete (record d { skips = skips })
-passing_over skips (Make m) = Make m
-passing_over skips (Move m) = Move (record m { skips = skips })
-passing_over skips (SetMode s) = SetMode (record s { skips = skips })
-passing_over skips (RemoveEmptied r) = RemoveEmptied (record r { skips = skips })
+-- what was answered, after an answer by which what stands next is left as it is
+abbrev pub skipping_by : Answer → Cause → Replies → Replies
+skipping_by SkipAll cause replies = with_skips cause replies
+skipping_by Yes cause replies = replies
+skipping_by No cause replies = replies
+skipping_by All cause replies = replies
+skipping_by Update cause replies = replies
+skipping_by Nothing cause replies = replies
+skipping_by SizeDiffers cause replies = replies
+skipping_by Retry cause replies = replies
+skipping_by Skip cause replies = replies
+skipping_by Abort cause replies = replies
 
 -- the part that stands
 abbrev pub part_of : Work → Option Route
@@ -235,15 +206,15 @@ IsSound Asking work = IsGoing work
 IsSound (Skips cause) work = IsGoing work × (at_barrier work ≡ false)
 IsSound (Ends ending) work = ⊤
 
--- what a step of the work may report that goes on, and where the work stands then
-abbrev pub WorkTells : Work → Did → Work → Type 0
-WorkTells (Copy c) did (Copy new) = trees.Tells c did new
-WorkTells (Delete d) did (Delete new) = deletions.Tells d did new
-WorkTells (Make m) did (Make new) = makings.Tells m did new
-WorkTells (Move m) did (Move new) = movings.Tells m did new
-WorkTells (SetMode s) did (SetMode new) = settings.Tells s did new
-WorkTells (RemoveEmptied r) did (RemoveEmptied new) = removals.Tells r did new
-WorkTells old did new = ⊥
+-- what a step of the work may report that goes on, where this was answered, and where the work stands then
+abbrev pub WorkTells : Replies → Work → Did → Work → Type 0
+WorkTells replies (Copy c) did (Copy new) = trees.Tells replies c did new
+WorkTells replies (Delete d) did (Delete new) = deletions.Tells replies d did new
+WorkTells replies (Make m) did (Make new) = makings.Tells m did new
+WorkTells replies (Move m) did (Move new) = movings.Tells replies m did new
+WorkTells replies (SetMode s) did (SetMode new) = settings.Tells replies s did new
+WorkTells replies (RemoveEmptied r) did (RemoveEmptied new) = removals.Tells replies r did new
+WorkTells replies old did new = ⊥
 
 -- the same of a last step
 abbrev pub WorkWinds : Ending → Work → Did → Work → Type 0
@@ -284,7 +255,7 @@ course_after (Ended ending part) = GoesOn
 -- What a step may report of a job that goes so, and what the job is then. What is to be skipped is reported with the
 -- cause of its trouble, or there is no memory for the report; it doesn't stand at a barrier.
 abbrev pub TellsOn : Course → Running → Did → Running → Type 0
-TellsOn GoesOn job did new = (work : Work) × WorkTells job.work did work × (new ≡ record job { work = work; course = course_after did })
+TellsOn GoesOn job did new = (work : Work) × WorkTells job.replies job.work did work × (new ≡ record job { work = work; course = course_after did })
 TellsOn (InTrouble halt) job did new = ⊥
 TellsOn (OwedSyncFailed cause) job did new = ⊥
 TellsOn Asking job did new = ⊥
@@ -349,7 +320,7 @@ answered_on Asking Skip job = job
 answered_on Asking SkipAll job = job
 answered_on (InTrouble halt) Retry job = record job { work = taken_anew job.work; course = GoesOn }
 answered_on (InTrouble halt) Skip job = record job { course = Skips halt.cause }
-answered_on (InTrouble halt) SkipAll job = record job { work = with_skips halt.cause job.work; course = Skips halt.cause }
+answered_on (InTrouble halt) SkipAll job = record job { replies = with_skips halt.cause job.replies; course = Skips halt.cause }
 answered_on (InTrouble halt) Abort job = record job { course = Ends Aborted }
 answered_on (InTrouble halt) Yes job = job
 answered_on (InTrouble halt) No job = job

@@ -88,7 +88,7 @@ Walks unclaimed replies (RemoveEmptied r) new did calls dirty dirty_after before
 Walks unclaimed replies (Copy c) (Copy new) did calls dirty dirty_after before after faults faults_after =
     trees.Goes unclaimed replies c new did calls dirty dirty_after before after faults faults_after
 Walks unclaimed replies (Copy c) new did calls dirty dirty_after before after faults faults_after = ⊥
-Walks unclaimed replies (Delete d) (Delete new) did calls dirty dirty_after before after faults faults_after = Goes d new did calls dirty dirty_after before after faults faults_after
+Walks unclaimed replies (Delete d) (Delete new) did calls dirty dirty_after before after faults faults_after = Goes replies d new did calls dirty dirty_after before after faults faults_after
 Walks unclaimed replies (Delete d) new did calls dirty dirty_after before after faults faults_after = ⊥
 
 -- what it does where something is passed over; what was moved is not, nor a folder that is gone
@@ -127,7 +127,7 @@ WalksOn unclaimed replies (Ends ending) old new did calls dirty dirty_after befo
 
 -- A piece of work, where this was answered, likewise. Fewer steps are left then, and at most three where it is refused.
 pub record WorkSteps (unclaimed : Route → Type 0) (replies : Replies) (old new : Work) (did : Did) (calls : ℕ) (dirty dirty_after : List Route) (before after : Option CallLog) (faults faults_after : ℕ) : Type 0 where
-  pub tells : WorkTells old did new
+  pub tells : WorkTells replies old did new
   pub walks : Walks unclaimed replies old new did calls dirty dirty_after before after faults faults_after
   pub called : IfKnown before (λ log. WorkCalls unclaimed replies old did new log after)
   pub leaves : WorkLeaves old did new dirty dirty_after before after

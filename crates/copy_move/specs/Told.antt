@@ -29,7 +29,7 @@ use Rattle.mode_setting.specs.declared.setting.Stage.TheVariants as setting
 use Rattle.mode_setting.specs.Settings as settings
 use Rattle.copy_move.specs.TreeCopies as trees
 use Rattle.subtree_copy.specs.Standing.{SubtreeCopying}
-use Rattle.copy_move.specs.Jobs.{Running, JobTells, closed_job, first_work, halt_of, is_fresh, part_of, passing_over, skips_of, waits_on}
+use Rattle.copy_move.specs.Jobs.{Running, JobTells, closed_job, first_work, halt_of, is_fresh, part_of, waits_on}
 
 -- the work of the job with this number
 abbrev pub work_told : ℕ → Work → Work
@@ -176,7 +176,7 @@ running id work = record { id = id; work = work; course = GoesOn; replies = no_r
 
 -- The job as it takes up this work, its next source's: what was to be skipped of all that meets the same goes on to be, and what was answered for all items goes on to hold.
 abbrev pub with_next : Running → Work → Running
-with_next job work = record { id = job.id; work = passing_over (skips_of job.work) work; course = GoesOn; replies = record job.replies { item = None } }
+with_next job work = record { id = job.id; work = work; course = GoesOn; replies = record job.replies { item = None } }
 
 -- the job goes on with its next source, of which this is the plan
 abbrev pub turned : Job → Running → Option Running

@@ -5,7 +5,6 @@ use Rattle.mc_text.specs.Routes.{Route}
 use Rattle.tree_trait.specs.Change.{CallLog}
 use Rattle.job_answers.specs.Skipping.{holds, kind_in}
 use Rattle.job_answers.specs.declared.replies.Replies.{Replies}
-use Rattle.job_answers.specs.declared.skips.Skips.{Skips}
 use Rattle.job_reports.specs.declared.report.Transfer.TheVariants.{ByCopy}
 use Rattle.job_reports.specs.declared.job.Pair.{Pair}
 use Rattle.job_reports.specs.declared.question.Question.{Question}
@@ -39,13 +38,13 @@ pub record IsGoing (c : SubtreeCopying) : Type 0 where
 -- first change, which begins a part or makes a folder; what is passed over is in a trouble of a kind to which `Skip all` was answered. A folder is merged with one at
 -- the target only before that change, and then the copy is over, which changes nothing. What is kept is what stands at the target. After a question
 -- the copy stands where it stood.
-pub record Tells (c : SubtreeCopying) (did : Did) (new : SubtreeCopying) : Type 0 where
+pub record Tells (replies : Replies) (c : SubtreeCopying) (did : Did) (new : SubtreeCopying) : Type 0 where
   pub may : MayTell did
   pub after : IsAfter did c new
   pub first : is_fresh c.at.stage ≡ true → MayBegin did
   pub barred : (trouble : Trouble) → did ≡ Troubled trouble → trouble.barrier ≡ at_barrier new.at
   pub apart : (trouble : Trouble) → did ≡ Troubled trouble → is_fresh c.at.stage ≡ true → trouble.barrier ≡ false
-  pub kinds : (path : Route) (cause : Cause) → did ≡ Skipped path cause → holds c.skips (kind_in cause) ≡ true
+  pub kinds : (path : Route) (cause : Cause) → did ≡ Skipped path cause → holds replies.skips (kind_in cause) ≡ true
   pub merged : (pair : Pair) (names : List (List ℕ)) → did ≡ Merges ByCopy pair names → MergesTop c pair names new
   pub kept : (path : Route) → did ≡ Kept path → KeepsTop c path new
   pub asked : (question : Question) → did ≡ Asked question → AsksTop c new
@@ -76,16 +75,15 @@ pub record Calls (unclaimed : Route → Type 0) (replies : Replies) (c : Subtree
   pub faults_after : ℕ
   pub goes : Goes unclaimed replies c new did calls dirty dirty_after (Some log) after faults faults_after
 
--- A copy as its history tells it: the one just begun, with its stage and its part, as one that stays, and with the kinds of troubles that it passes over.
-abbrev pub told_at : ℕ → Pair → Stage → Option Route → Skips → SubtreeCopying
-told_at id top stage part skips = record {
+-- A copy as its history tells it: the one just begun, with its stage and its part, as one that stays.
+abbrev pub told_at : ℕ → Pair → Stage → Option Route → SubtreeCopying
+told_at id top stage part = record {
   top = top;
   at = (let c : Seen = begun id (named_of top.source) (named_of top.target) in record c { stage = stage; item = stays_if part });
-  skips = skips;
 }
 
 abbrev pub as_told : ℕ → SubtreeCopying → SubtreeCopying
-as_told id c = told_at id c.top c.at.stage (part_of c.at.item) c.skips
+as_told id c = told_at id c.top c.at.stage (part_of c.at.item)
 
 -- the copy with this item at work
 abbrev pub with_item : Item → SubtreeCopying → SubtreeCopying

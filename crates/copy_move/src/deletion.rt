@@ -1,27 +1,25 @@
 //! The deletion of a thing with all that lies in it, a name a step, by the machine of `tree_deletion`: once each thing is gone or was
 //! left, each folder that was changed is synced, and only then is it finished, so that a finished deletion is on the disk.
-ghost use Rattle.std.specs.Prelude.{◌≡◌, Some, None, if◌then◌else◌};
+ghost use Rattle.std.specs.Prelude.{◌≡◌, Some};
 ghost use Rattle.mc_text.specs.Routes.{parent_of};
 ghost use Rattle.job_reports.specs.Paths.{folder_of};
-ghost use Rattle.job_answers.specs.Skipping.{kind_in, with_kind};
 ghost use Rattle.tree_deletion.specs.Standing.{at_barrier, is_fresh};
-ghost use Rattle.copy_move.specs.Deletions.{is_passed_over as passes_over, passed_cause as cause_passed, started};
+ghost use Rattle.copy_move.specs.Deletions.{started};
 ghost use Rattle.copy_move.specs.DeletionSteps.{DeletionSkips, DeletionStep, LastDeletionStep, OrPassedOver};
 
-use job_answers::{Skips, kind_of};
-use job_reports::{Cause, Did, Ending, LastStepResult, StepResult, Trouble};
+use job_answers::Replies;
+use job_reports::{Cause, Did, Ending, LastStepResult, StepResult};
 use mc_text::Path;
 use std::alloc::Global;
 use std::marker::Model;
 use tree_deletion::{Deletion, Dirty};
 use tree_trait::Tree;
 
-/// A deletion, how many of the dirty folders its last steps have gone through, and which kinds of troubles it passes over.
+/// A deletion, and how many of the dirty folders its last steps have gone through.
 #[derive(Debug, Drop)]
 pub struct TreeDeletion {
     machine: Deletion,
     tried: usize,
-    skips: Skips,
 }
 
 impl Model for TreeDeletion {
@@ -32,7 +30,7 @@ impl Model for TreeDeletion {
 
     ghost Value = { Deleting };
 
-    ghost view = { λ d. record { path = d.machine.path; stage = d.machine.stage; depth = d.machine.depth; place = d.machine.walk.place; tried = d.tried; skips = d.skips } };
+    ghost view = { λ d. record { path = d.machine.path; stage = d.machine.stage; depth = d.machine.depth; place = d.machine.walk.place; tried = d.tried } };
 
     ghost invariant = { λ d. (parent_of d.machine.path ≡ Some d.machine.folder) × IsInside d.machine };
 }
@@ -46,43 +44,27 @@ impl TreeDeletion {
         TreeDeletion {
             machine: Deletion::new(alloc, path, folder),
             tried: 0,
-            skips: Skips::new(),
         }
     }
 
-    /// Does the next piece of work, which is at most one changing call of the tree. Where that is in a trouble of a kind that is skipped,
-    /// it is passed over.
-    pub fn step<T: Tree>(&mut self, alloc: Global, tree: &mut T, dirty: &mut Dirty) -> StepResult
-        ensures { DeletionStep self.old self.new result.did result.calls dirty.old dirty.new (T.contents tree.old)
+    /// Does the next piece of work, which is at most one changing call of the tree. Where that is in a trouble of a kind that is skipped, by
+    /// what was answered, it is passed over.
+    pub fn step<T: Tree>(
+        &mut self,
+        alloc: Global,
+        tree: &mut T,
+        dirty: &mut Dirty,
+        replies: Replies,
+    ) -> StepResult
+        ensures { DeletionStep replies self.old self.new result.did result.calls dirty.old dirty.new (T.contents tree.old)
             (T.contents tree.new) (T.fault_count tree.old) (T.fault_count tree.new) }
     {
         if self.machine.is_at_barrier() {
             self.machine.sync(alloc, tree, dirty)
         } else {
             let worked = self.machine.work(alloc, tree, dirty);
-            or_passed_over(&mut self.machine, alloc, self.skips, worked)
+            or_passed_over(&mut self.machine, alloc, replies, worked)
         }
-    }
-
-    /// From now on troubles of this kind are passed over.
-    pub fn skip_all(&mut self, cause: Cause)
-        ensures { self.new ≡ record self.old { skips = with_kind (kind_in cause) self.old.skips } }
-    {
-        self.skips.insert(kind_of(cause));
-    }
-
-    /// The kinds of troubles that are passed over.
-    pub fn skips(&self) -> Skips
-        ensures { result ≡ self.now.skips }
-    {
-        self.skips
-    }
-
-    /// Troubles of these kinds are passed over.
-    pub fn pass_over(&mut self, skips: Skips)
-        ensures { self.new ≡ record self.old { skips = skips } }
-    {
-        self.skips = skips;
     }
 
     /// What is in trouble is not deleted.
@@ -140,42 +122,16 @@ impl TreeDeletion {
 fn or_passed_over(
     machine: &mut Deletion,
     alloc: Global,
-    skips: Skips,
+    replies: Replies,
     worked: StepResult,
 ) -> StepResult
-    ensures { OrPassedOver skips worked machine.old machine.new result }
+    ensures { OrPassedOver replies.skips worked machine.old machine.new result }
 {
-    match passed_cause(skips, &worked.did) {
+    match replies.skips().passed_cause(&worked.did) {
         None => worked,
         Some(cause) => StepResult {
             did: machine.skip(alloc, cause),
             calls: worked.calls,
         },
     }
-}
-
-/// The cause of a trouble that is passed over without a question.
-fn passed_cause(skips: Skips, did: &Did) -> Option<Cause>
-    ensures { result ≡ cause_passed skips did.now }
-{
-    match did {
-        Did::Troubled(trouble) => cause_if(is_passed_over(skips, trouble), trouble.cause),
-        _ => None,
-    }
-}
-
-/// Whether a trouble is passed over without a question. At a barrier none is.
-fn is_passed_over(skips: Skips, trouble: &Trouble) -> bool
-    ensures { result ≡ passes_over skips trouble.now }
-{
-    if trouble.barrier {
-        return false;
-    }
-    skips.contains(kind_of(trouble.cause))
-}
-
-fn cause_if(passes: bool, cause: Cause) -> Option<Cause>
-    ensures { result ≡ (if passes then Some cause else None) }
-{
-    if passes { Some(cause) } else { None }
 }

@@ -6,20 +6,22 @@ ghost use Rattle.copy_move.specs.Settling.{with_change};
 ghost use Rattle.mode_setting.specs.Settings.{is_dirty};
 ghost use Rattle.mode_setting.specs.SettingSteps.{StepsOn, Winds};
 
+use job_answers::Replies;
 use job_reports::{Did, Ending, LastStepResult, StepResult, out_of_memory};
 use mode_setting::ModeSetting;
 use std::alloc::Global;
 use tree_deletion::{Dirty, without_call};
 use tree_trait::Tree;
 
-/// Does the next piece of work of a setting.
+/// Does the next piece of work of a setting, where this was answered to the job's troubles.
 pub(crate) fn step_setting<T: Tree>(
     setting: &mut ModeSetting,
     alloc: Global,
     tree: &mut T,
     dirty: &mut Dirty,
+    replies: Replies,
 ) -> StepResult
-    ensures steps { StepsOn setting.old setting.new result.did result.calls (T.contents tree.old)
+    ensures steps { StepsOn replies setting.old setting.new result.did result.calls (T.contents tree.old)
         (T.contents tree.new) (T.fault_count tree.old) (T.fault_count tree.new) }
     ensures leaves { dirty.new ≡ with_change (is_dirty setting.old.stage) (is_dirty setting.new.stage) setting.old.path dirty.old }
 {
@@ -31,7 +33,7 @@ pub(crate) fn step_setting<T: Tree>(
     ) else {
         return without_call(Did::Troubled(out_of_memory(false)));
     };
-    let stepped = setting.step(alloc, tree);
+    let stepped = setting.step(alloc, tree, replies);
     dirty.follow(readied, setting.is_dirty(), setting.path());
     stepped
 }

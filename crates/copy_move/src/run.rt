@@ -93,14 +93,13 @@ impl Run {
         })
     }
 
-    /// The job as it goes on with its next source, of which this is the plan: under its number; what was to be skipped of all that meets the
-    /// same goes on to be, and what was answered for all items goes on to hold.
+    /// The job as it goes on with its next source, of which this is the plan: under its number; what was answered for all items, and for all
+    /// troubles of a kind, goes on to hold.
     pub fn turn(&self, alloc: Global, next: &Job) -> Result<Run, NoMemory>
         requires sound { is_workable next.now ≡ true }
         ensures turned { IfOk result (λ run. turned next.now self.now ≡ Some run) }
     {
-        let mut work = begun_work(alloc, next, self.id)?;
-        work.pass_over(self.work.skips());
+        let work = begun_work(alloc, next, self.id)?;
         Ok(Run {
             id: self.id,
             work,

@@ -1,7 +1,7 @@
 //! What a job does: it copies or deletes a thing with all that lies in it, moves a thing, makes a folder or a link, sets a thing's mode, or
 //! removes a folder that a merge has emptied. One machine for each.
 ghost use Rattle.std.specs.Prelude.{◌≡◌, false, option_map, true};
-ghost use Rattle.copy_move.specs.Jobs.{IsGoing, at_barrier, is_fresh, kind_of, part_of, passing_over, path_of, skipping_by, skips_of, taken_anew as anew, with_skips};
+ghost use Rattle.copy_move.specs.Jobs.{IsGoing, at_barrier, is_fresh, kind_of, part_of, path_of, taken_anew as anew};
 ghost use Rattle.copy_move.specs.Settling.{changed_folder, is_owed_anywhere, left_folder, moved_thing};
 ghost use Rattle.copy_move.specs.Steps.{WorkSkips, WorkSteps, WorkWindsUp};
 
@@ -9,8 +9,8 @@ use crate::deletion::TreeDeletion;
 use crate::dirty_setting::{step_setting, wind_up_setting};
 use file_copy::PartTest;
 use folder_removal::{FolderRemoval, step_removal, wind_up_removal};
-use job_answers::{Replies, Skips};
-use job_reports::{Answer, Cause, Did, Ending, JobKind, LastStepResult, StepResult};
+use job_answers::Replies;
+use job_reports::{Cause, Did, Ending, JobKind, LastStepResult, StepResult};
 use mc_text::Path;
 use mode_setting::ModeSetting;
 use std::alloc::Global;
@@ -32,7 +32,7 @@ pub enum Work {
 }
 
 impl Work {
-    /// Does the next piece of work, where this was answered to the job's questions.
+    /// Does the next piece of work, where this was answered to the job's questions and troubles.
     pub(crate) fn step<T: Tree, P: PartTest>(
         &mut self,
         alloc: Global,
@@ -48,11 +48,11 @@ impl Work {
     {
         match self {
             Work::Copy(copy) => copy.step(alloc, tree, parts, dirty, replies),
-            Work::Delete(deletion) => deletion.step(alloc, tree, dirty),
+            Work::Delete(deletion) => deletion.step(alloc, tree, dirty, replies),
             Work::Make(making) => step_making(making, alloc, tree, dirty),
             Work::Move(moving) => step_moving(moving, alloc, tree, dirty, replies),
-            Work::SetMode(setting) => step_setting(setting, alloc, tree, dirty),
-            Work::RemoveEmptied(removal) => step_removal(removal, alloc, tree, dirty),
+            Work::SetMode(setting) => step_setting(setting, alloc, tree, dirty, replies),
+            Work::RemoveEmptied(removal) => step_removal(removal, alloc, tree, dirty, replies),
         }
     }
 
@@ -70,68 +70,6 @@ impl Work {
             Work::Move(moving) => moving.skip(alloc, cause),
             Work::SetMode(setting) => setting.skip(alloc, cause),
             Work::RemoveEmptied(removal) => removal.skip(alloc, cause),
-        }
-    }
-
-    /// From now on troubles of this kind are passed over without a question.
-    fn skip_all(&mut self, cause: Cause)
-        requires going { IsGoing self.old }
-        ensures skips { self.new ≡ with_skips cause self.old }
-        ensures going { IsGoing self.new }
-        ensures barrier { at_barrier self.new ≡ at_barrier self.old }
-    {
-        match self {
-            Work::Copy(copy) => copy.skip_all(cause),
-            Work::Delete(deletion) => deletion.skip_all(cause),
-            Work::Make(_) => {}
-            Work::Move(moving) => moving.skip_all(cause),
-            Work::SetMode(setting) => setting.skip_all(cause),
-            Work::RemoveEmptied(removal) => removal.skip_all(cause),
-        }
-    }
-
-    /// After `SkipAll` troubles of this kind are passed over without a question.
-    pub(crate) fn note_skip(&mut self, cause: Cause, answer: Answer)
-        requires going { IsGoing self.old }
-        ensures skips { self.new ≡ skipping_by answer cause self.old }
-        ensures going { IsGoing self.new }
-        ensures barrier { at_barrier self.new ≡ at_barrier self.old }
-    {
-        match answer {
-            Answer::SkipAll => self.skip_all(cause),
-            Answer::Skip | Answer::Retry | Answer::Abort => {}
-            Answer::Yes | Answer::No => {}
-            Answer::All | Answer::Update | Answer::Nothing | Answer::SizeDiffers => {}
-        }
-    }
-
-    /// The kinds of troubles that are passed over without a question.
-    pub(crate) fn skips(&self) -> Skips
-        ensures { result ≡ skips_of self.now }
-    {
-        match self {
-            Work::Copy(copy) => copy.skips(),
-            Work::Delete(deletion) => deletion.skips(),
-            Work::Make(_) => Skips::new(),
-            Work::Move(moving) => moving.skips(),
-            Work::SetMode(setting) => setting.skips(),
-            Work::RemoveEmptied(removal) => removal.skips(),
-        }
-    }
-
-    /// Troubles of these kinds are passed over without a question.
-    pub(crate) fn pass_over(&mut self, skips: Skips)
-        requires going { IsGoing self.old }
-        ensures passes { self.new ≡ passing_over skips self.old }
-        ensures going { IsGoing self.new }
-    {
-        match self {
-            Work::Copy(copy) => copy.pass_over(skips),
-            Work::Delete(deletion) => deletion.pass_over(skips),
-            Work::Make(_) => {}
-            Work::Move(moving) => moving.pass_over(skips),
-            Work::SetMode(setting) => setting.pass_over(skips),
-            Work::RemoveEmptied(removal) => removal.pass_over(skips),
         }
     }
 

@@ -12,6 +12,7 @@ use Rattle.job_reports.specs.declared.report.Did.TheVariants.{Kept, Skipped, Tro
 use Rattle.job_reports.specs.CallRuns.{HasMore}
 use Rattle.job_reports.specs.Stops.{out_of_memory_at, trouble_at}
 use Rattle.job_answers.specs.Skipping.{is_passed_over}
+use Rattle.job_answers.specs.declared.replies.Replies.{Replies}
 use Rattle.folder_removal.specs.declared.removal.RemovalStage.TheVariants as stage
 use Rattle.folder_removal.specs.Removals.{LastRemovalCalls, RemovalCalls, RemovalLeaves, Removing, Tells, Winds, at_barrier, skipped}
 
@@ -23,8 +24,8 @@ TellsFault did = ⊥
 
 -- A step: what it reports is allowed, the removal is then as it says, it is the call of the tree that it says, and it tells of a fault only where the tree's count has
 -- risen. It counts the changing calls that it made.
-pub record RemovalStep (old new : Removing) (did : Did) (calls : ℕ) (before after : Option CallLog) (faults faults_after : ℕ) : Type 0 where
-  pub tells : Tells old did new
+pub record RemovalStep (replies : Replies) (old new : Removing) (did : Did) (calls : ℕ) (before after : Option CallLog) (faults faults_after : ℕ) : Type 0 where
+  pub tells : Tells replies old did new
   pub called : IfKnown before (λ log. RemovalCalls old did log after)
   pub counted : IfKnown before (λ log. IfKnown after (HasMore log calls))
   pub few : calls ≤ 1
@@ -50,9 +51,9 @@ RemovalSkips cause old did new =
     ⊎ ((did ≡ Troubled (out_of_memory_at (at_barrier old.stage))) × (new ≡ old))
 
 -- the removal was refused: the folder is kept where something lies in it, passed over where troubles of that kind are, or that is told; want of memory is always told
-abbrev pub NotRemoved : Removing → TreeError → Did → Removing → Type 0
-NotRemoved old Memory did new = (did ≡ Troubled (out_of_memory_at false)) × (new ≡ old)
-NotRemoved old NotEmpty did new = (did ≡ Kept old.path) × (new ≡ record old { stage = stage.PassedOver })
-NotRemoved old e did new =
-    ((is_passed_over old.skips (trouble_at e old.path false) ≡ true) × (did ≡ Skipped old.path (Tree e)) × (new ≡ record old { stage = stage.PassedOver }))
-    ⊎ ((is_passed_over old.skips (trouble_at e old.path false) ≡ false) × (did ≡ Troubled (trouble_at e old.path false)) × (new ≡ old))
+abbrev pub NotRemoved : Replies → Removing → TreeError → Did → Removing → Type 0
+NotRemoved replies old Memory did new = (did ≡ Troubled (out_of_memory_at false)) × (new ≡ old)
+NotRemoved replies old NotEmpty did new = (did ≡ Kept old.path) × (new ≡ record old { stage = stage.PassedOver })
+NotRemoved replies old e did new =
+    ((is_passed_over replies.skips (trouble_at e old.path false) ≡ true) × (did ≡ Skipped old.path (Tree e)) × (new ≡ record old { stage = stage.PassedOver }))
+    ⊎ ((is_passed_over replies.skips (trouble_at e old.path false) ≡ false) × (did ≡ Troubled (trouble_at e old.path false)) × (new ≡ old))

@@ -1,7 +1,7 @@
 -- The order in which a folder is removed that a merge has emptied: it is removed, the folder that held it is synced, and only then is the removal finished. One in
 -- which something stayed is kept. What a step may report where the removal stands, and where it stands then; and what a report says of the tree's calls.
 use Rattle.std.specs.Prelude.{◌≡◌, ◌⊎◌, Bool, true, false, Option, Some, None, Result, Ok, Err}
-use Rattle.mc_text.specs.Routes.{Route}
+use Rattle.mc_text.specs.Routes.{Route, parent_of}
 use Rattle.tree_trait.specs.Calls.{RemoveFolder, SyncFolder}
 use Rattle.tree_trait.specs.Change.{CallLog}
 use Rattle.tree_trait.specs.Answers.{Performs}
@@ -15,20 +15,23 @@ use Rattle.job_reports.specs.declared.report.Did.{Did}
 use Rattle.job_reports.specs.declared.report.Did.TheVariants.{Removed, Kept, Skipped, Barrier, Troubled, Ended}
 use Rattle.job_reports.specs.Paths.{folder_of}
 use Rattle.job_reports.specs.Stops.{sync_answer, cause_of, named_path}
-use Rattle.job_answers.specs.declared.skips.Skips.{Skips}
-use Rattle.job_answers.specs.Skipping.{holds, is_passed_over, kind_in, no_skips}
+use Rattle.job_answers.specs.declared.replies.Replies.{Replies}
+use Rattle.job_answers.specs.Skipping.{holds, is_passed_over, kind_in}
 use Rattle.folder_removal.specs.declared.removal.RemovalStage.{RemovalStage}
 use Rattle.folder_removal.specs.declared.removal.RemovalStage.TheVariants.{Remove, Sync, Finish, PassedOver}
 
--- the removal of an emptied folder, as it stands: what is to be done next, and the kinds of troubles that are passed over
+-- the removal of an emptied folder, as it stands: what is to be done next
 pub record Removing : Type 0 where
   pub path : Route
   pub stage : RemovalStage
-  pub skips : Skips
+
+-- the thing at this path lies in this folder
+abbrev pub LiesIn : Route → Route → Type 0
+LiesIn path folder = parent_of path ≡ Some folder
 
 -- a removal, just begun
 abbrev pub started : Route → Removing
-started path = record { path = path; stage = Remove; skips = no_skips }
+started path = record { path = path; stage = Remove }
 
 -- the next call is at a barrier: a sync
 abbrev pub at_barrier : RemovalStage → Bool
@@ -73,15 +76,15 @@ after_sync Finish = Finish
 after_sync PassedOver = PassedOver
 
 -- What a step may report that goes on, and where the removal stands then. A trouble is told of whose kind none is to be passed over, or there was no memory.
-abbrev pub Tells : Removing → Did → Removing → Type 0
-Tells r (Removed path) new = (r.stage ≡ Remove) × (path ≡ r.path) × (new ≡ record r { stage = Sync })
-Tells r (Kept path) new = (r.stage ≡ Remove) × (path ≡ r.path) × (new ≡ record r { stage = PassedOver })
-Tells r (Skipped path cause) new = (r.stage ≡ Remove) × (path ≡ r.path) × (holds r.skips (kind_in cause) ≡ true) × (new ≡ record r { stage = PassedOver })
-Tells r Barrier new = (r.stage ≡ Sync) × (new ≡ record r { stage = Finish })
-Tells r (Troubled trouble) new =
-    (trouble.barrier ≡ at_barrier r.stage) × (is_done r.stage ≡ false) × ((is_passed_over r.skips trouble ≡ false) ⊎ (trouble.cause ≡ Memory)) × (new ≡ r)
-Tells r (Ended Finished part) new = (is_done r.stage ≡ true) × (part ≡ None) × (new ≡ r)
-Tells r did new = ⊥
+abbrev pub Tells : Replies → Removing → Did → Removing → Type 0
+Tells replies r (Removed path) new = (r.stage ≡ Remove) × (path ≡ r.path) × (new ≡ record r { stage = Sync })
+Tells replies r (Kept path) new = (r.stage ≡ Remove) × (path ≡ r.path) × (new ≡ record r { stage = PassedOver })
+Tells replies r (Skipped path cause) new = (r.stage ≡ Remove) × (path ≡ r.path) × (holds replies.skips (kind_in cause) ≡ true) × (new ≡ record r { stage = PassedOver })
+Tells replies r Barrier new = (r.stage ≡ Sync) × (new ≡ record r { stage = Finish })
+Tells replies r (Troubled trouble) new =
+    (trouble.barrier ≡ at_barrier r.stage) × (is_done r.stage ≡ false) × ((is_passed_over replies.skips trouble ≡ false) ⊎ (trouble.cause ≡ Memory)) × (new ≡ r)
+Tells replies r (Ended Finished part) new = (is_done r.stage ≡ true) × (part ≡ None) × (new ≡ r)
+Tells replies r did new = ⊥
 
 -- What a last step may report: a sync that is owed is tried once, and the job ends as it was ordered.
 abbrev pub Winds : Ending → Removing → Did → Removing → Type 0

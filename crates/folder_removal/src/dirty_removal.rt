@@ -7,19 +7,21 @@ ghost use Rattle.folder_removal.specs.RemovalSteps.{LastRemovalStep, RemovalStep
 ghost use Rattle.tree_deletion.specs.Folders.{after_try, with_change};
 
 use crate::removal::FolderRemoval;
+use job_answers::Replies;
 use job_reports::{Did, Ending, LastStepResult, StepResult, out_of_memory};
 use std::alloc::Global;
 use tree_deletion::{Dirty, without_call};
 use tree_trait::Tree;
 
-/// Does the next piece of work of a removal.
+/// Does the next piece of work of a removal, where this was answered to the job's troubles.
 pub fn step_removal<T: Tree>(
     removal: &mut FolderRemoval,
     alloc: Global,
     tree: &mut T,
     dirty: &mut Dirty,
+    replies: Replies,
 ) -> StepResult
-    ensures steps { RemovalStep removal.old removal.new result.did result.calls (T.contents tree.old)
+    ensures steps { RemovalStep replies removal.old removal.new result.did result.calls (T.contents tree.old)
         (T.contents tree.new) (T.fault_count tree.old) (T.fault_count tree.new) }
     ensures leaves { dirty.new ≡ with_change (is_dirty removal.old.stage) (is_dirty removal.new.stage) (folder_of removal.old.path) dirty.old }
 {
@@ -31,7 +33,7 @@ pub fn step_removal<T: Tree>(
     ) else {
         return without_call(Did::Troubled(out_of_memory(false)));
     };
-    let stepped = removal.step(alloc, tree);
+    let stepped = removal.step(alloc, tree, replies);
     dirty.follow(readied, removal.is_dirty(), removal.folder());
     stepped
 }
@@ -44,8 +46,7 @@ pub fn wind_up_removal<T: Tree>(
     ending: Ending,
     dirty: &mut Dirty,
 ) -> LastStepResult
-    ensures winds { LastRemovalStep ending removal.old removal.new result.did result.calls result.left (T.contents tree.old)
-        (T.contents tree.new) (T.fault_count tree.old) (T.fault_count tree.new) }
+    ensures winds { LastRemovalStep ending removal.old removal.new result.did result.calls result.left (T.contents tree.old) (T.contents tree.new) (T.fault_count tree.old) (T.fault_count tree.new) }
     ensures tries { dirty.new ≡ after_try result.did result.left (folder_of removal.old.path) dirty.old }
 {
     let stepped = removal.wind_up(alloc, tree, ending);

@@ -1,14 +1,13 @@
 //! The removal of one folder that a merge has emptied, a call of the tree at each step: it is removed, the folder around is synced, and only
 //! then is it finished, so that a folder whose removal is finished doesn't come back. One in which something stayed is kept.
 ghost use Rattle.std.specs.Prelude.{◌≡◌, ◌⊎◌, false, true, Err, Some};
-ghost use Rattle.mc_text.specs.Routes.{parent_of};
 ghost use Rattle.job_reports.specs.Paths.{folder_of};
 ghost use Rattle.job_reports.specs.Stops.{calls_made_for};
-ghost use Rattle.job_answers.specs.Skipping.{holds, kind_in, with_kind};
-ghost use Rattle.folder_removal.specs.Removals.{at_barrier, is_dirty, is_fresh, skipped as skipped_to, started};
+ghost use Rattle.job_answers.specs.Skipping.{holds, kind_in};
+ghost use Rattle.folder_removal.specs.Removals.{LiesIn, at_barrier, is_dirty, is_fresh, skipped as skipped_to, started};
 ghost use Rattle.folder_removal.specs.RemovalSteps.{LastRemovalStep, NotRemoved, RemovalSkips, RemovalStep};
 
-use job_answers::{Skips, kind_of};
+use job_answers::{Replies, kind_of};
 use job_reports::{Cause, Did, Ending, LastStepResult, StepResult, Trouble, out_of_memory};
 use mc_text::Path;
 use std::alloc::Global;
@@ -35,43 +34,39 @@ pub struct FolderRemoval {
     path: Path,
     folder: Path,
     stage: RemovalStage,
-    skips: Skips,
 }
 
 impl Model for FolderRemoval {
-    ghost use Rattle.std.specs.Prelude.{◌≡◌, Some};
-    ghost use Rattle.mc_text.specs.Routes.{parent_of};
-    ghost use Rattle.folder_removal.specs.Removals.{Removing};
+    ghost use Rattle.folder_removal.specs.Removals.{LiesIn, Removing};
 
     ghost Value = { Removing };
 
-    ghost view = { λ r. record { path = r.path; stage = r.stage; skips = r.skips } };
+    ghost view = { λ r. record { path = r.path; stage = r.stage } };
 
-    ghost invariant = { λ r. parent_of r.path ≡ Some r.folder };
+    ghost invariant = { λ r. LiesIn r.path r.folder };
 }
 
 impl FolderRemoval {
     /// The removal of the folder at `path`, which lies in `folder`.
     pub fn new(path: Path, folder: Path) -> FolderRemoval
-        requires { parent_of path ≡ Some folder }
+        requires { LiesIn path folder }
         ensures { result ≡ started path }
     {
         FolderRemoval {
             path,
             folder,
             stage: RemovalStage::Remove,
-            skips: Skips::new(),
         }
     }
 
-    /// Does the next piece of work, which is at most one call of the tree.
-    pub fn step<T: Tree>(&mut self, alloc: Global, tree: &mut T) -> StepResult
-        ensures { RemovalStep self.old self.new result.did result.calls (T.contents tree.old)
+    /// Does the next piece of work, which is at most one call of the tree, where this was answered to the job's troubles.
+    pub fn step<T: Tree>(&mut self, alloc: Global, tree: &mut T, replies: Replies) -> StepResult
+        ensures { RemovalStep replies self.old self.new result.did result.calls (T.contents tree.old)
             (T.contents tree.new) (T.fault_count tree.old) (T.fault_count tree.new) }
     {
         match self.stage {
-            RemovalStage::Remove => self.remove(alloc, tree),
-            RemovalStage::Sync => self.sync(alloc, tree),
+            RemovalStage::Remove => self.remove(alloc, tree, replies),
+            RemovalStage::Sync => self.sync(alloc, tree, replies),
             RemovalStage::Finish | RemovalStage::PassedOver => without_call(ended(
                 Ending::Finished,
             )),
@@ -87,27 +82,6 @@ impl FolderRemoval {
         };
         self.stage = skipped(self.stage);
         Did::Skipped(path, cause)
-    }
-
-    /// From now on troubles of this kind are passed over.
-    pub fn skip_all(&mut self, cause: Cause)
-        ensures { self.new ≡ record self.old { skips = with_kind (kind_in cause) self.old.skips } }
-    {
-        self.skips.insert(kind_of(cause));
-    }
-
-    /// The kinds of troubles that are passed over.
-    pub fn skips(&self) -> Skips
-        ensures { result ≡ self.now.skips }
-    {
-        self.skips
-    }
-
-    /// Troubles of these kinds are passed over.
-    pub fn pass_over(&mut self, skips: Skips)
-        ensures { self.new ≡ record self.old { skips = skips } }
-    {
-        self.skips = skips;
     }
 
     /// Makes the next of the last steps of a job that is to end so: a sync that is owed is tried once.
@@ -138,7 +112,7 @@ impl FolderRemoval {
 
     /// The one that holds it.
     pub fn folder(&self) -> &Path
-        ensures holds { parent_of self.now.path ≡ Some result.now }
+        ensures holds { LiesIn self.now.path result.now }
         ensures is { result.now ≡ folder_of self.now.path }
     {
         &self.folder
@@ -177,9 +151,9 @@ impl FolderRemoval {
 
 impl FolderRemoval {
     /// Removes the folder. The path of the report comes first: after the call it is too late to find no memory.
-    fn remove<T: Tree>(&mut self, alloc: Global, tree: &mut T) -> StepResult
+    fn remove<T: Tree>(&mut self, alloc: Global, tree: &mut T, replies: Replies) -> StepResult
         requires stage { self.old.stage ≡ RemovalStage.Remove }
-        ensures { RemovalStep self.old self.new result.did result.calls (T.contents tree.old)
+        ensures { RemovalStep replies self.old self.new result.did result.calls (T.contents tree.old)
             (T.contents tree.new) (T.fault_count tree.old) (T.fault_count tree.new) }
     {
         let Ok(path) = self.path.copy(alloc) else {
@@ -190,14 +164,14 @@ impl FolderRemoval {
                 self.stage = RemovalStage::Sync;
                 with_call(Did::Removed(path))
             }
-            Err(error) => self.not_removed(error, path),
+            Err(error) => self.not_removed(error, path, replies),
         }
     }
 
     /// The removal was refused. One that found no memory was not made.
-    fn not_removed(&mut self, error: TreeError, path: Path) -> StepResult
+    fn not_removed(&mut self, error: TreeError, path: Path, replies: Replies) -> StepResult
         requires { path ≡ self.old.path }
-        ensures did { NotRemoved self.old error result.did self.new }
+        ensures did { NotRemoved replies self.old error result.did self.new }
         ensures calls { result.calls ≡ calls_made_for (Err error) }
     {
         match error {
@@ -206,21 +180,21 @@ impl FolderRemoval {
                 self.stage = RemovalStage::PassedOver;
                 with_call(Did::Kept(path))
             }
-            error => self.passed_or_troubled(error, path),
+            error => self.passed_or_troubled(error, path, replies),
         }
     }
 
     /// It was refused otherwise: the folder is passed over, where troubles of that kind are, or that is told.
-    fn passed_or_troubled(&mut self, error: TreeError, path: Path) -> StepResult
+    fn passed_or_troubled(&mut self, error: TreeError, path: Path, replies: Replies) -> StepResult
         ensures did { let cause = Cause.Tree error in
-            ((holds self.old.skips (kind_in cause) ≡ true) × (result.did ≡ Did.Skipped path cause)
+            ((holds replies.skips (kind_in cause) ≡ true) × (result.did ≡ Did.Skipped path cause)
             × (self.new ≡ record self.old { stage = RemovalStage.PassedOver }))
-            ⊎ ((holds self.old.skips (kind_in cause) ≡ false) × (result.did ≡ Did.Troubled (record { cause = cause; path = Some path; barrier = false }))
+            ⊎ ((holds replies.skips (kind_in cause) ≡ false) × (result.did ≡ Did.Troubled (record { cause = cause; path = Some path; barrier = false }))
             × (self.new ≡ self.old)) }
         ensures calls { result.calls ≡ 1 }
     {
         let cause = Cause::Tree(error);
-        if self.skips.contains(kind_of(cause)) {
+        if replies.skips().contains(kind_of(cause)) {
             self.stage = RemovalStage::PassedOver;
             return with_call(Did::Skipped(path, cause));
         }
@@ -232,11 +206,12 @@ impl FolderRemoval {
     }
 
     /// Syncs the folder in which the name was.
-    fn sync<T: Tree>(&mut self, alloc: Global, tree: &mut T) -> StepResult
+    fn sync<T: Tree>(&mut self, alloc: Global, tree: &mut T, replies: Replies) -> StepResult
         requires stage { self.old.stage ≡ RemovalStage.Sync }
-        ensures { RemovalStep self.old self.new result.did result.calls (T.contents tree.old)
+        ensures { RemovalStep replies self.old self.new result.did result.calls (T.contents tree.old)
             (T.contents tree.new) (T.fault_count tree.old) (T.fault_count tree.new) }
     {
+        let _replies = replies;
         let owed = self.folder();
         let Ok(folder) = owed.copy(alloc) else {
             return without_call(Did::Troubled(out_of_memory(true)));

@@ -50,7 +50,7 @@ winds_none ending old new (Troubled trouble) t h = false≢true h
 winds_none ending old new (Ended how part) t h = false≢true h
 winds_none ending old new did t h = t
 
-pub goes_then : (job new : Running) (did : Did) (course : Course) → job.course ≡ course → TellsOn course job did new → begins_change did ≡ true → (job.course ≡ GoesOn) × ((work : Work) × WorkTells job.work did work)
+pub goes_then : (job new : Running) (did : Did) (course : Course) → job.course ≡ course → TellsOn course job did new → begins_change did ≡ true → (job.course ≡ GoesOn) × ((work : Work) × WorkTells job.replies job.work did work)
 goes_then job new did GoesOn is (work, tells, new_is) h = (is, (work, tells))
 goes_then job new did (InTrouble halt) is t h = absurd t
 goes_then job new did (OwedSyncFailed why) is t h = absurd t
@@ -60,7 +60,7 @@ goes_then job new did (Skips why) is (inr (apart, did_is, new_is)) h = absurd (f
 goes_then job new did (Ends ending) is (work, winds, new_is) h = absurd (winds_none ending job.work work did winds h)
 
 -- what is removed isn't the folder in which a job changes names
-stays_by : (replies : Replies) (log now : CallLog) → IsTree (current log) → (old work new : Work) (path : Route) → WorkTells old (Removed path) work → WorkCalls IsUnclaimed replies old (Removed path) new log (Some now) → same_path (changed_folder old) path ≡ false
+stays_by : (replies : Replies) (log now : CallLog) → IsTree (current log) → (old work new : Work) (path : Route) → WorkTells replies old (Removed path) work → WorkCalls IsUnclaimed replies old (Removed path) new log (Some now) → same_path (changed_folder old) path ≡ false
 stays_by replies log now tree (Delete d) (Delete work) new path (going, within, at) (inl done) = folder_apart log now d.path path within (removal_done log now path tree done)
 stays_by replies log now tree (Delete d) (Delete work) new path (going, within, at) (inr done) = folder_apart log now d.path path within (folder_removed log now path tree done)
 stays_by replies log now tree (Make m) (Make work) new path t calls = absurd t
@@ -72,14 +72,14 @@ stays_by replies log now tree (RemoveEmptied r) (RemoveEmptied work) new path (s
 stays_by replies log now tree old work new path t calls = absurd t
 
 -- only a move moves a thing, to a path in its folder
-moves_in : (old new : Work) (pair : Pair) → WorkTells old (Moved pair) new → (knows_calm old ≡ true) × (changed_folder old ≡ folder_of pair.target)
-moves_in (Move m) (Move new) pair (stage, pair_is, new_is) = (refl, ap (λ (p : Pair). folder_of p.target) (sym pair_is))
-moves_in (Copy c) (Copy new) pair t = absurd t.may
-moves_in (Delete d) (Delete new) pair t = absurd t
-moves_in (Make m) (Make new) pair t = absurd t
-moves_in (SetMode s) (SetMode new) pair t = absurd t
-moves_in (RemoveEmptied r) (RemoveEmptied new) pair t = absurd t
-moves_in old new pair t = absurd t
+moves_in : (replies : Replies) (old new : Work) (pair : Pair) → WorkTells replies old (Moved pair) new → (knows_calm old ≡ true) × (changed_folder old ≡ folder_of pair.target)
+moves_in replies (Move m) (Move new) pair (stage, pair_is, new_is) = (refl, ap (λ (p : Pair). folder_of p.target) (sym pair_is))
+moves_in replies (Copy c) (Copy new) pair t = absurd t.may
+moves_in replies (Delete d) (Delete new) pair t = absurd t
+moves_in replies (Make m) (Make new) pair t = absurd t
+moves_in replies (SetMode s) (SetMode new) pair t = absurd t
+moves_in replies (RemoveEmptied r) (RemoveEmptied new) pair t = absurd t
+moves_in replies old new pair t = absurd t
 
 -- so that is known to be on the disk from its first change on
 pub folder_stays : (job new : Running) (did : Did) (dirty dirty_after : List Route) (log now : CallLog) (folders : Route → Bool) → IsTree (current log) → WorkLeads job did new dirty dirty_after log now
@@ -98,7 +98,7 @@ folder_stays job new (Asked question) dirty dirty_after log now folders tree wor
 folder_stays job new (Merges transfer pair names) dirty dirty_after log now folders tree works known = elim known [ inl stands ↦ stands | inr begins ↦ absurd (false≢true begins) ]
 folder_stays job new (Moved pair) dirty dirty_after log now folders tree works known =
     let goes = goes_then job new (Moved pair) job.course refl works.tells refl in
-    let there = (moves_in job.work goes.1.0 pair goes.1.1).1 in
+    let there = (moves_in job.replies job.work goes.1.0 pair goes.1.1).1 in
     or_right _ _ (or_right _ _ (subst (λ q. same_path q (folder_of pair.target) ≡ true) (sym there) (same_path-self (folder_of pair.target))))
 folder_stays job new (Skipped path why) dirty dirty_after log now folders tree works known = elim known [ inl stands ↦ stands | inr begins ↦ absurd (false≢true begins) ]
 folder_stays job new (Cleaned part) dirty dirty_after log now folders tree works known = elim known [ inl stands ↦ stands | inr begins ↦ absurd (false≢true begins) ]
@@ -107,14 +107,14 @@ folder_stays job new (Troubled trouble) dirty dirty_after log now folders tree w
 folder_stays job new (Ended ending part) dirty dirty_after log now folders tree works known = elim known [ inl stands ↦ stands | inr begins ↦ absurd (false≢true begins) ]
 
 -- a job that sets a mode changes no names, but for a copy or a move
-sets_none : (old new : Work) (path q : Route) → knows_calm old ≡ false → WorkTells old (Set path) new → may_change (item_in old) q ≡ true → ⊥
-sets_none (Delete d) (Delete new) path q other t own = t
-sets_none (Make m) (Make new) path q other t own = t
-sets_none (SetMode s) (SetMode new) path q other t own = false≢true own
-sets_none (Copy c) new path q other t own = true≢false other
-sets_none (Move m) new path q other t own = true≢false other
-sets_none (RemoveEmptied r) (RemoveEmptied new) path q other t own = t
-sets_none old new path q other t own = t
+sets_none : (replies : Replies) (old new : Work) (path q : Route) → knows_calm old ≡ false → WorkTells replies old (Set path) new → may_change (item_in old) q ≡ true → ⊥
+sets_none replies (Delete d) (Delete new) path q other t own = t
+sets_none replies (Make m) (Make new) path q other t own = t
+sets_none replies (SetMode s) (SetMode new) path q other t own = false≢true own
+sets_none replies (Copy c) new path q other t own = true≢false other
+sets_none replies (Move m) new path q other t own = true≢false other
+sets_none replies (RemoveEmptied r) (RemoveEmptied new) path q other t own = t
+sets_none replies old new path q other t own = t
 
 -- and in its folders no mode waits from then on, but for a copy or a move
 pub calm_stays : (job new : Running) (did : Did) (dirty dirty_after : List Route) (log now : CallLog) (calm : Route → Bool) (q : Route) → knows_calm job.work ≡ false → WorkLeads job did new dirty dirty_after log now
@@ -122,14 +122,14 @@ pub calm_stays : (job new : Running) (did : Did) (dirty dirty_after : List Route
 calm_stays job new (Removed path) dirty dirty_after log now calm q other works own known = or_left _ _ own
 calm_stays job new (Began part) dirty dirty_after log now calm q other works own known = or_left _ _ own
 calm_stays job new (Made path) dirty dirty_after log now calm q other works own known = or_left _ _ own
-calm_stays job new (Set path) dirty dirty_after log now calm q other works own known = let goes = goes_then job new (Set path) job.course refl works.tells refl in absurd (sets_none job.work goes.1.0 path q other goes.1.1 own)
+calm_stays job new (Set path) dirty dirty_after log now calm q other works own known = let goes = goes_then job new (Set path) job.course refl works.tells refl in absurd (sets_none job.replies job.work goes.1.0 path q other goes.1.1 own)
 calm_stays job new (Chunk count) dirty dirty_after log now calm q other works own known = elim known [ inl stands ↦ stands | inr begins ↦ absurd (false≢true begins) ]
 calm_stays job new (Placed path) dirty dirty_after log now calm q other works own known = elim known [ inl stands ↦ stands | inr begins ↦ absurd (false≢true begins) ]
 calm_stays job new (Kept path) dirty dirty_after log now calm q other works own known = elim known [ inl stands ↦ stands | inr begins ↦ absurd (false≢true begins) ]
 calm_stays job new (Asked question) dirty dirty_after log now calm q other works own known = elim known [ inl stands ↦ stands | inr begins ↦ absurd (false≢true begins) ]
 calm_stays job new (Merges transfer pair names) dirty dirty_after log now calm q other works own known = elim known [ inl stands ↦ stands | inr begins ↦ absurd (false≢true begins) ]
 calm_stays job new (Moved pair) dirty dirty_after log now calm q other works own known =
-    let goes = goes_then job new (Moved pair) job.course refl works.tells refl in absurd (both_ways _ other (moves_in job.work goes.1.0 pair goes.1.1).0)
+    let goes = goes_then job new (Moved pair) job.course refl works.tells refl in absurd (both_ways _ other (moves_in job.replies job.work goes.1.0 pair goes.1.1).0)
 calm_stays job new (Skipped path why) dirty dirty_after log now calm q other works own known = elim known [ inl stands ↦ stands | inr begins ↦ absurd (false≢true begins) ]
 calm_stays job new (Cleaned part) dirty dirty_after log now calm q other works own known = elim known [ inl stands ↦ stands | inr begins ↦ absurd (false≢true begins) ]
 calm_stays job new Barrier dirty dirty_after log now calm q other works own known = elim known [ inl stands ↦ stands | inr begins ↦ absurd (false≢true begins) ]

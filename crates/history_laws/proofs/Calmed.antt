@@ -6,6 +6,7 @@ use Rattle.tree_trait.specs.Shape.{IsTree}
 use Rattle.tree_trait.specs.Change.{CallLog, current}
 use Rattle.tree_trait.specs.CrashImages.{Among, all_settled}
 use Rattle.crash_law.specs.Guarded.{Marks}
+use Rattle.job_answers.specs.declared.replies.Replies.{Replies}
 use Rattle.job_reports.specs.declared.job.Pair.{Pair}
 use Rattle.job_reports.specs.declared.report.Did.{Did}
 use Rattle.job_reports.specs.declared.report.Did.TheVariants.{Began, Chunk, Placed, Removed, Made, Set, Kept, Skipped, Cleaned, Barrier, Asked, Merges, Moved, Troubled, Ended}
@@ -79,24 +80,24 @@ module _ (told : Said) (dirty : List Route) (marks : Marks) (log : CallLog) (cou
       still_fresh true h = refl
       still_fresh false h = absurd (true≢false h)
 
-  fresh_then : (old new : Work) (did : Did) → WorkTells old did new → begins_change did ≡ true → has_begun old ≡ false → WorkKnows told dirty marks log course old → IsStart old
-  fresh_then (Copy c) (Copy new) did t h clean k = fresh_copy c clean k
-  fresh_then (Delete d) (Delete new) (Removed path) t h clean (name, none, intact) = (fresh_stage d.stage t.0 clean, none)
-  fresh_then (Make m) (Make new) (Made path) t h clean (name, none) = (ap makings.is_fresh t.0, none)
-  fresh_then (Move m) (Move new) (Moved pair) t h clean k = (ap movings.is_fresh t.0, k.none)
-  fresh_then (SetMode s) (SetMode new) (Set path) t h clean (name, none) = (ap settings.is_fresh t.0, none)
-  fresh_then (RemoveEmptied r) (RemoveEmptied new) (Removed path) t h clean (name, none) = (ap removals.is_fresh t.0, none)
-  fresh_then old new (Chunk count) t h clean k = absurd (false≢true h)
-  fresh_then old new (Placed path) t h clean k = absurd (false≢true h)
-  fresh_then old new (Kept kept) t h clean k = absurd (false≢true h)
-  fresh_then old new (Asked question) t h clean k = absurd (false≢true h)
-  fresh_then old new (Merges transfer pair names) t h clean k = absurd (false≢true h)
-  fresh_then old new (Skipped path why) t h clean k = absurd (false≢true h)
-  fresh_then old new (Cleaned part) t h clean k = absurd (false≢true h)
-  fresh_then old new Barrier t h clean k = absurd (false≢true h)
-  fresh_then old new (Troubled trouble) t h clean k = absurd (false≢true h)
-  fresh_then old new (Ended ending part) t h clean k = absurd (false≢true h)
-  fresh_then old new did t h clean k = absurd t
+  fresh_then : (replies : Replies) (old new : Work) (did : Did) → WorkTells replies old did new → begins_change did ≡ true → has_begun old ≡ false → WorkKnows told dirty marks log course old → IsStart old
+  fresh_then replies (Copy c) (Copy new) did t h clean k = fresh_copy c clean k
+  fresh_then replies (Delete d) (Delete new) (Removed path) t h clean (name, none, intact) = (fresh_stage d.stage t.0 clean, none)
+  fresh_then replies (Make m) (Make new) (Made path) t h clean (name, none) = (ap makings.is_fresh t.0, none)
+  fresh_then replies (Move m) (Move new) (Moved pair) t h clean k = (ap movings.is_fresh t.0, k.none)
+  fresh_then replies (SetMode s) (SetMode new) (Set path) t h clean (name, none) = (ap settings.is_fresh t.0, none)
+  fresh_then replies (RemoveEmptied r) (RemoveEmptied new) (Removed path) t h clean (name, none) = (ap removals.is_fresh t.0, none)
+  fresh_then replies old new (Chunk count) t h clean k = absurd (false≢true h)
+  fresh_then replies old new (Placed path) t h clean k = absurd (false≢true h)
+  fresh_then replies old new (Kept kept) t h clean k = absurd (false≢true h)
+  fresh_then replies old new (Asked question) t h clean k = absurd (false≢true h)
+  fresh_then replies old new (Merges transfer pair names) t h clean k = absurd (false≢true h)
+  fresh_then replies old new (Skipped path why) t h clean k = absurd (false≢true h)
+  fresh_then replies old new (Cleaned part) t h clean k = absurd (false≢true h)
+  fresh_then replies old new Barrier t h clean k = absurd (false≢true h)
+  fresh_then replies old new (Troubled trouble) t h clean k = absurd (false≢true h)
+  fresh_then replies old new (Ended ending part) t h clean k = absurd (false≢true h)
+  fresh_then replies old new did t h clean k = absurd t
 
 no_route : (part : Option Route) (path : Route) → part ≡ None → part ≡ Some path → ⊥
 no_route part path none some = let f : ⊥ = cc in f
@@ -170,11 +171,11 @@ module _ (opening : CallLog) (tree : IsTree (current opening)) (settled : all_se
       tidy : IsTidyJob opening older f.was.dirty f.before job
       tidy = subst (λ js. AreTidy opening older f.was.dirty f.before js) jobs_is (traced_tidy opening tree settled older f.was f.before f.traced)
 
-      goes : (job.course ≡ GoesOn) × ((work : Work) × WorkTells job.work h.did work)
+      goes : (job.course ≡ GoesOn) × ((work : Work) × WorkTells job.replies job.work h.did work)
       goes = goes_then job new h.did job.course refl works.tells h.begins
 
       start : (is_fresh job.work ≡ true) × (r.part ≡ None)
-      start = fresh_then (told_of opening f.before older r.part) f.was.dirty r.marks f.before job.course (ap is_over goes.0) job.work goes.1.0 h.did goes.1.1 h.begins (tidy.clean (ap (λ n. has_changed n older) id_is ∙ h.unchanged))
+      start = fresh_then (told_of opening f.before older r.part) f.was.dirty r.marks f.before job.course (ap is_over goes.0) job.replies job.work goes.1.0 h.did goes.1.1 h.begins (tidy.clean (ap (λ n. has_changed n older) id_is ∙ h.unchanged))
           (subst (λ js. JobsKnow (told_of opening f.before older r.part) f.was.dirty r.marks f.before js) jobs_is r.knows)
 
   begins : Begins

@@ -53,7 +53,7 @@ made_traced =
     (works begins has_made (Made target) 1 [] ([] ∷ []) (log []) made_log
     (record {
       may = tt;
-      after = record { top = refl; part = refl; stage = refl; skips = refl };
+      after = record { top = refl; part = refl; stage = refl };
       first = λ fresh. tt;
       on = refl;
       no_trouble = λ trouble is. let f : ⊥ = cc in f;
@@ -70,7 +70,7 @@ stands_traced =
     (works has_made brought_in Barrier 1 ([] ∷ []) [] made_log stands_log
     (record {
       may = tt;
-      after = record { top = refl; part = refl; stage = refl; skips = refl };
+      after = record { top = refl; part = refl; stage = refl };
       first = λ fresh. absurd (false≢true fresh);
       on = refl;
       no_trouble = λ trouble is. let f : ⊥ = cc in f;
@@ -87,7 +87,7 @@ given_traced =
     (works brought_in given (Set target) 1 [] (target ∷ []) stands_log given_log
     (record {
       may = tt;
-      after = record { top = refl; part = refl; stage = refl; skips = refl };
+      after = record { top = refl; part = refl; stage = refl };
       first = λ fresh. absurd (false≢true fresh);
       on = refl;
       no_trouble = λ trouble is. let f : ⊥ = cc in f;
@@ -104,7 +104,7 @@ synced_traced =
     (works given synced Barrier 1 (target ∷ []) [] given_log synced_log
     (record {
       may = tt;
-      after = record { top = refl; part = refl; stage = refl; skips = refl };
+      after = record { top = refl; part = refl; stage = refl };
       first = λ fresh. absurd (false≢true fresh);
       on = refl;
       no_trouble = λ trouble is. let f : ⊥ = cc in f;
@@ -121,7 +121,7 @@ finished_traced =
     (works synced decided (Ended Finished None) 0 [] [] synced_log synced_log
     (record {
       may = refl;
-      after = record { top = refl; part = refl; stage = refl; skips = refl };
+      after = record { top = refl; part = refl; stage = refl };
       first = λ fresh. absurd (false≢true fresh);
       on = refl;
       no_trouble = λ trouble is. let f : ⊥ = cc in f;

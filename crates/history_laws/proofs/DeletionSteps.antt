@@ -12,6 +12,7 @@ use Rattle.tree_trait.specs.CrashImages.{Among}
 use Rattle.tree_trait.specs.Answers.{Performs}
 use Rattle.tree_trait.proofs.Visible.{same_path-self, same_path-true}
 use Rattle.crash_law.specs.Guarded.{Marks}
+use Rattle.job_answers.specs.declared.replies.Replies.{Replies}
 use Rattle.job_reports.specs.declared.report.Ending.{Ending}
 use Rattle.job_reports.specs.declared.report.Ending.TheVariants.{Finished, Aborted, Killed, NoMemory}
 use Rattle.job_reports.specs.declared.report.Did.{Did}
@@ -221,54 +222,54 @@ module _ (told : Said) (dirty dirty_after : List Route) (marks : Marks) (log now
   refused_by e (RefusedFolder path h) = refused_is log now (RemoveFolder path) e (λ s left. refl) h
   refused_by e (RefusedSync folder h) = refused_is log now (SyncFolder folder) e (λ s left. refl) h
 
-  pub deletion_tells : (d new : Deleting) (did : Did) → WorkKnows told dirty marks log GoesOn (Delete d) → Tells d did new → DeletionCalls did log (Some now)
+  pub deletion_tells : (replies : Replies) (d new : Deleting) (did : Did) → WorkKnows told dirty marks log GoesOn (Delete d) → Tells replies d did new → DeletionCalls did log (Some now)
       → (is_fresh d.stage ≡ true → NoneOwed (current log) (Delete d) dirty) → DeletionLeaves d did dirty dirty_after (Some log) (Some now) → Steps did (course_after did) (Delete d) (Delete new)
-  deletion_tells d new (Removed path) knows (going, within, at) done settled (inl (leaves, called)) =
+  deletion_tells replies d new (Removed path) knows (going, within, at) done settled (inl (leaves, called)) =
       let it = removal_done log now path kept.known.guarded.tree (called log refl) in
       removes d new path _ knows (intact_now d knows going settled) (within_now d knows going settled) (firm_now d path knows going settled within it) (calm_now d knows going settled) within at (subst (λ xs. Among xs (folder_of path)) (sym leaves) (joined_holds (folder_of path) dirty))
       (λ q among off. subst (λ xs. Among xs q) (sym leaves) (joined_more (folder_of path) q dirty among)) it
-  deletion_tells d new (Removed path) knows (going, within, at) done settled (inr (leaves, called)) =
+  deletion_tells replies d new (Removed path) knows (going, within, at) done settled (inr (leaves, called)) =
       let it = folder_removed log now path kept.known.guarded.tree (called log refl) in
       removes d new path _ knows (intact_now d knows going settled) (within_now d knows going settled) (firm_now d path knows going settled within it) (calm_now d knows going settled) within at
       (subst (λ xs. Among xs (folder_of path)) (sym leaves) (still_listed path (folder_of path) (joined (folder_of path) dirty) (joined_holds (folder_of path) dirty) (above_it path it)))
       (λ q among off. subst (λ xs. Among xs q) (sym leaves) (still_listed path q (joined (folder_of path) dirty) (joined_more (folder_of path) q dirty among) off)) it
-  deletion_tells d new (Kept path) knows (going, at) done settled leaves = stands GoesOn (Delete new) (stays GoesOn GoesOn d new _ knows at (still_going path d) dirty) leaves (some_log now log done)
-  deletion_tells d new (Asked question) knows tells done settled leaves = absurd tells
-  deletion_tells d new (Merges transfer pair names) knows tells done settled leaves = absurd tells
-  deletion_tells d new (Moved pair) knows tells done settled leaves = absurd tells
-  deletion_tells d new Barrier knows (stage, at) done settled (folder, own, left, called) = tried folder None GoesOn (Delete new) (stays GoesOn GoesOn d new d.stage knows at (λ is. is)) (called log refl) left
-  deletion_tells d new (Troubled trouble) knows (barrier, at) done settled leaves =
+  deletion_tells replies d new (Kept path) knows (going, at) done settled leaves = stands GoesOn (Delete new) (stays GoesOn GoesOn d new _ knows at (still_going path d) dirty) leaves (some_log now log done)
+  deletion_tells replies d new (Asked question) knows tells done settled leaves = absurd tells
+  deletion_tells replies d new (Merges transfer pair names) knows tells done settled leaves = absurd tells
+  deletion_tells replies d new (Moved pair) knows tells done settled leaves = absurd tells
+  deletion_tells replies d new Barrier knows (stage, at) done settled (folder, own, left, called) = tried folder None GoesOn (Delete new) (stays GoesOn GoesOn d new d.stage knows at (λ is. is)) (called log refl) left
+  deletion_tells replies d new (Troubled trouble) knows (barrier, at) done settled leaves =
       subst (λ routes. Comes told told routes log now (λ m. WorkKnows told routes m now (course_after (Troubled trouble)) (Delete new))) (sym leaves)
       (comes_refused told dirty marks log now (course_after (Troubled trouble)) (Delete new) kept (stays GoesOn (course_after (Troubled trouble)) d new d.stage knows at (λ is. is) dirty) (by done))
     where
       by : DeletionCalls (Troubled trouble) log (Some now) → (now ≡ log) ⊎ (now ≡ with_change log Rattle.tree_trait.specs.Change.Nothing)
       by (inl same) = inl (some_log now log same)
       by (inr (e, cause, refused)) = refused_by e refused
-  deletion_tells d new (Ended Finished part) knows (stage, part_is, at) done settled leaves =
+  deletion_tells replies d new (Ended Finished part) knows (stage, part_is, at) done settled leaves =
       subst (λ o. Steps (Ended Finished o) GoesOn (Delete d) (Delete new)) (sym part_is) (ends (Delete d) knows.1 leaves.1 (some_log now log done))
-  deletion_tells d new (Ended Aborted part) knows tells done settled leaves = absurd tells
-  deletion_tells d new (Ended Killed part) knows tells done settled leaves = absurd tells
-  deletion_tells d new (Ended NoMemory part) knows tells done settled leaves = absurd tells
-  deletion_tells d new (Began part) knows tells done settled leaves = absurd tells
-  deletion_tells d new (Chunk count) knows tells done settled leaves = absurd tells
-  deletion_tells d new (Set path) knows tells done settled leaves = absurd tells
-  deletion_tells d new (Placed path) knows tells done settled leaves = absurd tells
-  deletion_tells d new (Made made) knows tells done settled leaves = absurd tells
-  deletion_tells d new (Skipped path cause) knows (going, passes, at) done settled leaves =
+  deletion_tells replies d new (Ended Aborted part) knows tells done settled leaves = absurd tells
+  deletion_tells replies d new (Ended Killed part) knows tells done settled leaves = absurd tells
+  deletion_tells replies d new (Ended NoMemory part) knows tells done settled leaves = absurd tells
+  deletion_tells replies d new (Began part) knows tells done settled leaves = absurd tells
+  deletion_tells replies d new (Chunk count) knows tells done settled leaves = absurd tells
+  deletion_tells replies d new (Set path) knows tells done settled leaves = absurd tells
+  deletion_tells replies d new (Placed path) knows tells done settled leaves = absurd tells
+  deletion_tells replies d new (Made made) knows tells done settled leaves = absurd tells
+  deletion_tells replies d new (Skipped path cause) knows (going, passes, at) done settled leaves =
       subst (λ routes. Comes told told routes log now (λ m. WorkKnows told routes m now GoesOn (Delete new))) (sym leaves)
       (comes_refused told dirty marks log now GoesOn (Delete new) kept (stays GoesOn GoesOn d new _ knows at (still_going path d) dirty) (by done))
     where
       by : DeletionCalls (Skipped path cause) log (Some now) → (now ≡ log) ⊎ (now ≡ with_change log Rattle.tree_trait.specs.Change.Nothing)
       by (inl same) = inl (some_log now log same)
       by (inr (e, is, refused)) = refused_by e refused
-  deletion_tells d new (Cleaned part) knows tells done settled leaves = absurd tells
+  deletion_tells replies d new (Cleaned part) knows tells done settled leaves = absurd tells
 
   pub deletion_winds : (d new : Deleting) (ending : Ending) (did : Did) (left : Option TreeError) (folder : Route) → WorkKnows told dirty marks log (Ends ending) (Delete d) → Winds ending d did new
       → TellsTried did left folder log (Some now) → LastCalls did log (Some now) → dirty_after ≡ after_try did left folder dirty
       → Steps did (Ends ending) (Delete d) (Delete new)
-  deletion_winds d new ending Barrier left folder (name, none, known) (path_is, stage_is, skips_is) answer calls leaves =
+  deletion_winds d new ending Barrier left folder (name, none, known) (path_is, stage_is) answer calls leaves =
       tried folder left (Ends ending) (Delete new) (λ routes. (subst HasName (sym path_is) name, none, λ is. moved d new path_is (known (sym stage_is ∙ is)))) answer leaves
-  deletion_winds d new ending (Ended how part) left folder knows (how_is, part_is, path_is, stage_is, skips_is) answer calls leaves =
+  deletion_winds d new ending (Ended how part) left folder knows (how_is, part_is, path_is, stage_is) answer calls leaves =
       subst (λ o. Steps (Ended how o) (Ends ending) (Delete d) (Delete new)) (sym part_is) (ends (Delete d) knows.1 leaves (some_log now log calls))
   deletion_winds d new ending (Began part) left folder knows tells answer calls leaves = absurd tells
   deletion_winds d new ending (Chunk count) left folder knows tells answer calls leaves = absurd tells

@@ -13,9 +13,9 @@ use Rattle.tree_trait.specs.Change.{Change, Nothing, Makes, Removes, Syncs, Call
 use Rattle.tree_trait.specs.CrashImages.{IsCrashImage}
 use Rattle.tree_trait.proofs.BareRoot.{bare, bare_tree}
 use Rattle.tree_trait.proofs.Kept.{tree_made}
+use Rattle.job_answers.specs.Decisions.{no_replies}
 use Rattle.job_reports.specs.declared.report.Ending.TheVariants.{Aborted}
 use Rattle.job_reports.specs.declared.report.Did.TheVariants.{Removed, Barrier, Troubled, Ended}
-use Rattle.job_answers.specs.Skipping.{no_skips}
 use Rattle.subtree_walk.specs.Places.{unopened}
 use Rattle.tree_deletion.specs.declared.deletion.Depth.TheVariants.{Top}
 use Rattle.tree_deletion.specs.declared.deletion.Stage.{Stage}
@@ -69,7 +69,7 @@ removal = Removes 0 (1 ∷ []) 1
 
 -- the deletion of this file, which has tried so many folders in its last steps
 abbrev pub deletion : Route → Stage → ℕ → Deleting
-deletion path stage tried = record { path = path; stage = stage; depth = Top; place = unopened; tried = tried; skips = no_skips }
+deletion path stage tried = record { path = path; stage = stage; depth = Top; place = unopened; tried = tried }
 
 -- the job with this number that deletes this file
 abbrev pub job : ℕ → Route → Stage → ℕ → Course → Running
@@ -87,7 +87,7 @@ abbrev pub machine : Route → Stage → Deletion
 machine path stage = machine_of (deletion path stage 0) 0
 
 -- it removes a file that is the thing itself
-removes_first : Goes (deletion the_file Begin 0) (deletion the_file Sync 0) (Removed the_file) 1 [] ([] ∷ []) (Some (log [])) (Some (log (removal ∷ []))) 0 0
+removes_first : Goes no_replies (deletion the_file Begin 0) (deletion the_file Sync 0) (Removed the_file) 1 [] ([] ∷ []) (Some (log [])) (Some (log (removal ∷ []))) 0 0
 removes_first =
     let less = some_weight 257 in
     inl (
@@ -129,7 +129,7 @@ removed_traced : IsTraced (log []) removed_entries (stand (first Sync GoesOn ∷
 removed_traced =
     own_step (log []) 1 1 (Removed the_file) begun_entries (stand (first Begin GoesOn ∷ []) []) (stand (first Sync GoesOn ∷ []) ([] ∷ [])) (log []) (log (removal ∷ [])) (first Begin GoesOn) (first Sync GoesOn) begun_traced (inl (refl, refl))
     (record {
-      tells = (Delete (deletion the_file Sync 0), (refl, refl, record { path_is = refl; stage_is = refl; tried_is = refl; skips_is = refl }), refl);
+      tells = (Delete (deletion the_file Sync 0), (refl, refl, record { path_is = refl; stage_is = refl; tried_is = refl }), refl);
       called = inl (refl, (pos 0, refl));
       settled = λ goes fresh kept among. absurd among;
       cleared = λ goes fresh kept among. absurd among;
@@ -154,7 +154,7 @@ abbrev pub aborted_log : CallLog
 aborted_log = log (removal ∷ Nothing ∷ Nothing ∷ [])
 
 -- the machine's sync is refused
-sync_refused : Goes (deletion the_file Sync 0) (deletion the_file Sync 0) (Troubled (trouble_at refused.Fault [] true)) 1 ([] ∷ []) ([] ∷ []) (Some (log (removal ∷ []))) (Some (log (removal ∷ Nothing ∷ []))) 0 1
+sync_refused : Goes no_replies (deletion the_file Sync 0) (deletion the_file Sync 0) (Troubled (trouble_at refused.Fault [] true)) 1 ([] ∷ []) ([] ∷ []) (Some (log (removal ∷ []))) (Some (log (removal ∷ Nothing ∷ []))) 0 1
 sync_refused =
     inr (
       0,
@@ -183,7 +183,7 @@ troubled_traced : IsTraced (log []) troubled_entries (stand (waiting ∷ []) ([]
 troubled_traced =
     own_step (log []) 1 2 (Troubled (trouble_at refused.Fault [] true)) removed_entries (stand (first Sync GoesOn ∷ []) ([] ∷ [])) (stand (waiting ∷ []) ([] ∷ [])) (log (removal ∷ [])) (log (removal ∷ Nothing ∷ [])) (first Sync GoesOn) waiting removed_traced (inl (refl, refl))
     (record {
-      tells = (Delete (deletion the_file Sync 0), (refl, record { path_is = refl; stage_is = refl; tried_is = refl; skips_is = refl }), refl);
+      tells = (Delete (deletion the_file Sync 0), (refl, record { path_is = refl; stage_is = refl; tried_is = refl }), refl);
       called = inr (refused.Fault, inl refl, RefusedSync [] (refl, ([], refl)));
       settled = λ goes fresh. absurd (true≢false (sym fresh));
       cleared = λ goes fresh. absurd (true≢false (sym fresh));
@@ -232,7 +232,7 @@ tried_traced : IsTraced (log []) tried_entries (stand (tried_once ∷ []) ([] �
 tried_traced =
     own_step (log []) 1 3 Barrier closed_entries (stand (first Sync (Ends Aborted) ∷ []) ([] ∷ [])) (stand (tried_once ∷ []) ([] ∷ [])) (log (removal ∷ Nothing ∷ [])) aborted_log (first Sync (Ends Aborted)) tried_once closed_traced (inl (refl, refl))
     (record {
-      tells = (Delete (deletion the_file Sync 1), (refl, refl, refl), refl);
+      tells = (Delete (deletion the_file Sync 1), (refl, refl), refl);
       called = ([], Err refused.Fault, (refl, ([], refl)));
       settled = λ goes fresh. absurd (true≢false (sym fresh));
       cleared = λ goes fresh. absurd (true≢false (sym fresh));
@@ -244,7 +244,7 @@ aborted_traced : IsTraced (log []) aborted_entries (stand [] ([] ∷ [])) aborte
 aborted_traced =
     own_step (log []) 1 3 (Ended Aborted None) tried_entries (stand (tried_once ∷ []) ([] ∷ [])) (stand [] ([] ∷ [])) aborted_log aborted_log tried_once tried_once tried_traced (inl (refl, refl))
     (record {
-      tells = (Delete (deletion the_file Sync 1), (refl, refl, refl, refl, refl), refl);
+      tells = (Delete (deletion the_file Sync 1), (refl, refl, refl, refl), refl);
       called = refl;
       settled = λ goes fresh. absurd (true≢false (sym fresh));
       cleared = λ goes fresh. absurd (true≢false (sym fresh));
@@ -333,7 +333,7 @@ changed_log = log (removal ∷ Nothing ∷ Nothing ∷ Syncs 0 ∷ Removes 0 (2 
 abbrev pub changed : Running
 changed = job 2 another Sync 0 GoesOn
 
-removes_second : Goes (deletion another Begin 0) (deletion another Sync 0) (Removed another) 1 [] ([] ∷ []) (Some settled_log) (Some changed_log) 2 2
+removes_second : Goes no_replies (deletion another Begin 0) (deletion another Sync 0) (Removed another) 1 [] ([] ∷ []) (Some settled_log) (Some changed_log) 2 2
 removes_second =
     let less = some_weight 257 in
     inl (
@@ -365,7 +365,7 @@ pub changed_traced : IsTraced (log []) changed_entries (stand (changed ∷ []) (
 changed_traced =
     own_step (log []) 2 5 (Removed another) settled_entries (stand (second ∷ []) []) (stand (changed ∷ []) ([] ∷ [])) settled_log changed_log second changed settled_traced (inl (refl, refl))
     (record {
-      tells = (Delete (deletion another Sync 0), (refl, refl, record { path_is = refl; stage_is = refl; tried_is = refl; skips_is = refl }), refl);
+      tells = (Delete (deletion another Sync 0), (refl, refl, record { path_is = refl; stage_is = refl; tried_is = refl }), refl);
       called = inl (refl, (pos 0, refl));
       settled = λ goes fresh kept among. absurd among;
       cleared = λ goes fresh kept among. absurd among;

@@ -7,9 +7,9 @@ use Rattle.mc_text.specs.Routes.{Route, same_path}
 use Rattle.tree_trait.specs.Shape.{IsTree}
 use Rattle.tree_trait.specs.Change.{CallLog, current}
 use Rattle.tree_trait.specs.CrashImages.{all_settled}
+use Rattle.job_answers.specs.Decisions.{with_skips}
 use Rattle.job_reports.specs.declared.report.Ending.{Ending}
 use Rattle.job_reports.specs.declared.report.Ending.TheVariants.{Aborted}
-use Rattle.job_reports.specs.declared.report.Cause.{Cause}
 use Rattle.job_reports.specs.declared.report.Did.{Did}
 use Rattle.job_reports.specs.declared.report.Did.TheVariants.{Began, Chunk, Placed, Removed, Made, Set, Kept, Skipped, Cleaned, Barrier, Asked, Merges, Moved, Troubled, Ended}
 use Rattle.job_reports.specs.Jobs.{Item, folder_changed}
@@ -33,7 +33,7 @@ use Rattle.tree_copy.specs.Skipping.{retried_at}
 use Rattle.tree_copy.specs.Standing.{Seen, is_fresh}
 use Rattle.tree_copy.specs.Steps.{idle, settled}
 use Rattle.copy_move.specs.declared.work.Work.TheVariants.{Copy, Delete, Make, Move, SetMode, RemoveEmptied}
-use Rattle.copy_move.specs.Jobs.{replied, Running, TellsOn, answered_on, begun_work, closed_course, closed_job, course_after, taken_anew, unreported_skip, with_skips}
+use Rattle.copy_move.specs.Jobs.{replied, Running, TellsOn, answered_on, begun_work, closed_course, closed_job, course_after, taken_anew, unreported_skip}
 use Rattle.job_reports.specs.Reports.{ends}
 use Rattle.copy_move.specs.Settling.{changed_folder}
 use Rattle.job_reports.specs.Paths.{folder_of, without}
@@ -144,24 +144,6 @@ anew_tidy (Move m) dirty t = t
 anew_tidy (SetMode s) dirty t = t
 anew_tidy (RemoveEmptied r) dirty t = t
 
--- nor does it once a kind of trouble is passed over
-skips_dirty : (why : Cause) (work : Work)
-    → (has_begun (with_skips why work) ≡ has_begun work) × ((changed_folder (with_skips why work) ≡ changed_folder work) × (item_in (with_skips why work) ≡ item_in work) × (knows_calm (with_skips why work) ≡ knows_calm work))
-skips_dirty why (Copy c) = (refl, (refl, refl, refl))
-skips_dirty why (Delete d) = (refl, (refl, refl, refl))
-skips_dirty why (Make m) = (refl, (refl, refl, refl))
-skips_dirty why (Move m) = (refl, (refl, refl, refl))
-skips_dirty why (SetMode s) = (refl, (refl, refl, refl))
-skips_dirty why (RemoveEmptied r) = (refl, (refl, refl, refl))
-
-skips_tidy : (why : Cause) (work : Work) (dirty : List Route) → TidyFolder work dirty → TidyFolder (with_skips why work) dirty
-skips_tidy why (Copy c) dirty t = t
-skips_tidy why (Delete d) dirty t = tt
-skips_tidy why (Make m) dirty t = t
-skips_tidy why (Move m) dirty t = t
-skips_tidy why (SetMode s) dirty t = t
-skips_tidy why (RemoveEmptied r) dirty t = t
-
 some_end : (a b : Ending) → (let c : Course = Ends a in c) ≡ Ends b → b ≡ a
 some_end a b h = cc
 
@@ -170,7 +152,7 @@ answer_tidy opening g dirty log job (InTrouble halt) is Retry t =
     let a = anew_dirty job.work in kept_tidy opening g dirty log job (record job { work = taken_anew job.work; course = GoesOn }) refl a.0 a.1 (anew_tidy job.work dirty) (λ going. subst IsGoing (sym is) tt) (λ ending e. no_end GoesOn ending tt e) t
 answer_tidy opening g dirty log job (InTrouble halt) is Skip t = kept_tidy opening g dirty log job (record job { course = Skips halt.cause }) refl refl (refl, refl, refl) (λ t. t) (λ going. subst IsGoing (sym is) tt) (λ ending e. no_end (Skips halt.cause) ending tt e) t
 answer_tidy opening g dirty log job (InTrouble halt) is SkipAll t =
-    let a = skips_dirty halt.cause job.work in kept_tidy opening g dirty log job (record job { work = with_skips halt.cause job.work; course = Skips halt.cause }) refl a.0 a.1 (skips_tidy halt.cause job.work dirty) (λ going. subst IsGoing (sym is) tt) (λ ending e. no_end (Skips halt.cause) ending tt e) t
+    kept_tidy opening g dirty log job (record job { replies = with_skips halt.cause job.replies; course = Skips halt.cause }) refl refl (refl, refl, refl) (λ t. t) (λ going. subst IsGoing (sym is) tt) (λ ending e. no_end (Skips halt.cause) ending tt e) t
 answer_tidy opening g dirty log job (InTrouble halt) is Abort t = kept_tidy opening g dirty log job (record job { course = Ends Aborted }) refl refl (refl, refl, refl) (λ t. t) (λ going. absurd going) (λ ending e. some_end Aborted ending e) t
 answer_tidy opening g dirty log job (OwedSyncFailed why) is Retry t =
     let a = anew_dirty job.work in kept_tidy opening g dirty log job (record job { work = taken_anew job.work; course = GoesOn }) refl a.0 a.1 (anew_tidy job.work dirty) (λ going. subst IsGoing (sym is) tt) (λ ending e. no_end GoesOn ending tt e) t

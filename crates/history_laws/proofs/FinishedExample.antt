@@ -9,6 +9,7 @@ use Rattle.tree_trait.specs.Calls.{SyncFolder}
 use Rattle.tree_trait.specs.Answers.{Performs}
 use Rattle.tree_trait.specs.Change.{Nothing, Removes, Syncs, CallLog}
 use Rattle.tree_trait.specs.CrashImages.{IsCrashImage}
+use Rattle.job_answers.specs.Decisions.{no_replies}
 use Rattle.job_reports.specs.declared.report.Ending.TheVariants.{Finished}
 use Rattle.job_reports.specs.declared.report.Did.TheVariants.{Barrier, Ended}
 use Rattle.tree_deletion.specs.declared.deletion.Stage.TheVariants.{Sync}
@@ -47,7 +48,7 @@ abbrev synced : Running
 synced = job 2 another Sync 0 GoesOn
 
 -- the machine syncs that folder, and then it is finished
-syncs_second : Goes (deletion another Sync 0) (deletion another Sync 0) Barrier 1 ([] ∷ []) [] (Some changed_log) (Some finished_log) 2 2
+syncs_second : Goes no_replies (deletion another Sync 0) (deletion another Sync 0) Barrier 1 ([] ∷ []) [] (Some changed_log) (Some finished_log) 2 2
 syncs_second =
     inr (
       0,
@@ -62,7 +63,7 @@ syncs_second =
       refl,
     )
 
-finishes_second : Goes (deletion another Sync 0) (deletion another Sync 0) (Ended Finished None) 0 [] [] (Some finished_log) (Some finished_log) 2 2
+finishes_second : Goes no_replies (deletion another Sync 0) (deletion another Sync 0) (Ended Finished None) 0 [] [] (Some finished_log) (Some finished_log) 2 2
 finishes_second =
     inr (
       0,
@@ -81,7 +82,7 @@ synced_traced : IsTraced (log []) synced_entries (stand (synced ∷ []) []) fini
 synced_traced =
     own_step (log []) 2 6 Barrier changed_entries (stand (changed ∷ []) ([] ∷ [])) (stand (synced ∷ []) []) changed_log finished_log changed synced changed_traced (inl (refl, refl))
     (record {
-      tells = (Delete (deletion another Sync 0), (refl, record { path_is = refl; stage_is = refl; tried_is = refl; skips_is = refl }), refl);
+      tells = (Delete (deletion another Sync 0), (refl, record { path_is = refl; stage_is = refl; tried_is = refl }), refl);
       called = ([], (refl, (pos 0, refl)));
       settled = λ goes fresh. absurd (true≢false (sym fresh));
       cleared = λ goes fresh. absurd (true≢false (sym fresh));
@@ -98,7 +99,7 @@ finished_traced : IsTraced (log []) finished_entries (stand [] []) finished_log
 finished_traced =
     own_step (log []) 2 6 (Ended Finished None) synced_entries (stand (synced ∷ []) []) (stand [] []) finished_log finished_log synced synced synced_traced (inl (refl, refl))
     (record {
-      tells = (Delete (deletion another Sync 0), (refl, refl, record { path_is = refl; stage_is = refl; tried_is = refl; skips_is = refl }), refl);
+      tells = (Delete (deletion another Sync 0), (refl, refl, record { path_is = refl; stage_is = refl; tried_is = refl }), refl);
       called = refl;
       settled = λ goes fresh. absurd (true≢false (sym fresh));
       cleared = λ goes fresh. absurd (true≢false (sym fresh));

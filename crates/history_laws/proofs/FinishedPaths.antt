@@ -12,6 +12,7 @@ use Rattle.crash_law.specs.Guarded.{Marks}
 use Rattle.subtree_copy.specs.Standing.{SubtreeCopying}
 use Rattle.tree_copy.specs.Standing.{is_fresh as is_fresh_tree}
 use Rattle.tree_trait.proofs.Visible.{same_path-self, same_path-true}
+use Rattle.job_answers.specs.declared.replies.Replies.{Replies}
 use Rattle.job_reports.specs.declared.report.Ending.{Ending}
 use Rattle.job_reports.specs.declared.report.Ending.TheVariants.{Finished, Aborted}
 use Rattle.job_reports.specs.declared.report.Did.TheVariants.{Ended}
@@ -76,26 +77,26 @@ done_removal removal.Sync h = absurd (false≢true h)
 done_removal removal.Finish h = refl
 done_removal removal.PassedOver h = refl
 
-done_work : (old new next : Work) (part : Option Route) (dirty dirty_after : List Route) (before after : Option CallLog) → WorkTells old (Ended Finished part) new → WorkLeaves old (Ended Finished part) next dirty dirty_after before after
+done_work : (replies : Replies) (old new next : Work) (part : Option Route) (dirty dirty_after : List Route) (before after : Option CallLog) → WorkTells replies old (Ended Finished part) new → WorkLeaves old (Ended Finished part) next dirty dirty_after before after
     → knows_calm old ≡ false → TidyFolder old dirty → (q : Route) → is_own old q ≡ true → Among dirty q → ⊥
-done_work (Copy c) new next part dirty dirty_after before after t leaves other tidy q own among = true≢false other
-done_work (Move m) new next part dirty dirty_after before after t leaves other tidy q own among = true≢false other
-done_work (Make m) (Make new) next part dirty dirty_after before after (is_done, part_is, new_is) leaves other tidy q own among =
+done_work replies (Copy c) new next part dirty dirty_after before after t leaves other tidy q own among = true≢false other
+done_work replies (Move m) new next part dirty dirty_after before after t leaves other tidy q own among = true≢false other
+done_work replies (Make m) (Make new) next part dirty dirty_after before after (is_done, part_is, new_is) leaves other tidy q own among =
     tidy (done_making m.stage is_done) (subst (λ x. Among dirty x) (same_path-true q (folder_of m.path) own) among)
-done_work (SetMode s) (SetMode new) next part dirty dirty_after before after (stage, part_is, new_is) leaves other tidy q own among =
+done_work replies (SetMode s) (SetMode new) next part dirty dirty_after before after (stage, part_is, new_is) leaves other tidy q own among =
     tidy (ap settings.is_dirty stage) (subst (λ x. Among dirty x) (same_path-true q s.path own) among)
-done_work (Delete d) (Delete new) (SetMode next) part dirty dirty_after before after t leaves other tidy q own among = leaves
-done_work (Delete d) (Delete new) (Copy next) part dirty dirty_after before after t leaves other tidy q own among = leaves
-done_work (Delete d) (Delete new) (Make next) part dirty dirty_after before after t leaves other tidy q own among = leaves
-done_work (Delete d) (Delete new) (RemoveEmptied next) part dirty dirty_after before after t leaves other tidy q own among = leaves
-done_work (Delete d) (Delete new) (Move next) part dirty dirty_after before after t leaves other tidy q own among = leaves
-done_work (Delete d) (Delete new) (Delete next) part dirty dirty_after before after t leaves other tidy q own among = both_ways _ (leaves.0 q among) own
-done_work (RemoveEmptied r) (RemoveEmptied new) next part dirty dirty_after before after (is_done, part_is, new_is) leaves other tidy q own among =
+done_work replies (Delete d) (Delete new) (SetMode next) part dirty dirty_after before after t leaves other tidy q own among = leaves
+done_work replies (Delete d) (Delete new) (Copy next) part dirty dirty_after before after t leaves other tidy q own among = leaves
+done_work replies (Delete d) (Delete new) (Make next) part dirty dirty_after before after t leaves other tidy q own among = leaves
+done_work replies (Delete d) (Delete new) (RemoveEmptied next) part dirty dirty_after before after t leaves other tidy q own among = leaves
+done_work replies (Delete d) (Delete new) (Move next) part dirty dirty_after before after t leaves other tidy q own among = leaves
+done_work replies (Delete d) (Delete new) (Delete next) part dirty dirty_after before after t leaves other tidy q own among = both_ways _ (leaves.0 q among) own
+done_work replies (RemoveEmptied r) (RemoveEmptied new) next part dirty dirty_after before after (is_done, part_is, new_is) leaves other tidy q own among =
     tidy (done_removal r.stage is_done) (subst (λ x. Among dirty x) (same_path-true q (folder_of r.path) own) among)
-done_work old new next part dirty dirty_after before after t leaves other tidy q own among = t
+done_work replies old new next part dirty dirty_after before after t leaves other tidy q own among = t
 
 pub wound_up : (ending : Ending) (old new : Work) (part : Option Route) → Rattle.copy_move.specs.Jobs.WorkWinds ending old (Ended Finished part) new → Finished ≡ ending
-wound_up ending (Delete d) (Delete new) part (how_is, part_is, path_is, stage_is, skips_is) = how_is
+wound_up ending (Delete d) (Delete new) part (how_is, part_is, path_is, stage_is) = how_is
 wound_up ending (Make m) (Make new) part (off, how_is, part_is, new_is) = how_is
 wound_up ending (Move m) (Move new) part (off, how_is, part_is, new_is) = how_is
 wound_up ending (SetMode s) (SetMode new) part (clean, how_is, part_is, new_is) = how_is
@@ -107,7 +108,7 @@ finished_tidy : (opening : CallLog) (g : List Entry) (dirty dirty_after : List R
     → LeavesDirty course job.work (Ended Finished part) new.work dirty dirty_after before after → IsTidyJob opening g dirty log job → has_changed job.id g ≡ true
     → (job.course ≡ GoesOn) × TidyFolder job.work dirty × (knows_calm job.work ≡ false → (q : Route) → is_own job.work q ≡ true → Among dirty q → ⊥)
 finished_tidy opening g dirty dirty_after log job new part before after GoesOn is (work, tells, new_is) leaves t changed =
-    let tidy = t.tidy changed (subst IsGoing (sym is) tt) in (is, tidy, λ other q own among. done_work job.work work new.work part dirty dirty_after before after tells leaves other tidy q own among)
+    let tidy = t.tidy changed (subst IsGoing (sym is) tt) in (is, tidy, λ other q own among. done_work job.replies job.work work new.work part dirty dirty_after before after tells leaves other tidy q own among)
 finished_tidy opening g dirty dirty_after log job new part before after (InTrouble halt) is tells leaves t changed = absurd tells
 finished_tidy opening g dirty dirty_after log job new part before after (OwedSyncFailed why) is tells leaves t changed = absurd tells
 finished_tidy opening g dirty dirty_after log job new part before after Asking is tells leaves t changed = absurd tells
@@ -289,9 +290,9 @@ done_moving moving.SyncSource done moved = absurd (false≢true done)
 done_moving moving.Finish done moved = (refl, refl)
 done_moving moving.PassedOver done moved = absurd (false≢true moved)
 
-move_done : (m : Moving) (work : Work) (part : Option Route) → WorkTells (Move m) (Ended Finished part) work → movings.is_done m.stage ≡ true
-move_done m (Move new) part (is_done, part_is, new_is) = is_done
-move_done m work part t = absurd t
+move_done : (replies : Replies) (m : Moving) (work : Work) (part : Option Route) → WorkTells replies (Move m) (Ended Finished part) work → movings.is_done m.stage ≡ true
+move_done replies m (Move new) part (is_done, part_is, new_is) = is_done
+move_done replies m work part t = absurd t
 
 moved_left : (told : Said) (dirty dirty_after : List Route) (marks : Marks) (log now : CallLog) (job new : Running) (part : Option Route) (m : Moving) → job.work ≡ Move m → job.course ≡ GoesOn → WorkKnows told dirty marks log job.course job.work
     → TidyFolder job.work dirty → WorkLeads job (Ended Finished part) new dirty dirty_after log now → HasName m.pair.source × (HasName m.pair.target × (((movings.owes_target m.stage ≡ false) × (movings.is_dirty m.stage ≡ false)) × IsMovedIn told marks log m))
@@ -299,7 +300,7 @@ moved_left told dirty dirty_after marks log now job new part m is on knows tidy 
     let known : MoveKnown told marks log GoesOn m = subst (λ x. WorkKnows told dirty marks log GoesOn x) is (subst (λ x. WorkKnows told dirty marks log x job.work) on knows) in
     let renamed : is_moved m.stage ≡ true = subst (λ x. TidyFolder x dirty) is tidy in
     let tells : TellsOn GoesOn job (Ended Finished part) new = subst (λ x. TellsOn x job (Ended Finished part) new) on works.tells in
-    (known.source, (known.target, (done_moving m.stage (move_done m tells.0 part (subst (λ x. WorkTells x (Ended Finished part) tells.0) is tells.1)) renamed, known.moved refl renamed)))
+    (known.source, (known.target, (done_moving m.stage (move_done job.replies m tells.0 part (subst (λ x. WorkTells job.replies x (Ended Finished part) tells.0) is tells.1)) renamed, known.moved refl renamed)))
 
 pub finished_law : FinishedLaw
 finished_law opening now after newest stand dirty job new part path tree settled traced jobs_is works changed own =

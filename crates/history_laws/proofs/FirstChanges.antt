@@ -137,14 +137,14 @@ record HasMoved (old work : Work) (pair : Pair) : Type 0 where
   pub pair_is : pair ≡ m.pair
   pub then : work ≡ Move (record m { stage = SyncTarget })
 
-moved_in : (old work : Work) (pair : Pair) → WorkTells old (Moved pair) work → HasMoved old work pair
-moved_in (Move m) (Move new) pair (stage, pair_is, new_is) = record { m = m; is = refl; pair_is = pair_is; then = ap Move new_is }
-moved_in (Copy c) (Copy new) pair t = absurd t.may
-moved_in (Delete d) (Delete new) pair t = absurd t
-moved_in (Make m) (Make new) pair t = absurd t
-moved_in (SetMode s) (SetMode new) pair t = absurd t
-moved_in (RemoveEmptied r) (RemoveEmptied new) pair t = absurd t
-moved_in old new pair t = absurd t
+moved_in : (replies : Replies) (old work : Work) (pair : Pair) → WorkTells replies old (Moved pair) work → HasMoved old work pair
+moved_in replies (Move m) (Move new) pair (stage, pair_is, new_is) = record { m = m; is = refl; pair_is = pair_is; then = ap Move new_is }
+moved_in replies (Copy c) (Copy new) pair t = absurd t.may
+moved_in replies (Delete d) (Delete new) pair t = absurd t
+moved_in replies (Make m) (Make new) pair t = absurd t
+moved_in replies (SetMode s) (SetMode new) pair t = absurd t
+moved_in replies (RemoveEmptied r) (RemoveEmptied new) pair t = absurd t
+moved_in replies old new pair t = absurd t
 
 -- Below the two paths of a move no folder is joined with another after it: nothing waits of what was moved, and where it was nothing stands.
 moved_unjoined : (told : Said) (marks : Marks) (log : CallLog) (m : Moving) (up : Route) → IsMovedIn told marks log m → is_of_move m.pair up ≡ true → IsUnjoined log up
@@ -157,7 +157,7 @@ moved_unjoined told marks log m up h of_move f g at = elim (or_cases (is_prefix 
 ]
 
 -- a mode is set by a call that joins no folders, where no copy does that
-set_unjoined : (replies : Replies) (log now : CallLog) (old work new : Work) (path up : Route) → is_fresh old ≡ true → WorkTells old (Set path) work → WorkCalls IsUnclaimed replies old (Set path) new log (Some now) → IsUnjoined log up → IsUnjoined now up
+set_unjoined : (replies : Replies) (log now : CallLog) (old work new : Work) (path up : Route) → is_fresh old ≡ true → WorkTells replies old (Set path) work → WorkCalls IsUnclaimed replies old (Set path) new log (Some now) → IsUnjoined log up → IsUnjoined now up
 set_unjoined replies log now (SetMode s) (SetMode work) new path up fresh t calls apart =
     let d = one_done log (Sets_mode s.path s.mode) now calls in
     subst (λ (l : CallLog). IsUnjoined l up) (sym d.is)
@@ -183,7 +183,7 @@ module _ (opening log now : CallLog) (older newest : List Entry) (was stand : St
       let t = tells in
       let leaves : WorkLeaves job.work did new.work was.dirty stand.dirty (Some log) (Some now) =
       subst (λ (course : Course). LeavesDirty course job.work did new.work was.dirty stand.dirty (Some log) (Some now)) goes works.leaves in
-      elim (own_or_before job.work t.0 new.work did q was.dirty stand.dirty (Some log) (Some now) t.1 leaves among) [
+      elim (own_or_before job.replies job.work t.0 new.work did q was.dirty stand.dirty (Some log) (Some now) t.1 leaves among) [
         | inl own ↦ inl own
         | inr old ↦ inr (apart_from (current log) job.work was.dirty q old none)
       ]
@@ -228,11 +228,11 @@ module _ (opening log now : CallLog) (older newest : List Entry) (was stand : St
           inl then.apart
       by (Sets_in path is) =
           let t = tells in
-          inl (set_unjoined job.replies log now job.work t.0 new.work path up fresh (subst (λ d. WorkTells job.work d t.0) is t.1)
+          inl (set_unjoined job.replies log now job.work t.0 new.work path up fresh (subst (λ d. WorkTells job.replies job.work d t.0) is t.1)
           (subst (λ d. WorkCalls IsUnclaimed job.replies job.work d new.work log (Some now)) is (subst (λ (c : Course). CallsOn IsUnclaimed c job did new log (Some now)) goes works.called)) calm.apart)
       by (Moves_in pair is here) =
           let t = tells in
-          let moved = moved_in job.work t.0 pair (subst (λ d. WorkTells job.work d t.0) is t.1) in
+          let moved = moved_in job.replies job.work t.0 pair (subst (λ d. WorkTells job.replies job.work d t.0) is t.1) in
           let come = work_leads (calming up told) was.dirty stand.dirty marks log now (kept_calming up told was.dirty marks log calm (let r = reached in r.kept)) job new did knows works in
           let known : KnowsAfter (Moved pair) (said_after now did job.work (calming up told)) stand.dirty now new.course new.work come.marks =
           subst (λ d. KnowsAfter d (said_after now did job.work (calming up told)) stand.dirty now new.course new.work come.marks) is come.known_of in

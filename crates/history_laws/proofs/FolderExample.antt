@@ -64,7 +64,7 @@ removed_traced : IsTraced (log []) removed_entries (stand (job half_way GoesOn �
 removed_traced =
     own_step (log []) 1 1 (Removed first) begun_entries (stand (job begins GoesOn ∷ []) []) (stand (job half_way GoesOn ∷ []) (top ∷ [])) (log []) removed_log (job begins GoesOn) (job half_way GoesOn) begun_traced (inl (refl, refl))
     (record {
-      tells = (Delete half_way, (refl, refl, record { path_is = refl; stage_is = refl; tried_is = refl; skips_is = refl }), refl);
+      tells = (Delete half_way, (refl, refl, record { path_is = refl; stage_is = refl; tried_is = refl }), refl);
       called = inl (refl, (pos 0, refl));
       settled = λ goes fresh kept among. absurd among;
       cleared = λ goes fresh kept among. absurd among;
@@ -76,7 +76,7 @@ troubled_traced : IsTraced (log []) troubled_entries (stand (waits ∷ []) (top 
 troubled_traced =
     own_step (log []) 1 2 (Troubled trouble) removed_entries (stand (job half_way GoesOn ∷ []) (top ∷ [])) (stand (waits ∷ []) (top ∷ [])) removed_log refused_log (job half_way GoesOn) waits removed_traced (inl (refl, refl))
     (record {
-      tells = (Delete half_way, (refl, record { path_is = refl; stage_is = refl; tried_is = refl; skips_is = refl }), refl);
+      tells = (Delete half_way, (refl, record { path_is = refl; stage_is = refl; tried_is = refl }), refl);
       called = inr (refused.Fault, inl refl, RefusedFile second (refl, ([], refl)));
       settled = λ goes fresh. absurd (true≢false (sym fresh));
       cleared = λ goes fresh. absurd (true≢false (sym fresh));
@@ -96,7 +96,7 @@ skipped_traced : IsTraced (log []) skipped_entries (stand (job left_one GoesOn �
 skipped_traced =
     own_step (log []) 1 2 (Skipped second (cause_of refused.Fault)) answered_entries (stand (passes ∷ []) (top ∷ [])) (stand (job left_one GoesOn ∷ []) (top ∷ [])) refused_log refused_log passes (job left_one GoesOn) answered_traced (inl (refl, refl))
     (record {
-      tells = inl (second, Delete left_one, refl, record { path_is = refl; stage_is = refl; tried_is = refl; skips_is = refl }, refl);
+      tells = inl (second, Delete left_one, refl, record { path_is = refl; stage_is = refl; tried_is = refl }, refl);
       called = refl;
       settled = λ goes fresh. absurd (true≢false (sym fresh));
       cleared = λ goes fresh. absurd (true≢false (sym fresh));
@@ -108,7 +108,7 @@ kept_traced : IsTraced (log []) kept_entries (stand (job decided GoesOn ∷ []) 
 kept_traced =
     own_step (log []) 1 2 (Kept top) skipped_entries (stand (job left_one GoesOn ∷ []) (top ∷ [])) (stand (job decided GoesOn ∷ []) (top ∷ [])) refused_log refused_log (job left_one GoesOn) (job decided GoesOn) skipped_traced (inl (refl, refl))
     (record {
-      tells = (Delete decided, (refl, record { path_is = refl; stage_is = refl; tried_is = refl; skips_is = refl }), refl);
+      tells = (Delete decided, (refl, record { path_is = refl; stage_is = refl; tried_is = refl }), refl);
       called = refl;
       settled = λ goes fresh. absurd (true≢false (sym fresh));
       cleared = λ goes fresh. absurd (true≢false (sym fresh));
@@ -120,7 +120,7 @@ synced_traced : IsTraced (log []) synced_entries (stand (job decided GoesOn ∷ 
 synced_traced =
     own_step (log []) 1 3 Barrier kept_entries (stand (job decided GoesOn ∷ []) (top ∷ [])) (stand (job decided GoesOn ∷ []) []) refused_log synced_log (job decided GoesOn) (job decided GoesOn) kept_traced (inl (refl, refl))
     (record {
-      tells = (Delete decided, (refl, record { path_is = refl; stage_is = refl; tried_is = refl; skips_is = refl }), refl);
+      tells = (Delete decided, (refl, record { path_is = refl; stage_is = refl; tried_is = refl }), refl);
       called = (top, (refl, (pos 0, refl)));
       settled = λ goes fresh. absurd (true≢false (sym fresh));
       cleared = λ goes fresh. absurd (true≢false (sym fresh));
@@ -132,7 +132,7 @@ finished_traced : IsTraced (log []) finished_entries (stand [] []) synced_log
 finished_traced =
     own_step (log []) 1 3 (Ended Finished None) synced_entries (stand (job decided GoesOn ∷ []) []) (stand [] []) synced_log synced_log (job decided GoesOn) (job decided GoesOn) synced_traced (inl (refl, refl))
     (record {
-      tells = (Delete decided, (refl, refl, record { path_is = refl; stage_is = refl; tried_is = refl; skips_is = refl }), refl);
+      tells = (Delete decided, (refl, refl, record { path_is = refl; stage_is = refl; tried_is = refl }), refl);
       called = refl;
       settled = λ goes fresh. absurd (true≢false (sym fresh));
       cleared = λ goes fresh. absurd (true≢false (sym fresh));

@@ -16,10 +16,10 @@ use Rattle.tree_trait.specs.Shape.{IsTree}
 use Rattle.tree_trait.proofs.BareRoot.{bare, bare_tree}
 use Rattle.tree_trait.proofs.Finding.{same_name-true}
 use Rattle.tree_trait.proofs.Kept.{tree_made}
+use Rattle.job_answers.specs.Decisions.{no_replies}
 use Rattle.job_reports.specs.Stops.{cause_of, trouble_at}
 use Rattle.job_reports.specs.declared.report.Did.TheVariants.{Removed, Kept, Skipped, Barrier, Troubled, Ended}
 use Rattle.job_reports.specs.declared.report.Ending.TheVariants.{Finished}
-use Rattle.job_answers.specs.Skipping.{no_skips}
 use Rattle.subtree_walk.specs.Places.{Place, unopened}
 use Rattle.subtree_walk.specs.Ranks.{weight}
 use Rattle.tree_deletion.specs.Descending.{Enters}
@@ -71,7 +71,7 @@ abbrev in_top : List (List ℕ) → Bool → Place
 in_top names spared = record unopened { inner = record { path = top; names = names; spared = spared } }
 
 abbrev deletion : Stage → Depth → Place → Deleting
-deletion stage depth place = record { path = top; stage = stage; depth = depth; place = place; tried = 0; skips = no_skips }
+deletion stage depth place = record { path = top; stage = stage; depth = depth; place = place; tried = 0 }
 
 abbrev machine : Deleting → Deletion
 machine d = machine_of d 0
@@ -147,7 +147,7 @@ fewer_left : (n : ℕ) → (1 + 1 * weight n) + 0 < weight (Rattle.std.proofs.Co
 fewer_left n = omega arith
 
 -- the first file is removed
-pub removes_first : Goes begins half_way (Removed first) 1 [] (top ∷ []) (Some (log [])) (Some removed_log) 0 0
+pub removes_first : Goes no_replies begins half_way (Removed first) 1 [] (top ∷ []) (Some (log [])) (Some removed_log) 0 0
 removes_first =
     let less = fewer_left 256 in
     inl (
@@ -176,7 +176,7 @@ removes_first =
     )
 
 -- the second can't be
-pub refuses_second : Goes half_way half_way (Troubled trouble) 1 (top ∷ []) (top ∷ []) (Some removed_log) (Some refused_log) 0 1
+pub refuses_second : Goes no_replies half_way half_way (Troubled trouble) 1 (top ∷ []) (top ∷ []) (Some removed_log) (Some refused_log) 0 1
 refuses_second =
     inl (
       Troubled trouble,
@@ -211,7 +211,7 @@ some_left : (n : ℕ) → 0 < (1 + 0 * weight n) + 0
 some_left n = omega arith
 
 -- so the folder is kept
-pub keeps_top : Goes left_one decided (Kept top) 0 (top ∷ []) (top ∷ []) (Some refused_log) (Some refused_log) 1 1
+pub keeps_top : Goes no_replies left_one decided (Kept top) 0 (top ∷ []) (top ∷ []) (Some refused_log) (Some refused_log) 1 1
 keeps_top =
     let less = some_left 256 in
     inl (
@@ -240,7 +240,7 @@ keeps_top =
     )
 
 -- it is synced, and the job is finished
-pub syncs_top : Goes decided decided Barrier 1 (top ∷ []) [] (Some refused_log) (Some synced_log) 1 1
+pub syncs_top : Goes no_replies decided decided Barrier 1 (top ∷ []) [] (Some refused_log) (Some synced_log) 1 1
 syncs_top =
     inr (
       0,
@@ -255,7 +255,7 @@ syncs_top =
       refl,
     )
 
-pub finishes : Goes decided decided (Ended Finished None) 0 [] [] (Some synced_log) (Some synced_log) 1 1
+pub finishes : Goes no_replies decided decided (Ended Finished None) 0 [] [] (Some synced_log) (Some synced_log) 1 1
 finishes =
     inr (
       0,

@@ -7,7 +7,6 @@ use Rattle.std.proofs.lemmas.Bool.{eq-eqb}
 use Rattle.mc_text.specs.Routes.{Route}
 use Rattle.tree_trait.specs.Change.{Change, CallLog}
 use Rattle.crash_law.specs.Guarded.{Marks}
-use Rattle.job_reports.specs.declared.report.Cause.{Cause}
 use Rattle.job_reports.specs.declared.report.Did.{Did}
 use Rattle.job_reports.specs.declared.report.Ending.TheVariants.{Finished, NoMemory}
 use Rattle.job_reports.specs.declared.report.Did.TheVariants.{Ended}
@@ -22,19 +21,18 @@ use Rattle.copy_move.specs.declared.run.Course.{Course}
 use Rattle.copy_move.specs.declared.run.Course.TheVariants.{GoesOn, Asking, InTrouble, OwedSyncFailed, Skips, Ends}
 use Rattle.copy_move.specs.declared.work.Work.{Work}
 use Rattle.copy_move.specs.declared.work.Work.TheVariants.{Copy, Delete, Make, Move, SetMode, RemoveEmptied}
-use Rattle.copy_move.specs.Jobs.{Running, answered, answered_on, begun_work, closed_course, closed_job, taken_anew, with_skips}
+use Rattle.copy_move.specs.Jobs.{Running, answered, answered_on, begun_work, closed_course, closed_job, taken_anew}
 use Rattle.copy_move.specs.Told.{running}
 use Rattle.session_history.specs.LiveJobs.{LiveJob, after_event, after_report, live, turned}
 use Rattle.session_history.specs.Sources.{sources_of}
 use Rattle.history_laws.specs.Traces.{EventLeads, IsJob, Stand, StepLeads, WorkLeads, begun, ordered, unless_ended, with_job}
 use Rattle.history_laws.proofs.JobKnows.{KnowsAfter, WorkKnows, may_fill, work_course}
-use Rattle.job_answers.specs.Skipping.{kind_in, with_kind}
-use Rattle.history_laws.proofs.TreeKnown.{is_over, skips_kind}
+use Rattle.history_laws.proofs.TreeKnown.{is_over}
 use Rattle.history_laws.proofs.TreeSkipped.{retries_tree}
 use Rattle.history_laws.proofs.JobLeads.{sync_leads, work_leads}
 use Rattle.history_laws.proofs.JobSteps.{gives_up}
 use Rattle.history_laws.proofs.Knowing.{Said, IsKept}
-use Rattle.history_laws.proofs.MoveKnown.{move_course, move_skips}
+use Rattle.history_laws.proofs.MoveKnown.{move_course}
 use Rattle.history_laws.proofs.Reports.{HasLive, JobsKnow, knows_after, live_after, with_one}
 use Rattle.history_laws.proofs.Sources.{IsSame, answer_same, item_in, tells_same}
 use Rattle.history_laws.proofs.Stepped.{AreMids, Comes, more, part_after, said_after}
@@ -51,14 +49,6 @@ anew_knows told dirty m log course (Move w) going k = move_course told m log cou
 anew_knows told dirty m log course (SetMode s) going k = k
 anew_knows told dirty m log course (RemoveEmptied w) going k = k
 
-skips_knows : (told : Said) (dirty : List Route) (m : Marks) (log : CallLog) (course : Course) (why : Cause) (work : Work) → WorkKnows told dirty m log course work → WorkKnows told dirty m log course (with_skips why work)
-skips_knows told dirty m log course why (Copy c) k = skips_kind told dirty m log course c (with_kind (kind_in why) c.skips) k
-skips_knows told dirty m log course why (Delete d) k = k
-skips_knows told dirty m log course why (Make w) k = k
-skips_knows told dirty m log course why (Move w) k = move_skips told m log course w (record w { skips = with_kind (kind_in why) w.skips }) refl refl k
-skips_knows told dirty m log course why (SetMode s) k = k
-skips_knows told dirty m log course why (RemoveEmptied w) k = k
-
 module _ (told : Said) (dirty : List Route) (marks : Marks) (log : CallLog) where
   abbrev Knows : Running → Type 0
   Knows job = WorkKnows told dirty marks log job.course job.work
@@ -69,7 +59,7 @@ module _ (told : Said) (dirty : List Route) (marks : Marks) (log : CallLog) wher
   answer_knows : (course : Course) (answer : Answer) (job : Running) → job.course ≡ course → Knows job → Knows (answered_on course answer job)
   answer_knows (InTrouble halt) Retry job is k = anew_knows told dirty marks log job.course job.work (ap is_over is) k
   answer_knows (InTrouble halt) Skip job is k = on_course job.course (Skips halt.cause) job.work (λ e. let f : ⊥ = cc in f) (ap is_over is) k
-  answer_knows (InTrouble halt) SkipAll job is k = on_course job.course (Skips halt.cause) (with_skips halt.cause job.work) (λ e. let f : ⊥ = cc in f) (ap is_over is) (skips_knows told dirty marks log job.course halt.cause job.work k)
+  answer_knows (InTrouble halt) SkipAll job is k = on_course job.course (Skips halt.cause) job.work (λ e. let f : ⊥ = cc in f) (ap is_over is) k
   answer_knows (InTrouble halt) Abort job is k = on_course job.course (Ends Rattle.job_reports.specs.declared.report.Ending.TheVariants.Aborted) job.work (λ e. let f : ⊥ = cc in f) (ap is_over is) k
   answer_knows (OwedSyncFailed why) Retry job is k = anew_knows told dirty marks log job.course job.work (ap is_over is) k
   answer_knows (OwedSyncFailed why) Skip job is k = k

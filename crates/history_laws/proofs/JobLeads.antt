@@ -55,15 +55,15 @@ module _ (told : Said) (dirty dirty_after : List Route) (marks : Marks) (log now
   abbrev WorkWalks : Replies → Course → Work → Did → Work → Type 0
   WorkWalks replies course old did new = (count : ℕ) × (f0 : ℕ) × (f1 : ℕ) × WalksOn IsUnclaimed replies course old new did count dirty dirty_after (Some log) (Some now) f0 f1
 
-  work_tells : (replies : Replies) (old new : Work) (did : Did) → WorkKnows told dirty marks log GoesOn old → WorkTells old did new → WorkCalls IsUnclaimed replies old did new log (Some now)
+  work_tells : (replies : Replies) (old new : Work) (did : Did) → WorkKnows told dirty marks log GoesOn old → WorkTells replies old did new → WorkCalls IsUnclaimed replies old did new log (Some now)
       → (is_fresh old ≡ true → NoneOwed (current log) old dirty) → WorkLeaves old did new dirty dirty_after (Some log) (Some now) → WorkWalks replies GoesOn old did new
       → Steps told dirty dirty_after marks log now kept did (course_after did) old new
-  work_tells replies (Delete d) (Delete new) did knows tells calls settled leaves walks = deletion_tells told dirty dirty_after marks log now kept d new did knows tells calls settled leaves
+  work_tells replies (Delete d) (Delete new) did knows tells calls settled leaves walks = deletion_tells told dirty dirty_after marks log now kept replies d new did knows tells calls settled leaves
   work_tells replies (Make w) (Make new) did knows tells calls settled leaves walks = making_tells told dirty dirty_after marks log now kept w new did knows tells calls (λ fresh. none_over (current log) (Make w) dirty (settled fresh)) leaves
   work_tells replies (Move w) (Move new) did knows tells calls settled leaves walks = moving_tells told dirty dirty_after marks log now kept replies w new did knows tells calls settled leaves
-  work_tells replies (SetMode s) (SetMode new) did knows tells calls settled leaves walks = setting_tells told dirty dirty_after marks log now kept s new did knows tells calls settled leaves
-  work_tells replies (Copy c) (Copy new) did knows tells calls settled leaves (count, f0, f1, goes) = tree_tells told dirty dirty_after marks log now kept c new did knows tells settled goes.free replies count goes.since f1 goes.steps
-  work_tells replies (RemoveEmptied r) (RemoveEmptied new) did knows tells calls settled leaves walks = removal_tells told dirty dirty_after marks log now kept r new did knows tells calls settled leaves
+  work_tells replies (SetMode s) (SetMode new) did knows tells calls settled leaves walks = setting_tells told dirty dirty_after marks log now kept replies s new did knows tells calls settled leaves
+  work_tells replies (Copy c) (Copy new) did knows tells calls settled leaves (count, f0, f1, goes) = tree_tells told dirty dirty_after marks log now kept replies c new did knows tells settled goes.free count goes.since f1 goes.steps
+  work_tells replies (RemoveEmptied r) (RemoveEmptied new) did knows tells calls settled leaves walks = removal_tells told dirty dirty_after marks log now kept replies r new did knows tells calls settled leaves
   work_tells replies old new did knows tells calls settled leaves walks = absurd tells
 
   work_winds : (replies : Replies) (ending : Ending) (old new : Work) (did : Did) → WorkKnows told dirty marks log (Ends ending) old → WorkWinds ending old did new → WorkLastCalls old did log (Some now)

@@ -262,7 +262,7 @@ list_law = record {
   step = λ free replies old new did calls dirty dirty_after before after f0 f1 s apart h.
       let l = s.leaves in
       let k = leaves_listed dirty l.0 old.at s.mid l.1 apart h in
-      passes_listed dirty_after old.skips s.worked s.moved new.at (step_result did calls) s.passes (list_listed free replies s.mid s.moved s.worked dirty dirty_after before after f0 f1 s.works s.settled k.0 k.1);
+      passes_listed dirty_after replies.skips s.worked s.moved new.at (step_result did calls) s.passes (list_listed free replies s.mid s.moved s.worked dirty dirty_after before after f0 f1 s.works s.settled k.0 k.1);
   skip = λ cause old new did dirty s h. skips_listed dirty old.at.item cause old.at new.at did s.skips h;
   retry = λ c dirty h. retries_listed dirty c.at.item c.at h;
 }

@@ -11,6 +11,7 @@ use Rattle.tree_trait.specs.CrashImages.{Among}
 use Rattle.tree_trait.proofs.Finding.{and_then-some}
 use Rattle.tree_trait.proofs.Visible.{same_path-self, same_path-true}
 use Rattle.crash_law.specs.Guarded.{Marks}
+use Rattle.job_answers.specs.declared.replies.Replies.{Replies}
 use Rattle.job_reports.specs.declared.report.Cause.{Cause}
 use Rattle.job_reports.specs.declared.report.Ending.{Ending}
 use Rattle.job_reports.specs.declared.report.Ending.TheVariants.{Finished, Aborted, Killed, NoMemory}
@@ -150,42 +151,42 @@ module _ (told : Said) (dirty dirty_after : List Route) (marks : Marks) (log now
   leaves_same : (s new : Setting) → new ≡ s → Leaves s new → dirty_after ≡ dirty
   leaves_same s new same leaves = leaves ∙ (ap (λ (x : Setting). moves_dirty (is_dirty s.stage) (is_dirty x.stage) s.path dirty) same ∙ same_dirty (is_dirty s.stage) s.path dirty)
 
-  pub setting_tells : (s new : Setting) (did : Did) → WorkKnows told dirty marks log GoesOn (SetMode s) → Tells s did new → SettingCalls s did log (Some now)
+  pub setting_tells : (replies : Replies) (s new : Setting) (did : Did) → WorkKnows told dirty marks log GoesOn (SetMode s) → Tells replies s did new → SettingCalls s did log (Some now)
       → (is_fresh s.stage ≡ true → NoneOwed (current log) (SetMode s) dirty) → Leaves s new → In did (course_after did) (SetMode s) (SetMode new)
-  setting_tells s new (Set path) (has, none) (stage, path_is, new_is) done settled leaves =
+  setting_tells replies s new (Set path) (has, none) (stage, path_is, new_is) done settled leaves =
       let routes : dirty_after ≡ joined s.path dirty =
       leaves ∙ (ap (λ x. moves_dirty (is_dirty x) (is_dirty new.stage) s.path dirty) stage ∙ ap (λ (x : Setting). moves_dirty false (is_dirty x.stage) s.path dirty) new_is) in
       subst (λ q. In (Set q) GoesOn (SetMode s) (SetMode new)) (sym path_is)
       (mode_given told dirty dirty_after marks log now kept s has none (settled (ap is_fresh stage)) routes (one_done log (Sets_mode s.path s.mode) now done)
       (KnowsAfter (Set s.path) (said_after now (Set s.path) (SetMode s) told) dirty_after now GoesOn (SetMode new)) (λ m. (subst (λ (x : Setting). HasName x.path) (sym new_is) has, none)))
-  setting_tells s new Barrier (has, none) (stage, new_is) done settled leaves =
+  setting_tells replies s new Barrier (has, none) (stage, new_is) done settled leaves =
       thing_tried s.path None GoesOn (SetMode new) (λ routes. (subst (λ (x : Setting). HasName x.path) (sym new_is) has, none)) (synced_done s.path done)
       (leaves ∙ (ap (λ x. moves_dirty (is_dirty x) (is_dirty new.stage) s.path dirty) stage ∙ ap (λ (x : Setting). moves_dirty true (is_dirty x.stage) s.path dirty) new_is))
-  setting_tells s new (Troubled trouble) (has, none) (barrier, why, new_is) stop settled leaves =
+  setting_tells replies s new (Troubled trouble) (has, none) (barrier, why, new_is) stop settled leaves =
       subst (λ (x : Setting). Comes told told dirty_after log now (λ m. WorkKnows told dirty_after m now (course_after (Troubled trouble)) (SetMode x))) (sym new_is)
       (subst (λ routes. Comes told told routes log now (λ m. WorkKnows told routes m now (course_after (Troubled trouble)) (SetMode s))) (sym (leaves_same s new new_is leaves))
       (comes_refused told dirty marks log now (course_after (Troubled trouble)) (SetMode s) kept (has, none) (stops s trouble.cause trouble.path s.stage stop)))
-  setting_tells s new (Skipped path cause) (has, none) (stage, path_is, passes, new_is) (named, stop) settled leaves =
+  setting_tells replies s new (Skipped path cause) (has, none) (stage, path_is, passes, new_is) (named, stop) settled leaves =
       let same : dirty_after ≡ dirty =
       leaves ∙ (ap (λ x. moves_dirty (is_dirty x) (is_dirty new.stage) s.path dirty) stage ∙ ap (λ (x : Setting). moves_dirty false (is_dirty x.stage) s.path dirty) new_is) in
       subst (λ (x : Setting). Comes told told dirty_after log now (λ m. WorkKnows told dirty_after m now GoesOn (SetMode x))) (sym new_is)
       (subst (λ routes. Comes told told routes log now (λ m. WorkKnows told routes m now GoesOn (SetMode (record s { stage = setting.Done })))) (sym same)
       (comes_refused told dirty marks log now GoesOn (SetMode (record s { stage = setting.Done })) kept (has, none) (stops s cause named s.stage stop)))
-  setting_tells s new (Ended Finished part) (has, none) (stage, part_is, new_is) done settled leaves =
+  setting_tells replies s new (Ended Finished part) (has, none) (stage, part_is, new_is) done settled leaves =
       subst (λ o. In (Ended Finished o) GoesOn (SetMode s) (SetMode new)) (sym part_is) (ends told dirty dirty_after marks log now kept (SetMode s) none (leaves_same s new new_is leaves) (some_log now log done))
-  setting_tells s new (Ended Aborted part) knows tells done settled leaves = absurd tells
-  setting_tells s new (Ended Killed part) knows tells done settled leaves = absurd tells
-  setting_tells s new (Ended NoMemory part) knows tells done settled leaves = absurd tells
-  setting_tells s new (Began part) knows tells done settled leaves = absurd tells
-  setting_tells s new (Chunk count) knows tells done settled leaves = absurd tells
-  setting_tells s new (Placed path) knows tells done settled leaves = absurd tells
-  setting_tells s new (Removed path) knows tells done settled leaves = absurd tells
-  setting_tells s new (Made path) knows tells done settled leaves = absurd tells
-  setting_tells s new (Kept kept) knows tells done settled leaves = absurd tells
-  setting_tells s new (Asked question) knows tells done settled leaves = absurd tells
-  setting_tells s new (Merges transfer pair names) knows tells done settled leaves = absurd tells
-  setting_tells s new (Moved pair) knows tells done settled leaves = absurd tells
-  setting_tells s new (Cleaned part) knows tells done settled leaves = absurd tells
+  setting_tells replies s new (Ended Aborted part) knows tells done settled leaves = absurd tells
+  setting_tells replies s new (Ended Killed part) knows tells done settled leaves = absurd tells
+  setting_tells replies s new (Ended NoMemory part) knows tells done settled leaves = absurd tells
+  setting_tells replies s new (Began part) knows tells done settled leaves = absurd tells
+  setting_tells replies s new (Chunk count) knows tells done settled leaves = absurd tells
+  setting_tells replies s new (Placed path) knows tells done settled leaves = absurd tells
+  setting_tells replies s new (Removed path) knows tells done settled leaves = absurd tells
+  setting_tells replies s new (Made path) knows tells done settled leaves = absurd tells
+  setting_tells replies s new (Kept kept) knows tells done settled leaves = absurd tells
+  setting_tells replies s new (Asked question) knows tells done settled leaves = absurd tells
+  setting_tells replies s new (Merges transfer pair names) knows tells done settled leaves = absurd tells
+  setting_tells replies s new (Moved pair) knows tells done settled leaves = absurd tells
+  setting_tells replies s new (Cleaned part) knows tells done settled leaves = absurd tells
 
   pub setting_winds : (s new : Setting) (ending : Ending) (did : Did) (left : Option TreeError) → WorkKnows told dirty marks log (Ends ending) (SetMode s) → Winds ending s did new
       → SettingLeaves s did left log (Some now) → LastSettingCalls s did log (Some now) → dirty_after ≡ after_try did left s.path dirty → In did (Ends ending) (SetMode s) (SetMode new)

@@ -84,15 +84,6 @@ moved_same told marks log m new pair stage h = record {
   told_to = ap (λ (p : Pair). told.folders (folder_of p.target)) pair ∙ h.told_to;
 }
 
-pub move_skips : (told : Said) (marks : Marks) (log : CallLog) (course : Course) (m new : Moving) → new.pair ≡ m.pair → new.stage ≡ m.stage → MoveKnown told marks log course m → MoveKnown told marks log course new
-move_skips told marks log course m new pair stage k = record {
-  source = subst (λ (p : Pair). HasName p.source) (sym pair) k.source;
-  target = subst (λ (p : Pair). HasName p.target) (sym pair) k.target;
-  none = k.none;
-  other = ap (λ (p : Pair). same_path p.source p.target) pair ∙ k.other;
-  moved = λ on is. moved_same told marks log m new pair stage (k.moved on (sym (ap is_moved stage) ∙ is));
-}
-
 -- with the marks that are settled
 module _ (log : CallLog) (marks : Marks) where
   no_mode : (i : ℕ) (b : Bool) → marks.modes i ≡ None → cond b (let o : Option ℕ = None in o) (marks.modes i) ≡ None

@@ -14,7 +14,6 @@ use Rattle.tree_trait.proofs.Visible.{same_path-true}
 use Rattle.crash_law.specs.Guarded.{Marks}
 use Rattle.crash_law.proofs.Leading.{current_more}
 use Rattle.job_answers.specs.declared.replies.Replies.{Replies}
-use Rattle.job_answers.specs.declared.skips.Skips.{Skips}
 use Rattle.job_reports.specs.declared.job.Pair.{Pair}
 use Rattle.job_reports.specs.declared.report.Cause.{Cause}
 use Rattle.job_reports.specs.declared.report.Ending.{Ending}
@@ -64,32 +63,32 @@ module _ (told : Said) (dirty dirty_after : List Route) (marks : Marks) (log now
   abbrev In : Did → Course → Work → Work → Type 0
   In did course work new = Steps told dirty dirty_after marks log now kept did course work new
 
-  -- it was renamed, whatever the work says besides
-  abbrev Renamed : Work → Skips → Pair → Type 0
-  Renamed work skips pair =
-      Comes told (said_after now (Moved pair) work told) dirty_after log now (λ m. MoveKnown (said_after now (Moved pair) work told) m now GoesOn (record { pair = pair; stage = SyncTarget; skips = skips }))
+  -- it was renamed
+  abbrev Renamed : Work → Pair → Type 0
+  Renamed work pair =
+      Comes told (said_after now (Moved pair) work told) dirty_after log now (λ m. MoveKnown (said_after now (Moved pair) work told) m now GoesOn (record { pair = pair; stage = SyncTarget }))
 
   abbrev Renames : Pair → Type 0
   Renames pair =
       (same_path pair.source pair.target ≡ false) × NoneOver (current log) (folder_of pair.target) dirty × NoneOver (current log) (folder_of pair.source) dirty × (is_folder (node (current log) (found (current log) pair.source)) ≡ true → find (current log) pair.target ≡ None)
       × RestsBelow marks log pair.source × (dirty_after ≡ joined (folder_of pair.source) (joined (folder_of pair.target) dirty)) × Performs {A = Unit {0}} log (Rename pair.source pair.target) (Ok tt) (Some now)
 
-  renamed_at : (work : Work) (skips : Skips) (old : List ℕ) (from : Route) (new : List ℕ) (to : Route) → told.part ≡ None → Renames (pair_of (old ∷ from) (new ∷ to)) → Renamed work skips (pair_of (old ∷ from) (new ∷ to))
-  renamed_at work skips old from new to none (other, owed, owed_from, free, rests, routes, done) =
-      thing_moves told dirty dirty_after marks log now kept old from new to skips none other owed owed_from free rests
+  renamed_at : (work : Work) (old : List ℕ) (from : Route) (new : List ℕ) (to : Route) → told.part ≡ None → Renames (pair_of (old ∷ from) (new ∷ to)) → Renamed work (pair_of (old ∷ from) (new ∷ to))
+  renamed_at work old from new to none (other, owed, owed_from, free, rests, routes, done) =
+      thing_moves told dirty dirty_after marks log now kept old from new to none other owed owed_from free rests
       (subst (λ xs. Among xs from) (sym routes) (joined_holds from (joined to dirty)))
       (subst (λ xs. Among xs to) (sym routes) (joined_more from to (joined to dirty) (joined_holds to dirty)))
       (λ q among. subst (λ xs. Among xs q) (sym routes) (joined_more from q (joined to dirty) (joined_more to q dirty among)))
       done
-      (λ m. MoveKnown (said_thing_moved told old from new to) m now GoesOn (record { pair = pair_of (old ∷ from) (new ∷ to); stage = SyncTarget; skips = skips }))
+      (λ m. MoveKnown (said_thing_moved told old from new to) m now GoesOn (record { pair = pair_of (old ∷ from) (new ∷ to); stage = SyncTarget }))
       (λ m moved. record { source = record { name = old; is = refl }; target = record { name = new; is = refl }; none = none; other = other; moved = λ on is. moved })
 
-  renamed_by : (work : Work) (w : Moving) → MoveKnown told marks log GoesOn w → Renames w.pair → Renamed work w.skips w.pair
+  renamed_by : (work : Work) (w : Moving) → MoveKnown told marks log GoesOn w → Renames w.pair → Renamed work w.pair
   renamed_by work w k renames =
       let spelled : w.pair ≡ pair_of (k.source.name ∷ folder_of w.pair.source) (k.target.name ∷ folder_of w.pair.target) =
       ap (λ s. pair_of s w.pair.target) k.source.is ∙ ap (λ t. pair_of (k.source.name ∷ folder_of w.pair.source) t) k.target.is in
-      subst (λ p. Renamed work w.skips p) (sym spelled)
-      (renamed_at work w.skips k.source.name (folder_of w.pair.source) k.target.name (folder_of w.pair.target) k.none (subst (λ p. Renames p) spelled renames))
+      subst (λ p. Renamed work p) (sym spelled)
+      (renamed_at work k.source.name (folder_of w.pair.source) k.target.name (folder_of w.pair.target) k.none (subst (λ p. Renames p) spelled renames))
 
   -- nothing stands where a folder is moved
   free_target : (pair : Pair) (replies : Replies) → MayMove (current log) pair replies → is_folder (node (current log) (found (current log) pair.source)) ≡ true → find (current log) pair.target ≡ None
@@ -195,7 +194,7 @@ module _ (told : Said) (dirty dirty_after : List Route) (marks : Marks) (log now
   refused_at course new k how routes =
       subst (λ xs. Comes told told xs log now (λ m. MoveKnown told m now course new)) (sym routes) (comes_refused told dirty marks log now course (Move new) kept k how)
 
-  pub moving_tells : (replies : Replies) (w new : Moving) (did : Did) → WorkKnows told dirty marks log GoesOn (Move w) → Tells w did new → MovingCalls replies w did log (Some now)
+  pub moving_tells : (replies : Replies) (w new : Moving) (did : Did) → WorkKnows told dirty marks log GoesOn (Move w) → Tells replies w did new → MovingCalls replies w did log (Some now)
       → (is_fresh w.stage ≡ true → NoneOwed (current log) (Move w) dirty) → dirty_after ≡ with_moves w.stage new.stage w.pair dirty
       → In did (course_after did) (Move w) (Move new)
   moving_tells replies w new (Moved pair) k (stage, pair_is, new_is) (may, done) settled leaves =
@@ -212,7 +211,7 @@ module _ (told : Said) (dirty dirty_after : List Route) (marks : Marks) (log now
       )))
   moving_tells replies w new (Kept path) k (stage, path_is, new_is) calls settled leaves =
       stands told dirty dirty_after marks log now kept GoesOn (Move new) (passed_knows GoesOn w new new_is k) (passed_dirty w new stage new_is leaves) (some_log now log calls.1)
-  moving_tells replies w new (Skipped path cause) k (stage, path_is, skips, new_is) (named, stops) settled leaves =
+  moving_tells replies w new (Skipped path cause) k (stage, path_is, passes, new_is) (named, stops) settled leaves =
       refused_at GoesOn new (passed_knows GoesOn w new new_is k) (stops_same w replies w.stage cause named stops) (passed_dirty w new stage new_is leaves)
   moving_tells replies w new Barrier k (owes, new_is) done settled leaves =
       folder_synced w new w.stage refl owes new_is k done (leaves ∙ ap (λ (x : Moving). with_moves w.stage x.stage w.pair dirty) new_is)

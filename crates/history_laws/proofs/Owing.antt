@@ -10,6 +10,7 @@ use Rattle.tree_trait.specs.CrashImages.{Among, all_settled, is_clean}
 use Rattle.tree_trait.specs.Shape.{IsTree}
 use Rattle.tree_trait.proofs.Finding.{find-once}
 use Rattle.crash_law.specs.Guarded.{Marks}
+use Rattle.job_answers.specs.declared.replies.Replies.{Replies}
 use Rattle.job_reports.specs.Paths.{folder_of}
 use Rattle.job_reports.proofs.PermittedCalls.{stat_missing}
 use Rattle.copy_move.specs.declared.work.Work.{Work}
@@ -153,24 +154,24 @@ changed_or_before false false up q dirty among = inr among
 changed_or_before true true up q dirty among = inr among
 
 -- what is dirty after a step was dirty, or it is a folder of the job's own, of a move one of its two
-pub own_or_before : (old next new : Work) (did : Did) (q : Route) (dirty dirty_after : List Route) (before after : Option CallLog) → WorkTells old did next → WorkLeaves old did new dirty dirty_after before after → Among dirty_after q
+pub own_or_before : (replies : Replies) (old next new : Work) (did : Did) (q : Route) (dirty dirty_after : List Route) (before after : Option CallLog) → WorkTells replies old did next → WorkLeaves old did new dirty dirty_after before after → Among dirty_after q
     → (waits_in old q ≡ true) ⊎ Among dirty q
-own_or_before (SetMode s) next (SetMode new) did q dirty dirty_after before after t leaves among =
+own_or_before replies (SetMode s) next (SetMode new) did q dirty dirty_after before after t leaves among =
     elim (changed_or_before (settings.is_dirty s.stage) (settings.is_dirty new.stage) s.path q dirty (subst (λ xs. Among xs q) leaves among)) [
       | inl same ↦ inl (subst (λ p. same_path p s.path ≡ true) (sym same) (same_path-self s.path))
       | inr old ↦ inr old
     ]
-own_or_before (Copy c) next (Copy new) did q dirty dirty_after before after t leaves among =
+own_or_before replies (Copy c) next (Copy new) did q dirty dirty_after before after t leaves among =
     elim (changed_or_before leaves.was leaves.now leaves.folder q dirty (subst (λ xs. Among xs q) leaves.list among)) [
       | inl same ↦ inl (subst (λ p. is_own (Copy c) p ≡ true) (sym same) leaves.own)
       | inr old ↦ inr old
     ]
-own_or_before (Make m) next (Make new) did q dirty dirty_after before after t leaves among =
+own_or_before replies (Make m) next (Make new) did q dirty dirty_after before after t leaves among =
     elim (changed_or_before (makings.is_dirty m.stage) (makings.is_dirty new.stage) (folder_of m.path) q dirty (subst (λ xs. Among xs q) leaves among)) [
       | inl same ↦ inl (subst (λ p. same_path p (folder_of m.path) ≡ true) (sym same) (same_path-self (folder_of m.path)))
       | inr old ↦ inr old
     ]
-own_or_before (Move m) next (Move new) did q dirty dirty_after before after t leaves among =
+own_or_before replies (Move m) next (Move new) did q dirty dirty_after before after t leaves among =
     elim (changed_or_before (movings.is_dirty m.stage) (movings.is_dirty new.stage) (folder_of m.pair.source) q with_target (subst (λ xs. Among xs q) leaves among)) [
       | inl same ↦ inl (or_left _ _ (subst (λ p. same_path p (folder_of m.pair.source) ≡ true) (sym same) (same_path-self (folder_of m.pair.source))))
       | inr old ↦ elim (changed_or_before (movings.owes_target m.stage) (movings.owes_target new.stage) (folder_of m.pair.target) q dirty old) [
@@ -181,9 +182,9 @@ own_or_before (Move m) next (Move new) did q dirty dirty_after before after t le
   where
     with_target : List Route
     with_target = with_change (movings.owes_target m.stage) (movings.owes_target new.stage) (folder_of m.pair.target) dirty
-own_or_before (Delete d) (Delete next) (Delete new) did q dirty dirty_after before after t leaves among = by did t leaves
+own_or_before replies (Delete d) (Delete next) (Delete new) did q dirty dirty_after before after t leaves among = by did t leaves
   where
-    by : (did : Did) → Tells d did next → DeletionLeaves d did dirty dirty_after before after → (is_own (Delete d) q ≡ true) ⊎ Among dirty q
+    by : (did : Did) → Tells replies d did next → DeletionLeaves d did dirty dirty_after before after → (is_own (Delete d) q ≡ true) ⊎ Among dirty q
     by (Removed path) (going, within, at) (inl h) = elim (in_joined (folder_of path) q dirty (subst (λ xs. Among xs q) h.0 among)) [ inl same ↦ inl (own_folder d path q within same) | inr old ↦ inr old ]
     by (Removed path) (going, within, at) (inr h) =
         elim (in_joined (folder_of path) q dirty (in_filter (λ kept. not (same_path kept path)) q (joined (folder_of path) dirty) (subst (λ xs. Among xs q) h.0 among))) [
@@ -204,18 +205,18 @@ own_or_before (Delete d) (Delete next) (Delete new) did q dirty dirty_after befo
     by (Made path) t h = absurd t
     by (Skipped path why) t h = inr (subst (λ xs. Among xs q) h among)
     by (Cleaned part) t h = absurd t
-own_or_before (RemoveEmptied r) next (RemoveEmptied new) did q dirty dirty_after before after t leaves among =
+own_or_before replies (RemoveEmptied r) next (RemoveEmptied new) did q dirty dirty_after before after t leaves among =
     elim (changed_or_before (removals.is_dirty r.stage) (removals.is_dirty new.stage) (folder_of r.path) q dirty (subst (λ xs. Among xs q) leaves among)) [
       | inl same ↦ inl (subst (λ p. same_path p (folder_of r.path) ≡ true) (sym same) (same_path-self (folder_of r.path)))
       | inr old ↦ inr old
     ]
-own_or_before (Delete d) (Delete next) (Copy new) did q dirty dirty_after before after t leaves among = absurd leaves
-own_or_before (Delete d) (Delete next) (Make new) did q dirty dirty_after before after t leaves among = absurd leaves
-own_or_before (Delete d) (Delete next) (Move new) did q dirty dirty_after before after t leaves among = absurd leaves
-own_or_before (Delete d) (Delete next) (SetMode new) did q dirty dirty_after before after t leaves among = absurd leaves
-own_or_before (Delete d) (Delete next) (RemoveEmptied new) did q dirty dirty_after before after t leaves among = absurd leaves
-own_or_before (Delete d) next new did q dirty dirty_after before after t leaves among = absurd t
-own_or_before old next new did q dirty dirty_after before after t leaves among = absurd leaves
+own_or_before replies (Delete d) (Delete next) (Copy new) did q dirty dirty_after before after t leaves among = absurd leaves
+own_or_before replies (Delete d) (Delete next) (Make new) did q dirty dirty_after before after t leaves among = absurd leaves
+own_or_before replies (Delete d) (Delete next) (Move new) did q dirty dirty_after before after t leaves among = absurd leaves
+own_or_before replies (Delete d) (Delete next) (SetMode new) did q dirty dirty_after before after t leaves among = absurd leaves
+own_or_before replies (Delete d) (Delete next) (RemoveEmptied new) did q dirty dirty_after before after t leaves among = absurd leaves
+own_or_before replies (Delete d) next new did q dirty dirty_after before after t leaves among = absurd t
+own_or_before replies old next new did q dirty dirty_after before after t leaves among = absurd leaves
 
 pub step_law : StepLaw
 step_law job new did calls dirty dirty_after log now faults faults_after (inl own) = inl (

@@ -9,6 +9,7 @@ use Rattle.tree_trait.specs.CrashImages.{Among}
 use Rattle.tree_trait.specs.Answers.{Performs}
 use Rattle.tree_trait.proofs.Visible.{same_path-true}
 use Rattle.crash_law.specs.Guarded.{Marks}
+use Rattle.job_answers.specs.declared.replies.Replies.{Replies}
 use Rattle.job_reports.specs.declared.report.Cause.{Cause}
 use Rattle.job_reports.specs.declared.report.Ending.{Ending}
 use Rattle.job_reports.specs.declared.report.Ending.TheVariants.{Finished}
@@ -94,26 +95,26 @@ module _ (told : Said) (dirty dirty_after : List Route) (marks : Marks) (log now
     still_dirty : new ≡ r → dirty_after ≡ dirty
     still_dirty is = from_to r.stage r.stage refl (ap (λ (x : Removing). x.stage) is) ∙ same_dirty (is_dirty r.stage) (folder_of r.path) dirty
 
-  pub removal_tells : (r new : Removing) (did : Did) → WorkKnows told dirty marks log GoesOn (RemoveEmptied r) → Tells r did new → RemovalCalls r did log (Some now)
+  pub removal_tells : (replies : Replies) (r new : Removing) (did : Did) → WorkKnows told dirty marks log GoesOn (RemoveEmptied r) → Tells replies r did new → RemovalCalls r did log (Some now)
       → (is_fresh r.stage ≡ true → NoneOwed (current log) (RemoveEmptied r) dirty) → dirty_after ≡ moves_dirty (is_dirty r.stage) (is_dirty new.stage) (folder_of r.path) dirty
       → In did (course_after did) (RemoveEmptied r) (RemoveEmptied new)
-  removal_tells r new (Removed path) (name, none) (stage, path_is, new_is) done settled leaves =
+  removal_tells replies r new (Removed path) (name, none) (stage, path_is, new_is) done settled leaves =
       subst (λ q. In (Removed q) GoesOn (RemoveEmptied r) (RemoveEmptied new)) (sym path_is)
       (removes r new name none (ap (λ (x : Removing). x.path) new_is) (settled (ap is_fresh stage)) (from_to r new leaves removal.Remove removal.Sync stage (ap (λ (x : Removing). x.stage) new_is)) done)
-  removal_tells r new (Kept path) (name, none) (stage, path_is, new_is) done settled leaves =
+  removal_tells replies r new (Kept path) (name, none) (stage, path_is, new_is) done settled leaves =
       refused_at GoesOn r new name none (ap (λ (x : Removing). x.path) new_is) (refused_is log now (RemoveFolder r.path) NotEmpty (λ x left. refl) done)
       (from_to r new leaves removal.Remove removal.PassedOver stage (ap (λ (x : Removing). x.stage) new_is))
-  removal_tells r new (Skipped path cause) (name, none) (stage, path_is, passes, new_is) (named, stops) settled leaves =
+  removal_tells replies r new (Skipped path cause) (name, none) (stage, path_is, passes, new_is) (named, stops) settled leaves =
       refused_at GoesOn r new name none (ap (λ (x : Removing). x.path) new_is) (stops_same r r.stage cause named stops)
       (from_to r new leaves removal.Remove removal.PassedOver stage (ap (λ (x : Removing). x.stage) new_is))
-  removal_tells r new Barrier (name, none) (stage, new_is) done settled leaves =
+  removal_tells replies r new Barrier (name, none) (stage, new_is) done settled leaves =
       tried told dirty dirty_after marks log now kept (folder_of r.path) None GoesOn (RemoveEmptied new) (stays GoesOn r new name none (ap (λ (x : Removing). x.path) new_is)) done
       (from_to r new leaves removal.Sync removal.Finish stage (ap (λ (x : Removing). x.stage) new_is))
-  removal_tells r new (Troubled trouble) (name, none) (barrier, going, why, new_is) stops settled leaves =
+  removal_tells replies r new (Troubled trouble) (name, none) (barrier, going, why, new_is) stops settled leaves =
       refused_at (course_after (Troubled trouble)) r new name none (ap (λ (x : Removing). x.path) new_is) (stops_same r r.stage trouble.cause trouble.path stops) (still_dirty r new leaves new_is)
-  removal_tells r new (Ended Finished part) (name, none) (over, part_is, new_is) done settled leaves =
+  removal_tells replies r new (Ended Finished part) (name, none) (over, part_is, new_is) done settled leaves =
       subst (λ o. In (Ended Finished o) GoesOn (RemoveEmptied r) (RemoveEmptied new)) (sym part_is) (ends told dirty dirty_after marks log now kept (RemoveEmptied r) none (still_dirty r new leaves new_is) (some_log now log done))
-  removal_tells r new did knows tells done settled leaves = absurd tells
+  removal_tells replies r new did knows tells done settled leaves = absurd tells
 
   pub removal_winds : (r new : Removing) (ending : Ending) (did : Did) (left : Option TreeError) → WorkKnows told dirty marks log (Ends ending) (RemoveEmptied r) → Winds ending r did new
       → RemovalLeaves r did left log (Some now) → LastRemovalCalls r did log (Some now) → dirty_after ≡ after_try did left (folder_of r.path) dirty

@@ -11,7 +11,6 @@ use Rattle.tree_trait.specs.CrashImages.{Among}
 use Rattle.tree_trait.specs.Answers.{Performs}
 use Rattle.tree_trait.proofs.Visible.{same_path-self}
 use Rattle.crash_law.specs.Guarded.{Marks}
-use Rattle.job_answers.specs.declared.skips.Skips.{Skips}
 use Rattle.job_reports.proofs.CallAnswers.{IsDoneCall, done_call}
 use Rattle.session_history.specs.Moves.{is_of_move}
 use Rattle.thing_moving.specs.declared.moving.MovingStage.TheVariants.{SyncTarget}
@@ -33,7 +32,7 @@ use Rattle.history_laws.proofs.Restless.{joint_less, named_both, names_in}
 use Rattle.history_laws.proofs.Stepped.{Comes, comes_one}
 
 -- A thing is renamed, a folder where nothing stands; nothing waits in it, and nothing is dirty on the mounts of both folders, nor on those of the folders on the way to them.
-module _ (told : Said) (dirty dirty_after : List Route) (marks : Marks) (log now : CallLog) (kept : IsKept told dirty marks log) (old : List ℕ) (from : Route) (new : List ℕ) (to : Route) (skips : Skips)
+module _ (told : Said) (dirty dirty_after : List Route) (marks : Marks) (log now : CallLog) (kept : IsKept told dirty marks log) (old : List ℕ) (from : Route) (new : List ℕ) (to : Route)
     (none : told.part ≡ None) (other : same_path (old ∷ from) (new ∷ to) ≡ false) (owed : NoneOver (current log) to dirty) (owed_from : NoneOver (current log) from dirty) (free : is_folder (node (current log) (found (current log) (old ∷ from))) ≡ true → find (current log) (new ∷ to) ≡ None)
     (rests : RestsBelow marks log (old ∷ from)) (listed : Among dirty_after from) (listed_beside : Among dirty_after to) (more : (q : Route) → Among dirty q → Among dirty_after q) (done : Performs {A = Unit {0}} log (Rename (old ∷ from) (new ∷ to)) (Ok tt) (Some now)) where
   abbrev f : ℕ
@@ -62,7 +61,7 @@ module _ (told : Said) (dirty dirty_after : List Route) (marks : Marks) (log now
 
   -- the move then
   abbrev renamed : Moving
-  renamed = record { pair = pair_of (old ∷ from) (new ∷ to); stage = SyncTarget; skips = skips }
+  renamed = record { pair = pair_of (old ∷ from) (new ∷ to); stage = SyncTarget }
 
   d : IsDoneCall log (Rename (old ∷ from) (new ∷ to)) now
   d = done_call log (Rename (old ∷ from) (new ∷ to)) now done

@@ -3,13 +3,13 @@ use Rattle.std.proofs.Common.{◌≡◌, ℕ, Bool, true, false, [], ◌∷◌, 
 use Rattle.std.specs.Prelude.{if◌then◌else◌, is_some, nat_le, not, ◌&&◌}
 use Rattle.std.specs.Option.{option_map}
 use Rattle.mc_text.specs.Routes.{Route, parent_of, same_path}
+use Rattle.job_answers.specs.declared.replies.Replies.{Replies}
 use Rattle.job_reports.specs.declared.job.Job.{Job}
 use Rattle.job_reports.specs.declared.job.Pair.{Pair}
 use Rattle.job_reports.specs.declared.job.Job.TheVariants as plan
 use Rattle.job_reports.specs.Jobs.{Item, Copies, Moves, Removes, Makes, MakesLink, Sets, RemovesEmptied, folder_changed, is_link_text, item_of}
 use Rattle.job_reports.specs.declared.report.Ending.{Ending}
 use Rattle.job_reports.specs.declared.report.Ending.TheVariants.{Finished}
-use Rattle.job_reports.specs.declared.report.Cause.{Cause}
 use Rattle.job_reports.specs.declared.report.Did.{Did}
 use Rattle.job_reports.specs.declared.report.Did.TheVariants.{Removed, Made, Set, Kept, Skipped, Barrier, Asked, Merges, Moved, Troubled, Ended}
 use Rattle.job_reports.specs.Paths.{folder_of}
@@ -32,7 +32,7 @@ pub use Rattle.folder_removal.proofs.RemovalFolders.{removal_stays, removal_wind
 use Rattle.copy_move.specs.ModeSettings as modes
 use Rattle.mode_setting.specs.Settings.{Setting}
 use Rattle.mode_setting.specs.Settings as settings
-use Rattle.copy_move.specs.Jobs.{PassesOver, Running, JobTells, TellsOn, WorkTells, WorkWinds, answered, answered_on, copies, deletes, first_work, makes, moves, removes_emptied, sets, taken_anew, with_skips}
+use Rattle.copy_move.specs.Jobs.{PassesOver, Running, JobTells, TellsOn, WorkTells, WorkWinds, answered, answered_on, copies, deletes, first_work, makes, moves, removes_emptied, sets, taken_anew}
 use Rattle.copy_move.specs.Settling.{changed_folder}
 use Rattle.history_laws.specs.Staying.{may_change}
 
@@ -108,14 +108,14 @@ first_item id (plan.SetMode (path ∷ []) mode) = first_if (is_some (parent_of p
 first_item id (plan.SetMode (path ∷ more ∷ paths) mode) = refl
 first_item id (plan.RemoveEmptied path) = first_if (is_some (parent_of path)) (removes_emptied path)
 
-deletion_paths : (d new : Deleting) (did : Did) → deletions.Tells d did new → item_in (Delete new) ≡ item_in (Delete d)
-deletion_paths d new (Removed path) (going, within, at) = ap Removes at.path_is
-deletion_paths d new Barrier (stage, at) = ap Removes at.path_is
-deletion_paths d new (Troubled trouble) (barrier, at) = ap Removes at.path_is
-deletion_paths d new (Ended Finished part) (stage, part_is, at) = ap Removes at.path_is
-deletion_paths d new (Kept path) (going, at) = ap Removes at.path_is
-deletion_paths d new (Skipped path why) (going, passes, at) = ap Removes at.path_is
-deletion_paths d new did t = absurd t
+deletion_paths : (replies : Replies) (d new : Deleting) (did : Did) → deletions.Tells replies d did new → item_in (Delete new) ≡ item_in (Delete d)
+deletion_paths replies d new (Removed path) (going, within, at) = ap Removes at.path_is
+deletion_paths replies d new Barrier (stage, at) = ap Removes at.path_is
+deletion_paths replies d new (Troubled trouble) (barrier, at) = ap Removes at.path_is
+deletion_paths replies d new (Ended Finished part) (stage, part_is, at) = ap Removes at.path_is
+deletion_paths replies d new (Kept path) (going, at) = ap Removes at.path_is
+deletion_paths replies d new (Skipped path why) (going, passes, at) = ap Removes at.path_is
+deletion_paths replies d new did t = absurd t
 
 making_paths : (m new : Making) (did : Did) → makings.Tells m did new → item_in (Make new) ≡ item_in (Make m)
 making_paths m new (Made path) (stage, path_is, new_is) = ap (λ (x : Making). item_in (Make x)) new_is
@@ -125,8 +125,8 @@ making_paths m new (Ended Finished part) (is_done, part_is, new_is) = ap (λ (x 
 making_paths m new did t = absurd t
 
 deletion_winds : (ending : Ending) (d new : Deleting) (did : Did) → deletions.Winds ending d did new → item_in (Delete new) ≡ item_in (Delete d)
-deletion_winds ending d new Barrier (path_is, stage_is, skips_is) = ap Removes path_is
-deletion_winds ending d new (Ended how part) (how_is, part_is, path_is, stage_is, skips_is) = ap Removes path_is
+deletion_winds ending d new Barrier (path_is, stage_is) = ap Removes path_is
+deletion_winds ending d new (Ended how part) (how_is, part_is, path_is, stage_is) = ap Removes path_is
 deletion_winds ending d new did t = absurd t
 
 making_winds : (ending : Ending) (m new : Making) (did : Did) → makings.Winds ending m did new → item_in (Make new) ≡ item_in (Make m)
@@ -134,13 +134,13 @@ making_winds ending m new Barrier (stage, new_is) = ap (λ (x : Making). item_in
 making_winds ending m new (Ended how part) (stage, how_is, part_is, new_is) = ap (λ (x : Making). item_in (Make x)) new_is
 making_winds ending m new did t = absurd t
 
-setting_paths : (s new : Setting) (did : Did) → settings.Tells s did new → item_in (SetMode new) ≡ item_in (SetMode s)
-setting_paths s new (Set path) (stage, path_is, new_is) = ap (λ (x : Setting). item_in (SetMode x)) new_is
-setting_paths s new Barrier (stage, new_is) = ap (λ (x : Setting). item_in (SetMode x)) new_is
-setting_paths s new (Troubled trouble) (at, told, new_is) = ap (λ (x : Setting). item_in (SetMode x)) new_is
-setting_paths s new (Ended Finished part) (is_done, part_is, new_is) = ap (λ (x : Setting). item_in (SetMode x)) new_is
-setting_paths s new (Skipped path why) (stage, path_is, passes, new_is) = ap (λ (x : Setting). item_in (SetMode x)) new_is
-setting_paths s new did t = absurd t
+setting_paths : (replies : Replies) (s new : Setting) (did : Did) → settings.Tells replies s did new → item_in (SetMode new) ≡ item_in (SetMode s)
+setting_paths replies s new (Set path) (stage, path_is, new_is) = ap (λ (x : Setting). item_in (SetMode x)) new_is
+setting_paths replies s new Barrier (stage, new_is) = ap (λ (x : Setting). item_in (SetMode x)) new_is
+setting_paths replies s new (Troubled trouble) (at, told, new_is) = ap (λ (x : Setting). item_in (SetMode x)) new_is
+setting_paths replies s new (Ended Finished part) (is_done, part_is, new_is) = ap (λ (x : Setting). item_in (SetMode x)) new_is
+setting_paths replies s new (Skipped path why) (stage, path_is, passes, new_is) = ap (λ (x : Setting). item_in (SetMode x)) new_is
+setting_paths replies s new did t = absurd t
 
 setting_winds : (ending : Ending) (s new : Setting) (did : Did) → modes.Winds ending s did new → item_in (SetMode new) ≡ item_in (SetMode s)
 setting_winds ending s new Barrier (stage, new_is) = ap (λ (x : Setting). item_in (SetMode x)) new_is
@@ -148,30 +148,30 @@ setting_winds ending s new (Ended how part) (stage, how_is, part_is, new_is) = a
 setting_winds ending s new did t = absurd t
 
 -- a move stays at its two paths
-pub moving_stays : (m new : Moving) (did : Did) → movings.Tells m did new → new.pair ≡ m.pair
-moving_stays m new (Moved pair) (stage, pair_is, new_is) = ap (λ (x : Moving). x.pair) new_is
-moving_stays m new (Kept path) (stage, path_is, new_is) = ap (λ (x : Moving). x.pair) new_is
-moving_stays m new (Skipped path why) (stage, path_is, passes, new_is) = ap (λ (x : Moving). x.pair) new_is
-moving_stays m new Barrier (dirty, new_is) = ap (λ (x : Moving). x.pair) new_is
-moving_stays m new (Asked question) (stage, new_is) = ap (λ (x : Moving). x.pair) new_is
-moving_stays m new (Troubled trouble) (barrier, off, told, new_is) = ap (λ (x : Moving). x.pair) new_is
-moving_stays m new (Ended Finished part) (is_done, part_is, new_is) = ap (λ (x : Moving). x.pair) new_is
-moving_stays m new (Merges transfer pair names) (stage, merges, new_is) = ap (λ (x : Moving). x.pair) new_is
-moving_stays m new did t = absurd t
+pub moving_stays : (replies : Replies) (m new : Moving) (did : Did) → movings.Tells replies m did new → new.pair ≡ m.pair
+moving_stays replies m new (Moved pair) (stage, pair_is, new_is) = ap (λ (x : Moving). x.pair) new_is
+moving_stays replies m new (Kept path) (stage, path_is, new_is) = ap (λ (x : Moving). x.pair) new_is
+moving_stays replies m new (Skipped path why) (stage, path_is, passes, new_is) = ap (λ (x : Moving). x.pair) new_is
+moving_stays replies m new Barrier (dirty, new_is) = ap (λ (x : Moving). x.pair) new_is
+moving_stays replies m new (Asked question) (stage, new_is) = ap (λ (x : Moving). x.pair) new_is
+moving_stays replies m new (Troubled trouble) (barrier, off, told, new_is) = ap (λ (x : Moving). x.pair) new_is
+moving_stays replies m new (Ended Finished part) (is_done, part_is, new_is) = ap (λ (x : Moving). x.pair) new_is
+moving_stays replies m new (Merges transfer pair names) (stage, merges, new_is) = ap (λ (x : Moving). x.pair) new_is
+moving_stays replies m new did t = absurd t
 
 moving_winds : (ending : Ending) (m new : Moving) (did : Did) → movings.Winds ending m did new → new.pair ≡ m.pair
 moving_winds ending m new Barrier (dirty, new_is) = ap (λ (x : Moving). x.pair) new_is
 moving_winds ending m new (Ended how part) (clean, how_is, part_is, new_is) = ap (λ (x : Moving). x.pair) new_is
 moving_winds ending m new did t = absurd t
 
-pub work_paths : (old new : Work) (did : Did) → WorkTells old did new → item_in new ≡ item_in old
-work_paths (Delete d) (Delete new) did t = deletion_paths d new did t
-work_paths (Make m) (Make new) did t = making_paths m new did t
-work_paths (Move m) (Move new) did t = ap move_item (moving_stays m new did t)
-work_paths (SetMode s) (SetMode new) did t = setting_paths s new did t
-work_paths (Copy c) (Copy new) did t = let after = t.after in ap tree_item after.top
-work_paths (RemoveEmptied r) (RemoveEmptied new) did t = ap RemovesEmptied (removal_stays r new did t)
-work_paths old new did t = absurd t
+pub work_paths : (replies : Replies) (old new : Work) (did : Did) → WorkTells replies old did new → item_in new ≡ item_in old
+work_paths replies (Delete d) (Delete new) did t = deletion_paths replies d new did t
+work_paths replies (Make m) (Make new) did t = making_paths m new did t
+work_paths replies (Move m) (Move new) did t = ap move_item (moving_stays replies m new did t)
+work_paths replies (SetMode s) (SetMode new) did t = setting_paths replies s new did t
+work_paths replies (Copy c) (Copy new) did t = let after = t.after in ap tree_item after.top
+work_paths replies (RemoveEmptied r) (RemoveEmptied new) did t = ap RemovesEmptied (removal_stays replies r new did t)
+work_paths replies old new did t = absurd t
 
 wind_paths : (ending : Ending) (old new : Work) (did : Did) → WorkWinds ending old did new → item_in new ≡ item_in old
 wind_paths ending (Delete d) (Delete new) did t = deletion_winds ending d new did t
@@ -203,7 +203,7 @@ abbrev pub IsSame : Running → Running → Type 0
 IsSame old new = (new.id ≡ old.id) × (item_in new.work ≡ item_in old.work)
 
 on_same : (old new : Running) (did : Did) (course : Course) → TellsOn course old did new → IsSame old new
-on_same old new did GoesOn (work, tells, new_is) = (ap (λ (x : Running). x.id) new_is, ap (λ (x : Running). item_in x.work) new_is ∙ work_paths old.work work did tells)
+on_same old new did GoesOn (work, tells, new_is) = (ap (λ (x : Running). x.id) new_is, ap (λ (x : Running). item_in x.work) new_is ∙ work_paths old.replies old.work work did tells)
 on_same old new did (InTrouble halt) t = absurd t
 on_same old new did (OwedSyncFailed why) t = absurd t
 on_same old new did Asking t = absurd t
@@ -214,18 +214,10 @@ on_same old new did (Ends ending) (work, winds, new_is) = (ap (λ (x : Running).
 pub tells_same : (old new : Running) (did : Did) → JobTells old did new → IsSame old new
 tells_same old new did t = on_same old new did old.course t
 
-skips_paths : (why : Cause) (work : Work) → item_in (with_skips why work) ≡ item_in work
-skips_paths why (Copy c) = refl
-skips_paths why (Delete d) = refl
-skips_paths why (Make m) = refl
-skips_paths why (Move m) = refl
-skips_paths why (SetMode s) = refl
-skips_paths why (RemoveEmptied r) = refl
-
 answer_on : (course : Course) (answer : Answer) (job : Running) → IsSame job (answered_on course answer job)
 answer_on (InTrouble halt) Retry job = (refl, anew_paths job.work)
 answer_on (InTrouble halt) Skip job = (refl, refl)
-answer_on (InTrouble halt) SkipAll job = (refl, skips_paths halt.cause job.work)
+answer_on (InTrouble halt) SkipAll job = (refl, refl)
 answer_on (InTrouble halt) Abort job = (refl, refl)
 answer_on (OwedSyncFailed why) Retry job = (refl, anew_paths job.work)
 answer_on (OwedSyncFailed why) Skip job = (refl, refl)

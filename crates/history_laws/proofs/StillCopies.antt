@@ -200,12 +200,12 @@ module _ (log now : CallLog) where
       worked_idle : begins_change (let w : StepResult = s.worked in w.did) ≡ false → IsCalmCall log now × ((let x : Seen = s.moved in x.item) ≡ Next)
       worked_idle quiet = list_idle free replies s.mid s.moved s.worked dirty dirty_after faults faults_after at_first quiet s.works
 
-      by : OrPassedOver old.skips s.worked s.moved new.at (step_result did calls) → IsCalmCall log now × (new.at.item ≡ Next)
+      by : OrPassedOver replies.skips s.worked s.moved new.at (step_result did calls) → IsCalmCall log now × (new.at.item ≡ Next)
       by (inl (unpassed, result, same)) =
           let on = worked_idle (sym (ap (λ (r : StepResult). begins_change r.did) result) ∙ still) in
           (on.0, ap (λ (x : Seen). x.item) same ∙ on.1)
       by (inr (cause, is, count, skips)) =
-          let trouble = passed_trouble old.skips (let w : StepResult = s.worked in w.did) cause is in
+          let trouble = passed_trouble replies.skips (let w : StepResult = s.worked in w.did) cause is in
           let on = worked_idle (ap begins_change trouble.1) in
           (on.0, skips_idle cause s.moved new.at did on.1 skips)
 

@@ -35,7 +35,7 @@ use Rattle.copy_move.specs.declared.run.Course.{Course}
 use Rattle.copy_move.specs.declared.run.Course.TheVariants.{GoesOn, Asking, InTrouble, OwedSyncFailed, Skips, Ends}
 use Rattle.copy_move.specs.declared.work.Work.{Work}
 use Rattle.copy_move.specs.declared.work.Work.TheVariants.{Copy, Delete, Make, Move, SetMode, RemoveEmptied}
-use Rattle.copy_move.specs.Jobs.{CallsOn, PassesOver, Running, TellsOn, WorkCalls, WorkLastCalls, WorkTells, WorkWinds, answered, answered_on, begun_work, closed_job, copies, deletes, first_work, makes, moves, removes_emptied, sets, taken_anew, with_skips}
+use Rattle.copy_move.specs.Jobs.{CallsOn, PassesOver, Running, TellsOn, WorkCalls, WorkLastCalls, WorkTells, WorkWinds, answered, answered_on, begun_work, closed_job, copies, deletes, first_work, makes, moves, removes_emptied, sets, taken_anew}
 use Rattle.copy_move.specs.Steps.{LastWalks, SkipWalks, SyncsOwed, Walks, WalksOn}
 use Rattle.copy_move.specs.Told.{running, turned, with_next}
 use Rattle.history_laws.specs.Traces.{EventLeads, IsJob, IsUnclaimed, Stand, StepLeads, WorkLeads, before_others, begun, if_closed, ordered, with_job}
@@ -69,18 +69,10 @@ anew_idle (Move m) idle = tt
 anew_idle (SetMode s) idle = tt
 anew_idle (RemoveEmptied r) idle = tt
 
-skips_idle : (cause : Cause) (work : Work) → IsIdle work → IsIdle (with_skips cause work)
-skips_idle cause (Copy c) idle = idle
-skips_idle cause (Delete d) idle = tt
-skips_idle cause (Make m) idle = tt
-skips_idle cause (Move m) idle = tt
-skips_idle cause (SetMode s) idle = tt
-skips_idle cause (RemoveEmptied r) idle = tt
-
 answered_idle : (course : Course) (answer : Answer) (job : Running) → IsIdle job.work → IsIdle (answered_on course answer job).work
 answered_idle (InTrouble halt) Retry job idle = anew_idle job.work idle
 answered_idle (InTrouble halt) Skip job idle = idle
-answered_idle (InTrouble halt) SkipAll job idle = skips_idle halt.cause job.work idle
+answered_idle (InTrouble halt) SkipAll job idle = idle
 answered_idle (InTrouble halt) Abort job idle = idle
 answered_idle (InTrouble halt) Yes job idle = idle
 answered_idle (InTrouble halt) No job idle = idle
@@ -169,24 +161,16 @@ begun_idle id job = by (begun_work id (sources_of job)) refl
 turned_idle : (source : Job) (job next : Running) → turned source job ≡ Some next → IsIdle next.work
 turned_idle source job next is = by (first_work job.id source) refl (is)
   where
-    taken : (w : Work) → IsIdle w → IsIdle (with_next job w).work
-    taken (Copy c) idle = idle
-    taken (Delete d) idle = tt
-    taken (Make m) idle = tt
-    taken (Move m) idle = tt
-    taken (SetMode s) idle = tt
-    taken (RemoveEmptied r) idle = tt
-
     by : (o : Option Work) → first_work job.id source ≡ o → option_map (λ work. with_next job work) o ≡ Some next → IsIdle next.work
     by None first is = absurd (let f : ⊥ = cc in f)
-    by (Some w) first is = let e : with_next job w ≡ next = cc in subst (λ (x : Running). IsIdle x.work) e (taken w (first_idle job.id source w first))
+    by (Some w) first is = let e : with_next job w ≡ next = cc in subst (λ (x : Running). IsIdle x.work) e (first_idle job.id source w first)
 
 -- So does each step whose report begins no change.
 module _ (log now : CallLog) where
   abbrev Stays : Work → Type 0
   Stays work = IsCalmCall log now × IsIdle work
 
-  work_stays : (replies : Replies) (old new : Work) (did : Did) (calls : ℕ) (dirty dirty_after : List Route) (faults faults_after : ℕ) → begins_change did ≡ false → IsIdle old → WorkTells old did new
+  work_stays : (replies : Replies) (old new : Work) (did : Did) (calls : ℕ) (dirty dirty_after : List Route) (faults faults_after : ℕ) → begins_change did ≡ false → IsIdle old → WorkTells replies old did new
       → WorkCalls IsUnclaimed replies old did new log (Some now) → Walks IsUnclaimed replies old new did calls dirty dirty_after (Some log) (Some now) faults faults_after → Stays new
   work_stays replies (Copy c) (Copy new) did calls dirty dirty_after faults faults_after still idle tells called walks = step_idle log now walks.free replies c new did calls dirty dirty_after walks.since faults_after idle still walks.steps
   work_stays replies (Delete d) (Delete new) did calls dirty dirty_after faults faults_after still idle tells called walks = (deletion_calm log now did still called, tt)
@@ -246,7 +230,7 @@ module _ (log now : CallLog) where
       → CallsOn IsUnclaimed course job did new log (Some now) → WalksOn IsUnclaimed job.replies course job.work new.work did calls dirty dirty_after (Some log) (Some now) faults faults_after → Stays new.work
   job_stays job new did GoesOn calls dirty dirty_after faults faults_after still idle (work, tells, new_is) called walks =
       let is : new.work ≡ work = ap (λ (x : Running). x.work) new_is in
-      work_stays job.replies job.work new.work did calls dirty dirty_after faults faults_after still idle (subst (λ w. WorkTells job.work did w) (sym is) tells) called walks
+      work_stays job.replies job.work new.work did calls dirty dirty_after faults faults_after still idle (subst (λ w. WorkTells job.replies job.work did w) (sym is) tells) called walks
   job_stays job new did (InTrouble halt) calls dirty dirty_after faults faults_after still idle tells called walks = absurd tells
   job_stays job new did (OwedSyncFailed cause) calls dirty dirty_after faults faults_after still idle tells called walks = absurd tells
   job_stays job new did Asking calls dirty dirty_after faults faults_after still idle tells called walks = absurd tells

@@ -7,6 +7,7 @@ use Rattle.mc_text.specs.Routes.{Route, same_path}
 use Rattle.tree_trait.specs.Calls.{SetMode as Sets_mode}
 use Rattle.tree_trait.specs.Change.{Sets, CallLog, current, found}
 use Rattle.crash_law.specs.Guarded.{Marks}
+use Rattle.job_answers.specs.declared.replies.Replies.{Replies}
 use Rattle.job_reports.specs.Jobs.{Item, Sets as Sets_item}
 use Rattle.job_reports.specs.declared.report.Ending.{Ending}
 use Rattle.job_reports.specs.declared.report.Ending.TheVariants.{Finished, Aborted, Killed, NoMemory}
@@ -42,25 +43,25 @@ IsSureThing (Sets_item thing mode) log = name_waits log thing ≡ false
 IsSureThing item log = Unit {0}
 
 -- the setting of a mode names its thing only where it sets the mode
-told_unnamed : (s new : Setting) (did : Did) (path : Route) → settings.Tells s did new → (begins_change did ≡ true → ⊥) → names did path ≡ false
-told_unnamed s new (Set thing) path t none = absurd (none refl)
-told_unnamed s new Barrier path t none = refl
-told_unnamed s new (Troubled trouble) path t none = refl
-told_unnamed s new (Ended Finished part) path (is_done, part_is, new_is) none = ap (λ o. option_map_or (same_path path) o false) part_is
-told_unnamed s new (Ended Aborted part) path t none = absurd t
-told_unnamed s new (Ended Killed part) path t none = absurd t
-told_unnamed s new (Ended NoMemory part) path t none = absurd t
-told_unnamed s new (Began part) path t none = absurd t
-told_unnamed s new (Chunk count) path t none = absurd t
-told_unnamed s new (Made made) path t none = absurd t
-told_unnamed s new (Placed target) path t none = absurd t
-told_unnamed s new (Removed gone) path t none = absurd t
-told_unnamed s new (Kept kept) path t none = absurd t
-told_unnamed s new (Asked question) path t none = absurd t
-told_unnamed s new (Merges transfer pair within) path t none = absurd t
-told_unnamed s new (Moved pair) path t none = absurd t
-told_unnamed s new (Skipped skipped why) path t none = refl
-told_unnamed s new (Cleaned part) path t none = absurd t
+told_unnamed : (replies : Replies) (s new : Setting) (did : Did) (path : Route) → settings.Tells replies s did new → (begins_change did ≡ true → ⊥) → names did path ≡ false
+told_unnamed replies s new (Set thing) path t none = absurd (none refl)
+told_unnamed replies s new Barrier path t none = refl
+told_unnamed replies s new (Troubled trouble) path t none = refl
+told_unnamed replies s new (Ended Finished part) path (is_done, part_is, new_is) none = ap (λ o. option_map_or (same_path path) o false) part_is
+told_unnamed replies s new (Ended Aborted part) path t none = absurd t
+told_unnamed replies s new (Ended Killed part) path t none = absurd t
+told_unnamed replies s new (Ended NoMemory part) path t none = absurd t
+told_unnamed replies s new (Began part) path t none = absurd t
+told_unnamed replies s new (Chunk count) path t none = absurd t
+told_unnamed replies s new (Made made) path t none = absurd t
+told_unnamed replies s new (Placed target) path t none = absurd t
+told_unnamed replies s new (Removed gone) path t none = absurd t
+told_unnamed replies s new (Kept kept) path t none = absurd t
+told_unnamed replies s new (Asked question) path t none = absurd t
+told_unnamed replies s new (Merges transfer pair within) path t none = absurd t
+told_unnamed replies s new (Moved pair) path t none = absurd t
+told_unnamed replies s new (Skipped skipped why) path t none = refl
+told_unnamed replies s new (Cleaned part) path t none = absurd t
 
 wound_unnamed : (ending : Ending) (s new : Setting) (did : Did) (path : Route) → modes.Winds ending s did new → names did path ≡ false
 wound_unnamed ending s new Barrier path t = refl
@@ -79,16 +80,16 @@ wound_unnamed ending s new (Skipped skipped why) path t = absurd t
 wound_unnamed ending s new (Cleaned part) path t = absurd t
 wound_unnamed ending s new (Troubled trouble) path t = absurd t
 
-work_unnamed : (s : Setting) (work : Work) (did : Did) (path : Route) → WorkTells (SetMode s) did work → (begins_change did ≡ true → ⊥) → names did path ≡ false
-work_unnamed s (SetMode new) did path t none = told_unnamed s new did path t none
-work_unnamed s work did path t none = absurd t
+work_unnamed : (replies : Replies) (s : Setting) (work : Work) (did : Did) (path : Route) → WorkTells replies (SetMode s) did work → (begins_change did ≡ true → ⊥) → names did path ≡ false
+work_unnamed replies s (SetMode new) did path t none = told_unnamed replies s new did path t none
+work_unnamed replies s work did path t none = absurd t
 
 wind_unnamed : (ending : Ending) (s : Setting) (work : Work) (did : Did) (path : Route) → WorkWinds ending (SetMode s) did work → names did path ≡ false
 wind_unnamed ending s (SetMode new) did path t = wound_unnamed ending s new did path t
 wind_unnamed ending s work did path t = absurd t
 
 unnamed_on : (job new : Running) (did : Did) (s : Setting) (course : Course) (path : Route) → job.work ≡ SetMode s → TellsOn course job did new → (begins_change did ≡ true → ⊥) → names did path ≡ false
-unnamed_on job new did s GoesOn path is (work, tells, new_is) none = work_unnamed s work did path (subst (λ w. WorkTells w did work) is tells) none
+unnamed_on job new did s GoesOn path is (work, tells, new_is) none = work_unnamed job.replies s work did path (subst (λ w. WorkTells job.replies w did work) is tells) none
 unnamed_on job new did s (InTrouble halt) path is t none = absurd t
 unnamed_on job new did s (OwedSyncFailed why) path is t none = absurd t
 unnamed_on job new did s Asking path is t none = absurd t
@@ -111,24 +112,24 @@ set_sure told dirty marks log now s new path known none calls = by s.path
         let after = quiet_waits name up ⊥ log (Sets (found (current log) s.path) s.mode) known.guarded.tree (λ n g m. refl) before in
         subst (λ (l : CallLog). name_waits l (name ∷ up) ≡ false) (sym d.is) (false_from_ne_true _ after.0)
 
-set_then : (told : Said) (dirty : List Route) (marks : Marks) (log now : CallLog) (s : Setting) (work : Work) (did : Did) → IsKnown told dirty marks log → (settings.is_fresh s.stage ≡ true → NoneOwed (current log) (SetMode s) dirty) → WorkTells (SetMode s) did work
+set_then : (replies : Replies) (told : Said) (dirty : List Route) (marks : Marks) (log now : CallLog) (s : Setting) (work : Work) (did : Did) → IsKnown told dirty marks log → (settings.is_fresh s.stage ≡ true → NoneOwed (current log) (SetMode s) dirty) → WorkTells replies (SetMode s) did work
     → SettingCalls s did log (Some now) → begins_change did ≡ true → name_waits now s.path ≡ false
-set_then told dirty marks log now s (SetMode new) (Set path) known owed t calls h = set_sure told dirty marks log now s new path known (owed (ap settings.is_fresh t.0)) calls
-set_then told dirty marks log now s (SetMode new) (Began part) known owed t calls h = absurd t
-set_then told dirty marks log now s (SetMode new) (Removed path) known owed t calls h = absurd t
-set_then told dirty marks log now s (SetMode new) (Made path) known owed t calls h = absurd t
-set_then told dirty marks log now s (SetMode new) (Moved pair) known owed t calls h = absurd t
-set_then told dirty marks log now s (SetMode new) (Chunk count) known owed t calls h = absurd (true≢false (sym h))
-set_then told dirty marks log now s (SetMode new) (Placed path) known owed t calls h = absurd (true≢false (sym h))
-set_then told dirty marks log now s (SetMode new) (Kept kept) known owed t calls h = absurd (true≢false (sym h))
-set_then told dirty marks log now s (SetMode new) (Asked question) known owed t calls h = absurd (true≢false (sym h))
-set_then told dirty marks log now s (SetMode new) (Merges transfer pair within) known owed t calls h = absurd (true≢false (sym h))
-set_then told dirty marks log now s (SetMode new) (Skipped path why) known owed t calls h = absurd (true≢false (sym h))
-set_then told dirty marks log now s (SetMode new) (Cleaned part) known owed t calls h = absurd (true≢false (sym h))
-set_then told dirty marks log now s (SetMode new) Barrier known owed t calls h = absurd (true≢false (sym h))
-set_then told dirty marks log now s (SetMode new) (Troubled trouble) known owed t calls h = absurd (true≢false (sym h))
-set_then told dirty marks log now s (SetMode new) (Ended ending part) known owed t calls h = absurd (true≢false (sym h))
-set_then told dirty marks log now s work did known owed t calls h = absurd t
+set_then replies told dirty marks log now s (SetMode new) (Set path) known owed t calls h = set_sure told dirty marks log now s new path known (owed (ap settings.is_fresh t.0)) calls
+set_then replies told dirty marks log now s (SetMode new) (Began part) known owed t calls h = absurd t
+set_then replies told dirty marks log now s (SetMode new) (Removed path) known owed t calls h = absurd t
+set_then replies told dirty marks log now s (SetMode new) (Made path) known owed t calls h = absurd t
+set_then replies told dirty marks log now s (SetMode new) (Moved pair) known owed t calls h = absurd t
+set_then replies told dirty marks log now s (SetMode new) (Chunk count) known owed t calls h = absurd (true≢false (sym h))
+set_then replies told dirty marks log now s (SetMode new) (Placed path) known owed t calls h = absurd (true≢false (sym h))
+set_then replies told dirty marks log now s (SetMode new) (Kept kept) known owed t calls h = absurd (true≢false (sym h))
+set_then replies told dirty marks log now s (SetMode new) (Asked question) known owed t calls h = absurd (true≢false (sym h))
+set_then replies told dirty marks log now s (SetMode new) (Merges transfer pair within) known owed t calls h = absurd (true≢false (sym h))
+set_then replies told dirty marks log now s (SetMode new) (Skipped path why) known owed t calls h = absurd (true≢false (sym h))
+set_then replies told dirty marks log now s (SetMode new) (Cleaned part) known owed t calls h = absurd (true≢false (sym h))
+set_then replies told dirty marks log now s (SetMode new) Barrier known owed t calls h = absurd (true≢false (sym h))
+set_then replies told dirty marks log now s (SetMode new) (Troubled trouble) known owed t calls h = absurd (true≢false (sym h))
+set_then replies told dirty marks log now s (SetMode new) (Ended ending part) known owed t calls h = absurd (true≢false (sym h))
+set_then replies told dirty marks log now s work did known owed t calls h = absurd t
 
 module _ (told : Said) (dirty dirty_after : List Route) (marks : Marks) (log now : CallLog) (known : IsKnown told dirty marks log) (job new : Running) (did : Did)
     (still : (path : Route) → (told.part ≡ Some path → ⊥) → names did path ≡ false → name_waits log path ≡ false → name_waits now path ≡ false) where
@@ -148,7 +149,7 @@ module _ (told : Said) (dirty dirty_after : List Route) (marks : Marks) (log now
       set s is true begins =
           let goes = goes_then job new did job.course refl works.tells begins in
           let calls = subst (λ w. WorkCalls IsUnclaimed job.replies w did new.work log (Some now)) is (subst (λ c. CallsOn IsUnclaimed c job did new log (Some now)) goes.0 works.called) in
-          set_then told dirty marks log now s goes.1.0 did known (λ fresh. subst (λ w. NoneOwed (current log) w dirty) is (works.settled goes.0 (ap is_fresh is ∙ fresh))) (subst (λ w. WorkTells w did goes.1.0) is goes.1.1) calls begins
+          set_then job.replies told dirty marks log now s goes.1.0 did known (λ fresh. subst (λ w. NoneOwed (current log) w dirty) is (works.settled goes.0 (ap is_fresh is ∙ fresh))) (subst (λ w. WorkTells job.replies w did goes.1.0) is goes.1.1) calls begins
       set s is false begins =
           let none : begins_change did ≡ true → ⊥ = λ h. true≢false (sym h ∙ begins) in
           let k : WorkKnows told dirty marks log job.course (SetMode s) = subst (λ w. WorkKnows told dirty marks log job.course w) is knows in

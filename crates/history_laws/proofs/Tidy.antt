@@ -6,6 +6,7 @@ use Rattle.mc_text.specs.Routes.{Route, same_path}
 use Rattle.tree_trait.specs.Change.{CallLog}
 use Rattle.tree_trait.specs.CrashImages.{Among}
 use Rattle.tree_trait.proofs.Visible.{same_path-self}
+use Rattle.job_answers.specs.declared.replies.Replies.{Replies}
 use Rattle.job_reports.specs.declared.job.Pair.{Pair}
 use Rattle.job_reports.specs.declared.report.Ending.TheVariants.{Finished, Aborted, Killed, NoMemory}
 use Rattle.job_reports.specs.declared.report.Did.{Did}
@@ -63,40 +64,40 @@ making_dirty m new (Troubled trouble) t h = absurd (false≢true h)
 making_dirty m new (Ended ending part) t h = absurd (false≢true h)
 
 -- so is a mode that is given
-setting_dirty : (s new : Setting) (did : Did) → settings.Tells s did new → begins_change did ≡ true → settings.is_dirty new.stage ≡ true
-setting_dirty s new (Set path) (stage, path_is, new_is) h = ap (λ (x : Setting). settings.is_dirty x.stage) new_is
-setting_dirty s new (Began part) t h = absurd t
-setting_dirty s new (Removed path) t h = absurd t
-setting_dirty s new (Made path) t h = absurd t
-setting_dirty s new (Chunk count) t h = absurd (false≢true h)
-setting_dirty s new (Placed path) t h = absurd (false≢true h)
-setting_dirty s new (Kept kept) t h = absurd (false≢true h)
-setting_dirty s new (Asked question) t h = absurd (false≢true h)
-setting_dirty s new (Merges transfer pair names) t h = absurd (false≢true h)
-setting_dirty s new (Moved pair) t h = absurd t
-setting_dirty s new (Skipped path why) t h = absurd (false≢true h)
-setting_dirty s new (Cleaned part) t h = absurd (false≢true h)
-setting_dirty s new Barrier t h = absurd (false≢true h)
-setting_dirty s new (Troubled trouble) t h = absurd (false≢true h)
-setting_dirty s new (Ended ending part) t h = absurd (false≢true h)
+setting_dirty : (replies : Replies) (s new : Setting) (did : Did) → settings.Tells replies s did new → begins_change did ≡ true → settings.is_dirty new.stage ≡ true
+setting_dirty replies s new (Set path) (stage, path_is, new_is) h = ap (λ (x : Setting). settings.is_dirty x.stage) new_is
+setting_dirty replies s new (Began part) t h = absurd t
+setting_dirty replies s new (Removed path) t h = absurd t
+setting_dirty replies s new (Made path) t h = absurd t
+setting_dirty replies s new (Chunk count) t h = absurd (false≢true h)
+setting_dirty replies s new (Placed path) t h = absurd (false≢true h)
+setting_dirty replies s new (Kept kept) t h = absurd (false≢true h)
+setting_dirty replies s new (Asked question) t h = absurd (false≢true h)
+setting_dirty replies s new (Merges transfer pair names) t h = absurd (false≢true h)
+setting_dirty replies s new (Moved pair) t h = absurd t
+setting_dirty replies s new (Skipped path why) t h = absurd (false≢true h)
+setting_dirty replies s new (Cleaned part) t h = absurd (false≢true h)
+setting_dirty replies s new Barrier t h = absurd (false≢true h)
+setting_dirty replies s new (Troubled trouble) t h = absurd (false≢true h)
+setting_dirty replies s new (Ended ending part) t h = absurd (false≢true h)
 
 -- and the removal of an emptied folder
-removal_dirty : (r new : Removing) (did : Did) → removals.Tells r did new → begins_change did ≡ true → removals.is_dirty new.stage ≡ true
-removal_dirty r new (Removed path) (stage, path_is, new_is) h = ap (λ (x : Removing). removals.is_dirty x.stage) new_is
-removal_dirty r new (Began part) t h = absurd t
-removal_dirty r new (Made path) t h = absurd t
-removal_dirty r new (Set path) t h = absurd t
-removal_dirty r new (Moved pair) t h = absurd t
-removal_dirty r new (Chunk count) t h = absurd (false≢true h)
-removal_dirty r new (Placed path) t h = absurd (false≢true h)
-removal_dirty r new (Kept kept) t h = absurd (false≢true h)
-removal_dirty r new (Asked question) t h = absurd (false≢true h)
-removal_dirty r new (Merges transfer pair names) t h = absurd (false≢true h)
-removal_dirty r new (Skipped path why) t h = absurd (false≢true h)
-removal_dirty r new (Cleaned part) t h = absurd (false≢true h)
-removal_dirty r new Barrier t h = absurd (false≢true h)
-removal_dirty r new (Troubled trouble) t h = absurd (false≢true h)
-removal_dirty r new (Ended ending part) t h = absurd (false≢true h)
+removal_dirty : (replies : Replies) (r new : Removing) (did : Did) → removals.Tells replies r did new → begins_change did ≡ true → removals.is_dirty new.stage ≡ true
+removal_dirty replies r new (Removed path) (stage, path_is, new_is) h = ap (λ (x : Removing). removals.is_dirty x.stage) new_is
+removal_dirty replies r new (Began part) t h = absurd t
+removal_dirty replies r new (Made path) t h = absurd t
+removal_dirty replies r new (Set path) t h = absurd t
+removal_dirty replies r new (Moved pair) t h = absurd t
+removal_dirty replies r new (Chunk count) t h = absurd (false≢true h)
+removal_dirty replies r new (Placed path) t h = absurd (false≢true h)
+removal_dirty replies r new (Kept kept) t h = absurd (false≢true h)
+removal_dirty replies r new (Asked question) t h = absurd (false≢true h)
+removal_dirty replies r new (Merges transfer pair names) t h = absurd (false≢true h)
+removal_dirty replies r new (Skipped path why) t h = absurd (false≢true h)
+removal_dirty replies r new (Cleaned part) t h = absurd (false≢true h)
+removal_dirty replies r new Barrier t h = absurd (false≢true h)
+removal_dirty replies r new (Troubled trouble) t h = absurd (false≢true h)
+removal_dirty replies r new (Ended ending part) t h = absurd (false≢true h)
 
 skipped_moved : (stage : MovingStage) → is_moved (movings.skipped stage) ≡ is_moved stage
 skipped_moved moving.Take = refl
@@ -117,25 +118,25 @@ synced_moved pair moving.Finish h = refl
 synced_moved pair moving.PassedOver h = h
 
 -- a thing that was renamed, or is so now
-moving_moved : (m new : Moving) (did : Did) → movings.Tells m did new → ((begins_change did ≡ true → ⊥) → is_moved m.stage ≡ true) → is_moved new.stage ≡ true
-moving_moved m new (Moved pair) (stage, pair_is, new_is) old = ap (λ (x : Moving). is_moved x.stage) new_is
-moving_moved m new Barrier (dirty, new_is) old = ap (λ (x : Moving). is_moved x.stage) new_is ∙ synced_moved m.pair m.stage (old (λ h. false≢true h))
-moving_moved m new (Kept path) (stage, path_is, new_is) old = absurd (both_ways _ (ap is_moved stage) (old (λ h. false≢true h)))
-moving_moved m new (Skipped path why) (stage, path_is, passes, new_is) old = absurd (both_ways _ (ap is_moved stage) (old (λ h. false≢true h)))
-moving_moved m new (Merges transfer pair names) (stage, merges, new_is) old = absurd (both_ways _ (ap is_moved stage) (old (λ h. false≢true h)))
-moving_moved m new (Asked question) (stage, new_is) old = ap (λ (x : Moving). is_moved x.stage) new_is ∙ old (λ h. false≢true h)
-moving_moved m new (Troubled trouble) (barrier, off, told, new_is) old = ap (λ (x : Moving). is_moved x.stage) new_is ∙ old (λ h. false≢true h)
-moving_moved m new (Ended Finished part) (is_done, part_is, new_is) old = ap (λ (x : Moving). is_moved x.stage) new_is ∙ old (λ h. false≢true h)
-moving_moved m new (Ended Aborted part) t old = absurd t
-moving_moved m new (Ended Killed part) t old = absurd t
-moving_moved m new (Ended NoMemory part) t old = absurd t
-moving_moved m new (Began part) t old = absurd t
-moving_moved m new (Chunk count) t old = absurd t
-moving_moved m new (Set path) t old = absurd t
-moving_moved m new (Placed path) t old = absurd t
-moving_moved m new (Removed made) t old = absurd t
-moving_moved m new (Made path) t old = absurd t
-moving_moved m new (Cleaned part) t old = absurd t
+moving_moved : (replies : Replies) (m new : Moving) (did : Did) → movings.Tells replies m did new → ((begins_change did ≡ true → ⊥) → is_moved m.stage ≡ true) → is_moved new.stage ≡ true
+moving_moved replies m new (Moved pair) (stage, pair_is, new_is) old = ap (λ (x : Moving). is_moved x.stage) new_is
+moving_moved replies m new Barrier (dirty, new_is) old = ap (λ (x : Moving). is_moved x.stage) new_is ∙ synced_moved m.pair m.stage (old (λ h. false≢true h))
+moving_moved replies m new (Kept path) (stage, path_is, new_is) old = absurd (both_ways _ (ap is_moved stage) (old (λ h. false≢true h)))
+moving_moved replies m new (Skipped path why) (stage, path_is, passes, new_is) old = absurd (both_ways _ (ap is_moved stage) (old (λ h. false≢true h)))
+moving_moved replies m new (Merges transfer pair names) (stage, merges, new_is) old = absurd (both_ways _ (ap is_moved stage) (old (λ h. false≢true h)))
+moving_moved replies m new (Asked question) (stage, new_is) old = ap (λ (x : Moving). is_moved x.stage) new_is ∙ old (λ h. false≢true h)
+moving_moved replies m new (Troubled trouble) (barrier, off, told, new_is) old = ap (λ (x : Moving). is_moved x.stage) new_is ∙ old (λ h. false≢true h)
+moving_moved replies m new (Ended Finished part) (is_done, part_is, new_is) old = ap (λ (x : Moving). is_moved x.stage) new_is ∙ old (λ h. false≢true h)
+moving_moved replies m new (Ended Aborted part) t old = absurd t
+moving_moved replies m new (Ended Killed part) t old = absurd t
+moving_moved replies m new (Ended NoMemory part) t old = absurd t
+moving_moved replies m new (Began part) t old = absurd t
+moving_moved replies m new (Chunk count) t old = absurd t
+moving_moved replies m new (Set path) t old = absurd t
+moving_moved replies m new (Placed path) t old = absurd t
+moving_moved replies m new (Removed made) t old = absurd t
+moving_moved replies m new (Made path) t old = absurd t
+moving_moved replies m new (Cleaned part) t old = absurd t
 
 -- a folder that was synced is no longer listed
 pub not_listed : (up : Route) (routes : List Route) → Among (without up routes) up → ⊥
@@ -216,18 +217,18 @@ tree_begun did stage new is old = ap is_fresh_tree is ∙ by (begins_change did)
     by true h = going_then did stage h
     by false h = going_still did stage (old (λ begins. both_ways _ h begins))
 
-tidy_work : (old new : Work) (did : Did) (dirty dirty_after : List Route) (before after : Option CallLog) → WorkTells old did new → WorkLeaves old did new dirty dirty_after before after
+tidy_work : (replies : Replies) (old new : Work) (did : Did) (dirty dirty_after : List Route) (before after : Option CallLog) → WorkTells replies old did new → WorkLeaves old did new dirty dirty_after before after
     → ((begins_change did ≡ true → ⊥) → TidyFolder old dirty) → TidyFolder new dirty_after
-tidy_work (Copy c) (Copy new) did dirty dirty_after before after tells leaves old = let a = tells.after in tree_begun did c.at.stage new.at.stage a.stage old
-tidy_work (Delete d) (Delete new) did dirty dirty_after before after tells leaves old = tt
-tidy_work (SetMode s) (SetMode new) did dirty dirty_after before after tells leaves old = λ clean among.
-    tidy_by (settings.is_dirty s.stage) (settings.is_dirty new.stage) s.path new.path dirty dirty_after leaves (setting_stays s new did tells) (old (λ h. both_ways _ clean (setting_dirty s new did tells h))) clean among
-tidy_work (Make m) (Make new) did dirty dirty_after before after tells leaves old = λ clean among.
+tidy_work replies (Copy c) (Copy new) did dirty dirty_after before after tells leaves old = let a = tells.after in tree_begun did c.at.stage new.at.stage a.stage old
+tidy_work replies (Delete d) (Delete new) did dirty dirty_after before after tells leaves old = tt
+tidy_work replies (SetMode s) (SetMode new) did dirty dirty_after before after tells leaves old = λ clean among.
+    tidy_by (settings.is_dirty s.stage) (settings.is_dirty new.stage) s.path new.path dirty dirty_after leaves (setting_stays replies s new did tells) (old (λ h. both_ways _ clean (setting_dirty replies s new did tells h))) clean among
+tidy_work replies (Make m) (Make new) did dirty dirty_after before after tells leaves old = λ clean among.
     tidy_by (makings.is_dirty m.stage) (makings.is_dirty new.stage) (folder_of m.path) (folder_of new.path) dirty dirty_after leaves (ap folder_of (making_stays m new did tells)) (old (λ h. both_ways _ clean (making_dirty m new did tells h))) clean among
-tidy_work (Move m) (Move new) did dirty dirty_after before after tells leaves old = moving_moved m new did tells old
-tidy_work (RemoveEmptied r) (RemoveEmptied new) did dirty dirty_after before after tells leaves old = λ clean among.
-    tidy_by (removals.is_dirty r.stage) (removals.is_dirty new.stage) (folder_of r.path) (folder_of new.path) dirty dirty_after leaves (ap folder_of (removal_stays r new did tells)) (old (λ h. both_ways _ clean (removal_dirty r new did tells h))) clean among
-tidy_work work new did dirty dirty_after before after tells leaves old = absurd tells
+tidy_work replies (Move m) (Move new) did dirty dirty_after before after tells leaves old = moving_moved replies m new did tells old
+tidy_work replies (RemoveEmptied r) (RemoveEmptied new) did dirty dirty_after before after tells leaves old = λ clean among.
+    tidy_by (removals.is_dirty r.stage) (removals.is_dirty new.stage) (folder_of r.path) (folder_of new.path) dirty dirty_after leaves (ap folder_of (removal_stays replies r new did tells)) (old (λ h. both_ways _ clean (removal_dirty replies r new did tells h))) clean among
+tidy_work replies work new did dirty dirty_after before after tells leaves old = absurd tells
 
 skipped_clean : (stage : MakingStage) → makings.is_dirty (makings.skipped stage) ≡ makings.is_dirty stage
 skipped_clean making.Make = refl
@@ -256,7 +257,7 @@ module _ (job new : Running) (did : Did) (dirty dirty_after : List Route) (log n
   tidy_on : (course : Course) → job.course ≡ course → TellsOn course job did new → LeavesDirty course job.work did new.work dirty dirty_after (Some log) (Some now) → IsTidy before dirty job → IsTidy (before || begins_change did) dirty_after new
   tidy_on GoesOn is (work, tells, new_is) leaves old changed going =
       subst (λ (x : Running). TidyFolder x.work dirty_after) (sym new_is)
-      (tidy_work job.work work did dirty dirty_after (Some log) (Some now) tells (subst (λ (x : Running). WorkLeaves job.work did x.work dirty dirty_after (Some log) (Some now)) new_is leaves)
+      (tidy_work job.replies job.work work did dirty dirty_after (Some log) (Some now) tells (subst (λ (x : Running). WorkLeaves job.work did x.work dirty dirty_after (Some log) (Some now)) new_is leaves)
       (λ none. elim (changed_by before (begins_change did) changed) [ inl b ↦ old b (subst IsGoing (sym is) tt) | inr h ↦ absurd (none h) ]))
   tidy_on (InTrouble halt) is t leaves old changed going = absurd t
   tidy_on (OwedSyncFailed why) is t leaves old changed going = absurd t

@@ -85,7 +85,7 @@ module _ (told : Said) (dirty dirty_after : List Route) (marks : Marks) (log now
   ends : Ends
   ends = by s.passes
     where
-      by : OrPassedOver c.skips s.worked s.moved new.at (step_result (Ended Finished part) calls) → Ends
+      by : OrPassedOver replies.skips s.worked s.moved new.at (step_result (Ended Finished part) calls) → Ends
       by (inl (none, same, stays)) = worked (Ended Finished part) refl s.works (ap (λ (r : StepResult). r.did) (sym same))
       by (inr p) = (let m : Seen = s.moved in skips_no_end m.item p.0 m new.at part p.3)
 

@@ -150,7 +150,7 @@ module _ (free : Route → Bool) (replies : Replies) (c new : SubtreeCopying) (d
       worked (inl short) = subst (λ (x : CallLog). P x s.moved) (sym (some_log now log short.same)) (subst (P log) (sym short.stays) mid)
       worked (inr m) = (let w = s.worked in steps s.mid s.moved w.did w.calls m.steps mid)
 
-      passed : OrPassedOver c.skips s.worked s.moved new.at (step_result did count) → P now new.at
+      passed : OrPassedOver replies.skips s.worked s.moved new.at (step_result did count) → P now new.at
       passed (inl same) = subst (P now) (sym same.2) (worked s.works)
       passed (inr p) = skips p.0 s.moved new.at did p.3 (worked s.works)
 

@@ -21,7 +21,6 @@ use Rattle.tree_copy.specs.declared.item.Item.{Item}
 use Rattle.tree_copy.specs.declared.item.Item.TheVariants.{Next, File, Link, Stays}
 use Rattle.subtree_copy.specs.Standing.{SubtreeCopying, is_own, part_of}
 use Rattle.subtree_copy.specs.Unbegun.{IsUnbegun}
-use Rattle.job_answers.specs.declared.skips.Skips.{Skips as Kinds}
 use Rattle.copy_move.specs.declared.run.Course.{Course}
 use Rattle.copy_move.specs.declared.run.Course.TheVariants.{GoesOn, Asking, InTrouble, OwedSyncFailed, Skips, Ends}
 use Rattle.tree_trait.specs.Refusals.{is_folder}
@@ -248,22 +247,6 @@ tree_still told dirty marks log now course t tree (c, is, how) k = subst (λ (l 
     by : (c : Change) → (c ≡ Nothing) ⊎ ((f : ℕ) × (c ≡ Syncs f)) → TreeKnown told dirty marks (with_change log c) course t
     by c (inl none) = subst (λ (x : Change). TreeKnown told dirty marks (with_change log x) course t) (sym none) (tree_quiet told dirty marks log tree Nothing (current_more log Nothing) (λ n g m. refl) (λ i. refl) course t k)
     by c (inr (f, sync)) = subst (λ (x : Change). TreeKnown told dirty marks (with_change log x) course t) (sym sync) (tree_quiet told dirty marks log tree (Syncs f) (current_more log (Syncs f)) (λ n g m. refl) (λ i. refl) course t k)
-
--- which troubles are passed over is nothing to what is known
-pub skips_kind : (told : Said) (dirty : List Route) (marks : Marks) (log : CallLog) (course : Course) (c : SubtreeCopying) (skips : Kinds) → TreeKnown told dirty marks log course c → TreeKnown told dirty marks log course (record c { skips = skips })
-skips_kind told dirty marks log course c skips k = record {
-  name = k.name;
-  part = k.part;
-  goes = λ on.
-      let g = k.goes on in
-      let h = g.stands in
-      record {
-        stands = record { in_place = h.in_place; laid = h.laid; ends = h.ends; unbegun = h.unbegun; marked = h.marked; listed = h.listed };
-        begun = λ some.
-            let b = g.begun some in
-            record { outside = b.outside; levels = b.levels; item = b.item; text = b.text; whole = b.whole; calm = b.calm; names = b.names; modes = b.modes; folder = b.folder; around = b.around };
-      };
-}
 
 -- Of what a history says it hangs on the tree, the part, the folders on the disk and the calm folders.
 module _ (told other : Said) (tree_same : other.tree ≡ told.tree) (part_same : other.part ≡ told.part) (folders_same : other.folders ≡ told.folders) (calm_same : other.calm ≡ told.calm) (dirty : List Route) (marks : Marks) (log : CallLog) where

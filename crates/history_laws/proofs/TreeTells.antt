@@ -46,8 +46,8 @@ use Rattle.history_laws.proofs.TreeMachine.{SaysPassed, owes, passed_trouble, sk
 use Rattle.history_laws.proofs.TreeSkipped.{skipped_item, skips_none}
 use Rattle.history_laws.proofs.TreeSkips.{LaidIn}
 
-module _ (told : Said) (dirty dirty_after : List Route) (marks : Marks) (log now : CallLog) (kept : IsKept told dirty marks log) (c new : SubtreeCopying) (did : Did) (k : TreeKnown told dirty marks log GoesOn c) (tells : Tells c did new)
-    (settled : is_fresh c.at.stage ≡ true → NoneOwed (current log) (Copy c) dirty) (free : Route → Bool) (replies : Replies) (count f0 f1 : ℕ) (s : SubtreeSteps free replies c new did count dirty dirty_after (Some log) (Some now) f0 f1) where
+module _ (told : Said) (dirty dirty_after : List Route) (marks : Marks) (log now : CallLog) (kept : IsKept told dirty marks log) (replies : Replies) (c new : SubtreeCopying) (did : Did) (k : TreeKnown told dirty marks log GoesOn c) (tells : Tells replies c did new)
+    (settled : is_fresh c.at.stage ≡ true → NoneOwed (current log) (Copy c) dirty) (free : Route → Bool) (count f0 f1 : ℕ) (s : SubtreeSteps free replies c new did count dirty dirty_after (Some log) (Some now) f0 f1) where
   abbrev mid : Seen
   mid = s.mid
 
@@ -77,9 +77,9 @@ module _ (told : Said) (dirty dirty_after : List Route) (marks : Marks) (log now
   first_worked : is_fresh c.at.stage ≡ true → MayBegin r.did
   first_worked fresh = by s.passes
     where
-      by : OrPassedOver c.skips r s.moved new.at (step_result did count) → MayBegin r.did
+      by : OrPassedOver replies.skips r s.moved new.at (step_result did count) → MayBegin r.did
       by (inl same) = subst MayBegin (ap (λ (x : StepResult). x.did) same.1) (tells.first fresh)
-      by (inr (why, is, calls, skips)) = (let t = passed_trouble c.skips r.did why is in subst MayBegin (sym t.1) tt)
+      by (inr (why, is, calls, skips)) = (let t = passed_trouble replies.skips r.did why is in subst MayBegin (sym t.1) tt)
 
   abbrev Comes_to : Did → Seen → Type 0
   Comes_to d x = Result told dirty dirty_after log now c d x
@@ -155,13 +155,13 @@ module _ (told : Said) (dirty dirty_after : List Route) (marks : Marks) (log now
   stepped : Comes_to did new.at × OwedModes told.tree new.at
   stepped = by s.passes
     where
-      by : OrPassedOver c.skips r s.moved new.at (step_result did count) → Comes_to did new.at × OwedModes told.tree new.at
+      by : OrPassedOver replies.skips r s.moved new.at (step_result did count) → Comes_to did new.at × OwedModes told.tree new.at
       by (inl same) = (
         subst (λ (x : Seen). Comes_to did x) (sym same.2) (subst (λ d. Comes_to d s.moved) (sym (ap (λ (x : StepResult). x.did) same.1)) worked),
         subst (OwedModes told.tree) (sym same.2) owed_worked,
       )
       by (inr (why, is, calls, skips)) =
-          let t = passed_trouble c.skips r.did why is in (
+          let t = passed_trouble replies.skips r.did why is in (
             passed t.0 (subst (λ d. Comes_to d s.moved) t.1 worked) why skips (skip_says s.moved.item why s.moved new.at did skips),
             (let law = owed_mode_law in law.skip why s.moved new.at did told.tree skips owed_worked),
           )

@@ -5,7 +5,6 @@ use Rattle.std.specs.Option.{option_map}
 use Rattle.mc_text.specs.Routes.{Route}
 use Rattle.tree_trait.specs.Change.{CallLog}
 use Rattle.crash_law.specs.Guarded.{Marks}
-use Rattle.job_answers.specs.declared.skips.Skips.{Skips}
 use Rattle.job_reports.specs.declared.job.Job.{Job}
 use Rattle.job_reports.specs.Jobs.{Item, item_of}
 use Rattle.job_reports.specs.declared.report.Ending.TheVariants.{Finished, Aborted, Killed, NoMemory}
@@ -16,34 +15,14 @@ use Rattle.session_history.specs.declared.history.Event.TheVariants as event
 use Rattle.session_history.specs.Sources.{IsDoneWith, item_in as item_first}
 use Rattle.copy_move.specs.declared.run.Course.TheVariants.{GoesOn}
 use Rattle.copy_move.specs.declared.work.Work.{Work}
-use Rattle.copy_move.specs.declared.work.Work.TheVariants.{Copy, Delete, Make, Move, SetMode, RemoveEmptied}
-use Rattle.copy_move.specs.Jobs.{Running, begun_work, first_work, passing_over, skips_of}
+use Rattle.copy_move.specs.Jobs.{Running, begun_work, first_work}
 use Rattle.copy_move.specs.Told.{turned, with_next}
 use Rattle.history_laws.proofs.JobKnows.{WorkKnows}
 use Rattle.history_laws.proofs.Knowing.{Said}
-use Rattle.history_laws.proofs.MoveKnown.{move_skips}
 use Rattle.history_laws.specs.Traces.{with_job}
 use Rattle.history_laws.proofs.Reports.{first_knows, with_one}
 use Rattle.history_laws.proofs.Sources.{first_item, item_in}
-use Rattle.history_laws.proofs.TreeKnown.{skips_kind}
 use Rattle.history_laws.proofs.Unchanged.{first_clean, has_begun}
-
--- the kinds that are passed over change nothing else
-pub passing_item : (skips : Skips) (work : Work) → item_in (passing_over skips work) ≡ item_in work
-passing_item skips (Copy c) = refl
-passing_item skips (Delete d) = refl
-passing_item skips (Make m) = refl
-passing_item skips (Move m) = refl
-passing_item skips (SetMode s) = refl
-passing_item skips (RemoveEmptied r) = refl
-
-passing_begun : (skips : Skips) (work : Work) → has_begun (passing_over skips work) ≡ has_begun work
-passing_begun skips (Copy c) = refl
-passing_begun skips (Delete d) = refl
-passing_begun skips (Make m) = refl
-passing_begun skips (Move m) = refl
-passing_begun skips (SetMode s) = refl
-passing_begun skips (RemoveEmptied r) = refl
 
 -- the work with which a job goes on
 pub record Turned (plan : Job) (job next : Running) : Type 0 where
@@ -102,18 +81,10 @@ one_turned id was job next jobs was_is id_is is =
     is ∙ (ap (with_job id (Some next)) was_is ∙ (ap (λ n. with_job n (Some next) (job ∷ [])) (sym id_is) ∙ with_one job (Some next)))
 
 module _ (told : Said) (dirty : List Route) (marks : Marks) (log : CallLog) where
-  passing_knows : (skips : Skips) (work : Work) → WorkKnows told dirty marks log GoesOn work → WorkKnows told dirty marks log GoesOn (passing_over skips work)
-  passing_knows skips (Copy c) k = skips_kind told dirty marks log GoesOn c skips k
-  passing_knows skips (Delete d) k = k
-  passing_knows skips (Make m) k = k
-  passing_knows skips (Move m) k = move_skips told marks log GoesOn m (record m { skips = skips }) refl refl k
-  passing_knows skips (SetMode s) k = k
-  passing_knows skips (RemoveEmptied r) k = k
-
   -- what is known of the next source, where no part stands
   pub turned_knows : (plan : Job) (job next : Running) → told.part ≡ None → (t : Turned plan job next) → WorkKnows told dirty marks log next.course next.work
   turned_knows plan job next none t =
-      subst (λ (x : Running). WorkKnows told dirty marks log x.course x.work) (sym t.next_is) (passing_knows (skips_of job.work) t.work (first_knows told dirty marks log none job.id plan t.work t.first))
+      subst (λ (x : Running). WorkKnows told dirty marks log x.course x.work) (sym t.next_is) (first_knows told dirty marks log none job.id plan t.work t.first)
 
   -- and of the first
   pub begun_knows : told.part ≡ None → (id : ℕ) (sources : List Job) (work : Work) → begun_work id sources ≡ Some work → WorkKnows told dirty marks log GoesOn work
@@ -126,7 +97,7 @@ begun_clean id [] work is = absurd (let f : ⊥ = cc in f)
 begun_clean id (source ∷ more) work is = first_clean id source work is
 
 pub turned_clean : (plan : Job) (job next : Running) → Turned plan job next → has_begun next.work ≡ false
-turned_clean plan job next t = ap (λ (x : Running). has_begun x.work) t.next_is ∙ (passing_begun (skips_of job.work) t.work ∙ first_clean job.id plan t.work t.first)
+turned_clean plan job next t = ap (λ (x : Running). has_begun x.work) t.next_is ∙ first_clean job.id plan t.work t.first
 
 -- and its item is that of its source
 pub begun_item : (id : ℕ) (sources : List Job) → item_first sources ≡ option_map item_in (begun_work id sources)
@@ -135,4 +106,4 @@ begun_item id (source ∷ more) = first_item id source
 
 pub turned_item : (plan : Job) (job next : Running) → Turned plan job next → item_of plan ≡ Some (item_in next.work)
 turned_item plan job next t =
-    first_item job.id plan ∙ (ap (option_map item_in) t.first ∙ ap (λ i. (let o : Option Item = Some i in o)) (sym (ap (λ (x : Running). item_in x.work) t.next_is ∙ passing_item (skips_of job.work) t.work)))
+    first_item job.id plan ∙ (ap (option_map item_in) t.first ∙ ap (λ i. (let o : Option Item = Some i in o)) (sym (ap (λ (x : Running). item_in x.work) t.next_is)))

@@ -3,6 +3,7 @@ use Rattle.std.proofs.Common.{◌≡◌, ℕ, Bool, true, false, [], ◌∷◌, 
 use Rattle.std.specs.Prelude.{if◌then◌else◌, is_some, nat_le, not, ◌&&◌}
 use Rattle.std.proofs.lemmas.Bool.{true≢false}
 use Rattle.mc_text.specs.Routes.{Route, parent_of, same_path}
+use Rattle.job_answers.specs.declared.replies.Replies.{Replies}
 use Rattle.job_reports.specs.declared.report.Did.{Did}
 use Rattle.job_reports.specs.declared.report.Did.TheVariants.{Began, Chunk, Placed, Removed, Made, Set, Kept, Skipped, Cleaned, Barrier, Asked, Merges, Moved, Troubled, Ended}
 use Rattle.thing_making.specs.declared.making.MakingStage.{MakingStage}
@@ -164,14 +165,14 @@ knows_calm (SetMode s) = false
 knows_calm (RemoveEmptied r) = false
 
 -- a step leaves it so
-tells_calm : (old new : Work) (did : Did) → WorkTells old did new → knows_calm new ≡ false → knows_calm old ≡ false
-tells_calm (Delete d) new did t other = refl
-tells_calm (Make m) new did t other = refl
-tells_calm (SetMode s) new did t other = refl
-tells_calm (Copy c) (Copy new) did t other = other
-tells_calm (Move m) (Move new) did t other = other
-tells_calm (RemoveEmptied r) new did t other = refl
-tells_calm old new did t other = absurd t
+tells_calm : (replies : Replies) (old new : Work) (did : Did) → WorkTells replies old did new → knows_calm new ≡ false → knows_calm old ≡ false
+tells_calm replies (Delete d) new did t other = refl
+tells_calm replies (Make m) new did t other = refl
+tells_calm replies (SetMode s) new did t other = refl
+tells_calm replies (Copy c) (Copy new) did t other = other
+tells_calm replies (Move m) (Move new) did t other = other
+tells_calm replies (RemoveEmptied r) new did t other = refl
+tells_calm replies old new did t other = absurd t
 
 winds_calm : (ending : Ending) (old new : Work) (did : Did) → WorkWinds ending old did new → knows_calm new ≡ false → knows_calm old ≡ false
 winds_calm ending (Delete d) new did t other = refl
@@ -192,7 +193,7 @@ passes_calm (RemoveEmptied r) new path h other = refl
 passes_calm old new path h other = absurd h
 
 on_calm : (old new : Running) (did : Did) (course : Course) → TellsOn course old did new → knows_calm new.work ≡ false → knows_calm old.work ≡ false
-on_calm old new did GoesOn (work, tells, new_is) other = tells_calm old.work work did tells (sym (ap (λ (x : Running). knows_calm x.work) new_is) ∙ other)
+on_calm old new did GoesOn (work, tells, new_is) other = tells_calm old.replies old.work work did tells (sym (ap (λ (x : Running). knows_calm x.work) new_is) ∙ other)
 on_calm old new did (InTrouble halt) t other = absurd t
 on_calm old new did (OwedSyncFailed why) t other = absurd t
 on_calm old new did Asking t other = absurd t
@@ -276,10 +277,10 @@ not_true false h = absurd (true≢false h)
 as_stage : (old new : TreeStage) → new ≡ old → not (is_fresh old) ≡ false → not (is_fresh new) ≡ false
 as_stage old new is clean = ap (λ s. not (is_fresh s)) is ∙ clean
 
-tree_tells : (c : SubtreeCopying) (work : Work) (did : Did) → WorkTells (Copy c) did work → begins_change did ≡ false → has_begun (Copy c) ≡ false → has_begun work ≡ false
-tree_tells c (Copy new) did t none clean =
+tree_tells : (replies : Replies) (c : SubtreeCopying) (work : Work) (did : Did) → WorkTells replies (Copy c) did work → begins_change did ≡ false → has_begun (Copy c) ≡ false → has_begun work ≡ false
+tree_tells replies c (Copy new) did t none clean =
     let after = t.after in as_stage c.at.stage new.at.stage (after.stage ∙ stage_stays did c.at.stage (t.first (not_true (is_fresh c.at.stage) clean)) none) clean
-tree_tells c new did t none clean = absurd t
+tree_tells replies c new did t none clean = absurd t
 
 tree_passes : (c : SubtreeCopying) (work : Work) (path : Route) → PassesOver (Copy c) path work → has_begun (Copy c) ≡ false → has_begun work ≡ false
 tree_passes c (Copy new) path (cause, after) clean = as_stage c.at.stage new.at.stage after.stage clean
@@ -291,7 +292,7 @@ tree_winds ending c new did t clean = absurd t
 
 tree_clean : (job new : Running) (did : Did) (c : SubtreeCopying) (course : Course) → job.work ≡ Copy c → TellsOn course job did new → begins_change did ≡ false → has_begun job.work ≡ false → has_begun new.work ≡ false
 tree_clean job new did c GoesOn is (work, tells, new_is) none clean =
-    ap (λ (x : Running). has_begun x.work) new_is ∙ tree_tells c work did (subst (λ w. WorkTells w did work) is tells) none (sym (ap has_begun is) ∙ clean)
+    ap (λ (x : Running). has_begun x.work) new_is ∙ tree_tells job.replies c work did (subst (λ w. WorkTells job.replies w did work) is tells) none (sym (ap has_begun is) ∙ clean)
 tree_clean job new did c (InTrouble halt) is t none clean = absurd t
 tree_clean job new did c (OwedSyncFailed why) is t none clean = absurd t
 tree_clean job new did c Asking is t none clean = absurd t

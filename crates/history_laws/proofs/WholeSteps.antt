@@ -147,7 +147,7 @@ module _ (told : Said) (dirty : List Route) (marks : Marks) (log now : CallLog) 
       subst (λ o. AreIdle (before_others o [])) (sym after_is) tt,
     )
 
-    of_work : (old new : Work) → job.work ≡ old → job.course ≡ GoesOn → WorkTells old (Moved pair) new → WorkCalls IsUnclaimed job.replies old (Moved pair) new log (Some now)
+    of_work : (old new : Work) → job.work ≡ old → job.course ≡ GoesOn → WorkTells job.replies old (Moved pair) new → WorkCalls IsUnclaimed job.replies old (Moved pair) new log (Some now)
         → (jobs.is_fresh old ≡ true → NoneOwed (current log) old dirty) → after ≡ Some (record job { work = new; course = GoesOn }) → WhollyMoved pair after
     of_work (Move m) (Move new) is course_is (stage, pair_is, new_is) (free, done) settled after_is =
         of_move m new job.course (subst (λ w. WorkKnows told dirty marks log job.course w) is knows) stage pair_is new_is done (settled (ap is_fresh stage)) after_is

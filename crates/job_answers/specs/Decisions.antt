@@ -1,9 +1,10 @@
--- What was answered to a job's questions, and what that decides.
+-- What was answered to a job's questions and troubles, and what that decides.
 use Rattle.std.specs.Prelude.{◌≡◌, ◌==◌, if◌then◌else◌, Option, Some, None}
 use Rattle.std.specs.Int.Signed.{lt_z}
 use Rattle.job_reports.specs.declared.answer.Answer.{Answer}
 use Rattle.job_reports.specs.declared.answer.Answer.TheVariants.{Yes, No, All, Update, Nothing, SizeDiffers, Retry, Skip, SkipAll, Abort}
 use Rattle.job_reports.specs.declared.question.Question.{Question}
+use Rattle.job_reports.specs.declared.report.Cause.{Cause}
 use Rattle.job_answers.specs.declared.replies.ItemAnswer.{ItemAnswer}
 use Rattle.job_answers.specs.declared.replies.ItemAnswer.TheVariants as item
 use Rattle.job_answers.specs.declared.replies.Rule.{Rule}
@@ -11,10 +12,11 @@ use Rattle.job_answers.specs.declared.replies.Rule.TheVariants as rule
 use Rattle.job_answers.specs.declared.replies.Decision.{Decision}
 use Rattle.job_answers.specs.declared.replies.Decision.TheVariants.{Replace, Keep, Ask}
 use Rattle.job_answers.specs.declared.replies.Replies.{Replies}
+use Rattle.job_answers.specs.Skipping.{kind_in, no_skips, with_kind}
 
 -- nothing was answered
 abbrev pub no_replies : Replies
-no_replies = record { item = None; rule = None }
+no_replies = record { item = None; rule = None; skips = no_skips }
 
 -- an answer for all: `Update` replaces what is older than its source, `SizeDiffers` what has another size
 abbrev pub rule_decides : Rule → Question → Decision
@@ -45,3 +47,11 @@ with_reply Retry replies = replies
 with_reply Skip replies = replies
 with_reply SkipAll replies = replies
 with_reply Abort replies = replies
+
+-- after `SkipAll` troubles of this kind are passed over, of this item and of all later ones
+abbrev pub with_skips : Cause → Replies → Replies
+with_skips cause replies = record replies { skips = with_kind (kind_in cause) replies.skips }
+
+-- what was answered to its questions alone
+abbrev pub to_questions : Replies → Replies
+to_questions replies = record replies { skips = no_skips }

@@ -1,8 +1,9 @@
-//! What was answered to a job's questions: for the item that is at hand, and for all later items.
+//! What was answered to a job: to its questions, for the item that is at hand and for all later items, and to its troubles.
 ghost use Rattle.std.specs.Prelude.{◌≡◌, Some, None, if◌then◌else◌};
-ghost use Rattle.job_answers.specs.Decisions.{decided, no_replies, rule_decides, with_reply};
+ghost use Rattle.job_answers.specs.Decisions.{decided, no_replies, rule_decides, with_reply, with_skips};
 
-use job_reports::{Answer, Question};
+use crate::skips::{Skips, kind_of};
+use job_reports::{Answer, Cause, Question};
 
 /// An answer for one item: whether it replaces what stands at its target.
 #[derive(Clone, Copy, Debug, Drop, PartialEq, Eq)]
@@ -30,11 +31,12 @@ pub enum Decision {
     Ask,
 }
 
-/// What was answered to the questions of a job so far, and still holds.
-#[derive(Clone, Copy, Debug, Drop, PartialEq, Eq)]
+/// What was answered to the questions and troubles of a job so far, and still holds.
+#[derive(Clone, Copy, Debug, Drop)]
 pub struct Replies {
     item: Option<ItemAnswer>,
     rule: Option<Rule>,
+    skips: Skips,
 }
 
 impl Replies {
@@ -45,6 +47,7 @@ impl Replies {
         Replies {
             item: None,
             rule: None,
+            skips: Skips::new(),
         }
     }
 
@@ -75,6 +78,20 @@ impl Replies {
         }
     }
 
+    /// From now on troubles of this kind are passed over. It takes no memory.
+    pub fn skip_all(&mut self, cause: Cause)
+        ensures { self.new ≡ with_skips cause self.old }
+    {
+        self.skips.insert(kind_of(cause));
+    }
+
+    /// The kinds of troubles that are passed over.
+    pub fn skips(&self) -> Skips
+        ensures { result ≡ self.now.skips }
+    {
+        self.skips
+    }
+
     /// What holds for the next item: an answer for the one before doesn't.
     pub fn for_next(self) -> Replies
         ensures { result ≡ record self { item = None } }
@@ -82,6 +99,7 @@ impl Replies {
         Replies {
             item: None,
             rule: self.rule,
+            skips: self.skips,
         }
     }
 }

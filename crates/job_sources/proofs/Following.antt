@@ -2,6 +2,7 @@
 use Rattle.std.proofs.Common.{◌≡◌, ℕ, inl, inr, List, Option}
 use Rattle.mc_text.specs.Routes.{Route}
 use Rattle.tree_trait.specs.Change.{CallLog}
+use Rattle.job_answers.specs.declared.replies.Replies.{Replies}
 use Rattle.job_reports.specs.declared.report.Transfer.TheVariants.{ByCopy, ByMove}
 use Rattle.job_reports.specs.declared.job.Pair.{Pair}
 use Rattle.job_reports.specs.declared.report.Did.{Did}
@@ -16,18 +17,18 @@ use Rattle.copy_move.proofs.Merging.{none_wound}
 use Rattle.job_sources.specs.Turning.{MayFollow, MayLeave}
 
 -- a move that is merged with the folder at its target; nothing else merges so
-work_follows : (old new : Work) (pair : Pair) (names : List (List ℕ)) → WorkTells old (Merges ByMove pair names) new → MayLeave ByMove pair
-work_follows (Copy c) (Copy new) pair names t = absurd t.may
-work_follows (Move m) (Move new) pair names t = (let merge = t.1 in (merge.held, merge.apart))
-work_follows (Delete d) (Delete new) pair names t = absurd t
-work_follows (Make m) (Make new) pair names t = absurd t
-work_follows (SetMode s) (SetMode new) pair names t = absurd t
-work_follows (RemoveEmptied r) (RemoveEmptied new) pair names t = absurd t
-work_follows old new pair names t = absurd t
+work_follows : (replies : Replies) (old new : Work) (pair : Pair) (names : List (List ℕ)) → WorkTells replies old (Merges ByMove pair names) new → MayLeave ByMove pair
+work_follows replies (Copy c) (Copy new) pair names t = absurd t.may
+work_follows replies (Move m) (Move new) pair names t = (let merge = t.1 in (merge.held, merge.apart))
+work_follows replies (Delete d) (Delete new) pair names t = absurd t
+work_follows replies (Make m) (Make new) pair names t = absurd t
+work_follows replies (SetMode s) (SetMode new) pair names t = absurd t
+work_follows replies (RemoveEmptied r) (RemoveEmptied new) pair names t = absurd t
+work_follows replies old new pair names t = absurd t
 
 module _ (unclaimed : Route → Type 0) (job new : Running) (calls : ℕ) (dirty dirty_after : List Route) (before after : Option CallLog) (f0 f1 : ℕ) where
   course_follows : (course : Course) (pair : Pair) (names : List (List ℕ)) → TellsOn course job (Merges ByMove pair names) new → MayLeave ByMove pair
-  course_follows GoesOn pair names (work, tells, new_is) = work_follows job.work work pair names tells
+  course_follows GoesOn pair names (work, tells, new_is) = work_follows job.replies job.work work pair names tells
   course_follows (InTrouble halt) pair names tells = absurd tells
   course_follows (OwedSyncFailed cause) pair names tells = absurd tells
   course_follows Asking pair names tells = absurd tells

@@ -16,13 +16,11 @@ use Rattle.session_history.specs.Sources.{children_in, left_by}
 use Rattle.copy_move.specs.declared.run.Course.{Course}
 use Rattle.copy_move.specs.declared.run.Course.TheVariants.{GoesOn, Asking, InTrouble, OwedSyncFailed, Skips, Ends}
 use Rattle.copy_move.specs.declared.work.Work.{Work}
-use Rattle.copy_move.specs.Jobs.{Running, TellsOn, first_work, passing_over, skips_of}
+use Rattle.copy_move.specs.Jobs.{Running, TellsOn, first_work}
 use Rattle.copy_move.specs.Ranks.{rank_at, rank_with, work_rank}
 use Rattle.copy_move.specs.Steps.{RunStep, SyncsOwed, step_made}
 use Rattle.copy_move.specs.Told.{if_closed, with_next}
-use Rattle.job_answers.specs.declared.skips.Skips.{Skips as SkippedKinds}
-use Rattle.copy_move.specs.declared.work.Work.TheVariants.{Copy, Delete, Make, Move, SetMode, RemoveEmptied}
-use Rattle.copy_move.proofs.Finishing.{Finishes, finish_stays, passing_rank}
+use Rattle.copy_move.proofs.Finishing.{Finishes, finish_stays}
 use Rattle.copy_move.proofs.Merging.{merge_stays}
 use Rattle.job_sources.specs.declared.turning.Stepped.{Stepped}
 use Rattle.job_sources.specs.Turning.{GoesOn as GoesWith, Turns, children_left, children_on, finishes, merges, rank_left, source_rank, sources_rank}
@@ -127,14 +125,6 @@ merge_falls closed job new dirty dirty_after children left number low less =
     let all = sources_apart new.id children left in
     omega (arith, low, same, less, most, all)
 
-passing_children : (skips : SkippedKinds) (work : Work) → children_left (passing_over skips work) ≡ children_left work
-passing_children skips (Copy c) = refl
-passing_children skips (Delete d) = refl
-passing_children skips (Make m) = refl
-passing_children skips (Move m) = refl
-passing_children skips (SetMode s) = refl
-passing_children skips (RemoveEmptied r) = refl
-
 -- the run of a next source
 record IsNext (id : ℕ) (work : Option Work) (run : Running) : Type 0 where
   pub number : run.id ≡ id
@@ -148,8 +138,7 @@ next_is job (Some work) run is =
     record {
       number = ap (λ (r : Running). r.id) same;
       goes = ap (λ (r : Running). r.course) same;
-      rank = ap (λ (r : Running). start_cost r.work) same ∙ (ap (λ n. (3 * n + 1) + children_left (passing_over (skips_of job.work) work)) (passing_rank (skips_of job.work) work)
-          ∙ ap (λ n. (3 * work_rank work + 1) + n) (passing_children (skips_of job.work) work));
+      rank = ap (λ (r : Running). start_cost r.work) same;
     }
 
 -- where it is closed it has no more steps

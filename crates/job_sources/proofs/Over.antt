@@ -5,6 +5,7 @@ use Rattle.std.proofs.lemmas.Bool.{false≢true}
 use Rattle.mc_text.specs.Routes.{Route, same_path}
 use Rattle.tree_trait.specs.Change.{CallLog}
 use Rattle.folder_copy.specs.FolderCopying.{is_dirty}
+use Rattle.job_answers.specs.declared.replies.Replies.{Replies}
 use Rattle.job_reports.specs.declared.report.Transfer.{Transfer}
 use Rattle.job_reports.specs.declared.report.Transfer.TheVariants.{ByCopy, ByMove}
 use Rattle.job_reports.specs.declared.job.Pair.{Pair}
@@ -136,26 +137,26 @@ skipped_late SyncSource = refl
 skipped_late Finish = refl
 skipped_late PassedOver = refl
 
-moving_less : (m new : Moving) (did : Did) → movings.Tells m did new → children_left (Move new) ≤ children_left (Move m)
-moving_less m new (Moved pair) t = late_less m new SyncTarget t.2 refl
-moving_less m new (Kept path) t = late_less m new PassedOver t.2 refl
-moving_less m new (Skipped path cause) t = late_less m new PassedOver t.3 refl
-moving_less m new Barrier t = late_less m new (movings.after_sync m.pair m.stage) t.1 (synced_late m.pair m.stage t.0)
-moving_less m new (Asked question) t = still_less m new t.1
-moving_less m new (Merges transfer pair names) t = late_less m new PassedOver t.2 refl
-moving_less m new (Troubled trouble) t = still_less m new t.3
-moving_less m new (Ended Finished part) t = still_less m new t.2
-moving_less m new did t = absurd t
+moving_less : (replies : Replies) (m new : Moving) (did : Did) → movings.Tells replies m did new → children_left (Move new) ≤ children_left (Move m)
+moving_less replies m new (Moved pair) t = late_less m new SyncTarget t.2 refl
+moving_less replies m new (Kept path) t = late_less m new PassedOver t.2 refl
+moving_less replies m new (Skipped path cause) t = late_less m new PassedOver t.3 refl
+moving_less replies m new Barrier t = late_less m new (movings.after_sync m.pair m.stage) t.1 (synced_late m.pair m.stage t.0)
+moving_less replies m new (Asked question) t = still_less m new t.1
+moving_less replies m new (Merges transfer pair names) t = late_less m new PassedOver t.2 refl
+moving_less replies m new (Troubled trouble) t = still_less m new t.3
+moving_less replies m new (Ended Finished part) t = still_less m new t.2
+moving_less replies m new did t = absurd t
 
 -- a step of the work
-tells_less : (old new : Work) (did : Did) → WorkTells old did new → children_left new ≤ children_left old
-tells_less (Copy c) (Copy new) did t = (let a = t.after in tree_less c new a.top (λ o. (t.over o).0))
-tells_less (Delete d) (Delete new) did t = omega arith
-tells_less (Make m) (Make new) did t = omega arith
-tells_less (Move m) (Move new) did t = moving_less m new did t
-tells_less (SetMode s) (SetMode new) did t = omega arith
-tells_less (RemoveEmptied r) (RemoveEmptied new) did t = omega arith
-tells_less old new did t = absurd t
+tells_less : (replies : Replies) (old new : Work) (did : Did) → WorkTells replies old did new → children_left new ≤ children_left old
+tells_less replies (Copy c) (Copy new) did t = (let a = t.after in tree_less c new a.top (λ o. (t.over o).0))
+tells_less replies (Delete d) (Delete new) did t = omega arith
+tells_less replies (Make m) (Make new) did t = omega arith
+tells_less replies (Move m) (Move new) did t = moving_less replies m new did t
+tells_less replies (SetMode s) (SetMode new) did t = omega arith
+tells_less replies (RemoveEmptied r) (RemoveEmptied new) did t = omega arith
+tells_less replies old new did t = absurd t
 
 -- a skip of it
 skips_less : (cause : Cause) (old new : Work) (did : Did) (path : Route) → PassesOver old path new → SkipWalks cause old did new → children_left new ≤ children_left old
@@ -172,19 +173,19 @@ merged_exactly : (a b : Bool) (m n k : ℕ) → (a ≡ true → ⊥) → b ≡ t
 merged_exactly true b m n k begins over within = absurd (begins refl)
 merged_exactly false b m n k begins over within = let e : (if b then 0 else n) ≡ 0 = ap (λ x. if x then 0 else n) over in omega (arith, e, within)
 
-copy_merges : (id : ℕ) (c new : SubtreeCopying) (transfer : Transfer) (pair : Pair) (names : List (List ℕ)) → trees.Tells c (Merges transfer pair names) new
+copy_merges : (replies : Replies) (id : ℕ) (c new : SubtreeCopying) (transfer : Transfer) (pair : Pair) (names : List (List ℕ)) → trees.Tells replies c (Merges transfer pair names) new
     → children_left (Copy new) + sources_rank id (children_in transfer pair names) ≤ children_left (Copy c)
-copy_merges id c new ByMove pair names t = absurd t.may
-copy_merges id c new ByCopy pair names t =
+copy_merges replies id c new ByMove pair names t = absurd t.may
+copy_merges replies id c new ByCopy pair names t =
     let m = t.merged pair names refl in
     merged_exactly (is_over c.at) (is_over new.at) (within_steps ByCopy c.top) (within_steps ByCopy new.top) (sources_rank id (children_in ByCopy pair names))
     (λ was. m.begins (so_over c.at was)) (over_so new.at m.over)
     (subst (λ (p : Pair). sources_rank id (children_in ByCopy pair names) ≤ within_steps ByCopy p) m.top (children_within id ByCopy pair names m.short m.few))
 
-move_merges : (id : ℕ) (m new : Moving) (transfer : Transfer) (pair : Pair) (names : List (List ℕ)) → movings.Tells m (Merges transfer pair names) new
+move_merges : (replies : Replies) (id : ℕ) (m new : Moving) (transfer : Transfer) (pair : Pair) (names : List (List ℕ)) → movings.Tells replies m (Merges transfer pair names) new
     → children_left (Move new) + sources_rank id (children_in transfer pair names) ≤ children_left (Move m)
-move_merges id m new ByCopy pair names t = absurd (let merge = t.1 in let e : ByCopy ≡ ByMove = merge.by_move in let f : ⊥ = cc in f)
-move_merges id m new ByMove pair names t =
+move_merges replies id m new ByCopy pair names t = absurd (let merge = t.1 in let e : ByCopy ≡ ByMove = merge.by_move in let f : ⊥ = cc in f)
+move_merges replies id m new ByMove pair names t =
     let merge = t.1 in
     let none : children_left (Move new) ≡ 0 = ap (λ (k : Moving). children_left (Move k)) t.2 in
     let all : children_left (Move m) ≡ within_steps ByMove m.pair = ap (λ s. if movings.is_fresh s then within_steps ByMove m.pair else 0) t.0 in
@@ -192,21 +193,21 @@ move_merges id m new ByMove pair names t =
     let same : within_steps ByMove pair ≡ within_steps ByMove m.pair = ap (within_steps ByMove) merge.its in
     omega (arith, none, all, most, same)
 
-merges_less : (id : ℕ) (old new : Work) (transfer : Transfer) (pair : Pair) (names : List (List ℕ)) → WorkTells old (Merges transfer pair names) new → children_left new + sources_rank id (children_in transfer pair names) ≤ children_left old
-merges_less id (Copy c) (Copy new) transfer pair names t = copy_merges id c new transfer pair names t
-merges_less id (Move m) (Move new) transfer pair names t = move_merges id m new transfer pair names t
-merges_less id (Delete d) (Delete new) transfer pair names t = absurd t
-merges_less id (Make m) (Make new) transfer pair names t = absurd t
-merges_less id (SetMode s) (SetMode new) transfer pair names t = absurd t
-merges_less id (RemoveEmptied r) (RemoveEmptied new) transfer pair names t = absurd t
-merges_less id old new transfer pair names t = absurd t
+merges_less : (replies : Replies) (id : ℕ) (old new : Work) (transfer : Transfer) (pair : Pair) (names : List (List ℕ)) → WorkTells replies old (Merges transfer pair names) new → children_left new + sources_rank id (children_in transfer pair names) ≤ children_left old
+merges_less replies id (Copy c) (Copy new) transfer pair names t = copy_merges replies id c new transfer pair names t
+merges_less replies id (Move m) (Move new) transfer pair names t = move_merges replies id m new transfer pair names t
+merges_less replies id (Delete d) (Delete new) transfer pair names t = absurd t
+merges_less replies id (Make m) (Make new) transfer pair names t = absurd t
+merges_less replies id (SetMode s) (SetMode new) transfer pair names t = absurd t
+merges_less replies id (RemoveEmptied r) (RemoveEmptied new) transfer pair names t = absurd t
+merges_less replies id old new transfer pair names t = absurd t
 
 module _ (unclaimed : Route → Type 0) (job new : Running) (calls : ℕ) (dirty dirty_after : List Route) (before after : Option CallLog) (f0 f1 : ℕ) where
   -- a step of the job that doesn't merge
   course_less : (course : Course) (did : Did) → job.course ≡ course → TellsOn course job did new → WalksOn unclaimed job.replies course job.work new.work did calls dirty dirty_after before after f0 f1
       → children_on new.course new.work ≤ children_on course job.work
   course_less GoesOn did is (work, tells, new_is) walks =
-      let less = tells_less job.work work did tells in
+      let less = tells_less job.replies job.work work did tells in
       let most = on_within new.course new.work in
       let same : children_left new.work ≡ children_left work = ap (λ (r : Running). children_left r.work) new_is in
       omega (arith, less, most, same)
@@ -235,7 +236,7 @@ module _ (unclaimed : Route → Type 0) (job new : Running) (calls : ℕ) (dirty
   module _ (transfer : Transfer) (pair : Pair) (names : List (List ℕ)) where
     course_merges : (course : Course) → job.course ≡ course → TellsOn course job (Merges transfer pair names) new → children_on new.course new.work + sources_rank new.id (children_in transfer pair names) ≤ children_on course job.work
     course_merges GoesOn is (work, tells, new_is) =
-        let less = merges_less new.id job.work work transfer pair names tells in
+        let less = merges_less job.replies new.id job.work work transfer pair names tells in
         let most = on_within new.course new.work in
         let same : children_left new.work ≡ children_left work = ap (λ (r : Running). children_left r.work) new_is in
         omega (arith, less, most, same)

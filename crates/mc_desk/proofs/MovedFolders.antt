@@ -4,6 +4,7 @@ use Rattle.std.specs.Prelude.{filter, if◌then◌else◌, not}
 use Rattle.std.proofs.lemmas.Bool.{false≢true}
 use Rattle.mc_text.specs.Routes.{Route, same_path}
 use Rattle.tree_trait.proofs.Visible.{same_path-true}
+use Rattle.job_answers.specs.declared.replies.Replies.{Replies}
 use Rattle.job_reports.specs.declared.job.Pair.{Pair}
 use Rattle.job_reports.specs.declared.report.Ending.TheVariants.{Finished, Aborted, Killed, NoMemory}
 use Rattle.job_reports.specs.declared.report.Did.{Did}
@@ -64,22 +65,22 @@ module _ (m w : Moving) (dirty dirty_after : List Route) where
   synced Finish was owes is left = absurd (false≢true owes)
   synced PassedOver was owes is left = absurd (false≢true owes)
 
-  pub folders_move : (did : Did) → Tells m did w → dirty_after ≡ with_moves m.stage w.stage m.pair dirty → FoldersMove did m.pair dirty dirty_after
-  folders_move (Moved pair) (was, pair_is, is) left = inr (inl (ap Moved pair_is, between Take SyncTarget was (ap (λ (k : Moving). k.stage) is) left))
-  folders_move Barrier (owes, is) left = let s = synced m.stage refl owes is left in inr (inr (s.0, refl, s.1))
-  folders_move (Kept path) (was, path_is, is) left = inl (between Take PassedOver was (ap (λ (k : Moving). k.stage) is) left)
-  folders_move (Skipped path cause) (was, path_is, kind, is) left = inl (between Take PassedOver was (ap (λ (k : Moving). k.stage) is) left)
-  folders_move (Asked question) (was, is) left = inl (still is left)
-  folders_move (Merges transfer pair names) (was, merge, is) left = inl (between Take PassedOver was (ap (λ (k : Moving). k.stage) is) left)
-  folders_move (Troubled trouble) (barrier, goes, told, is) left = inl (still is left)
-  folders_move (Ended Finished part) (over, none, is) left = inl (still is left)
-  folders_move (Ended Aborted part) t left = absurd t
-  folders_move (Ended Killed part) t left = absurd t
-  folders_move (Ended NoMemory part) t left = absurd t
-  folders_move (Began part) t left = absurd t
-  folders_move (Chunk count) t left = absurd t
-  folders_move (Placed path) t left = absurd t
-  folders_move (Removed path) t left = absurd t
-  folders_move (Made made) t left = absurd t
-  folders_move (Set path) t left = absurd t
-  folders_move (Cleaned part) t left = absurd t
+  pub folders_move : (replies : Replies) (did : Did) → Tells replies m did w → dirty_after ≡ with_moves m.stage w.stage m.pair dirty → FoldersMove did m.pair dirty dirty_after
+  folders_move replies (Moved pair) (was, pair_is, is) left = inr (inl (ap Moved pair_is, between Take SyncTarget was (ap (λ (k : Moving). k.stage) is) left))
+  folders_move replies Barrier (owes, is) left = let s = synced m.stage refl owes is left in inr (inr (s.0, refl, s.1))
+  folders_move replies (Kept path) (was, path_is, is) left = inl (between Take PassedOver was (ap (λ (k : Moving). k.stage) is) left)
+  folders_move replies (Skipped path cause) (was, path_is, kind, is) left = inl (between Take PassedOver was (ap (λ (k : Moving). k.stage) is) left)
+  folders_move replies (Asked question) (was, is) left = inl (still is left)
+  folders_move replies (Merges transfer pair names) (was, merge, is) left = inl (between Take PassedOver was (ap (λ (k : Moving). k.stage) is) left)
+  folders_move replies (Troubled trouble) (barrier, goes, told, is) left = inl (still is left)
+  folders_move replies (Ended Finished part) (over, none, is) left = inl (still is left)
+  folders_move replies (Ended Aborted part) t left = absurd t
+  folders_move replies (Ended Killed part) t left = absurd t
+  folders_move replies (Ended NoMemory part) t left = absurd t
+  folders_move replies (Began part) t left = absurd t
+  folders_move replies (Chunk count) t left = absurd t
+  folders_move replies (Placed path) t left = absurd t
+  folders_move replies (Removed path) t left = absurd t
+  folders_move replies (Made made) t left = absurd t
+  folders_move replies (Set path) t left = absurd t
+  folders_move replies (Cleaned part) t left = absurd t

@@ -131,7 +131,7 @@ module _ (start : Option Start) (opening contents contents_after : Option CallLo
       desk_of start opening contents_after faults new
       (written_more faults old new _ start opening contents contents_after desk.written
       (adds_turned contents contents_after same_contents faults old new seat count main live stepped run plan made before after is desk.written.told f.goes own
-      (sym (turned_alike plan live stepped f.number f.skips f.replies) ∙ run_is) workable (more ∙ ap (λ n. entry seat n count 0 (Next live.id plan) ∷ old.newest) all) left job tally desk.settled counted screen quit
+      (sym (turned_alike plan live stepped f.number f.replies) ∙ run_is) workable (more ∙ ap (λ n. entry seat n count 0 (Next live.id plan) ∷ old.newest) all) left job tally desk.settled counted screen quit
       (ap (λ (o : Output). o.put) out)))
       (ap (λ (s : Screen). s.planned) screen ∙ desk.settled) (λ h. ap (λ (t : Tally). t.closed) tally ∙ desk.lost (sym (ap (λ (t : Tally). t.lost) tally) ∙ h))
       (λ h. ap (λ (t : Tally). t.due) tally ∙ desk.asked (sym quit ∙ h))

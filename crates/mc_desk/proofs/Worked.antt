@@ -24,7 +24,7 @@ use Rattle.copy_move.specs.declared.work.Work.{Work}
 use Rattle.copy_move.specs.declared.work.Work.TheVariants.{Copy, Delete, Make, Move, SetMode, RemoveEmptied}
 use Rattle.copy_move.specs.declared.run.Course.{Course}
 use Rattle.copy_move.specs.declared.run.Course.TheVariants.{GoesOn, Asking, InTrouble, OwedSyncFailed, Skips, Ends}
-use Rattle.copy_move.specs.Jobs.{MayAnswer, Running, answered, answered_on, begun_work, kind_of, path_of, taken_anew, waiting_on, waits_on, with_skips}
+use Rattle.copy_move.specs.Jobs.{MayAnswer, Running, answered, answered_on, begun_work, kind_of, path_of, taken_anew, waiting_on, waits_on}
 use Rattle.session_history.specs.Sources.{sources_of}
 use Rattle.copy_move.specs.Told.{running, told}
 use Rattle.job_boxes.specs.LiveJobs.{can_answer, takes_answer}
@@ -117,18 +117,10 @@ still_does course answer job t = go course answer
     anew (SetMode s) = refl
     anew (RemoveEmptied r) = refl
 
-    skipping : (cause : Cause) (work : Work) → row (with_skips cause work) ≡ row work
-    skipping cause (Copy c) = refl
-    skipping cause (Delete d) = refl
-    skipping cause (Make m) = refl
-    skipping cause (Move m) = refl
-    skipping cause (SetMode s) = refl
-    skipping cause (RemoveEmptied r) = refl
-
     go : (course : Course) (answer : Answer) → ready_row (row_of (answered_on course answer job) t) ≡ ready_row (row_of job t)
     go (InTrouble halt) Retry = anew job.work
     go (InTrouble halt) Skip = refl
-    go (InTrouble halt) SkipAll = skipping halt.cause job.work
+    go (InTrouble halt) SkipAll = refl
     go (InTrouble halt) Abort = refl
     go (InTrouble halt) Yes = refl
     go (InTrouble halt) No = refl

@@ -6,22 +6,22 @@ use Rattle.tree_trait.specs.Calls.{SetMode}
 use Rattle.tree_trait.specs.Change.{CallLog}
 use Rattle.job_reports.specs.declared.stop.Stop.{Stop}
 use Rattle.job_reports.specs.Stops.{Ran}
-use Rattle.job_answers.specs.declared.skips.Skips.{Skips}
+use Rattle.job_answers.specs.declared.replies.Replies.{Replies}
 use Rattle.job_answers.specs.Skipping.{holds, kind_in}
 use Rattle.mode_setting.specs.declared.setting.Stage.TheVariants.{Give}
 use Rattle.mode_setting.specs.declared.work.AfterStep.{AfterStep}
-use Rattle.mode_setting.specs.Settings.{setting_at}
+use Rattle.mode_setting.specs.Settings.{setting}
 use Rattle.mode_setting.specs.SettingSteps.{MovesOn, NotGiven}
 
 kind_held : (barrier held : Bool) → (not barrier && held) ≡ true → held ≡ true
 kind_held false held h = h
 kind_held true held h = absurd (false≢true h)
 
-pub stays_as_it_was : (path : Route) (mode : ℕ) (skips : Skips) (stop : Stop) (moved : AfterStep) (before after : Option CallLog) (f0 f1 : ℕ)
-    → Ran (SetMode path mode ∷ []) false (let r : Result ℕ Stop = Err stop in r) before after f0 f1 → NotGiven (setting_at path mode Give skips) stop moved
-    → MovesOn (setting_at path mode Give skips) moved before after f0 f1
-stays_as_it_was path mode skips stop moved before after f0 f1 ran (inl (told, is)) =
-    subst (λ (m : AfterStep). MovesOn (setting_at path mode Give skips) m before after f0 f1) (sym is) (record {
+pub stays_as_it_was : (path : Route) (mode : ℕ) (replies : Replies) (stop : Stop) (moved : AfterStep) (before after : Option CallLog) (f0 f1 : ℕ)
+    → Ran (SetMode path mode ∷ []) false (let r : Result ℕ Stop = Err stop in r) before after f0 f1 → NotGiven replies (setting path mode Give) stop moved
+    → MovesOn replies (setting path mode Give) moved before after f0 f1
+stays_as_it_was path mode replies stop moved before after f0 f1 ran (inl (told, is)) =
+    subst (λ (m : AfterStep). MovesOn replies (setting path mode Give) m before after f0 f1) (sym is) (record {
       tells = (ran.barrier, told, refl);
       called = ran.stopped;
       counted = ran.counted;
@@ -30,9 +30,9 @@ stays_as_it_was path mode skips stop moved before after f0 f1 ran (inl (told, is
       later = ran.later;
       fault = ran.fault;
     })
-stays_as_it_was path mode skips stop moved before after f0 f1 ran (inr (passed, is)) =
-    subst (λ (m : AfterStep). MovesOn (setting_at path mode Give skips) m before after f0 f1) (sym is) (record {
-      tells = (refl, refl, kind_held stop.trouble.barrier (holds skips (kind_in stop.trouble.cause)) passed, refl);
+stays_as_it_was path mode replies stop moved before after f0 f1 ran (inr (passed, is)) =
+    subst (λ (m : AfterStep). MovesOn replies (setting path mode Give) m before after f0 f1) (sym is) (record {
+      tells = (refl, refl, kind_held stop.trouble.barrier (holds replies.skips (kind_in stop.trouble.cause)) passed, refl);
       called = λ log known. (stop.trouble.path, ran.stopped log known);
       counted = ran.counted;
       few = ran.few;

@@ -21,6 +21,7 @@ use Rattle.job_reports.specs.CallRuns.{AllDone, RunStops, HasMore}
 use Rattle.job_reports.specs.Reading.{IsRefusedWith, StatStops}
 use Rattle.job_reports.specs.Stops.{calls_made_for, calls_of, out_of_memory_at, refusal_in}
 use Rattle.job_answers.specs.Skipping.{is_passed_over}
+use Rattle.job_answers.specs.declared.replies.Replies.{Replies}
 use Rattle.mode_setting.specs.declared.setting.Stage.{Stage}
 use Rattle.mode_setting.specs.declared.setting.Stage.TheVariants.{Give, Sync, Done}
 use Rattle.mode_setting.specs.declared.work.AfterStep.{AfterStep}
@@ -78,8 +79,8 @@ TellsFault did = ⊥
 
 -- A step: what it reports is allowed, the setting is then as it says, it made the call of the tree that it says, and it
 -- tells of a fault only where the tree's count has risen. It counts the changing calls that it made.
-pub record StepsOn (old new : Setting) (did : Did) (calls : ℕ) (before after : Option CallLog) (faults faults_after : ℕ) : Type 0 where
-  pub tells : Tells old did new
+pub record StepsOn (replies : Replies) (old new : Setting) (did : Did) (calls : ℕ) (before after : Option CallLog) (faults faults_after : ℕ) : Type 0 where
+  pub tells : Tells replies old did new
   pub called : IfKnown before (λ log. SettingCalls old did log after)
   pub counted : IfKnown before (λ log. IfKnown after (HasMore log calls))
   pub few : calls ≤ 1
@@ -88,18 +89,18 @@ pub record StepsOn (old new : Setting) (did : Did) (calls : ℕ) (before after :
   pub fault : TellsFault did → HasRisen faults faults_after
 
 -- a step that says where it left the setting
-abbrev pub MovesOn : Setting → AfterStep → Option CallLog → Option CallLog → ℕ → ℕ → Type 0
-MovesOn old moved before after faults faults_after = StepsOn old (record old { stage = moved.stage }) moved.did moved.calls before after faults faults_after
+abbrev pub MovesOn : Replies → Setting → AfterStep → Option CallLog → Option CallLog → ℕ → ℕ → Type 0
+MovesOn replies old moved before after faults faults_after = StepsOn replies old (record old { stage = moved.stage }) moved.did moved.calls before after faults faults_after
 
 -- a trouble leaves the setting where it stood
 abbrev pub moved_by : Stop → Stage → AfterStep
 moved_by stop stage = record { did = Troubled stop.trouble; calls = stop.calls; stage = stage }
 
 -- The mode wasn't given: that is told, or the thing keeps its mode, where troubles of that kind are passed over. Want of memory is always told.
-abbrev pub NotGiven : Setting → Stop → AfterStep → Type 0
-NotGiven s stop moved =
-    (((is_passed_over s.skips stop.trouble ≡ false) ⊎ (stop.trouble.cause ≡ NoMemory)) × (moved ≡ moved_by stop Give))
-    ⊎ ((is_passed_over s.skips stop.trouble ≡ true) × (moved ≡ record { did = Skipped s.path stop.trouble.cause; calls = stop.calls; stage = Done }))
+abbrev pub NotGiven : Replies → Setting → Stop → AfterStep → Type 0
+NotGiven replies s stop moved =
+    (((is_passed_over replies.skips stop.trouble ≡ false) ⊎ (stop.trouble.cause ≡ NoMemory)) × (moved ≡ moved_by stop Give))
+    ⊎ ((is_passed_over replies.skips stop.trouble ≡ true) × (moved ≡ record { did = Skipped s.path stop.trouble.cause; calls = stop.calls; stage = Done }))
 
 -- a skip reports the thing as skipped, or that there is no memory for the report, and then it changes nothing
 abbrev pub SettingSkips : Cause → Setting → Did → Setting → Type 0

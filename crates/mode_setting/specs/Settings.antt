@@ -5,24 +5,19 @@ use Rattle.job_reports.specs.declared.report.Cause.TheVariants.{Memory}
 use Rattle.job_reports.specs.declared.report.Ending.TheVariants.{Finished}
 use Rattle.job_reports.specs.declared.report.Did.{Did}
 use Rattle.job_reports.specs.declared.report.Did.TheVariants.{Set, Skipped, Barrier, Troubled, Ended}
-use Rattle.job_answers.specs.declared.skips.Skips.{Skips}
-use Rattle.job_answers.specs.Skipping.{holds, is_passed_over, kind_in, no_skips}
+use Rattle.job_answers.specs.declared.replies.Replies.{Replies}
+use Rattle.job_answers.specs.Skipping.{holds, is_passed_over, kind_in}
 use Rattle.mode_setting.specs.declared.setting.Stage.{Stage}
 use Rattle.mode_setting.specs.declared.setting.Stage.TheVariants.{Give, Sync, Done}
 
--- a setting as it stands: the thing, the mode, what is to be done next, and the kinds of troubles that are passed over
+-- a setting as it stands: the thing, the mode, and what is to be done next
 pub record Setting : Type 0 where
   pub path : Route
   pub mode : ℕ
   pub stage : Stage
-  pub skips : Skips
 
-abbrev pub setting_at : Route → ℕ → Stage → Skips → Setting
-setting_at path mode stage skips = record { path = path; mode = mode; stage = stage; skips = skips }
-
--- where none is passed over
 abbrev pub setting : Route → ℕ → Stage → Setting
-setting path mode stage = setting_at path mode stage no_skips
+setting path mode stage = record { path = path; mode = mode; stage = stage }
 
 -- the next call is at a barrier: the sync
 abbrev pub at_barrier : Stage → Bool
@@ -49,11 +44,11 @@ skipped Sync = Sync
 skipped Done = Done
 
 -- What a step may report, and where the setting stands then. A trouble is told of whose kind none is to be passed over, or there was no memory.
-abbrev pub Tells : Setting → Did → Setting → Type 0
-Tells s (Set path) new = (s.stage ≡ Give) × (path ≡ s.path) × (new ≡ record s { stage = Sync })
-Tells s Barrier new = (s.stage ≡ Sync) × (new ≡ record s { stage = Done })
-Tells s (Skipped path cause) new = (s.stage ≡ Give) × (path ≡ s.path) × (holds s.skips (kind_in cause) ≡ true) × (new ≡ record s { stage = Done })
-Tells s (Troubled trouble) new =
-    (trouble.barrier ≡ at_barrier s.stage) × ((is_passed_over s.skips trouble ≡ false) ⊎ (trouble.cause ≡ Memory)) × (new ≡ s)
-Tells s (Ended Finished part) new = (s.stage ≡ Done) × (part ≡ None) × (new ≡ s)
-Tells s did new = ⊥
+abbrev pub Tells : Replies → Setting → Did → Setting → Type 0
+Tells replies s (Set path) new = (s.stage ≡ Give) × (path ≡ s.path) × (new ≡ record s { stage = Sync })
+Tells replies s Barrier new = (s.stage ≡ Sync) × (new ≡ record s { stage = Done })
+Tells replies s (Skipped path cause) new = (s.stage ≡ Give) × (path ≡ s.path) × (holds replies.skips (kind_in cause) ≡ true) × (new ≡ record s { stage = Done })
+Tells replies s (Troubled trouble) new =
+    (trouble.barrier ≡ at_barrier s.stage) × ((is_passed_over replies.skips trouble ≡ false) ⊎ (trouble.cause ≡ Memory)) × (new ≡ s)
+Tells replies s (Ended Finished part) new = (s.stage ≡ Done) × (part ≡ None) × (new ≡ s)
+Tells replies s did new = ⊥

@@ -2,12 +2,11 @@
 ghost use Rattle.std.specs.Prelude.{◌≡◌, ◌≤◌, Some};
 ghost use Rattle.mc_text.specs.Routes.{parent_of};
 ghost use Rattle.job_reports.specs.Paths.{folder_of};
-ghost use Rattle.job_answers.specs.Skipping.{kind_in, with_kind};
 ghost use Rattle.mode_setting.specs.Settings.{at_barrier, is_dirty, is_fresh, setting, skipped as skipped_to};
 ghost use Rattle.mode_setting.specs.SettingSteps.{SettingSkips, StepsOn, Winds};
 
 use crate::work::{try_sync, work};
-use job_answers::{Skips, kind_of};
+use job_answers::Replies;
 use job_reports::{Cause, Did, Ending, LastStepResult, StepResult, out_of_memory};
 use mc_text::Path;
 use std::alloc::Global;
@@ -32,17 +31,16 @@ pub struct ModeSetting {
     folder: Path,
     mode: u16,
     stage: Stage,
-    skips: Skips,
 }
 
 impl Model for ModeSetting {
     ghost use Rattle.std.specs.Prelude.{◌≡◌, ◌≤◌, Some};
     ghost use Rattle.mc_text.specs.Routes.{parent_of};
-    ghost use Rattle.mode_setting.specs.Settings.{Setting, setting_at};
+    ghost use Rattle.mode_setting.specs.Settings.{Setting, setting};
 
     ghost Value = { Setting };
 
-    ghost view = { λ s. setting_at s.path s.mode s.stage s.skips };
+    ghost view = { λ s. setting s.path s.mode s.stage };
 
     ghost invariant = { λ s. (s.mode ≤ 0o7777) × (parent_of s.path ≡ Some s.folder) };
 }
@@ -59,17 +57,16 @@ impl ModeSetting {
             folder,
             mode,
             stage: Stage::Give,
-            skips: Skips::new(),
         }
     }
 
     /// Does the next piece of work, which is at most one changing call of the tree. What is refused is tried again by the next step,
-    /// but where troubles of its kind are passed over.
-    pub fn step<T: Tree>(&mut self, alloc: Global, tree: &mut T) -> StepResult
-        ensures { StepsOn self.old self.new result.did result.calls
+    /// but where troubles of its kind are passed over, by what was answered.
+    pub fn step<T: Tree>(&mut self, alloc: Global, tree: &mut T, replies: Replies) -> StepResult
+        ensures { StepsOn replies self.old self.new result.did result.calls
             (T.contents tree.old) (T.contents tree.new) (T.fault_count tree.old) (T.fault_count tree.new) }
     {
-        let moved = work(alloc, tree, &self.path, self.mode, self.stage, self.skips);
+        let moved = work(alloc, tree, &self.path, self.mode, self.stage, replies);
         self.stage = moved.stage;
         StepResult {
             did: moved.did,
@@ -86,27 +83,6 @@ impl ModeSetting {
         };
         self.stage = skipped(self.stage);
         Did::Skipped(path, cause)
-    }
-
-    /// From now on troubles of this kind are passed over.
-    pub fn skip_all(&mut self, cause: Cause)
-        ensures { self.new ≡ record self.old { skips = with_kind (kind_in cause) self.old.skips } }
-    {
-        self.skips.insert(kind_of(cause));
-    }
-
-    /// The kinds of troubles that are passed over.
-    pub fn skips(&self) -> Skips
-        ensures { result ≡ self.now.skips }
-    {
-        self.skips
-    }
-
-    /// Troubles of these kinds are passed over.
-    pub fn pass_over(&mut self, skips: Skips)
-        ensures { self.new ≡ record self.old { skips = skips } }
-    {
-        self.skips = skips;
     }
 
     /// Makes the next of the last steps of a job that is to end so: a sync that is owed is tried once.

@@ -2,14 +2,14 @@
 ghost use Rattle.std.specs.Prelude.{◌≡◌, ◌≤◌, None};
 ghost use Rattle.job_reports.specs.declared.report.Did.{Did};
 ghost use Rattle.job_reports.specs.declared.report.Ending.{Ending};
-ghost use Rattle.mode_setting.specs.Settings.{setting_at};
+ghost use Rattle.mode_setting.specs.Settings.{setting};
 ghost use Rattle.mode_setting.specs.SettingSteps.{MovesOn, NotGiven, SyncTried, TriedSync, moved_by, sync_by};
 ghost use Rattle.tree_trait.specs.Answers.{HasCause, IfKnown, Performs};
 ghost use Rattle.tree_trait.specs.declared.calls.TreeError.{TreeError};
 
 use crate::calls::sync_thing;
 use crate::setting::Stage;
-use job_answers::Skips;
+use job_answers::Replies;
 use job_reports::{
     Cause, Did, Ending, LastStepResult, Stop, calls_made, out_of_memory, refusal_in, set_mode,
     stopped_before,
@@ -33,22 +33,22 @@ pub(crate) fn work<T: Tree>(
     path: &Path,
     mode: u16,
     stage: Stage,
-    skips: Skips,
+    replies: Replies,
 ) -> AfterStep
     requires { mode ≤ 0o7777 }
-    ensures { MovesOn (setting_at path.now mode stage skips) result (T.contents tree.old) (T.contents tree.new)
+    ensures { MovesOn replies (setting path.now mode stage) result (T.contents tree.old) (T.contents tree.new)
         (T.fault_count tree.old) (T.fault_count tree.new) }
 {
     match stage {
-        Stage::Give => give(alloc, tree, path, mode, skips),
-        Stage::Sync => sync(alloc, tree, path, mode, skips),
+        Stage::Give => give(alloc, tree, path, mode, replies),
+        Stage::Sync => sync(alloc, tree, path, mode, replies),
         Stage::Done => finished(),
     }
 }
 
-fn give<T: Tree>(alloc: Global, tree: &mut T, path: &Path, mode: u16, skips: Skips) -> AfterStep
+fn give<T: Tree>(alloc: Global, tree: &mut T, path: &Path, mode: u16, replies: Replies) -> AfterStep
     requires { mode ≤ 0o7777 }
-    ensures { MovesOn (setting_at path.now mode Stage.Give skips) result (T.contents tree.old) (T.contents tree.new)
+    ensures { MovesOn replies (setting path.now mode Stage.Give) result (T.contents tree.old) (T.contents tree.new)
         (T.fault_count tree.old) (T.fault_count tree.new) }
 {
     let Ok(set) = path.copy(alloc) else {
@@ -60,19 +60,19 @@ fn give<T: Tree>(alloc: Global, tree: &mut T, path: &Path, mode: u16, skips: Ski
             calls,
             stage: Stage::Sync,
         },
-        Err(stop) => not_given(stop, set, mode, skips),
+        Err(stop) => not_given(stop, set, mode, replies),
     }
 }
 
 /// The mode wasn't given: that is told, or the thing keeps its mode, where troubles of that kind are passed over. Want of memory is always told.
-fn not_given(stop: Stop, path: Path, mode: u16, skips: Skips) -> AfterStep
-    ensures { NotGiven (setting_at path mode Stage.Give skips) stop result }
+fn not_given(stop: Stop, path: Path, mode: u16, replies: Replies) -> AfterStep
+    ensures { NotGiven replies (setting path mode Stage.Give) stop result }
 {
     let _mode = mode;
     if let Cause::Memory = stop.trouble.cause {
         return troubled(stop, Stage::Give);
     }
-    if !skips.passes_over(&stop.trouble) {
+    if !replies.skips().passes_over(&stop.trouble) {
         return troubled(stop, Stage::Give);
     }
     AfterStep {
@@ -82,12 +82,12 @@ fn not_given(stop: Stop, path: Path, mode: u16, skips: Skips) -> AfterStep
     }
 }
 
-fn sync<T: Tree>(alloc: Global, tree: &mut T, path: &Path, mode: u16, skips: Skips) -> AfterStep
-    ensures { MovesOn (setting_at path.now mode Stage.Sync skips) result (T.contents tree.old) (T.contents tree.new)
+fn sync<T: Tree>(alloc: Global, tree: &mut T, path: &Path, mode: u16, replies: Replies) -> AfterStep
+    ensures { MovesOn replies (setting path.now mode Stage.Sync) result (T.contents tree.old) (T.contents tree.new)
         (T.fault_count tree.old) (T.fault_count tree.new) }
 {
     let _mode = mode;
-    let _skips = skips;
+    let _replies = replies;
     match sync_thing(alloc, tree, path) {
         Ok(calls) => AfterStep {
             did: Did::Barrier,

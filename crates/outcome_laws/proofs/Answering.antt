@@ -312,6 +312,6 @@ module _ (told : Said) (dirty dirty_after : List Route) (marks : Marks) (log now
   pub tree_as : Here did
   tree_as = by s.passes
     where
-      by : OrPassedOver c.skips r s.moved new.at (step_result did count) → Here did
+      by : OrPassedOver replies.skips r s.moved new.at (step_result did count) → Here did
       by (inl (none, same, at)) = (let said = sym (ap (λ (x : StepResult). x.did) same) in subst Here said (worked said s.works))
       by (inr (cause, is, calls, skips)) = (let moved = s.moved in other_as replies c.top.source c.top.target told.tree did (passed_other did (skip_says moved.item cause moved new.at did skips)))

@@ -9,6 +9,7 @@ use Rattle.tree_trait.specs.CrashImages.{all_settled}
 use Rattle.tree_trait.specs.FileSystem.{View}
 use Rattle.crash_law.specs.Guarded.{Marks}
 use Rattle.job_answers.specs.declared.replies.Replies.{Replies}
+use Rattle.job_answers.specs.Decisions.{to_questions}
 use Rattle.job_reports.specs.Jobs.{Item, Copies, Moves, Removes, Makes, MakesLink, Sets, RemovesEmptied}
 use Rattle.job_reports.specs.declared.report.Did.{Did}
 use Rattle.job_reports.specs.declared.report.Did.TheVariants.{Began, Chunk, Placed, Removed, Made, Set, Kept, Skipped, Cleaned, Barrier, Asked, Merges, Moved, Troubled, Ended}
@@ -84,6 +85,24 @@ IsAs replies v (Makes path) did = ⊤
 IsAs replies v (MakesLink path text) did = ⊤
 IsAs replies v (Sets path mode) did = ⊤
 IsAs replies v (RemovesEmptied path) did = IsRemovedIfEmpty path v did
+
+-- answers to troubles are nothing to it
+copies_to_questions : (replies : Replies) (source target : Route) (v : View) (did : Did) → IsAsAnswered replies source target v did → IsAsAnswered (to_questions replies) source target v did
+copies_to_questions replies source target v (Asked question) h = h
+copies_to_questions replies source target v did h = h
+
+moves_to_questions : (replies : Replies) (source target : Route) (v : View) (did : Did) → IsMovedAsAnswered replies source target v did → IsMovedAsAnswered (to_questions replies) source target v did
+moves_to_questions replies source target v (Asked question) h = h
+moves_to_questions replies source target v did h = h
+
+to_questions_as : (replies : Replies) (v : View) (item : Item) (did : Did) → IsAs replies v item did → IsAs (to_questions replies) v item did
+to_questions_as replies v (Copies source target) did h = copies_to_questions replies source target v did h
+to_questions_as replies v (Moves source target) did h = moves_to_questions replies source target v did h
+to_questions_as replies v (Removes path) did h = h
+to_questions_as replies v (Makes path) did h = h
+to_questions_as replies v (MakesLink path text) did h = h
+to_questions_as replies v (Sets path mode) did h = h
+to_questions_as replies v (RemovesEmptied path) did h = h
 
 -- a making asks nothing
 made_as : (replies : Replies) (v : View) (did : Did) (new : NewThing) (path : Route) → IsAs replies v (making_item new path) did
@@ -169,7 +188,7 @@ work_wound replies v ending (Copy c) (RemoveEmptied new) did w = absurd w
 work_wound replies v ending (Move m) (RemoveEmptied new) did w = absurd w
 
 module _ (told : Said) (dirty dirty_after : List Route) (marks : Marks) (log now : CallLog) (kept : IsKept told dirty marks log) (passed : List Route) (begun : View) where
-  work_as : (replies : Replies) (old new : Work) (did : Did) (calls f0 f1 : ℕ) → WorkTells old did new → WorkCalls IsUnclaimed replies old did new log (Some now)
+  work_as : (replies : Replies) (old new : Work) (did : Did) (calls f0 f1 : ℕ) → WorkTells replies old did new → WorkCalls IsUnclaimed replies old did new log (Some now)
       → Walks IsUnclaimed replies old new did calls dirty dirty_after (Some log) (Some now) f0 f1 → WorkKnows told dirty marks log GoesOn old → WorkDone passed begun told.tree (current log) old → IsAs replies told.tree (item_in old) did
   work_as replies (Copy c) (Copy new) did calls f0 f1 t called walks knows done =
       tree_as told dirty dirty_after marks log now kept c new did (λ pair names is. (let m = t.merged pair names is in m.top)) passed GoesOn walks.free replies calls walks.since f1 knows.part walks.steps done
@@ -186,7 +205,7 @@ module _ (told : Said) (dirty dirty_after : List Route) (marks : Marks) (log now
   work_as replies (Move m) (Delete new) did calls f0 f1 t called walks knows done = absurd t
   work_as replies (Move m) (Make new) did calls f0 f1 t called walks knows done = absurd t
   work_as replies (Move m) (SetMode new) did calls f0 f1 t called walks knows done = absurd t
-  work_as replies (RemoveEmptied r) (RemoveEmptied new) did calls f0 f1 t called walks knows done = emptied_as told.tree log (shows_all told dirty marks log kept knows.1) r new did (Some now) t called
+  work_as replies (RemoveEmptied r) (RemoveEmptied new) did calls f0 f1 t called walks knows done = emptied_as told.tree log (shows_all told dirty marks log kept knows.1) replies r new did (Some now) t called
   work_as replies (RemoveEmptied r) (Copy new) did calls f0 f1 t called walks knows done = absurd t
   work_as replies (RemoveEmptied r) (Delete new) did calls f0 f1 t called walks knows done = absurd t
   work_as replies (RemoveEmptied r) (Make new) did calls f0 f1 t called walks knows done = absurd t
@@ -200,7 +219,8 @@ module _ (told : Said) (dirty dirty_after : List Route) (marks : Marks) (log now
       → UnlessEnding course (IsSaid asks said course job.replies) → IsAs said told.tree (item_in job.work) did
   course_as job new did GoesOn asks said calls f0 f1 (work, t, new_is) called walks knows done k =
       subst (λ r. IsAs r told.tree (item_in job.work) did) k.1
-      (work_as job.replies job.work new.work did calls f0 f1 (subst (WorkTells job.work did) (sym (ap (λ (x : Running). x.work) new_is)) t) called walks knows done)
+      (to_questions_as job.replies told.tree (item_in job.work) did
+      (work_as job.replies job.work new.work did calls f0 f1 (subst (WorkTells job.replies job.work did) (sym (ap (λ (x : Running). x.work) new_is)) t) called walks knows done))
   course_as job new did (InTrouble halt) asks said calls f0 f1 t called walks knows done k = absurd t
   course_as job new did (OwedSyncFailed cause) asks said calls f0 f1 t called walks knows done k = absurd t
   course_as job new did Asking asks said calls f0 f1 t called walks knows done k = absurd t

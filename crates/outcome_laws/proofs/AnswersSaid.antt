@@ -14,7 +14,7 @@ use Rattle.job_reports.specs.declared.report.Did.TheVariants.{Began, Chunk, Plac
 use Rattle.job_reports.specs.declared.report.Ending.{Ending}
 use Rattle.job_reports.specs.declared.report.Ending.TheVariants.{Aborted, Finished}
 use Rattle.job_answers.specs.declared.replies.Replies.{Replies}
-use Rattle.job_answers.specs.Decisions.{no_replies, with_reply}
+use Rattle.job_answers.specs.Decisions.{no_replies, to_questions, with_reply}
 use Rattle.session_history.specs.declared.history.Event.{Event}
 use Rattle.session_history.specs.declared.history.Event.TheVariants.{Key, Look, Sought, Order, Step, Next, Closed}
 use Rattle.session_history.specs.declared.history.Event.TheVariants as event
@@ -47,9 +47,9 @@ if_same : {A : Type 0} (b : Bool) (x y : A) → b ≡ true → (if b then x else
 if_same true x y is = refl
 if_same false x y is = absurd (let f : ⊥ = cc in f)
 
--- it waits for an answer to its question, and was answered so
+-- it waits for an answer to its question, and its questions were answered so
 abbrev pub IsSaid : Bool → Replies → Course → Replies → Type 0
-IsSaid asks said course replies = (asks_on course ≡ asks) × (replies ≡ said)
+IsSaid asks said course replies = (asks_on course ≡ asks) × (to_questions replies ≡ said)
 
 abbrev pub JobSaid : (ℕ → Bool) → (ℕ → Replies) → Running → Type 0
 JobSaid asks said job = UnlessEnding job.course (IsSaid (asks job.id) (said job.id) job.course job.replies)
@@ -76,7 +76,7 @@ said_before (Moved pair) asks said new h = h
 said_before (Troubled trouble) asks said new h = h
 
 -- a step of a job that goes on
-goes_said : (did : Did) (said replies : Replies) → replies ≡ said → Unless did (UnlessEnding (course_after did) (IsSaid (asks_by did) said (course_after did) replies))
+goes_said : (did : Did) (said replies : Replies) → to_questions replies ≡ said → Unless did (UnlessEnding (course_after did) (IsSaid (asks_by did) said (course_after did) replies))
 goes_said (Ended ending part) said replies is = tt
 goes_said (Began part) said replies is = (refl, is)
 goes_said (Chunk count) said replies is = (refl, is)
@@ -109,16 +109,29 @@ course_said job new did (Skips cause) asks said is (inr (off, did_is, new_is)) k
 course_said job new did (Ends ending) asks said is (work, winds, new_is) k =
     subst (λ c. Unless did (UnlessEnding c (IsSaid (asks_by did) said new.course new.replies))) (sym (ap (λ (x : Running). x.course) new_is ∙ is)) (unless_of did ⊤ tt)
 
+-- what is answered to a question is told apart from what troubles were answered
+reply_to_questions : (answer : Answer) (replies : Replies) → to_questions (with_reply answer replies) ≡ with_reply answer (to_questions replies)
+reply_to_questions Yes replies = refl
+reply_to_questions No replies = refl
+reply_to_questions All replies = refl
+reply_to_questions Update replies = refl
+reply_to_questions Nothing replies = refl
+reply_to_questions SizeDiffers replies = refl
+reply_to_questions Retry replies = refl
+reply_to_questions Skip replies = refl
+reply_to_questions SkipAll replies = refl
+reply_to_questions Abort replies = refl
+
 -- an answer: a question takes it, or waits still; what waits with a trouble, or not at all, asks nothing
-no_question : (asks : Bool) (said replies : Replies) (answer : Answer) → false ≡ asks → replies ≡ said → (false ≡ (asks && not (settles answer))) × (replies ≡ (if asks then with_reply answer said else said))
+no_question : (asks : Bool) (said replies : Replies) (answer : Answer) → false ≡ asks → to_questions replies ≡ said → (false ≡ (asks && not (settles answer))) × (to_questions replies ≡ (if asks then with_reply answer said else said))
 no_question true said replies answer not_so is = absurd (let f : ⊥ = cc in f)
 no_question false said replies answer not_so is = (refl, is)
 
-takes : (asks : Bool) (said replies : Replies) (answer : Answer) → true ≡ asks → replies ≡ said → settles answer ≡ true → (false ≡ (asks && not (settles answer))) × (with_reply answer replies ≡ (if asks then with_reply answer said else said))
-takes true said replies answer so is settled = (ap not (sym settled), ap (with_reply answer) is)
+takes : (asks : Bool) (said replies : Replies) (answer : Answer) → true ≡ asks → to_questions replies ≡ said → settles answer ≡ true → (false ≡ (asks && not (settles answer))) × (to_questions (with_reply answer replies) ≡ (if asks then with_reply answer said else said))
+takes true said replies answer so is settled = (ap not (sym settled), reply_to_questions answer replies ∙ ap (with_reply answer) is)
 takes false said replies answer so is settled = absurd (let f : ⊥ = cc in f)
 
-waits : (asks : Bool) (said replies : Replies) → true ≡ asks → replies ≡ said → (true ≡ (asks && true)) × (replies ≡ (if asks then said else said))
+waits : (asks : Bool) (said replies : Replies) → true ≡ asks → to_questions replies ≡ said → (true ≡ (asks && true)) × (to_questions replies ≡ (if asks then said else said))
 waits true said replies so is = (refl, is)
 waits false said replies so is = absurd (let f : ⊥ = cc in f)
 
@@ -247,7 +260,7 @@ module _ (opening : CallLog) (tree : IsTree (current opening)) (settled : all_se
   begins older id plan background (Some w) = (sym (if_same (id == id) false (asks_still id older) (eq-eqb id id refl)), sym (if_same (id == id) no_replies (replies_said id older) (eq-eqb id id refl)))
 
   -- a job goes on with its next source, as one that makes no last steps
-  module _ (older : List Entry) (id : ℕ) (plan : Job) (job next : Running) (id_is : job.id ≡ id) (turn : Turned plan job next) (replies_are : job.replies ≡ replies_said job.id older) where
+  module _ (older : List Entry) (id : ℕ) (plan : Job) (job next : Running) (id_is : job.id ≡ id) (turn : Turned plan job next) (replies_are : to_questions job.replies ≡ replies_said job.id older) where
     turns : Then older (Next id plan) (next ∷ [])
     turns =
         let here = eq-eqb id next.id (sym (turned_id plan job next turn ∙ id_is)) in
@@ -258,7 +271,7 @@ module _ (opening : CallLog) (tree : IsTree (current opening)) (settled : all_se
         )
 
   -- it was told the end of a source, so it makes no last steps
-  still_said : (job new : Running) (course : Course) (asks : Bool) (said : Replies) → TellsOn course job (Ended Finished None) new → ((ending : Ending) → course ≡ Ends ending → ending ≡ Aborted) → UnlessEnding course (IsSaid asks said course job.replies) → job.replies ≡ said
+  still_said : (job new : Running) (course : Course) (asks : Bool) (said : Replies) → TellsOn course job (Ended Finished None) new → ((ending : Ending) → course ≡ Ends ending → ending ≡ Aborted) → UnlessEnding course (IsSaid asks said course job.replies) → to_questions job.replies ≡ said
   still_said job new GoesOn asks said t aborted k = k.1
   still_said job new (InTrouble halt) asks said t aborted k = absurd t
   still_said job new (OwedSyncFailed cause) asks said t aborted k = absurd t

@@ -227,14 +227,14 @@ module _ (told : Said) (dirty dirty_after : List Route) (marks : Marks) (log now
   reported : TreeDone (seen_tree did) (passed_at c.top did passed) c.top new.at × IsInPlace c.top new.at
   reported = by s.passes
     where
-      by : OrPassedOver c.skips r s.moved new.at (step_result did count) → TreeDone (seen_tree did) (passed_at c.top did passed) c.top new.at × IsInPlace c.top new.at
+      by : OrPassedOver replies.skips r s.moved new.at (step_result did count) → TreeDone (seen_tree did) (passed_at c.top did passed) c.top new.at × IsInPlace c.top new.at
       by (inl (none, same, at)) =
           let did_is : did ≡ r.did = ap (λ (x : StepResult). x.did) same in (
             subst (λ d. TreeDone (seen_tree d) (passed_at c.top d passed) c.top new.at) (sym did_is) (subst (TreeDone (seen_tree r.did) (passed_at c.top r.did passed) c.top) (sym at) worked.0),
             subst (IsInPlace c.top) (sym at) worked.1,
           )
       by (inr (cause, is, calls, skips)) =
-          let t = passed_trouble c.skips r.did cause is in
+          let t = passed_trouble replies.skips r.did cause is in
           let h : TreeDone told.tree passed c.top s.moved = subst (λ d. TreeDone (seen_tree d) (passed_at c.top d passed) c.top s.moved) t.1 worked.0 in
           let place = worked.1 in
           let moved = s.moved in (
@@ -316,7 +316,7 @@ module _ (told : Said) (dirty dirty_after : List Route) (marks : Marks) (log now
       not_passed (inl (path, cause, told_is)) = (let e : Ended Finished part_left ≡ Skipped path cause = sym is ∙ told_is in let f : ⊥ = cc in f)
       not_passed (inr (trouble, told_is)) = (let e : Ended Finished part_left ≡ Troubled trouble = sym is ∙ told_is in let f : ⊥ = cc in f)
 
-      by : OrPassedOver c.skips r s.moved new.at (step_result did count) → IsCopied c.top.source c.top.target passed told.tree
+      by : OrPassedOver replies.skips r s.moved new.at (step_result did count) → IsCopied c.top.source c.top.target passed told.tree
       by (inl (none, same, at)) = worked_end (ap (λ (x : StepResult). x.did) same) s.works
       by (inr (cause, why, calls, skips)) = (let moved = s.moved in absurd (not_passed (skip_says moved.item cause moved new.at did skips)))
 

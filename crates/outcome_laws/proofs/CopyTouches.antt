@@ -59,7 +59,7 @@ module _ (c new : SubtreeCopying) (did : Did) (path : Route) (free : Route → B
   of_skip (inl (left, cause, is)) = absurd (subst (λ d. IsChanged d path) is changed)
   of_skip (inr (trouble, is)) = absurd (subst (λ d. IsChanged d path) is changed)
 
-  of_passes : OrPassedOver c.skips r s.moved new.at (step_result did count) → is_prefix c.top.target path ≡ true
+  of_passes : OrPassedOver replies.skips r s.moved new.at (step_result did count) → is_prefix c.top.target path ≡ true
   of_passes (inl (none, same, at)) = of_works (ap (λ (x : StepResult). x.did) same) s.works
   of_passes (inr (cause, is, calls, skips)) = (let moved : Seen = s.moved in of_skip (skip_says moved.item cause moved new.at did skips))
 

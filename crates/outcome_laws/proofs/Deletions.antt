@@ -15,6 +15,7 @@ use Rattle.tree_trait.specs.Answers.{IsListing, Performs}
 use Rattle.tree_trait.proofs.Finding.{same_name-self}
 use Rattle.crash_law.proofs.Guarding.{find_same, said}
 use Rattle.crash_law.proofs.Tops.{none_below, not_longer, under_removed}
+use Rattle.job_answers.specs.declared.replies.Replies.{Replies}
 use Rattle.job_reports.specs.declared.report.Cause.{Cause}
 use Rattle.job_reports.specs.declared.report.StepResult.{StepResult}
 use Rattle.job_reports.specs.declared.report.Did.{Did}
@@ -29,9 +30,10 @@ use Rattle.tree_deletion.specs.declared.deletion.Deletion.{Deletion}
 use Rattle.tree_deletion.specs.Standing.{End, Item, Thing, after_item, at_barrier, item, item_at, item_of, worked}
 use Rattle.tree_deletion.specs.Descending.{Descends, Enters, IsAt, IsOpened, opened_at}
 use Rattle.tree_deletion.specs.Steps.{IsProgress, KeepsRest, Skips as MachineSkips, Syncs as SyncsOne, TakesOff, WorkCalls, Works, path_of, removal_of}
-use Rattle.copy_move.specs.Deletions.{Deleting, Tells, machine_of, passed_cause}
+use Rattle.copy_move.specs.Deletions.{Deleting, Tells, machine_of}
 use Rattle.copy_move.specs.DeletionSteps.{Goes, OrPassedOver, Passes, step_result}
 use Rattle.job_answers.specs.declared.skips.Skips.{Skips}
+use Rattle.job_answers.specs.Skipping.{passed_cause}
 use Rattle.history_laws.proofs.Deleted.{IsRemoval, folder_removed, removal_done}
 use Rattle.history_laws.proofs.Intact.{prefix_append, prefix_way}
 use Rattle.history_laws.proofs.JobKnows.{still_same}
@@ -217,22 +219,22 @@ skips_machine passed s cause old new did (inr (did_is, new_is)) k =
 pub deletion_skips : (d new : Deleting) (cause : Cause) (did : Did) (passed : List Route) (s : FileSystem) → Passes cause d did new → DeletionDone passed s d → Unless did (DeletionDone (passed_by did passed) s new)
 deletion_skips d new cause did passed s (spare, spare_after, skips) k = skips_machine passed s cause (machine_of d spare) (machine_of new spare_after) did skips k
 
-off_of : (d new : Deleting) (did : Did) → Tells d did new → IsProgress did ≡ true → at_barrier d.stage ≡ false
-off_of d new (Removed path) t is = t.0
-off_of d new (Kept path) t is = t.0
-off_of d new (Asked question) t is = absurd t
-off_of d new (Merges transfer pair names) t is = absurd t
-off_of d new (Moved pair) t is = absurd t
-off_of d new (Skipped path why) t is = absurd (false≢true is)
-off_of d new (Troubled trouble) t is = absurd (false≢true is)
-off_of d new Barrier t is = absurd (false≢true is)
-off_of d new (Ended ending part) t is = absurd (false≢true is)
-off_of d new (Began part) t is = absurd (false≢true is)
-off_of d new (Chunk count) t is = absurd (false≢true is)
-off_of d new (Placed path) t is = absurd (false≢true is)
-off_of d new (Made path) t is = absurd (false≢true is)
-off_of d new (Set path) t is = absurd (false≢true is)
-off_of d new (Cleaned part) t is = absurd (false≢true is)
+off_of : (replies : Replies) (d new : Deleting) (did : Did) → Tells replies d did new → IsProgress did ≡ true → at_barrier d.stage ≡ false
+off_of replies d new (Removed path) t is = t.0
+off_of replies d new (Kept path) t is = t.0
+off_of replies d new (Asked question) t is = absurd t
+off_of replies d new (Merges transfer pair names) t is = absurd t
+off_of replies d new (Moved pair) t is = absurd t
+off_of replies d new (Skipped path why) t is = absurd (false≢true is)
+off_of replies d new (Troubled trouble) t is = absurd (false≢true is)
+off_of replies d new Barrier t is = absurd (false≢true is)
+off_of replies d new (Ended ending part) t is = absurd (false≢true is)
+off_of replies d new (Began part) t is = absurd (false≢true is)
+off_of replies d new (Chunk count) t is = absurd (false≢true is)
+off_of replies d new (Placed path) t is = absurd (false≢true is)
+off_of replies d new (Made path) t is = absurd (false≢true is)
+off_of replies d new (Set path) t is = absurd (false≢true is)
+off_of replies d new (Cleaned part) t is = absurd (false≢true is)
 
 -- what is passed over is no progress
 no_progress : {A : Type 0} (skips : Skips) (did : Did) (cause : Cause) → passed_cause skips did ≡ Some cause → IsProgress did ≡ true → A
@@ -292,11 +294,11 @@ syncs_done d (Made path) folders folders_after log now passed t k = absurd t
 syncs_done d (Set path) folders folders_after log now passed t k = absurd t
 syncs_done d (Cleaned part) folders folders_after log now passed t k = absurd t
 
-pub deletion_steps : (d new : Deleting) (did : Did) (calls : ℕ) (dirty dirty_after : List Route) (log now : CallLog) (faults faults_after : ℕ) (passed : List Route) → IsTree (current log) → Tells d did new
-    → Goes d new did calls dirty dirty_after (Some log) (Some now) faults faults_after → DeletionDone passed (current log) d → Unless did (DeletionDone (passed_by did passed) (current now) new)
-deletion_steps d new did calls dirty dirty_after log now faults faults_after passed tree t (inr (spare, syncs, new_is)) k =
+pub deletion_steps : (replies : Replies) (d new : Deleting) (did : Did) (calls : ℕ) (dirty dirty_after : List Route) (log now : CallLog) (faults faults_after : ℕ) (passed : List Route) → IsTree (current log) → Tells replies d did new
+    → Goes replies d new did calls dirty dirty_after (Some log) (Some now) faults faults_after → DeletionDone passed (current log) d → Unless did (DeletionDone (passed_by did passed) (current now) new)
+deletion_steps replies d new did calls dirty dirty_after log now faults faults_after passed tree t (inr (spare, syncs, new_is)) k =
     subst (λ (x : Deleting). Unless did (DeletionDone (passed_by did passed) (current now) x)) (sym new_is) (syncs_done (machine_of d spare) did dirty dirty_after log now passed syncs.syncs k)
-deletion_steps d new did calls dirty dirty_after log now faults faults_after passed tree t (inl (worked_did, mid, spare, spare_after, w, or_passed)) k = by or_passed
+deletion_steps replies d new did calls dirty dirty_after log now faults faults_after passed tree t (inl (worked_did, mid, spare, spare_after, w, or_passed)) k = by or_passed
   where
     start : MachineDone passed (current log) w.mid × ((let m : Deletion = w.mid in m.stage) ≡ d.stage)
     start = descends_done log passed (machine_of d spare) w.mid w.entered w.descends k
@@ -310,13 +312,13 @@ deletion_steps d new did calls dirty dirty_after log now faults faults_after pas
     at_mid : (IsProgress worked_did ≡ true → at_barrier d.stage ≡ false) → MachineDone passed (current now) mid
     at_mid off = work_done log now passed w.mid mid worked_did tree (λ p. ap at_barrier start.1 ∙ off p) works calls_of start.0
 
-    by : OrPassedOver d.skips (step_result worked_did calls) mid (machine_of new spare_after) (step_result did calls) → Unless did (DeletionDone (passed_by did passed) (current now) new)
+    by : OrPassedOver replies.skips (step_result worked_did calls) mid (machine_of new spare_after) (step_result did calls) → Unless did (DeletionDone (passed_by did passed) (current now) new)
     by (inl (none, same, stands)) =
         let did_is : did ≡ worked_did = ap (λ (r : StepResult). r.did) same in
         subst (λ (x : Did). Unless x (DeletionDone (passed_by x passed) (current now) new)) (sym did_is)
         (unless_works w.mid mid worked_did passed (current now) (machine_of new spare_after) works
-        (subst (λ (x : Deletion). MachineDone passed (current now) x) (sym stands) (at_mid (λ p. off_of d new did t (ap IsProgress did_is ∙ p)))))
-    by (inr (cause, is, calls_is, skips)) = skips_machine passed (current now) cause mid (machine_of new spare_after) did skips (at_mid (λ p. no_progress d.skips worked_did cause is p))
+        (subst (λ (x : Deletion). MachineDone passed (current now) x) (sym stands) (at_mid (λ p. off_of replies d new did t (ap IsProgress did_is ∙ p)))))
+    by (inr (cause, is, calls_is, skips)) = skips_machine passed (current now) cause mid (machine_of new spare_after) did skips (at_mid (λ p. no_progress replies.skips worked_did cause is p))
 
 pub deletion_ends : (d : Deleting) (passed : List Route) (s : FileSystem) (v : View) → d.stage ≡ Sync → ((p : Route) → visible_tree s p ≡ v p) → DeletionDone passed s d → IsGone d.path passed v
 deletion_ends d passed s v stage shows k rest reached =

@@ -16,7 +16,6 @@ use Rattle.job_reports.specs.declared.report.Did.{Did}
 use Rattle.job_reports.specs.declared.report.Did.TheVariants.{Began, Chunk, Placed, Removed, Made, Set, Kept, Skipped, Cleaned, Barrier, Asked, Merges, Moved, Troubled, Ended}
 use Rattle.job_reports.specs.declared.answer.Answer.{Answer}
 use Rattle.job_reports.specs.declared.answer.Answer.TheVariants.{Yes, No, All, Update, Nothing, SizeDiffers, Retry, Skip, SkipAll, Abort}
-use Rattle.job_answers.specs.declared.skips.Skips.{Skips as SkippedKinds}
 use Rattle.job_reports.specs.Jobs.{is_link_text}
 use Rattle.job_reports.specs.CallRuns.{AllDone}
 use Rattle.job_reports.proofs.CallAnswers.{done_call, one_done, some_log}
@@ -33,7 +32,7 @@ use Rattle.copy_move.specs.declared.run.Course.{Course}
 use Rattle.copy_move.specs.declared.run.Course.TheVariants.{GoesOn, Asking, InTrouble, OwedSyncFailed, Skips, Ends}
 use Rattle.copy_move.specs.declared.work.Work.{Work}
 use Rattle.copy_move.specs.declared.work.Work.TheVariants.{Copy, Delete, Make, Move, SetMode, RemoveEmptied}
-use Rattle.copy_move.specs.Jobs.{Running, CallsOn, PassesOver, TellsOn, WorkCalls, WorkTells, answered, answered_on, begun_work, closed_course, closed_job, course_after, first_work, passing_over, skips_of, taken_anew, with_skips}
+use Rattle.copy_move.specs.Jobs.{Running, CallsOn, PassesOver, TellsOn, WorkCalls, WorkTells, answered, answered_on, begun_work, closed_course, closed_job, course_after, first_work, taken_anew}
 use Rattle.copy_move.specs.Jobs as works
 use Rattle.copy_move.specs.Steps.{SkipWalks, Walks, WalksOn}
 use Rattle.history_laws.specs.Replayed.{replayed_step}
@@ -195,19 +194,19 @@ module _ (told : Said) (dirty dirty_after : List Route) (marks : Marks) (log now
       let d = done_call log (Rename m.pair.source m.pair.target) now renamed.1 in
       named_apart log kept.known.guarded.tree replies m.pair knows.source knows.target knows.other renamed.0 d.permits
 
-  work_steps : (replies : Replies) (old new : Work) (did : Did) (calls faults faults_after : ℕ) (passed : List Route) → WorkKnows told dirty marks log GoesOn old → WorkTells old did new → WorkCalls IsUnclaimed replies old did new log (Some now)
+  work_steps : (replies : Replies) (old new : Work) (did : Did) (calls faults faults_after : ℕ) (passed : List Route) → WorkKnows told dirty marks log GoesOn old → WorkTells replies old did new → WorkCalls IsUnclaimed replies old did new log (Some now)
       → Walks IsUnclaimed replies old new did calls dirty dirty_after (Some log) (Some now) faults faults_after → WorkDone passed begun told.tree (current log) old → Then passed did old new
   work_steps replies (Copy c) (Copy new) did calls faults faults_after passed knows t called walks k =
       unless_of did (WorkDone (passed_in (Some (item_in (Copy c))) did passed) begun (replayed_step now did (Some (item_in (Copy c))) told.tree) (current now) (Copy new))
       (tree_steps told dirty dirty_after marks log now kept c new did passed GoesOn walks.free replies calls walks.since faults_after knows.part walks.steps k)
   work_steps replies (Delete d) (Delete new) did calls faults faults_after passed knows t called walks k =
-      subst (λ p. Unless did (DeletionDone p (current now) new)) (sym (in_plain (item_in (Delete d)) did passed refl)) (deletion_steps d new did calls dirty dirty_after log now faults faults_after passed kept.known.guarded.tree t walks k)
+      subst (λ p. Unless did (DeletionDone p (current now) new)) (sym (in_plain (item_in (Delete d)) did passed refl)) (deletion_steps replies d new did calls dirty dirty_after log now faults faults_after passed kept.known.guarded.tree t walks k)
   work_steps replies (Make m) (Make new) did calls faults faults_after passed knows t called walks k =
       subst (λ p. Unless did (MakingDone p (replayed_step now did (Some (item_in (Make m))) told.tree) new)) (sym (in_plain (item_in (Make m)) did passed (makes_plain m.thing m.path passed))) (making_steps m new did now passed told.tree t k)
   work_steps replies (Move m) (Move new) did calls faults faults_after passed knows t called walks k =
-      moving_steps m new did now passed begun told.tree (goes_apart replies m did knows called) t k
+      moving_steps replies m new did now passed begun told.tree (goes_apart replies m did knows called) t k
   work_steps replies (SetMode s) (SetMode new) did calls faults faults_after passed knows t called walks k =
-      subst (λ p. Unless did (SettingDone p (replayed_step now did (Some (item_in (SetMode s))) told.tree) new)) (sym (in_plain (item_in (SetMode s)) did passed refl)) (setting_steps s new did now passed told.tree t (stands s did knows called) k)
+      subst (λ p. Unless did (SettingDone p (replayed_step now did (Some (item_in (SetMode s))) told.tree) new)) (sym (in_plain (item_in (SetMode s)) did passed refl)) (setting_steps replies s new did now passed told.tree t (stands s did knows called) k)
   work_steps replies (Copy c) (Delete new) did calls faults faults_after passed knows t called walks k = absurd t
   work_steps replies (Copy c) (Make new) did calls faults faults_after passed knows t called walks k = absurd t
   work_steps replies (Copy c) (Move new) did calls faults faults_after passed knows t called walks k = absurd t
@@ -229,7 +228,7 @@ module _ (told : Said) (dirty dirty_after : List Route) (marks : Marks) (log now
   work_steps replies (Move s) (Make new) did calls faults faults_after passed knows t called walks k = absurd t
   work_steps replies (SetMode s) (Move new) did calls faults faults_after passed knows t called walks k = absurd t
   work_steps replies (RemoveEmptied r) (RemoveEmptied new) did calls faults faults_after passed knows t called walks k =
-      removal_steps r new did now passed begun told.tree t k
+      removal_steps replies r new did now passed begun told.tree t k
   work_steps replies (RemoveEmptied r) (Copy new) did calls faults faults_after passed knows t called walks k = absurd t
   work_steps replies (RemoveEmptied r) (Delete new) did calls faults faults_after passed knows t called walks k = absurd t
   work_steps replies (RemoveEmptied r) (SetMode new) did calls faults faults_after passed knows t called walks k = absurd t
@@ -250,7 +249,7 @@ module _ (told : Said) (dirty dirty_after : List Route) (marks : Marks) (log now
   course_steps job new did GoesOn calls faults faults_after passed is knows (work, t, new_is) called walks k =
       subst (λ c. Unless did (CourseDone c (passed_in (Some (item_in job.work)) did passed) begun (replayed_step now did (Some (item_in job.work)) told.tree) (current now) new.work)) (sym (ap (λ (x : Running). x.course) new_is))
       (on_course did (passed_in (Some (item_in job.work)) did passed) begun (replayed_step now did (Some (item_in job.work)) told.tree) (current now) new.work
-      (work_steps job.replies job.work new.work did calls faults faults_after passed knows (subst (WorkTells job.work did) (sym (ap (λ (x : Running). x.work) new_is)) t) called walks k))
+      (work_steps job.replies job.work new.work did calls faults faults_after passed knows (subst (WorkTells job.replies job.work did) (sym (ap (λ (x : Running). x.work) new_is)) t) called walks k))
   course_steps job new did (InTrouble halt) calls faults faults_after passed is knows t called walks k = absurd t
   course_steps job new did (OwedSyncFailed cause) calls faults faults_after passed is knows t called walks k = absurd t
   course_steps job new did Asking calls faults faults_after passed is knows t called walks k = absurd t
@@ -281,18 +280,10 @@ module _ (passed : List Route) (begun v : View) (s : FileSystem) where
   anew_done (SetMode t) k = k
   anew_done (RemoveEmptied r) k = k
 
-  skips_done : (cause : Cause) (work : Work) → WorkDone passed begun v s work → WorkDone passed begun v s (with_skips cause work)
-  skips_done cause (Copy c) k = record { in_place = k.in_place; done = k.done }
-  skips_done cause (Delete d) k = k
-  skips_done cause (Make m) k = k
-  skips_done cause (Move m) k = k
-  skips_done cause (SetMode t) k = k
-  skips_done cause (RemoveEmptied r) k = k
-
   answer_done : (course : Course) (answer : Answer) (job : Running) → job.course ≡ course → JobDone passed begun v s job → JobDone passed begun v s (answered_on course answer job)
   answer_done (InTrouble halt) Retry job is k = anew_done job.work (subst (λ c. CourseDone c passed begun v s job.work) is k)
   answer_done (InTrouble halt) Skip job is k = subst (λ c. CourseDone c passed begun v s job.work) is k
-  answer_done (InTrouble halt) SkipAll job is k = skips_done halt.cause job.work (subst (λ c. CourseDone c passed begun v s job.work) is k)
+  answer_done (InTrouble halt) SkipAll job is k = subst (λ c. CourseDone c passed begun v s job.work) is k
   answer_done (InTrouble halt) Abort job is k = tt
   answer_done (OwedSyncFailed cause) Retry job is k = anew_done job.work (subst (λ c. CourseDone c passed begun v s job.work) is k)
   answer_done (OwedSyncFailed cause) Skip job is k = k
@@ -423,15 +414,7 @@ module _ (v : View) (s : FileSystem) where
   begun_done id [] w is = absurd (let f : ⊥ = cc in f)
   begun_done id (source ∷ more) w is = first_done id source w is
 
-  -- and one that goes on with its next source, whatever it passes over without a question
-  passing_done : (skips : SkippedKinds) (work : Work) → WorkDone [] v v s work → WorkDone [] v v s (passing_over skips work)
-  passing_done skips (Copy c) k = record { in_place = k.in_place; done = k.done }
-  passing_done skips (Delete d) k = k
-  passing_done skips (Make m) k = k
-  passing_done skips (Move m) k = k
-  passing_done skips (SetMode t) k = k
-  passing_done skips (RemoveEmptied r) k = k
-
+  -- and one that goes on with its next source
   pub turned_done : (plan : Job) (job next : Running) → Turned plan job next → WorkDone [] v v s next.work
   turned_done plan job next turn =
-      subst (λ (x : Running). WorkDone [] v v s x.work) (sym turn.next_is) (passing_done (skips_of job.work) turn.work (first_done job.id plan turn.work turn.first))
+      subst (λ (x : Running). WorkDone [] v v s x.work) (sym turn.next_is) (first_done job.id plan turn.work turn.first)

@@ -13,6 +13,7 @@ use Rattle.tree_trait.specs.Change.{CallLog, current}
 use Rattle.tree_trait.specs.FileSystem.{Value, View, find, lookup, node, value}
 use Rattle.tree_trait.specs.Refusals.{Place, and_then, denied, first_of, folder_of, has_entries, is_empty, is_folder, is_mount, lacks, last_step, missing, no_folder, reached, refusal_of, step, thing, walk}
 use Rattle.tree_trait.proofs.Walking.{check_passes, passed_walk, some_there, walk-find}
+use Rattle.job_answers.specs.declared.replies.Replies.{Replies}
 use Rattle.job_reports.specs.declared.report.Did.{Did}
 use Rattle.job_reports.specs.declared.report.Did.TheVariants.{Began, Chunk, Placed, Removed, Made, Set, Kept, Skipped, Cleaned, Barrier, Asked, Merges, Moved, Troubled, Ended}
 use Rattle.job_reports.specs.declared.report.Ending.{Ending}
@@ -152,22 +153,22 @@ module _ (v : View) (log : CallLog) (shows : ShowsTree v log) where
           let nought = eqb-true (node (current log) l.i).unnamed 0 bare.1 in
           omega (arith, count, nought, more)
 
-  pub emptied_as : (r new : Removing) (did : Did) (after : Option CallLog) → Tells r did new → RemovalCalls r did log after → IsRemovedIfEmpty r.path v did
-  emptied_as r new (Removed path) after (stage, path_is, new_is) (may, done) = (path_is, holds_none r.path (removed_bare (current log) r.path may))
-  emptied_as r new (Kept path) after (stage, path_is, new_is) (refused, none) = (path_is, holds r.path (kept_filled (current log) r.path refused))
-  emptied_as r new (Skipped path cause) after t called = tt
-  emptied_as r new Barrier after t called = tt
-  emptied_as r new (Troubled trouble) after t called = tt
-  emptied_as r new (Ended ending part) after t called = tt
-  emptied_as r new (Asked question) after t called = absurd t
-  emptied_as r new (Began part) after t called = absurd t
-  emptied_as r new (Chunk count) after t called = absurd t
-  emptied_as r new (Placed path) after t called = absurd t
-  emptied_as r new (Made path) after t called = absurd t
-  emptied_as r new (Set path) after t called = absurd t
-  emptied_as r new (Cleaned part) after t called = absurd t
-  emptied_as r new (Merges transfer pair names) after t called = absurd t
-  emptied_as r new (Moved pair) after t called = absurd t
+  pub emptied_as : (replies : Replies) (r new : Removing) (did : Did) (after : Option CallLog) → Tells replies r did new → RemovalCalls r did log after → IsRemovedIfEmpty r.path v did
+  emptied_as replies r new (Removed path) after (stage, path_is, new_is) (may, done) = (path_is, holds_none r.path (removed_bare (current log) r.path may))
+  emptied_as replies r new (Kept path) after (stage, path_is, new_is) (refused, none) = (path_is, holds r.path (kept_filled (current log) r.path refused))
+  emptied_as replies r new (Skipped path cause) after t called = tt
+  emptied_as replies r new Barrier after t called = tt
+  emptied_as replies r new (Troubled trouble) after t called = tt
+  emptied_as replies r new (Ended ending part) after t called = tt
+  emptied_as replies r new (Asked question) after t called = absurd t
+  emptied_as replies r new (Began part) after t called = absurd t
+  emptied_as replies r new (Chunk count) after t called = absurd t
+  emptied_as replies r new (Placed path) after t called = absurd t
+  emptied_as replies r new (Made path) after t called = absurd t
+  emptied_as replies r new (Set path) after t called = absurd t
+  emptied_as replies r new (Cleaned part) after t called = absurd t
+  emptied_as replies r new (Merges transfer pair names) after t called = absurd t
+  emptied_as replies r new (Moved pair) after t called = absurd t
 
 -- last steps neither remove nor keep it
 pub emptied_wound : (v : View) (ending : Ending) (r new : Removing) (did : Did) → Winds ending r did new → IsRemovedIfEmpty r.path v did

@@ -60,8 +60,8 @@ IsOwn (Merges transfer pair names) = ⊥
 IsOwn (Moved pair) = ⊥
 IsOwn (Troubled trouble) = ⊥
 
-pub tells_own : (old new : SubtreeCopying) (did : Did) → IsOwn did → MayTell did → IsAfter did old new → (is_fresh old.at.stage ≡ true → MayBegin did) → (IsOver old.at → IsOver new.at × (changes did ≡ false)) → Tells old did new
-tells_own old new did own may after first over = record {
+pub tells_own : (replies : Replies) (old new : SubtreeCopying) (did : Did) → IsOwn did → MayTell did → IsAfter did old new → (is_fresh old.at.stage ≡ true → MayBegin did) → (IsOver old.at → IsOver new.at × (changes did ≡ false)) → Tells replies old did new
+tells_own replies old new did own may after first over = record {
   may = may;
   after = after;
   first = first;
@@ -74,7 +74,7 @@ tells_own old new did own may after first over = record {
   over = over;
 }
 
-pub works : (replies : Replies) (course : Course) (old new : SubtreeCopying) (did : Did) (calls : ℕ) (dirty dirty_after : List Route) (before now : CallLog) → Tells old did new → course_after did ≡ course → IsStep replies old new did calls dirty dirty_after before now
+pub works : (replies : Replies) (course : Course) (old new : SubtreeCopying) (did : Did) (calls : ℕ) (dirty dirty_after : List Route) (before now : CallLog) → Tells replies old did new → course_after did ≡ course → IsStep replies old new did calls dirty dirty_after before now
     → (is_fresh old.at.stage ≡ true → dirty ≡ []) → ChangesOwn old did dirty dirty_after → WorkLeads (job replies GoesOn old) did (job replies course new) dirty dirty_after before now
 works replies course old new did calls dirty dirty_after before now tells on step clean leaves = record {
   tells = (Copy new, tells, ap (λ c. job replies c new) (sym on));

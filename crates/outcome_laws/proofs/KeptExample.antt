@@ -177,10 +177,10 @@ asks_step = record {
   stands = refl;
 }
 
-asks_tells : Tells begun (Asked question) begun
+asks_tells : Tells no_replies begun (Asked question) begun
 asks_tells = record {
   may = tt;
-  after = record { top = refl; part = refl; stage = refl; skips = refl };
+  after = record { top = refl; part = refl; stage = refl };
   first = λ fresh. tt;
   barred = λ trouble is. absurd (let f : ⊥ = cc in f);
   apart = λ trouble is. absurd (let f : ⊥ = cc in f);
@@ -264,10 +264,10 @@ keeps_top path is =
       over = λ fresh. is_over;
     })
 
-keeps_tells : Tells begun (Kept target) keeping
+keeps_tells : Tells said_no begun (Kept target) keeping
 keeps_tells = record {
   may = tt;
-  after = record { top = refl; part = refl; stage = refl; skips = refl };
+  after = record { top = refl; part = refl; stage = refl };
   first = λ fresh. tt;
   barred = λ trouble is. absurd (let f : ⊥ = cc in f);
   apart = λ trouble is. absurd (let f : ⊥ = cc in f);
@@ -313,7 +313,7 @@ pub ended_traced : IsTraced (log []) (end ∷ kept_entries) (stand [] []) (log [
 ended_traced =
     own_step (log []) 1 0 (Ended Finished None) kept_entries (stand (keeps ∷ []) []) (stand [] []) (log []) (log []) keeps (job said_no GoesOn (at_last keeping)) kept_traced (inl (refl, refl))
     (works said_no GoesOn keeping (at_last keeping) (Ended Finished None) 0 [] [] (log []) (log [])
-    (tells_own keeping (at_last keeping) (Ended Finished None) tt refl (record { top = refl; part = refl; stage = refl; skips = refl }) (λ fresh. tt)
+    (tells_own said_no keeping (at_last keeping) (Ended Finished None) tt refl (record { top = refl; part = refl; stage = refl }) (λ fresh. tt)
     (λ before. (record { none = refl; around = refl; names = refl; owes = refl; clean = refl }, refl))) refl ends_step (λ fresh. refl) (stays keeping (Ended Finished None) [] refl)) refl refl refl
 
 -- The job has kept something, so each path shows what it showed at the opening.

@@ -14,15 +14,13 @@ use Rattle.job_reports.specs.declared.report.Did.{Did}
 use Rattle.job_reports.specs.declared.report.Did.TheVariants.{Began, Chunk, Placed, Removed, Made, Set, Kept, Skipped, Cleaned, Barrier, Asked, Merges, Moved, Troubled, Ended}
 use Rattle.session_history.specs.declared.history.JobOrder.{JobOrder}
 use Rattle.session_history.specs.declared.history.JobOrder.TheVariants.{Answered}
-use Rattle.job_answers.specs.Skipping.{kind_in, with_kind}
 use Rattle.job_answers.specs.declared.replies.Replies.{Replies}
-use Rattle.job_answers.specs.declared.skips.Skips.{Skips as SkippedKinds}
 use Rattle.thing_making.specs.declared.new_thing.NewThing.TheVariants as thing
 use Rattle.copy_move.specs.declared.run.Course.{Course}
 use Rattle.copy_move.specs.declared.run.Course.TheVariants.{GoesOn, Asking, InTrouble, OwedSyncFailed, Skips, Ends}
 use Rattle.copy_move.specs.declared.work.Work.{Work}
 use Rattle.copy_move.specs.declared.work.Work.TheVariants.{Copy, Delete, Make, Move, SetMode, RemoveEmptied}
-use Rattle.copy_move.specs.Jobs.{PassesOver, Running, TellsOn, WorkTells, answered_on, answered, begun_work, closed_job, first_work, passing_over, skips_of, with_skips}
+use Rattle.copy_move.specs.Jobs.{PassesOver, Running, TellsOn, WorkTells, answered_on, answered, begun_work, closed_job, first_work}
 use Rattle.copy_move.specs.Jobs as works
 use Rattle.copy_move.specs.Steps.{SkipWalks, Walks}
 use Rattle.history_laws.specs.Replayed.{replayed_step}
@@ -31,7 +29,7 @@ use Rattle.history_laws.proofs.Sources.{item_in}
 use Rattle.history_laws.proofs.Turns.{Turned}
 use Rattle.outcome_laws.specs.Keeps.{keeps_by}
 use Rattle.outcome_laws.proofs.Doing.{ordered_id, some_and, some_if}
-use Rattle.outcome_laws.proofs.KeptTrees.{TreeSpares, other_skips, tree_begins, tree_passes, tree_retries, tree_spares}
+use Rattle.outcome_laws.proofs.KeptTrees.{TreeSpares, tree_begins, tree_passes, tree_retries, tree_spares}
 use Rattle.outcome_laws.proofs.MadeThings.{Unless, unless_of}
 use Rattle.outcome_laws.proofs.Touching.{UnlessEnding, close_by}
 
@@ -45,7 +43,7 @@ Spares v was kept (SetMode s) = ⊤
 Spares v was kept (RemoveEmptied r) = ⊤
 
 module _ (now : CallLog) (v was : View) (kept : Bool) where
-  work_spares : (replies : Replies) (old new : Work) (did : Did) (calls faults faults_after : ℕ) (dirty dirty_after : List Route) (before after : Option CallLog) → WorkTells old did new
+  work_spares : (replies : Replies) (old new : Work) (did : Did) (calls faults faults_after : ℕ) (dirty dirty_after : List Route) (before after : Option CallLog) → WorkTells replies old did new
       → Walks IsUnclaimed replies old new did calls dirty dirty_after before after faults faults_after → Spares v was kept old
       → Unless did (Spares (replayed_step now did (Some (item_in old)) v) was (keeps_by did kept) new)
   work_spares replies (Copy c) (Copy new) did calls faults faults_after dirty dirty_after before after t walks s =
@@ -197,21 +195,13 @@ module _ (v was : View) (kept : Bool) where
   anew_spares (SetMode w) s = s
   anew_spares (RemoveEmptied r) s = s
 
-  skips_spares : (cause : Cause) (work : Work) → Spares v was kept work → Spares v was kept (with_skips cause work)
-  skips_spares cause (Copy c) s = other_skips v was kept c (with_kind (kind_in cause) c.skips) s
-  skips_spares cause (Delete d) s = s
-  skips_spares cause (Make m) s = s
-  skips_spares cause (Move m) s = s
-  skips_spares cause (SetMode w) s = s
-  skips_spares cause (RemoveEmptied r) s = s
-
   abbrev Held : Running → Type 0
   Held job = UnlessEnding job.course (Spares v was kept job.work)
 
   answer_spares : (course : Course) (answer : Answer) (job : Running) → job.course ≡ course → Held job → Held (answered_on course answer job)
   answer_spares (InTrouble halt) Retry job is k = anew_spares job.work (subst (λ c. UnlessEnding c (Spares v was kept job.work)) is k)
   answer_spares (InTrouble halt) Skip job is k = subst (λ c. UnlessEnding c (Spares v was kept job.work)) is k
-  answer_spares (InTrouble halt) SkipAll job is k = skips_spares halt.cause job.work (subst (λ c. UnlessEnding c (Spares v was kept job.work)) is k)
+  answer_spares (InTrouble halt) SkipAll job is k = subst (λ c. UnlessEnding c (Spares v was kept job.work)) is k
   answer_spares (InTrouble halt) Abort job is k = tt
   answer_spares (InTrouble halt) Yes job is k = k
   answer_spares (InTrouble halt) No job is k = k
@@ -284,14 +274,6 @@ module _ (v : View) where
   begun_spares id [] w is = absurd (let f : ⊥ = cc in f)
   begun_spares id (source ∷ more) w is = first_spares id source w is
 
-  passing_spares : (skips : SkippedKinds) (work : Work) → Spares v v false work → Spares v v false (passing_over skips work)
-  passing_spares skips (Copy c) s = other_skips v v false c skips s
-  passing_spares skips (Delete d) s = s
-  passing_spares skips (Make m) s = s
-  passing_spares skips (Move m) s = s
-  passing_spares skips (SetMode w) s = s
-  passing_spares skips (RemoveEmptied r) s = s
-
   pub turned_spares : (plan : Job) (job next : Running) → Turned plan job next → Spares v v false next.work
   turned_spares plan job next turn =
-      subst (λ (x : Running). Spares v v false x.work) (sym turn.next_is) (passing_spares (skips_of job.work) turn.work (first_spares job.id plan turn.work turn.first))
+      subst (λ (x : Running). Spares v v false x.work) (sym turn.next_is) (first_spares job.id plan turn.work turn.first)

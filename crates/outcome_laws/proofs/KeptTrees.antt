@@ -6,7 +6,6 @@ use Rattle.mc_text.specs.Routes.{Route, parent_of}
 use Rattle.tree_trait.specs.Change.{CallLog}
 use Rattle.tree_trait.specs.FileSystem.{View}
 use Rattle.job_answers.specs.declared.replies.Replies.{Replies}
-use Rattle.job_answers.specs.declared.skips.Skips.{Skips as Kinds}
 use Rattle.job_reports.specs.Jobs.{Item}
 use Rattle.job_reports.specs.declared.job.Pair.{Pair}
 use Rattle.job_reports.specs.declared.report.Cause.{Cause}
@@ -81,13 +80,13 @@ module _ (now : CallLog) (work : Option Item) (v was : View) (kept : Bool) (c ne
   reported : Here did new.at × IsInPlace c.top new.at
   reported = by s.passes
     where
-      by : OrPassedOver c.skips r s.moved new.at (step_result did count) → Here did new.at × IsInPlace c.top new.at
+      by : OrPassedOver replies.skips r s.moved new.at (step_result did count) → Here did new.at × IsInPlace c.top new.at
       by (inl (none, same, at)) = (
         subst (λ d. Here d new.at) (sym (ap (λ (x : StepResult). x.did) same)) (subst (Here r.did) (sym at) worked.0),
         subst (IsInPlace c.top) (sym at) worked.1,
       )
       by (inr (cause, is, calls, skips)) =
-          let t = passed_trouble c.skips r.did cause is in
+          let t = passed_trouble replies.skips r.did cause is in
           let moved = s.moved in
           let here : Spared v was kept moved = subst (λ d. Here d s.moved) t.1 worked.0 in (
             told now v was kept work c.top did new.at (says_plain did (skip_says moved.item cause moved new.at did skips)) (skips_spared v was kept moved new.at here cause did moved.item refl skips),
@@ -114,10 +113,6 @@ tree_retries v was kept c h = record {
   in_place = (let law = staying_law in law.retry c.top c.at h.in_place);
   spared = (let at = c.at in retries_spared v was kept at (let again : SubtreeCopying = retries c in again.at) h.spared at.item refl refl);
 }
-
--- other kinds are passed over from then on
-pub other_skips : (v was : View) (kept : Bool) (c : SubtreeCopying) (skips : Kinds) → TreeSpares v was kept c → TreeSpares v was kept (record c { skips = skips })
-other_skips v was kept c skips h = record { in_place = h.in_place; spared = h.spared }
 
 -- a copy that begins
 pub tree_begins : (id : ℕ) (top : Pair) (v : View) → is_some (parent_of top.source) ≡ true → is_some (parent_of top.target) ≡ true → TreeSpares v v false (started id top)

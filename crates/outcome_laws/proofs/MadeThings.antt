@@ -7,6 +7,7 @@ use Rattle.mc_text.specs.Routes.{Route}
 use Rattle.tree_trait.specs.FileSystem.{Spot, Value, View, put}
 use Rattle.tree_trait.specs.Change.{CallLog}
 use Rattle.tree_trait.specs.CrashImages.{Among}
+use Rattle.job_answers.specs.declared.replies.Replies.{Replies}
 use Rattle.job_reports.specs.declared.report.Did.{Did}
 use Rattle.job_reports.specs.declared.report.Did.TheVariants.{Began, Chunk, Placed, Removed, Made, Set, Kept, Skipped, Cleaned, Barrier, Asked, Merges, Moved, Troubled, Ended}
 use Rattle.job_reports.specs.Jobs.{Sets}
@@ -145,28 +146,28 @@ given : (path : Route) (mode : ℕ) (v : View) (x : Value) → (v path).value �
 given path mode v x there =
     ap (λ (s : Spot). option_map (λ (y : Value). y.mode) s.value) (put_at v path (option_map (with_mode mode) (v path).value)) ∙ ap (λ o. option_map (λ (y : Value). y.mode) (option_map (with_mode mode) o)) there
 
-pub setting_steps : (s new : Setting) (did : Did) (log : CallLog) (passed : List Route) (v : View) → settings.Tells s did new → ((path : Route) → did ≡ Set path → (x : Value) × ((v s.path).value ≡ Some x)) → SettingDone passed v s
+pub setting_steps : (replies : Replies) (s new : Setting) (did : Did) (log : CallLog) (passed : List Route) (v : View) → settings.Tells replies s did new → ((path : Route) → did ≡ Set path → (x : Value) × ((v s.path).value ≡ Some x)) → SettingDone passed v s
     → Unless did (SettingDone (passed_by did passed) (replayed_step log did (Some (Sets s.path s.mode)) v) new)
-setting_steps s new (Set path) log passed v (stage, path_is, new_is) stands k =
+setting_steps replies s new (Set path) log passed v (stage, path_is, new_is) stands k =
     let there = stands path refl in
     subst (λ (x : Setting). SettingDone passed (set_by (Some (Sets s.path s.mode)) path v) x) (sym new_is)
     (subst (λ (p : Route). HasMode s.path s.mode (set_by (Some (Sets s.path s.mode)) p v)) (sym path_is) (given s.path s.mode v there.0 there.1))
-setting_steps s new Barrier log passed v (stage, new_is) stands k =
+setting_steps replies s new Barrier log passed v (stage, new_is) stands k =
     subst (λ (x : Setting). SettingDone passed v x) (sym new_is) (inl (subst (λ st. SettingAt st s.path s.mode passed v) stage k))
-setting_steps s new (Troubled trouble) log passed v (barrier, told, new_is) stands k = subst (λ (x : Setting). SettingDone passed v x) (sym new_is) k
-setting_steps s new (Ended ending part) log passed v t stands k = tt
-setting_steps s new (Began part) log passed v t stands k = absurd t
-setting_steps s new (Chunk count) log passed v t stands k = absurd t
-setting_steps s new (Made path) log passed v t stands k = absurd t
-setting_steps s new (Placed path) log passed v t stands k = absurd t
-setting_steps s new (Removed made) log passed v t stands k = absurd t
-setting_steps s new (Kept kept) log passed v t stands k = absurd t
-setting_steps s new (Asked question) log passed v t stands k = absurd t
-setting_steps s new (Merges transfer pair names) log passed v t stands k = absurd t
-setting_steps s new (Moved pair) log passed v t stands k = absurd t
-setting_steps s new (Skipped path why) log passed v (stage, path_is, passes, new_is) stands k =
+setting_steps replies s new (Troubled trouble) log passed v (barrier, told, new_is) stands k = subst (λ (x : Setting). SettingDone passed v x) (sym new_is) k
+setting_steps replies s new (Ended ending part) log passed v t stands k = tt
+setting_steps replies s new (Began part) log passed v t stands k = absurd t
+setting_steps replies s new (Chunk count) log passed v t stands k = absurd t
+setting_steps replies s new (Made path) log passed v t stands k = absurd t
+setting_steps replies s new (Placed path) log passed v t stands k = absurd t
+setting_steps replies s new (Removed made) log passed v t stands k = absurd t
+setting_steps replies s new (Kept kept) log passed v t stands k = absurd t
+setting_steps replies s new (Asked question) log passed v t stands k = absurd t
+setting_steps replies s new (Merges transfer pair names) log passed v t stands k = absurd t
+setting_steps replies s new (Moved pair) log passed v t stands k = absurd t
+setting_steps replies s new (Skipped path why) log passed v (stage, path_is, passes, new_is) stands k =
     subst (λ (x : Setting). SettingDone (path ∷ passed) v x) (sym new_is) (inr (inl (sym path_is)))
-setting_steps s new (Cleaned part) log passed v t stands k = absurd t
+setting_steps replies s new (Cleaned part) log passed v t stands k = absurd t
 
 pub setting_skips : (s new : Setting) (path : Route) (passed : List Route) (v : View) → path ≡ s.path → new ≡ record s { stage = settings.skipped s.stage } → SettingDone passed v s → SettingDone (path ∷ passed) v new
 setting_skips s new path passed v path_is new_is k = subst (λ (x : Setting). SettingDone (path ∷ passed) v x) (sym new_is) (by s.stage k)

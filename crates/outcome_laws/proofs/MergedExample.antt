@@ -180,7 +180,7 @@ module _ (name : List ℕ) (from to : Route) (names : List (List ℕ)) where
     pub merges : WorkLeads (job begins) (Merges ByCopy pair names) (job over) [] [] log log
     merges = works no_replies GoesOn begins over (Merges ByCopy pair names) 0 [] [] log log (record {
       may = tt;
-      after = record { top = refl; part = refl; stage = refl; skips = refl };
+      after = record { top = refl; part = refl; stage = refl };
       first = λ fresh. tt;
       barred = λ trouble is. absurd (let f : ⊥ = cc in f);
       apart = λ trouble is. absurd (let f : ⊥ = cc in f);
@@ -217,7 +217,7 @@ module _ (name : List ℕ) (from to : Route) (names : List (List ℕ)) where
   pub finishes : WorkLeads (job over) (Ended Finished None) (job (decided over)) [] [] log log
   finishes =
       works no_replies GoesOn over (decided over) (Ended Finished None) 0 [] [] log log
-      (tells_own over (decided over) (Ended Finished None) tt refl (record { top = refl; part = refl; stage = refl; skips = refl }) (λ fresh. tt)
+      (tells_own no_replies over (decided over) (Ended Finished None) tt refl (record { top = refl; part = refl; stage = refl }) (λ fresh. tt)
       (λ before. (record { none = refl; around = refl; names = refl; owes = refl; clean = refl }, refl)))
       refl ends (λ fresh. refl) (record { folder = to; own = own_folder; was = false; now = false; list = refl; synced = λ was now. absurd (false≢true was) })
 

@@ -20,7 +20,6 @@ use Rattle.tree_trait.proofs.BareRoot.{bare, bare_tree}
 use Rattle.tree_trait.proofs.Finding.{same_name-true}
 use Rattle.tree_trait.proofs.Kept.{tree_made}
 use Rattle.job_answers.specs.Decisions.{no_replies}
-use Rattle.job_answers.specs.Skipping.{no_skips}
 use Rattle.job_reports.specs.declared.job.Job.TheVariants as plan
 use Rattle.job_reports.specs.declared.job.Pair.{Pair}
 use Rattle.job_reports.specs.declared.report.Did.TheVariants.{Barrier, Ended, Merges, Moved, Removed}
@@ -81,10 +80,10 @@ abbrev job : Work → Running
 job work = record { id = 1; work = work; course = GoesOn; replies = no_replies }
 
 abbrev moves : Pair → MovingStage → Work
-moves pair stage = Move (record { pair = pair; stage = stage; skips = no_skips })
+moves pair stage = Move (record { pair = pair; stage = stage })
 
 abbrev removes : RemovalStage → Work
-removes stage = RemoveEmptied (record { path = outer.source; stage = stage; skips = no_skips })
+removes stage = RemoveEmptied (record { path = outer.source; stage = stage })
 
 -- the job begins
 abbrev begun_entries : List Entry

@@ -75,7 +75,7 @@ module _ (v : View) (log : CallLog) (tree : IsTree (current log)) (shows : Shows
     | inr (question, d) ↦ (let q = question_is pair replies question Replace d in (question, q.0, q.1))
   ]
 
-  pub moved_as : (replies : Replies) (m new : Moving) (did : Did) (after : Option CallLog) → Tells m did new → MovingCalls replies m did log after → (let pair = m.pair in IsMovedAsAnswered replies pair.source pair.target v did)
+  pub moved_as : (replies : Replies) (m new : Moving) (did : Did) (after : Option CallLog) → Tells replies m did new → MovingCalls replies m did log after → (let pair = m.pair in IsMovedAsAnswered replies pair.source pair.target v did)
   moved_as replies m new (Moved pair) after (stage, pair_is, new_is) (may, called) = (pair_is, λ some. may_replace m.pair replies may some)
   moved_as replies m new (Kept path) after (stage, path_is, new_is) ((question, d), none) =
       let q = question_is m.pair replies question Keep d in (path_is, (question, q.0, q.1))

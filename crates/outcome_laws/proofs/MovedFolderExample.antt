@@ -13,7 +13,6 @@ use Rattle.job_reports.specs.declared.report.Did.TheVariants.{Barrier, Ended, Mo
 use Rattle.job_reports.specs.declared.report.Ending.TheVariants.{Finished}
 use Rattle.job_reports.specs.Jobs as jobs
 use Rattle.job_answers.specs.Decisions.{no_replies}
-use Rattle.job_answers.specs.Skipping.{no_skips}
 use Rattle.session_history.specs.declared.history.Event.TheVariants.{Began, Step}
 use Rattle.session_history.specs.declared.history.Entry.{Entry}
 use Rattle.thing_moving.specs.declared.moving.MovingStage.{MovingStage}
@@ -41,7 +40,7 @@ abbrev root : Route
 root = []
 
 abbrev at : MovingStage → Moving
-at stage = record { pair = pair; stage = stage; skips = no_skips }
+at stage = record { pair = pair; stage = stage }
 
 abbrev job : MovingStage → Running
 job stage = record { id = 1; work = Move (at stage); course = GoesOn; replies = no_replies }

@@ -6,6 +6,7 @@ use Rattle.mc_text.specs.Routes.{Route, is_prefix, same_path}
 use Rattle.tree_trait.specs.FileSystem.{View}
 use Rattle.tree_trait.specs.Change.{CallLog}
 use Rattle.tree_trait.specs.CrashImages.{Among}
+use Rattle.job_answers.specs.declared.replies.Replies.{Replies}
 use Rattle.job_reports.specs.declared.job.Pair.{Pair}
 use Rattle.job_reports.specs.declared.report.Did.{Did}
 use Rattle.job_reports.specs.declared.report.Did.TheVariants.{Began, Chunk, Placed, Removed, Made, Set, Kept, Skipped, Cleaned, Barrier, Asked, Merges, Moved, Troubled, Ended}
@@ -79,29 +80,29 @@ synced pair PassedOver passed begun v dirty k = absurd (let f : ⊥ = cc in f)
 left : (m : Moving) (path : Route) (passed : List Route) (begun v : View) → m.stage ≡ Take → path ≡ m.pair.source → MovingDone passed begun v m → MovingAt PassedOver m.pair (path ∷ passed) begun v
 left m path passed begun v stage path_is k = (inl (sym path_is), (subst (λ st. MovingAt st m.pair passed begun v) stage k).1)
 
-pub moving_steps : (m new : Moving) (did : Did) (log : CallLog) (passed : List Route) (begun v : View) → ((pair : Pair) → did ≡ Moved pair → AreApart m.pair) → Tells m did new → MovingDone passed begun v m
+pub moving_steps : (replies : Replies) (m new : Moving) (did : Did) (log : CallLog) (passed : List Route) (begun v : View) → ((pair : Pair) → did ≡ Moved pair → AreApart m.pair) → Tells replies m did new → MovingDone passed begun v m
     → Unless did (MovingDone (passed_in (Some (Moves m.pair.source m.pair.target)) did passed) begun (replayed_step log did (Some (Moves m.pair.source m.pair.target)) v) new)
-moving_steps m new (Moved pair) log passed begun v apart (stage, pair_is, new_is) k =
+moving_steps replies m new (Moved pair) log passed begun v apart (stage, pair_is, new_is) k =
     let before = subst (λ st. MovingAt st m.pair passed begun v) stage k in
     subst (λ (x : Moving). MovingDone passed begun (moved_by pair v) x) (sym new_is)
     (subst (λ (p : Pair). MovingAt SyncTarget m.pair passed begun (moved_by p v)) (sym pair_is) (before.0, goes m.pair begun v (apart pair refl) before.1))
-moving_steps m new (Kept path) log passed begun v apart (stage, path_is, new_is) k =
+moving_steps replies m new (Kept path) log passed begun v apart (stage, path_is, new_is) k =
     subst (λ (x : Moving). MovingDone (m.pair.source ∷ passed) begun v x) (sym new_is) (left m m.pair.source passed begun v stage refl k)
-moving_steps m new (Skipped path cause) log passed begun v apart (stage, path_is, holds, new_is) k =
+moving_steps replies m new (Skipped path cause) log passed begun v apart (stage, path_is, holds, new_is) k =
     subst (λ (x : Moving). MovingDone (path ∷ passed) begun v x) (sym new_is) (left m path passed begun v stage path_is k)
-moving_steps m new Barrier log passed begun v apart (dirty, new_is) k = subst (λ (x : Moving). MovingDone passed begun v x) (sym new_is) (synced m.pair m.stage passed begun v dirty k)
-moving_steps m new (Merges transfer pair names) log passed begun v apart (stage, may, new_is) k =
+moving_steps replies m new Barrier log passed begun v apart (dirty, new_is) k = subst (λ (x : Moving). MovingDone passed begun v x) (sym new_is) (synced m.pair m.stage passed begun v dirty k)
+moving_steps replies m new (Merges transfer pair names) log passed begun v apart (stage, may, new_is) k =
     subst (λ (x : Moving). MovingDone (pair.source ∷ passed) begun v x) (sym new_is) (left m pair.source passed begun v stage (ap (λ (p : Pair). p.source) may.its) k)
-moving_steps m new (Asked question) log passed begun v apart (stage, new_is) k = subst (λ (x : Moving). MovingDone passed begun v x) (sym new_is) k
-moving_steps m new (Troubled trouble) log passed begun v apart t k = subst (λ (x : Moving). MovingDone passed begun v x) (sym t.3) k
-moving_steps m new (Ended ending part) log passed begun v apart t k = tt
-moving_steps m new (Began part) log passed begun v apart t k = absurd t
-moving_steps m new (Chunk count) log passed begun v apart t k = absurd t
-moving_steps m new (Set path) log passed begun v apart t k = absurd t
-moving_steps m new (Made path) log passed begun v apart t k = absurd t
-moving_steps m new (Placed path) log passed begun v apart t k = absurd t
-moving_steps m new (Removed path) log passed begun v apart t k = absurd t
-moving_steps m new (Cleaned part) log passed begun v apart t k = absurd t
+moving_steps replies m new (Asked question) log passed begun v apart (stage, new_is) k = subst (λ (x : Moving). MovingDone passed begun v x) (sym new_is) k
+moving_steps replies m new (Troubled trouble) log passed begun v apart t k = subst (λ (x : Moving). MovingDone passed begun v x) (sym t.3) k
+moving_steps replies m new (Ended ending part) log passed begun v apart t k = tt
+moving_steps replies m new (Began part) log passed begun v apart t k = absurd t
+moving_steps replies m new (Chunk count) log passed begun v apart t k = absurd t
+moving_steps replies m new (Set path) log passed begun v apart t k = absurd t
+moving_steps replies m new (Made path) log passed begun v apart t k = absurd t
+moving_steps replies m new (Placed path) log passed begun v apart t k = absurd t
+moving_steps replies m new (Removed path) log passed begun v apart t k = absurd t
+moving_steps replies m new (Cleaned part) log passed begun v apart t k = absurd t
 
 pub moving_skips : (m new : Moving) (path : Route) (passed : List Route) (begun v : View) → at_barrier m.stage ≡ false → path ≡ m.pair.source → new ≡ record m { stage = skipped m.stage } → MovingDone passed begun v m
     → MovingDone (path ∷ passed) begun v new
@@ -129,19 +130,19 @@ moving_ends m passed begun v done k = by m.stage done k
     by PassedOver e h = record { went = λ reached. absurd (reached h.0); stays = λ among. h.1 }
 
 -- and it touches nothing but its two paths, and what lies below them
-pub moving_touches : (m new : Moving) (did : Did) (path : Route) → Tells m did new → IsChanged did path → touches (Moves m.pair.source m.pair.target) path ≡ true
-moving_touches m new (Moved pair) path (stage, pair_is, new_is) changed = subst (λ (p : Pair). is_of_move p path ≡ true) pair_is changed
-moving_touches m new (Kept p) path t none = absurd none
-moving_touches m new (Skipped p cause) path t none = absurd none
-moving_touches m new Barrier path t none = absurd none
-moving_touches m new (Asked question) path t none = absurd none
-moving_touches m new (Troubled trouble) path t none = absurd none
-moving_touches m new (Ended ending part) path t none = absurd none
-moving_touches m new (Began part) path t none = absurd none
-moving_touches m new (Chunk count) path t none = absurd none
-moving_touches m new (Set p) path t among = absurd t
-moving_touches m new (Made p) path t among = absurd t
-moving_touches m new (Placed p) path t among = absurd t
-moving_touches m new (Removed p) path t among = absurd t
-moving_touches m new (Merges transfer pair names) path t none = absurd none
-moving_touches m new (Cleaned part) path t none = absurd none
+pub moving_touches : (replies : Replies) (m new : Moving) (did : Did) (path : Route) → Tells replies m did new → IsChanged did path → touches (Moves m.pair.source m.pair.target) path ≡ true
+moving_touches replies m new (Moved pair) path (stage, pair_is, new_is) changed = subst (λ (p : Pair). is_of_move p path ≡ true) pair_is changed
+moving_touches replies m new (Kept p) path t none = absurd none
+moving_touches replies m new (Skipped p cause) path t none = absurd none
+moving_touches replies m new Barrier path t none = absurd none
+moving_touches replies m new (Asked question) path t none = absurd none
+moving_touches replies m new (Troubled trouble) path t none = absurd none
+moving_touches replies m new (Ended ending part) path t none = absurd none
+moving_touches replies m new (Began part) path t none = absurd none
+moving_touches replies m new (Chunk count) path t none = absurd none
+moving_touches replies m new (Set p) path t among = absurd t
+moving_touches replies m new (Made p) path t among = absurd t
+moving_touches replies m new (Placed p) path t among = absurd t
+moving_touches replies m new (Removed p) path t among = absurd t
+moving_touches replies m new (Merges transfer pair names) path t none = absurd none
+moving_touches replies m new (Cleaned part) path t none = absurd none

@@ -202,7 +202,7 @@ module _ (opening : CallLog) (tree : IsTree (current opening)) (settled : all_se
 
 -- what a job that is finished has left
 module _ (told : Rattle.history_laws.proofs.Knowing.Said) (dirty dirty_after : List Route) (marks : Rattle.crash_law.specs.Guarded.Marks) (log now : CallLog) (kept : Rattle.history_laws.proofs.Knowing.IsKept told dirty marks log) (part : Option Route) (passed : List Route) (begun : View) where
-  work_ends : (replies : Replies) (old new : Work) (course : Course) → WorkTells old (Ended Finished part) new → (calls f0 f1 : ℕ) → Walks IsUnclaimed replies old new (Ended Finished part) calls dirty dirty_after (Some log) (Some now) f0 f1 → WorkKnows told dirty marks log course old → WorkDone passed begun told.tree (current log) old → IsOutcome (item_in old) passed begun told.tree
+  work_ends : (replies : Replies) (old new : Work) (course : Course) → WorkTells replies old (Ended Finished part) new → (calls f0 f1 : ℕ) → Walks IsUnclaimed replies old new (Ended Finished part) calls dirty dirty_after (Some log) (Some now) f0 f1 → WorkKnows told dirty marks log course old → WorkDone passed begun told.tree (current log) old → IsOutcome (item_in old) passed begun told.tree
   work_ends replies (Copy c) (Copy new) course t calls f0 f1 walks knows k =
       tree_ends told dirty dirty_after marks log now kept c new (Ended Finished part) passed course walks.free replies calls walks.since f1 knows.part walks.steps k part refl
   work_ends replies (Copy c) (Delete new) course t calls f0 f1 walks knows k = absurd t
@@ -244,7 +244,7 @@ module _ (told : Rattle.history_laws.proofs.Knowing.Said) (dirty dirty_after : L
 
   ends : (job new : Running) (course : Course) → TellsOn course job (Ended Finished part) new → (calls f0 f1 : ℕ) → WalksOn IsUnclaimed job.replies course job.work new.work (Ended Finished part) calls dirty dirty_after (Some log) (Some now) f0 f1 → ((ending : Rattle.job_reports.specs.declared.report.Ending.Ending) → course ≡ Ends ending → ending ≡ Aborted) → WorkKnows told dirty marks log course job.work
       → CourseDone course passed begun told.tree (current log) job.work → IsOutcome (item_in job.work) passed begun told.tree
-  ends job new GoesOn (work, t, new_is) calls f0 f1 walks aborted knows k = work_ends job.replies job.work new.work GoesOn (subst (WorkTells job.work (Ended Finished part)) (sym (ap (λ (x : Running). x.work) new_is)) t) calls f0 f1 walks knows k
+  ends job new GoesOn (work, t, new_is) calls f0 f1 walks aborted knows k = work_ends job.replies job.work new.work GoesOn (subst (WorkTells job.replies job.work (Ended Finished part)) (sym (ap (λ (x : Running). x.work) new_is)) t) calls f0 f1 walks knows k
   ends job new (InTrouble halt) t calls f0 f1 walks aborted knows k = absurd t
   ends job new (OwedSyncFailed cause) t calls f0 f1 walks aborted knows k = absurd t
   ends job new Asking t calls f0 f1 walks aborted knows k = absurd t

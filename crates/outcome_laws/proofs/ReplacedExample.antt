@@ -175,7 +175,7 @@ made_step = record {
 made_leads : WorkLeads told_yes (Began part) (job said_yes GoesOn fills) [] (holder ∷ []) (log []) made_log
 made_leads =
     works said_yes GoesOn begun fills (Began part) 1 [] (holder ∷ []) (log []) made_log
-    (tells_own begun fills (Began part) tt tt (record { top = refl; part = refl; stage = refl; skips = refl }) (λ fresh. tt) (λ before. absurd (let e = before.names in let f : ⊥ = cc in f)))
+    (tells_own said_yes begun fills (Began part) tt tt (record { top = refl; part = refl; stage = refl }) (λ fresh. tt) (λ before. absurd (let e = before.names in let f : ⊥ = cc in f)))
     refl made_step (λ fresh. refl) becomes_dirty
 
 made_traced : IsTraced (log []) made_entries (stand (job said_yes GoesOn fills ∷ []) (holder ∷ [])) made_log
@@ -227,7 +227,7 @@ filled_step = record {
 filled_leads : WorkLeads (job said_yes GoesOn fills) (Chunk 1) (job said_yes GoesOn is_full) (holder ∷ []) (holder ∷ []) made_log filled_log
 filled_leads =
     works said_yes GoesOn fills is_full (Chunk 1) 1 (holder ∷ []) (holder ∷ []) made_log filled_log
-    (tells_own fills is_full (Chunk 1) tt tt (record { top = refl; part = refl; stage = refl; skips = refl }) (λ fresh. absurd (false≢true fresh)) (λ before. absurd (let e = before.names in let f : ⊥ = cc in f)))
+    (tells_own said_yes fills is_full (Chunk 1) tt tt (record { top = refl; part = refl; stage = refl }) (λ fresh. absurd (false≢true fresh)) (λ before. absurd (let e = before.names in let f : ⊥ = cc in f)))
     refl filled_step (λ fresh. absurd (false≢true fresh)) (stays fills (Chunk 1) (holder ∷ []) refl)
 
 filled_traced : IsTraced (log []) filled_entries (stand (job said_yes GoesOn is_full ∷ []) (holder ∷ [])) filled_log
@@ -282,7 +282,7 @@ placed_step = record {
 placed_leads : WorkLeads (job said_yes GoesOn is_full) (Placed target) (job said_yes GoesOn is_placed) (holder ∷ []) (holder ∷ []) filled_log placed_log
 placed_leads =
     works said_yes GoesOn is_full is_placed (Placed target) 2 (holder ∷ []) (holder ∷ []) filled_log placed_log
-    (tells_own is_full is_placed (Placed target) tt tt (record { top = refl; part = refl; stage = refl; skips = refl }) (λ fresh. absurd (false≢true fresh)) (λ before. absurd (let e = before.names in let f : ⊥ = cc in f)))
+    (tells_own said_yes is_full is_placed (Placed target) tt tt (record { top = refl; part = refl; stage = refl }) (λ fresh. absurd (false≢true fresh)) (λ before. absurd (let e = before.names in let f : ⊥ = cc in f)))
     refl placed_step (λ fresh. absurd (false≢true fresh)) (stays is_full (Placed target) (holder ∷ []) refl)
 
 placed_traced : IsTraced (log []) placed_entries (stand (job said_yes GoesOn is_placed ∷ []) (holder ∷ [])) placed_log
@@ -340,7 +340,7 @@ done_step = record {
 done_leads : WorkLeads (job said_yes GoesOn is_placed) Barrier (job said_yes GoesOn is_done) (holder ∷ []) [] placed_log done_log
 done_leads =
     works said_yes GoesOn is_placed is_done Barrier 1 (holder ∷ []) [] placed_log done_log
-    (tells_own is_placed is_done Barrier tt tt (record { top = refl; part = refl; stage = refl; skips = refl }) (λ fresh. absurd (false≢true fresh)) (λ before. absurd (let e = before.clean in let f : ⊥ = cc in f)))
+    (tells_own said_yes is_placed is_done Barrier tt tt (record { top = refl; part = refl; stage = refl }) (λ fresh. absurd (false≢true fresh)) (λ before. absurd (let e = before.clean in let f : ⊥ = cc in f)))
     refl done_step (λ fresh. absurd (false≢true fresh)) becomes_clean
 
 done_traced : IsTraced (log []) done_entries (stand (job said_yes GoesOn is_done ∷ []) []) done_log
@@ -376,7 +376,7 @@ ended_step = record {
 ended_leads : WorkLeads (job said_yes GoesOn is_done) (Ended Finished None) (job said_yes GoesOn (at_last is_done)) [] [] done_log done_log
 ended_leads =
     works said_yes GoesOn is_done (at_last is_done) (Ended Finished None) 0 [] [] done_log done_log
-    (tells_own is_done (at_last is_done) (Ended Finished None) tt refl (record { top = refl; part = refl; stage = refl; skips = refl }) (λ fresh. absurd (false≢true fresh))
+    (tells_own said_yes is_done (at_last is_done) (Ended Finished None) tt refl (record { top = refl; part = refl; stage = refl }) (λ fresh. absurd (false≢true fresh))
     (λ before. (record { none = refl; around = refl; names = refl; owes = refl; clean = refl }, refl))) refl ended_step (λ fresh. absurd (false≢true fresh)) (stays is_done (Ended Finished None) [] refl)
 
 ended_traced : IsTraced (log []) (end ∷ done_entries) (stand [] []) done_log

@@ -151,22 +151,22 @@ one_path : (a b : Route) → Among (a ∷ []) b → b ≡ a
 one_path a b (inl is) = is
 one_path a b (inr none) = absurd none
 
-deletion_touches : (d new : Deleting) (did : Did) (path : Route) → deletions.Tells d did new → IsChanged did path → is_prefix d.path path ≡ true
-deletion_touches d new (Removed p) path (off, within, at) is = subst (λ (q : Route). is_prefix d.path q ≡ true) (sym (one_path p path is)) within
-deletion_touches d new (Kept p) path t is = absurd is
-deletion_touches d new (Asked question) path t is = absurd t
-deletion_touches d new (Merges transfer pair names) path t is = absurd t
-deletion_touches d new (Moved pair) path t is = absurd t
-deletion_touches d new (Skipped p why) path t is = absurd is
-deletion_touches d new (Troubled trouble) path t is = absurd is
-deletion_touches d new Barrier path t is = absurd is
-deletion_touches d new (Ended ending part) path t is = absurd is
-deletion_touches d new (Began part) path t is = absurd t
-deletion_touches d new (Chunk count) path t is = absurd t
-deletion_touches d new (Placed p) path t is = absurd t
-deletion_touches d new (Made p) path t is = absurd t
-deletion_touches d new (Set p) path t is = absurd t
-deletion_touches d new (Cleaned part) path t is = absurd t
+deletion_touches : (replies : Replies) (d new : Deleting) (did : Did) (path : Route) → deletions.Tells replies d did new → IsChanged did path → is_prefix d.path path ≡ true
+deletion_touches replies d new (Removed p) path (off, within, at) is = subst (λ (q : Route). is_prefix d.path q ≡ true) (sym (one_path p path is)) within
+deletion_touches replies d new (Kept p) path t is = absurd is
+deletion_touches replies d new (Asked question) path t is = absurd t
+deletion_touches replies d new (Merges transfer pair names) path t is = absurd t
+deletion_touches replies d new (Moved pair) path t is = absurd t
+deletion_touches replies d new (Skipped p why) path t is = absurd is
+deletion_touches replies d new (Troubled trouble) path t is = absurd is
+deletion_touches replies d new Barrier path t is = absurd is
+deletion_touches replies d new (Ended ending part) path t is = absurd is
+deletion_touches replies d new (Began part) path t is = absurd t
+deletion_touches replies d new (Chunk count) path t is = absurd t
+deletion_touches replies d new (Placed p) path t is = absurd t
+deletion_touches replies d new (Made p) path t is = absurd t
+deletion_touches replies d new (Set p) path t is = absurd t
+deletion_touches replies d new (Cleaned part) path t is = absurd t
 
 making_touches : (m new : Making) (did : Did) (path : Route) → makings.Tells m did new → IsChanged did path → touches (making_item m.thing m.path) path ≡ true
 making_touches m new (Made p) path (stage, path_is, new_is) is = by m.thing (subst (λ (q : Route). same_path q m.path ≡ true) (sym path_is ∙ sym (one_path p path is)) (same_path-self m.path))
@@ -189,32 +189,32 @@ making_touches m new (Moved pair) path t is = absurd t
 making_touches m new (Skipped p why) path t is = absurd t
 making_touches m new (Cleaned part) path t is = absurd t
 
-setting_touches : (s new : Setting) (did : Did) (path : Route) → settings.Tells s did new → IsChanged did path → same_path path s.path ≡ true
-setting_touches s new (Set p) path (stage, path_is, new_is) is = subst (λ (q : Route). same_path q s.path ≡ true) (sym path_is ∙ sym (one_path p path is)) (same_path-self s.path)
-setting_touches s new Barrier path t is = absurd is
-setting_touches s new (Troubled trouble) path t is = absurd is
-setting_touches s new (Ended ending part) path t is = absurd is
-setting_touches s new (Began part) path t is = absurd t
-setting_touches s new (Chunk count) path t is = absurd t
-setting_touches s new (Made p) path t is = absurd t
-setting_touches s new (Placed p) path t is = absurd t
-setting_touches s new (Removed p) path t is = absurd t
-setting_touches s new (Kept kept) path t is = absurd t
-setting_touches s new (Asked question) path t is = absurd t
-setting_touches s new (Merges transfer pair names) path t is = absurd t
-setting_touches s new (Moved pair) path t is = absurd t
-setting_touches s new (Skipped p why) path t is = absurd is
-setting_touches s new (Cleaned part) path t is = absurd t
+setting_touches : (replies : Replies) (s new : Setting) (did : Did) (path : Route) → settings.Tells replies s did new → IsChanged did path → same_path path s.path ≡ true
+setting_touches replies s new (Set p) path (stage, path_is, new_is) is = subst (λ (q : Route). same_path q s.path ≡ true) (sym path_is ∙ sym (one_path p path is)) (same_path-self s.path)
+setting_touches replies s new Barrier path t is = absurd is
+setting_touches replies s new (Troubled trouble) path t is = absurd is
+setting_touches replies s new (Ended ending part) path t is = absurd is
+setting_touches replies s new (Began part) path t is = absurd t
+setting_touches replies s new (Chunk count) path t is = absurd t
+setting_touches replies s new (Made p) path t is = absurd t
+setting_touches replies s new (Placed p) path t is = absurd t
+setting_touches replies s new (Removed p) path t is = absurd t
+setting_touches replies s new (Kept kept) path t is = absurd t
+setting_touches replies s new (Asked question) path t is = absurd t
+setting_touches replies s new (Merges transfer pair names) path t is = absurd t
+setting_touches replies s new (Moved pair) path t is = absurd t
+setting_touches replies s new (Skipped p why) path t is = absurd is
+setting_touches replies s new (Cleaned part) path t is = absurd t
 
 module _ (dirty dirty_after : List Route) (log now : CallLog) (passed : List Route) (begun v : View) where
-  work_touches : (replies : Replies) (old new : Work) (did : Did) (path : Route) (calls faults faults_after : ℕ) → WorkTells old did new → Walks IsUnclaimed replies old new did calls dirty dirty_after (Some log) (Some now) faults faults_after
+  work_touches : (replies : Replies) (old new : Work) (did : Did) (path : Route) (calls faults faults_after : ℕ) → WorkTells replies old did new → Walks IsUnclaimed replies old new did calls dirty dirty_after (Some log) (Some now) faults faults_after
       → WorkDone passed begun v (current log) old → IsChanged did path → touches (item_in old) path ≡ true
   work_touches replies (Copy c) (Copy new) did path calls faults faults_after t walks k is =
       tree_touches c new did path walks.free replies calls dirty dirty_after (Some log) (Some now) walks.since faults_after walks.steps k.in_place t.may is
-  work_touches replies (Delete d) (Delete new) did path calls faults faults_after t walks k is = deletion_touches d new did path t is
+  work_touches replies (Delete d) (Delete new) did path calls faults faults_after t walks k is = deletion_touches replies d new did path t is
   work_touches replies (Make m) (Make new) did path calls faults faults_after t walks k is = making_touches m new did path t is
-  work_touches replies (Move m) (Move new) did path calls faults faults_after t walks k is = moving_touches m new did path t is
-  work_touches replies (SetMode s) (SetMode new) did path calls faults faults_after t walks k is = setting_touches s new did path t is
+  work_touches replies (Move m) (Move new) did path calls faults faults_after t walks k is = moving_touches replies m new did path t is
+  work_touches replies (SetMode s) (SetMode new) did path calls faults faults_after t walks k is = setting_touches replies s new did path t is
   work_touches replies (Copy x) (Delete new) did path calls faults faults_after t walks k is = absurd t
   work_touches replies (Copy x) (Make new) did path calls faults faults_after t walks k is = absurd t
   work_touches replies (Copy x) (Move new) did path calls faults faults_after t walks k is = absurd t
@@ -235,7 +235,7 @@ module _ (dirty dirty_after : List Route) (log now : CallLog) (passed : List Rou
   work_touches replies (SetMode x) (Make new) did path calls faults faults_after t walks k is = absurd t
   work_touches replies (Move x) (Make new) did path calls faults faults_after t walks k is = absurd t
   work_touches replies (SetMode x) (Move new) did path calls faults faults_after t walks k is = absurd t
-  work_touches replies (RemoveEmptied r) (RemoveEmptied new) did path calls faults faults_after t walks k is = removal_touches r new did path t is
+  work_touches replies (RemoveEmptied r) (RemoveEmptied new) did path calls faults faults_after t walks k is = removal_touches replies r new did path t is
   work_touches replies (RemoveEmptied x) (Copy new) did path calls faults faults_after t walks k is = absurd t
   work_touches replies (RemoveEmptied x) (Delete new) did path calls faults faults_after t walks k is = absurd t
   work_touches replies (RemoveEmptied x) (SetMode new) did path calls faults faults_after t walks k is = absurd t
@@ -261,7 +261,7 @@ module _ (dirty dirty_after : List Route) (log now : CallLog) (passed : List Rou
       → WalksOn IsUnclaimed job.replies course job.work new.work did calls dirty dirty_after (Some log) (Some now) faults faults_after → CourseDone course passed begun v (current log) job.work
       → UnlessEnding course (IsAsBegun v (v_was job.id) (item_in job.work)) → IsSame job new → Unless did (JobKept (replayed_step now did (Some (item_in job.work)) v) v_was new)
   course_touches job new did GoesOn calls faults faults_after was is (work, t, new_is) walks k kept same =
-      still job new did was same kept (λ path changed. work_touches job.replies job.work new.work did path calls faults faults_after (subst (WorkTells job.work did) (sym (ap (λ (x : Running). x.work) new_is)) t) walks k changed)
+      still job new did was same kept (λ path changed. work_touches job.replies job.work new.work did path calls faults faults_after (subst (WorkTells job.replies job.work did) (sym (ap (λ (x : Running). x.work) new_is)) t) walks k changed)
   course_touches job new did (InTrouble halt) calls faults faults_after was is t walks k kept same = absurd t
   course_touches job new did (OwedSyncFailed cause) calls faults faults_after was is t walks k kept same = absurd t
   course_touches job new did Asking calls faults faults_after was is t walks k kept same = absurd t

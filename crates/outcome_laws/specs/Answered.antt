@@ -79,7 +79,7 @@ abbrev pub asks_still : ℕ → List Entry → Bool
 asks_still id [] = false
 asks_still id (e ∷ older) = if is_closed (e ∷ older) then false else asks_after id e.what (asks_still id older)
 
--- What was answered to its questions and still holds: nothing as it begins; what was answered for one thing goes with the next source.
+-- What was answered to its questions and still holds: nothing as it begins; what was answered for one thing goes with the next source. Of troubles, and which kinds are passed over, nothing is in it.
 abbrev pub said_after : ℕ → Event → Bool → Replies → Replies
 said_after id (event.Began number plan background) asks before = if number == id then no_replies else before
 said_after id (Next number plan) asks before = if number == id then record before { item = None } else before

@@ -2,6 +2,7 @@
 ghost use Rattle.std.specs.Prelude.{◌≤◌};
 
 use crate::scene::THING;
+use job_answers::Replies;
 use job_reports::{Cause, Did, Ending};
 use mc_text::Path;
 use mode_setting::ModeSetting;
@@ -51,8 +52,9 @@ fn tell_steps_at<T: Tree>(page: &mut Page, tree: &mut T, path: Path, mode: u16, 
 
 fn step_through<T: Tree>(page: &mut Page, tree: &mut T, setting: ModeSetting, answer: Answer) {
     let mut setting = setting;
+    let mut replies = Replies::new();
     for _ in 0..MOST_STEPS {
-        match step(page, tree, &mut setting, answer) {
+        match step(page, tree, &mut setting, &mut replies, answer) {
             Then::Step => {}
             Then::WindUp => return wind_up(page, tree, &mut setting),
             Then::Nothing => return,
@@ -62,11 +64,17 @@ fn step_through<T: Tree>(page: &mut Page, tree: &mut T, setting: ModeSetting, an
 }
 
 /// Makes a step, and answers its trouble.
-fn step<T: Tree>(page: &mut Page, tree: &mut T, setting: &mut ModeSetting, answer: Answer) -> Then {
-    let stepped = setting.step(page.alloc(), tree);
+fn step<T: Tree>(
+    page: &mut Page,
+    tree: &mut T,
+    setting: &mut ModeSetting,
+    replies: &mut Replies,
+    answer: Answer,
+) -> Then {
+    let stepped = setting.step(page.alloc(), tree, *replies);
     tell_step(page, &stepped.did, stepped.calls);
     match &stepped.did {
-        Did::Troubled(trouble) => answer_trouble(page, setting, trouble.cause, answer),
+        Did::Troubled(trouble) => answer_trouble(page, setting, replies, trouble.cause, answer),
         Did::Ended { .. } => Then::Nothing,
         _ => Then::Step,
     }
@@ -75,6 +83,7 @@ fn step<T: Tree>(page: &mut Page, tree: &mut T, setting: &mut ModeSetting, answe
 fn answer_trouble(
     page: &mut Page,
     setting: &mut ModeSetting,
+    replies: &mut Replies,
     cause: Cause,
     answer: Answer,
 ) -> Then {
@@ -89,7 +98,7 @@ fn answer_trouble(
         Answer::Retry => Then::Step,
         Answer::Abort => Then::WindUp,
         Answer::PassOver => {
-            setting.skip_all(cause);
+            replies.skip_all(cause);
             Then::Step
         }
     }

@@ -112,7 +112,7 @@ steady_law = record {
   step = λ free replies old new did calls dirty dirty_after before after f0 f1 s h.
       let l = s.leaves in
       let mid = all_leave l.0 old.at s.mid l.1 h in
-      passes_steady old.skips s.worked s.moved new.at (step_result did calls) s.passes (list_steady free replies s.mid s.moved s.worked dirty dirty_after before after f0 f1 s.works mid.0);
+      passes_steady replies.skips s.worked s.moved new.at (step_result did calls) s.passes (list_steady free replies s.mid s.moved s.worked dirty dirty_after before after f0 f1 s.works mid.0);
   skip = λ cause old new did s h. skip_steady old.at.item cause old.at new.at did refl s.skips h;
   retry = λ c h. retry_steady c.at.item c.at refl h;
 }

@@ -327,10 +327,10 @@ barrier_law free replies old new t calls dirty dirty_after before after f0 f1 s 
     let there = left_workable l.0 old.at s.mid l.1 can in
     go m.0 there s.passes
   where
-    go : IsSteady s.mid → IsWorkable s.mid.item → OrPassedOver old.skips s.worked s.moved new.at (step_result (Troubled t) calls) → t.barrier ≡ at_barrier new.at
+    go : IsSteady s.mid → IsWorkable s.mid.item → OrPassedOver replies.skips s.worked s.moved new.at (step_result (Troubled t) calls) → t.barrier ≡ at_barrier new.at
     go steady_there can_there (inl p) =
         list_barred free replies s.mid s.moved s.worked dirty dirty_after before after f0 f1 t s.works (sym (ap (λ (r : StepResult). r.did) p.1)) s.settled steady_there can_there ∙ sym (ap at_barrier p.2)
     go steady_there can_there (inr p) =
-        let trouble = passed_trouble old.skips s.worked.did p.0 p.1 in
+        let trouble = passed_trouble replies.skips s.worked.did p.0 p.1 in
         let open_at = sym (list_barred free replies s.mid s.moved s.worked dirty dirty_after before after f0 f1 trouble.0 s.works trouble.1 s.settled steady_there can_there) ∙ trouble.2 in
         skip_barred s.moved.item p.0 s.moved new.at (Troubled t) t p.3 refl refl s.going open_at

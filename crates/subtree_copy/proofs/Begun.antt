@@ -2,8 +2,6 @@
 use Rattle.std.proofs.Common.{◌≡◌, ℕ, refl, sym, ◌∙◌, ap, subst, List, [], ◌∷◌, drop, true, Some}
 use Rattle.std.specs.Prelude.{is_some}
 use Rattle.mc_text.specs.Routes.{Route, parent_of}
-use Rattle.job_answers.specs.Skipping.{no_skips}
-use Rattle.job_answers.specs.declared.skips.Skips.{Skips}
 use Rattle.job_reports.specs.declared.job.Pair.{Pair}
 use Rattle.job_reports.specs.Paths.{folder_of}
 use Rattle.tree_copy.specs.declared.copy.Named.{Named}
@@ -52,11 +50,9 @@ begun_held job top source target folder c from to s t f is =
     let there : folder ≡ folder_of top.target = f ∙ (ap (λ (n : Named). n.folder) t ∙ folder_held top.target to) in
     subst (λ (x : Seen). IsHeld top folder x) (sym same) (subst (λ (x : Route). IsHeld top x (begun job (named_of top.source) (named_of top.target))) (sym there) held)
 
-pub begun_so : (job : ℕ) (top : Pair) (source target : Named) (skips : Skips) (c : Seen) → source ≡ named_of top.source → target ≡ named_of top.target → c ≡ begun job source target → skips ≡ no_skips
-    → (let d : SubtreeCopying = record { top = top; at = c; skips = skips } in d) ≡ started job top
-begun_so job top source target skips c s t is none =
-    ap (λ (x : Seen). (let d : SubtreeCopying = record { top = top; at = x; skips = skips } in d)) (begun_same job top source target c s t is)
-    ∙ ap (λ (x : Skips). (let d : SubtreeCopying = record { top = top; at = begun job (named_of top.source) (named_of top.target); skips = x } in d)) none
+pub begun_so : (job : ℕ) (top : Pair) (source target : Named) (c : Seen) → source ≡ named_of top.source → target ≡ named_of top.target → c ≡ begun job source target
+    → (let d : SubtreeCopying = record { top = top; at = c } in d) ≡ started job top
+begun_so job top source target c s t is = ap (λ (x : Seen). (let d : SubtreeCopying = record { top = top; at = x } in d)) (begun_same job top source target c s t is)
 
 pub begun_going : (job : ℕ) (source target : Named) (c : Seen) → c ≡ begun job source target → IsWorkable c.item
 begun_going job source target c is = subst (λ (x : Seen). IsWorkable x.item) (sym is) tt

@@ -175,17 +175,17 @@ passed_so skips did t why says is = cause_so t.barrier (holds skips (kind_in t.c
 pub count_law : CountLaw
 count_law free replies old new did calls dirty dirty_after before after f0 f1 s = go s.passes
   where
-    go : OrPassedOver old.skips s.worked s.moved new.at (step_result did calls) → StepCounts did calls before after f0 f1
+    go : OrPassedOver replies.skips s.worked s.moved new.at (step_result did calls) → StepCounts did calls before after f0 f1
     go (inl p) =
         subst (λ (r : StepResult). StepCounts r.did r.calls before after f0 f1) (sym p.1) (list_counts free replies s.mid s.moved s.worked dirty dirty_after before after f0 f1 s.works)
     go (inr p) =
         let c = list_counts free replies s.mid s.moved s.worked dirty dirty_after before after f0 f1 s.works in
         let same : calls ≡ (let w = s.worked in w.calls) = p.2 in
-        let t = passed_trouble old.skips s.worked.did p.0 p.1 in
+        let t = passed_trouble replies.skips s.worked.did p.0 p.1 in
         record {
           counted = subst (λ n. IfKnown before (λ log. IfKnown after (HasMore log n))) (sym same) c.counted;
           few = (let few = c.few in omega (arith, few, same));
           unknown = c.unknown;
           later = c.later;
-          fault = λ h. c.fault (subst MeetsFault (sym t.1) (sym (passed_so old.skips s.worked.did t.0 p.0 t.1 p.1) ∙ skip_cause s.moved.item p.0 s.moved new.at did p.3 h));
+          fault = λ h. c.fault (subst MeetsFault (sym t.1) (sym (passed_so replies.skips s.worked.did t.0 p.0 t.1 p.1) ∙ skip_cause s.moved.item p.0 s.moved new.at did p.3 h));
         }

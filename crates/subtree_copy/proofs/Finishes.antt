@@ -137,6 +137,6 @@ module _ (free : Route → Bool) (replies : Replies) (old new : SubtreeCopying) 
   pub finish_is_still : IsStill
   finish_is_still = by s.passes
     where
-      by : OrPassedOver old.skips s.worked s.moved new.at (step_result (Ended Finished part) calls) → IsStill
+      by : OrPassedOver replies.skips s.worked s.moved new.at (step_result (Ended Finished part) calls) → IsStill
       by (inl (none, same, stays)) = worked s.works (ap (λ (r : StepResult). r.did) (sym same))
       by (inr p) = (let m : Seen = s.moved in skips_no_end m.item p.0 m new.at part p.3)

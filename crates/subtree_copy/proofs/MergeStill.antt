@@ -65,6 +65,6 @@ module _ (free : Route → Bool) (replies : Replies) (old new : SubtreeCopying) 
   pub merge_is_still : IsStill
   merge_is_still = by s.passes
     where
-      by : OrPassedOver old.skips s.worked s.moved new.at (step_result (Merges ByCopy pair names) calls) → IsStill
+      by : OrPassedOver replies.skips s.worked s.moved new.at (step_result (Merges ByCopy pair names) calls) → IsStill
       by (inl p) = worked (ap (λ (r : StepResult). r.did) (sym p.1))
       by (inr p) = (let m : Seen = s.moved in absurd (skip_no_merge m.item p.0 m new.at pair names p.3))

@@ -117,7 +117,7 @@ step_over free replies old new did calls dirty dirty_after before after f0 f1 s 
     moved : IsStill s.moved (let w = s.worked in w.did)
     moved = (let l = s.leaves in list_over free replies s.mid s.moved s.worked dirty dirty_after before after f0 f1 s.works s.settled (left_over l.0 old.at s.mid l.1 o))
 
-    by : OrPassedOver old.skips s.worked s.moved new.at (step_result did calls) → IsOver new.at × (changes did ≡ false)
+    by : OrPassedOver replies.skips s.worked s.moved new.at (step_result did calls) → IsOver new.at × (changes did ≡ false)
     by (inl p) = (subst IsOver (sym p.2) moved.0, ap (λ (r : StepResult). changes r.did) p.1 ∙ moved.1)
     by (inr p) = skip_over p.0 s.moved new.at did p.3 moved.0
 
@@ -217,7 +217,7 @@ merges_top free replies old new pair names calls dirty dirty_after before after 
           over = subst IsOver (sym (stays ∙ t.stands)) record { none = o.none; around = o.around; names = none_more (let m = s.mid in m.levels.inner.names.names) o.one; owes = o.owes; clean = o.clean };
         }
 
-    by : OrPassedOver old.skips s.worked s.moved new.at (step_result (Merges ByCopy pair names) calls) → MergesTop old pair names new
+    by : OrPassedOver replies.skips s.worked s.moved new.at (step_result (Merges ByCopy pair names) calls) → MergesTop old pair names new
     by (inl p) = merged (ap (λ (r : StepResult). r.did) (sym p.1)) p.2
     by (inr p) = (let m : Seen = s.moved in absurd (skip_no_merge m.item p.0 m new.at pair names p.3))
 
@@ -275,7 +275,7 @@ keeps_top free replies old new path calls dirty dirty_after before after f0 f1 s
               subst IsOver (sym (stays ∙ t.stands)) record { none = o.none; around = o.around; names = names; owes = o.owes; clean = o.clean };
         }
 
-    by : OrPassedOver old.skips s.worked s.moved new.at (step_result (Kept path) calls) → KeepsTop old path new
+    by : OrPassedOver replies.skips s.worked s.moved new.at (step_result (Kept path) calls) → KeepsTop old path new
     by (inl p) = kept (ap (λ (r : StepResult). r.did) (sym p.1)) p.2
     by (inr p) = (let m : Seen = s.moved in absurd (skip_no_keep m.item p.0 m new.at path p.3))
 
@@ -298,7 +298,7 @@ asks_top free replies old new question calls dirty dirty_after before after f0 f
           same = s.stands ∙ ap (λ (c : Seen). (let n : SubtreeCopying = record old { at = c } in n)) (stays ∙ (t.stands ∙ same));
         }
 
-    by : OrPassedOver old.skips s.worked s.moved new.at (step_result (Asked question) calls) → AsksTop old new
+    by : OrPassedOver replies.skips s.worked s.moved new.at (step_result (Asked question) calls) → AsksTop old new
     by (inl p) = asked (ap (λ (r : StepResult). r.did) (sym p.1)) p.2
     by (inr p) = (let m : Seen = s.moved in absurd (skip_no_ask m.item p.0 m new.at question p.3))
 

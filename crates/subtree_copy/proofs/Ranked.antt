@@ -352,14 +352,14 @@ ranked most enough free replies old new did calls dirty dirty_after before after
     let there = left_lower most l.0 old.at s.mid l.1 steady in
     go there.1 (left_workable l.0 old.at s.mid l.1 can) there.0 s.passes
   where
-    go : IsSteady s.mid → IsWorkable s.mid.item → rank_by most s.mid ≤ rank_by most old.at → OrPassedOver old.skips s.worked s.moved new.at (step_result did calls) → rank_by most new.at < rank_by most old.at
+    go : IsSteady s.mid → IsWorkable s.mid.item → rank_by most s.mid ≤ rank_by most old.at → OrPassedOver replies.skips s.worked s.moved new.at (step_result did calls) → rank_by most new.at < rank_by most old.at
     go steady_there can_there no_higher (inl p) =
         let same : s.worked.did ≡ did = sym (ap (λ (r : StepResult). r.did) p.1) in
         let less = list_falls most enough free replies s.mid s.moved s.worked dirty dirty_after before after f0 f1 s.works s.settled steady_there (ap goes_on same ∙ h) in
         let now : rank_by most new.at ≡ rank_by most s.moved = ap (λ (c : Seen). rank_by most c) p.2 in
         omega (arith, less, now, no_higher)
     go steady_there can_there no_higher (inr p) =
-        let t = passed_trouble old.skips s.worked.did p.0 p.1 in
+        let t = passed_trouble replies.skips s.worked.did p.0 p.1 in
         let more = list_troubled most enough free replies s.mid s.moved s.worked dirty dirty_after before after f0 f1 s.works s.settled steady_there t.0 t.1 in
         let open_at = sym (list_barred free replies s.mid s.moved s.worked dirty dirty_after before after f0 f1 t.0 s.works t.1 s.settled steady_there can_there) ∙ t.2 in
         let moved_steady = more.1 in

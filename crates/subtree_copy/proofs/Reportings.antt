@@ -399,15 +399,15 @@ list_own free replies c old new worked did dirty dirty_after before after f0 f1 
 pub reporting_law : ReportingLaw
 reporting_law = record {
   step = λ free replies old new did calls dirty dirty_after before after f0 f1 s.
-      passes_may old.skips s.worked s.moved new.at (step_result did calls) s.passes (list_may free replies s.mid s.moved s.worked dirty dirty_after before after f0 f1 s.works s.settled);
+      passes_may replies.skips s.worked s.moved new.at (step_result did calls) s.passes (list_may free replies s.mid s.moved s.worked dirty dirty_after before after f0 f1 s.works s.settled);
   last = λ ending old new last dirty dirty_after before after f0 f1 s can.
       let w = winds_wound old.at.item ending old.at new.at last before after f0 f1 s.winds can in
-      record { may = w.may; top = ap (λ (c : SubtreeCopying). c.top) s.stands; skips = ap (λ (c : SubtreeCopying). c.skips) s.stands; stage = w.stage; part = w.part };
+      record { may = w.may; top = ap (λ (c : SubtreeCopying). c.top) s.stands; stage = w.stage; part = w.part };
   list = λ free replies old new did calls dirty dirty_after before after f0 f1 s h.
       let l = s.leaves in
       list_own free replies old s.mid s.moved s.worked did dirty dirty_after before after f0 f1 s.works (leaves_all old.top l.0 old.at s.mid l.1 h) s.settled
-      (passed_barrier old.skips s.worked s.moved new.at (step_result did calls) s.passes);
+      (passed_barrier replies.skips s.worked s.moved new.at (step_result did calls) s.passes);
   kinds = λ free replies old new path cause calls dirty dirty_after before after f0 f1 s.
-      passes_kind old.skips s.worked s.moved new.at path cause calls s.passes (list_not free replies s.mid s.moved s.worked dirty dirty_after before after f0 f1 s.works s.settled);
+      passes_kind replies.skips s.worked s.moved new.at path cause calls s.passes (list_not free replies s.mid s.moved s.worked dirty dirty_after before after f0 f1 s.works s.settled);
   tried = λ old new same h. moved_own old.top new.at.levels.inner new.at.levels.around h.levels;
 }

@@ -287,14 +287,14 @@ step_goes free replies old new did calls dirty dirty_after before after f0 f1 s 
     same : (s.mid.item ≡ old.at.item) × (s.mid.stage ≡ old.at.stage)
     same = (let l = s.leaves in leaves_item l.0 old.at s.mid l.1)
 
-    by : OrPassedOver old.skips s.worked s.moved new.at (step_result did calls) → Goes did old.at new.at
+    by : OrPassedOver replies.skips s.worked s.moved new.at (step_result did calls) → Goes did old.at new.at
     by (inl p) =
         let is : did ≡ s.worked.did = ap (λ (r : StepResult). r.did) p.1 in record {
           part = ap (λ (c : Seen). part_of c.item) p.2 ∙ (worked.part ∙ (ap (λ (i : Item). part_after s.worked.did (part_of i)) same.0 ∙ ap (λ d. part_after d (part_of old.at.item)) (sym is)));
           stage = ap (λ (c : Seen). c.stage) p.2 ∙ (worked.stage ∙ (ap (λ st. after_report s.worked.did st) same.1 ∙ ap (λ d. after_report d old.at.stage) (sym is)));
         }
     by (inr p) =
-        let t = passed_trouble old.skips s.worked.did p.0 p.1 in
+        let t = passed_trouble replies.skips s.worked.did p.0 p.1 in
         let quiet = quiet_trouble s.worked.did t.0 t.1 in
         let skipped = skips_goes s.moved.item p.0 s.moved new.at did refl s.going p.3 in
         let part : part_of s.moved.item ≡ part_of old.at.item = worked.part ∙ (quiet.0 (part_of s.mid.item) ∙ ap part_of same.0) in
@@ -305,9 +305,9 @@ pub told_law : ToldLaw
 told_law = record {
   step = λ free replies old new did calls dirty dirty_after before after f0 f1 s going.
       let g = step_goes free replies old new did calls dirty dirty_after before after f0 f1 s in
-      record { top = ap (λ (c : SubtreeCopying). c.top) s.stands; part = g.part; stage = g.stage; skips = ap (λ (c : SubtreeCopying). c.skips) s.stands };
+      record { top = ap (λ (c : SubtreeCopying). c.top) s.stands; part = g.part; stage = g.stage };
   skip = λ cause old new did s going.
       let g = skips_goes old.at.item cause old.at new.at did refl going s.skips in
-      record { top = ap (λ (c : SubtreeCopying). c.top) s.stands; part = g.part; stage = g.stage; skips = ap (λ (c : SubtreeCopying). c.skips) s.stands };
+      record { top = ap (λ (c : SubtreeCopying). c.top) s.stands; part = g.part; stage = g.stage };
   retry = λ c. record { part = retry_part c.at.item c.at refl; stage = retry_stage c.at.item c.at };
 }

@@ -395,7 +395,7 @@ module _ (free : Route → Bool) (replies : Replies) (old new : SubtreeCopying) 
   step_unbegun : IsUnbegun new.at
   step_unbegun = by s.passes
     where
-      by : OrPassedOver old.skips s.worked s.moved new.at (step_result did calls) → IsUnbegun new.at
+      by : OrPassedOver replies.skips s.worked s.moved new.at (step_result did calls) → IsUnbegun new.at
       by (inl p) = subst IsUnbegun (sym p.2) moved_unbegun
       by (inr p) = skips_unbegun p.0 s.moved new.at did p.3 s.going moved_unbegun
 
@@ -407,14 +407,14 @@ step_apart : (free : Route → Bool) (replies : Replies) (old new : SubtreeCopyi
     → SubtreeSteps free replies old new (Troubled t) calls dirty dirty_after before after f0 f1 → IsSteady old.at → IsGoing old → IsUnbegun old.at → is_fresh new.at.stage ≡ true → t.barrier ≡ false
 step_apart free replies old new t calls dirty dirty_after before after f0 f1 s steady can h fresh = by s.passes
   where
-    by : OrPassedOver old.skips s.worked s.moved new.at (step_result (Troubled t) calls) → t.barrier ≡ false
+    by : OrPassedOver replies.skips s.worked s.moved new.at (step_result (Troubled t) calls) → t.barrier ≡ false
     by (inl p) =
         let m = moved_fresh free replies old new (Troubled t) calls dirty dirty_after before after f0 f1 s h (sym (ap (λ (c : Seen). is_fresh c.stage) p.2) ∙ fresh) in
         list_apart free replies s.mid s.moved s.worked dirty dirty_after before after f0 f1 s.works s.settled m.1 t (sym (ap (λ (r : StepResult). r.did) p.1))
     by (inr p) =
         let l = s.leaves in
         let there = all_leave l.0 old.at s.mid l.1 steady in
-        let u = passed_trouble old.skips s.worked.did p.0 p.1 in
+        let u = passed_trouble replies.skips s.worked.did p.0 p.1 in
         let barred = list_barred free replies s.mid s.moved s.worked dirty dirty_after before after f0 f1 u.0 s.works u.1 s.settled there.0 (left_workable l.0 old.at s.mid l.1 can) in
         comes_apart p.0 s.moved new.at t (skip_comes s.moved.item p.0 s.moved new.at (Troubled t) refl p.3 s.going (sym barred ∙ u.2))
 
@@ -425,7 +425,7 @@ step_first free replies old new did calls dirty dirty_after before after f0 f1 s
     mid_outside : IsOutside s.mid
     mid_outside = (let l = s.leaves in left_outside l.0 old.at s.mid l.1 h (ap is_fresh (leaves_item l.0 old.at s.mid l.1).1 ∙ fresh))
 
-    by : OrPassedOver old.skips s.worked s.moved new.at (step_result did calls) → MayBegin did
+    by : OrPassedOver replies.skips s.worked s.moved new.at (step_result did calls) → MayBegin did
     by (inl p) = subst MayBegin (sym (ap (λ (r : StepResult). r.did) p.1)) (list_first free replies s.mid s.moved s.worked dirty dirty_after before after f0 f1 s.works s.settled mid_outside)
     by (inr p) = skip_first s.moved.item p.0 s.moved new.at did p.3
 

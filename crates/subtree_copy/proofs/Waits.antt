@@ -120,12 +120,12 @@ module _ (free : Route → Bool) (replies : Replies) (old new : SubtreeCopying) 
   step_waits : IsGoing old → last_rank new.at ≤ rank old.at
   step_waits can = by s.passes
     where
-      by : OrPassedOver old.skips s.worked s.moved new.at (step_result (Troubled t) calls) → last_rank new.at ≤ rank old.at
+      by : OrPassedOver replies.skips s.worked s.moved new.at (step_result (Troubled t) calls) → last_rank new.at ≤ rank old.at
       by (inl p) = fewer t (sym (ap (λ (r : StepResult). r.did) p.1)) p.2
       by (inr p) =
           let l = s.leaves in
           let there = left_lower (2 ^ 64) l.0 old.at s.mid l.1 steady in
-          let u = passed_trouble old.skips s.worked.did p.0 p.1 in
+          let u = passed_trouble replies.skips s.worked.did p.0 p.1 in
           let barred = list_barred free replies s.mid s.moved s.worked dirty dirty_after before after f0 f1 u.0 s.works u.1 s.settled there.1 (left_workable l.0 old.at s.mid l.1 can) in
           fewer u.0 u.1 (still false p.0 s.moved new.at t (skip_comes s.moved.item p.0 s.moved new.at (Troubled t) refl p.3 s.going (sym barred ∙ u.2)))
 
@@ -134,7 +134,7 @@ step_asks : (free : Route → Bool) (replies : Replies) (old new : SubtreeCopyin
     → SubtreeSteps free replies old new (Asked question) calls dirty dirty_after before after f0 f1 → IsSteady old.at → (new.at.item ≡ Next) × (last_rank new.at ≤ rank old.at)
 step_asks free replies old new question calls dirty dirty_after before after f0 f1 s steady = by s.passes
   where
-    by : OrPassedOver old.skips s.worked s.moved new.at (step_result (Asked question) calls) → (new.at.item ≡ Next) × (last_rank new.at ≤ rank old.at)
+    by : OrPassedOver replies.skips s.worked s.moved new.at (step_result (Asked question) calls) → (new.at.item ≡ Next) × (last_rank new.at ≤ rank old.at)
     by (inl p) =
         let l = s.leaves in
         let there = left_lower (2 ^ 64) l.0 old.at s.mid l.1 steady in

@@ -65,7 +65,6 @@ part_wound did was = None
 pub record IsWound (ending : Ending) (old : SubtreeCopying) (did : Did) (new : SubtreeCopying) : Type 0 where
   pub may : MayWind ending (part_of old.at.item) did
   pub top : new.top ≡ old.top
-  pub skips : new.skips ≡ old.skips
   pub stage : new.at.stage ≡ old.at.stage
   pub part : part_of new.at.item ≡ part_wound did (part_of old.at.item)
 
@@ -87,6 +86,6 @@ pub record ReportingLaw : Type 0 where
       → SubtreeSteps free replies old new did calls dirty dirty_after before after faults faults_after → IsInPlace old.top old.at → ChangesOwn old did dirty dirty_after
   -- what is passed over is in a trouble of a kind that is skipped
   pub kinds : (free : Route → Bool) (replies : Replies) (old new : SubtreeCopying) (path : Route) (cause : Cause) (calls : ℕ) (dirty dirty_after : List Route) (before after : Option CallLog) (faults faults_after : ℕ)
-      → SubtreeSteps free replies old new (Skipped path cause) calls dirty dirty_after before after faults faults_after → holds old.skips (kind_in cause) ≡ true
+      → SubtreeSteps free replies old new (Skipped path cause) calls dirty dirty_after before after faults faults_after → holds replies.skips (kind_in cause) ≡ true
   -- the folder that a last step tries is the one that is worked then
   pub tried : (old new : SubtreeCopying) → new.top ≡ old.top → IsInPlace old.top new.at → is_own old new.at.levels.inner.copy.target ≡ true

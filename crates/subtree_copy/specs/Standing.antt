@@ -1,8 +1,6 @@
 -- Where the copy of a thing with all that lies in it stands, as a job works it.
 use Rattle.std.specs.Prelude.{◌≡◌, ℕ, ◌||◌, Bool, true, false, List, [], ◌∷◌, if◌then◌else◌, Option, Some, None}
 use Rattle.mc_text.specs.Routes.{Route}
-use Rattle.job_answers.specs.Skipping.{no_skips}
-use Rattle.job_answers.specs.declared.skips.Skips.{Skips}
 use Rattle.job_reports.specs.declared.job.Pair.{Pair}
 use Rattle.job_reports.specs.Paths.{folder_of}
 use Rattle.file_copy.specs.Copying as file
@@ -21,11 +19,10 @@ use Rattle.tree_copy.specs.Steps.{IsWorkable}
 use Rattle.tree_copy.specs.WorkedFolder.{IsInWorked}
 use Rattle.tree_deletion.specs.Folders.{is_of}
 
--- what is copied, and where to; how far the machine is; and troubles of which kinds are passed over without a question
+-- what is copied, and where to; and how far the machine is
 pub record SubtreeCopying : Type 0 where
   pub top : Pair
   pub at : Seen
-  pub skips : Skips
 
 -- a thing by its folder and its name
 abbrev pub named_of : Route → Named
@@ -34,7 +31,7 @@ named_of (name ∷ folder) = record { folder = folder; name = name }
 
 -- the copy just begun
 abbrev pub started : ℕ → Pair → SubtreeCopying
-started job top = record { top = top; at = begun job (named_of top.source) (named_of top.target); skips = no_skips }
+started job top = record { top = top; at = begun job (named_of top.source) (named_of top.target) }
 
 -- What holds of each copy, whatever it has come to: it keeps to its place; what is at work lies in the folder that is worked; and a last
 -- step can be made.

@@ -53,7 +53,7 @@ pub record SubtreeSteps (free : Route → Bool) (replies : Replies) (old new : S
   pub moved : Seen
   pub works : ListSteps free replies mid moved worked dirty dirty_after before after faults faults_after
   pub going : IsWorkable moved.item
-  pub passes : OrPassedOver old.skips worked moved new.at (step_result did calls)
+  pub passes : OrPassedOver replies.skips worked moved new.at (step_result did calls)
   pub stands : new ≡ record old { at = new.at }
 
 -- what is in trouble is left

@@ -1,5 +1,4 @@
--- What a history can tell of such a copy: what is copied, the part that stands, whether anything was changed, and what is passed over. How that
--- goes on, each report says.
+-- What a history can tell of such a copy: what is copied, the part that stands, and whether anything was changed. How that goes on, each report says.
 use Rattle.std.specs.Prelude.{◌≡◌, ℕ, Bool, List, Option, Some, None}
 use Rattle.mc_text.specs.Routes.{Route}
 use Rattle.tree_trait.specs.Change.{CallLog}
@@ -22,7 +21,6 @@ pub record IsAfter (did : Did) (old new : SubtreeCopying) : Type 0 where
   pub top : new.top ≡ old.top
   pub part : part_of new.at.item ≡ part_after did (part_of old.at.item)
   pub stage : new.at.stage ≡ after_report did old.at.stage
-  pub skips : new.skips ≡ old.skips
 
 -- what a retry leaves as it is
 pub record IsKept (old new : SubtreeCopying) : Type 0 where

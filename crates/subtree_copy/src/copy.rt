@@ -1,7 +1,6 @@
 //! The copy of a thing with all that lies in it.
 ghost use Rattle.std.specs.Prelude.{◌≡◌, IfOk, is_some, option_map, true};
 ghost use Rattle.mc_text.specs.Routes.{is_prefix, parent_of};
-ghost use Rattle.job_answers.specs.Skipping.{kind_in, with_kind};
 ghost use Rattle.job_reports.specs.Paths.{folder_of};
 ghost use Rattle.tree_trait.specs.Answers.{IfKnown};
 ghost use Rattle.tree_copy.specs.InPlace.{IsInPlace};
@@ -16,7 +15,7 @@ use crate::passing::or_passed_over;
 use crate::standing::{into_part, is_at_barrier, named, part};
 use crate::working::work;
 use file_copy::PartTest;
-use job_answers::{Replies, Skips, kind_of};
+use job_answers::Replies;
 use job_reports::{Cause, Did, Ending, LastStepResult, Pair, StepResult};
 use mc_text::{NoMemory, Path};
 use std::alloc::Global;
@@ -25,13 +24,12 @@ use tree_copy::TreeCopy;
 use tree_deletion::Dirty;
 use tree_trait::Tree;
 
-/// A copy of what stands at the source of `top`, to its target, which lies in `folder`; and which kinds of troubles it passes over.
+/// A copy of what stands at the source of `top`, to its target, which lies in `folder`.
 #[derive(Debug, Drop)]
 pub struct SubtreeCopy {
     machine: TreeCopy,
     top: Pair,
     folder: Path,
-    skips: Skips,
 }
 
 impl Model for SubtreeCopy {
@@ -40,7 +38,7 @@ impl Model for SubtreeCopy {
 
     ghost Value = { SubtreeCopying };
 
-    ghost view = { λ c. record { top = c.top; at = seen c.machine; skips = c.skips } };
+    ghost view = { λ c. record { top = c.top; at = seen c.machine } };
 
     ghost invariant = { λ c. IsHeld c.top c.folder (seen c.machine) };
 }
@@ -60,11 +58,10 @@ impl SubtreeCopy {
             machine: TreeCopy::new(alloc, job, source, target)?,
             top,
             folder,
-            skips: Skips::new(),
         })
     }
 
-    /// Does the next piece of work, where this was answered to the job's questions. Where that is in a trouble of a kind that is skipped, it is
+    /// Does the next piece of work, where this was answered to the job. Where that is in a trouble of a kind that is skipped, it is
     /// passed over.
     pub fn step<T: Tree, P: PartTest>(
         &mut self,
@@ -83,7 +80,7 @@ impl SubtreeCopy {
     {
         leave_settled(&mut self.machine);
         let worked = work(&mut self.machine, alloc, tree, parts, replies, dirty);
-        or_passed_over(&mut self.machine, alloc, self.skips, worked)
+        or_passed_over(&mut self.machine, alloc, replies.skips(), worked)
     }
 
     /// What is in trouble is left as it is, with all below it.
@@ -93,27 +90,6 @@ impl SubtreeCopy {
         ensures going { IsGoing self.new }
     {
         self.machine.skip(alloc, cause)
-    }
-
-    /// From now on troubles of this kind are passed over.
-    pub fn skip_all(&mut self, cause: Cause)
-        ensures { self.new ≡ record self.old { skips = with_kind (kind_in cause) self.old.skips } }
-    {
-        self.skips.insert(kind_of(cause));
-    }
-
-    /// The kinds of troubles that are passed over.
-    pub fn skips(&self) -> Skips
-        ensures { result ≡ self.now.skips }
-    {
-        self.skips
-    }
-
-    /// Troubles of these kinds are passed over.
-    pub fn pass_over(&mut self, skips: Skips)
-        ensures { self.new ≡ record self.old { skips = skips } }
-    {
-        self.skips = skips;
     }
 
     /// What was refused is tried again.
@@ -161,7 +137,6 @@ impl SubtreeCopy {
             machine,
             top: _,
             folder: _,
-            skips: _,
         } = self;
         into_part(machine)
     }

@@ -144,7 +144,8 @@ fn has_ended<T: Tree>(
                 answered = answered.saturating_add(1);
             }
             Then::Answer(cause) => {
-                if !is_answered(page, copy, cause, letter(orders.answers, answered)) {
+                let answer = letter(orders.answers, answered);
+                if !is_answered(page, copy, &mut replies, cause, answer) {
                     return false;
                 }
                 answered = answered.saturating_add(1);
@@ -175,13 +176,19 @@ fn is_replied(replies: &mut Replies, answer: Option<u8>) -> bool {
 }
 
 /// Answers a trouble; whether the copy goes on.
-fn is_answered(page: &mut Page, copy: &mut SubtreeCopy, cause: Cause, answer: Option<u8>) -> bool
+fn is_answered(
+    page: &mut Page,
+    copy: &mut SubtreeCopy,
+    replies: &mut Replies,
+    cause: Cause,
+    answer: Option<u8>,
+) -> bool
     requires going { IsGoing copy.old }
     ensures going { IsGoing copy.new }
 {
     match answer {
         Some(b's') => skip(page, copy, cause),
-        Some(b'a') => skip_all(page, copy, cause),
+        Some(b'a') => skip_all(page, copy, replies, cause),
         Some(b'r') => retry(page, copy),
         _ => return false,
     }
@@ -229,11 +236,11 @@ fn skip(page: &mut Page, copy: &mut SubtreeCopy, cause: Cause)
 }
 
 /// What is in trouble is left, and whatever comes into a trouble of its kind later.
-fn skip_all(page: &mut Page, copy: &mut SubtreeCopy, cause: Cause)
+fn skip_all(page: &mut Page, copy: &mut SubtreeCopy, replies: &mut Replies, cause: Cause)
     requires going { IsGoing copy.old }
     ensures going { IsGoing copy.new }
 {
-    copy.skip_all(cause);
+    replies.skip_all(cause);
     skip(page, copy, cause);
 }
 

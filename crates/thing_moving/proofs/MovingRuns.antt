@@ -130,7 +130,7 @@ module _ (replies : Replies) (old new : Moving) (before after : Option CallLog) 
       (counts : IfKnown before (λ log. IfKnown after (HasMore log calls))) (few : calls ≤ 1)
       (unknown : before ≡ None → after ≡ None) (later : faults ≤ faults_after) (fault : t.cause ≡ Tree refused.Fault → HasRisen faults faults_after) where
     steps_told : did ≡ Troubled t → new ≡ old → t.barrier ≡ at_barrier old.stage → is_done old.stage ≡ false
-        → ((is_passed_over old.skips t ≡ false) ⊎ (t.cause ≡ Memory)) → MovingStep replies old new did calls before after faults faults_after
+        → ((is_passed_over replies.skips t ≡ false) ⊎ (t.cause ≡ Memory)) → MovingStep replies old new did calls before after faults faults_after
     steps_told is new_is barrier going told =
         subst (λ d. MovingStep replies old new d calls before after faults faults_after) (sym is) record {
           tells = (barrier, going, told, new_is);
@@ -143,10 +143,10 @@ module _ (replies : Replies) (old new : Moving) (before after : Option CallLog) 
         }
 
     steps_skipped : did ≡ Skipped old.pair.source t.cause → new ≡ record old { stage = stage.PassedOver } → old.stage ≡ stage.Take → t.barrier ≡ false
-        → is_passed_over old.skips t ≡ true → MovingStep replies old new did calls before after faults faults_after
+        → is_passed_over replies.skips t ≡ true → MovingStep replies old new did calls before after faults faults_after
     steps_skipped is new_is at apart over =
         subst (λ d. MovingStep replies old new d calls before after faults faults_after) (sym is) record {
-          tells = (at, refl, passed_kind old.skips t apart over, new_is);
+          tells = (at, refl, passed_kind replies.skips t apart over, new_is);
           called = λ log known. (t.path, stops log known);
           counted = counts;
           few = few;
@@ -156,7 +156,7 @@ module _ (replies : Replies) (old new : Moving) (before after : Option CallLog) 
         }
 
     -- the one or the other, before the renaming
-    steps_passed : PassesOver old t old.pair.source did new → old.stage ≡ stage.Take → t.barrier ≡ false → MovingStep replies old new did calls before after faults faults_after
+    steps_passed : PassesOver replies old t old.pair.source did new → old.stage ≡ stage.Take → t.barrier ≡ false → MovingStep replies old new did calls before after faults faults_after
     steps_passed (inl (over, is, new_is)) at apart = steps_skipped is new_is at apart over
     steps_passed (inr (over, is, new_is)) at apart = steps_told is new_is (apart ∙ sym (ap at_barrier at)) (ap is_done at) (inl over)
 
@@ -173,7 +173,7 @@ module _ (replies : Replies) (old new : Moving) (before after : Option CallLog) 
 
     -- a look stopped it
     pub steps_stopped : (t : Trouble) → IfKnown before (λ log. LooksStop (current log) old.pair t.cause t.path) → t.barrier ≡ false
-        → (t.cause ≡ Tree refused.Fault → HasRisen faults faults_after) → NotTaken old t did new → MovingStep replies old new did calls before after faults faults_after
+        → (t.cause ≡ Tree refused.Fault → HasRisen faults faults_after) → NotTaken replies old t did new → MovingStep replies old new did calls before after faults faults_after
     steps_stopped t looks apart fault (inl (memory, passes)) =
         steps_passed did calls t (look_stops t looks) (none_counted before after calls count same) (omega (arith, count)) (none_unknown before after same) later fault passes at apart
     steps_stopped t looks apart fault (inr (is, new_is)) = steps_unmade is new_is
@@ -188,7 +188,7 @@ module _ (replies : Replies) (old new : Moving) (before after : Option CallLog) 
     error_risen : (e : TreeError) → HasCause refused.Fault faults faults_after (let r : Result (Unit {0}) TreeError = Err e in r) → cause_of e ≡ Tree refused.Fault → HasRisen faults faults_after
     error_risen e cause h = cause.risen (ap Err (fault_is e h))
 
-    pub steps_refused : (e : TreeError) → calls ≡ calls_made_for (Err e) → NotRenamed old e did new → Called before after (Rename old.pair.source old.pair.target) (Err e)
+    pub steps_refused : (e : TreeError) → calls ≡ calls_made_for (Err e) → NotRenamed replies old e did new → Called before after (Rename old.pair.source old.pair.target) (Err e)
         → HasCause refused.Fault faults faults_after (let r : Result (Unit {0}) TreeError = Err e in r) → MovingStep replies old new did calls before after faults faults_after
     steps_refused refused.Memory count (is, new_is) called cause =
         steps_told did calls (out_of_memory_at false) (rename_stops refused.Memory called) (counted before after (Rename old.pair.source old.pair.target) (Err refused.Memory) calls count called)

@@ -28,7 +28,7 @@ TellsFault did = ⊥
 -- A step, where this was answered: what it reports is allowed, the move is then as it says, it is the call of the tree that it says, and it
 -- tells of a fault only where the tree's count has risen. It counts the changing calls that it made.
 pub record MovingStep (replies : Replies) (old new : Moving) (did : Did) (calls : ℕ) (before after : Option CallLog) (faults faults_after : ℕ) : Type 0 where
-  pub tells : Tells old did new
+  pub tells : Tells replies old did new
   pub called : IfKnown before (λ log. MovingCalls replies old did log after)
   pub counted : IfKnown before (λ log. IfKnown after (HasMore log calls))
   pub few : calls ≤ 1
@@ -54,20 +54,20 @@ MovingSkips cause old did new =
     ⊎ ((did ≡ Troubled (out_of_memory_at (at_barrier old.stage))) × (new ≡ old))
 
 -- a trouble is told, or the thing at this path is passed over, where troubles of that kind are
-abbrev pub PassesOver : Moving → Trouble → Route → Did → Moving → Type 0
-PassesOver old trouble source did new =
-    ((is_passed_over old.skips trouble ≡ true) × (did ≡ Skipped source trouble.cause) × (new ≡ record old { stage = stage.PassedOver }))
-    ⊎ ((is_passed_over old.skips trouble ≡ false) × (did ≡ Troubled trouble) × (new ≡ old))
+abbrev pub PassesOver : Replies → Moving → Trouble → Route → Did → Moving → Type 0
+PassesOver replies old trouble source did new =
+    ((is_passed_over replies.skips trouble ≡ true) × (did ≡ Skipped source trouble.cause) × (new ≡ record old { stage = stage.PassedOver }))
+    ⊎ ((is_passed_over replies.skips trouble ≡ false) × (did ≡ Troubled trouble) × (new ≡ old))
 
 -- a renaming was refused so; want of memory is always told
-abbrev pub NotRenamed : Moving → TreeError → Did → Moving → Type 0
-NotRenamed old Memory did new = (did ≡ Troubled (out_of_memory_at false)) × (new ≡ old)
-NotRenamed old e did new = PassesOver old (trouble_at e old.pair.target false) old.pair.source did new
+abbrev pub NotRenamed : Replies → Moving → TreeError → Did → Moving → Type 0
+NotRenamed replies old Memory did new = (did ≡ Troubled (out_of_memory_at false)) × (new ≡ old)
+NotRenamed replies old e did new = PassesOver replies old (trouble_at e old.pair.target false) old.pair.source did new
 
 -- this trouble stops the thing before it is renamed, or there was no memory, for a look or for the report; that is always told
-abbrev pub NotTaken : Moving → Trouble → Did → Moving → Type 0
-NotTaken old trouble did new =
-    ((trouble.cause ≡ NoMemory → ⊥) × PassesOver old trouble old.pair.source did new) ⊎ ((did ≡ Troubled (out_of_memory_at false)) × (new ≡ old))
+abbrev pub NotTaken : Replies → Moving → Trouble → Did → Moving → Type 0
+NotTaken replies old trouble did new =
+    ((trouble.cause ≡ NoMemory → ⊥) × PassesOver replies old trouble old.pair.source did new) ⊎ ((did ≡ Troubled (out_of_memory_at false)) × (new ≡ old))
 
 -- what stands at the target stays, or there was no memory for the report
 abbrev pub Keeps : Moving → Did → Moving → Type 0

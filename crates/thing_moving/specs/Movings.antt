@@ -19,23 +19,21 @@ use Rattle.job_reports.specs.Paths.{folder_of}
 use Rattle.job_reports.specs.Stops.{sync_answer, cause_of, named_path}
 use Rattle.job_answers.specs.declared.replies.Decision.TheVariants.{Ask}
 use Rattle.job_answers.specs.declared.replies.Replies.{Replies}
-use Rattle.job_answers.specs.declared.skips.Skips.{Skips}
-use Rattle.job_answers.specs.Skipping.{holds, is_passed_over, kind_in, no_skips}
+use Rattle.job_answers.specs.Skipping.{holds, is_passed_over, kind_in}
 use Rattle.tree_copy.specs.Taking.{AreShort}
 use Rattle.tree_deletion.specs.Folders.{with_change}
 use Rattle.thing_moving.specs.declared.moving.MovingStage.{MovingStage}
 use Rattle.thing_moving.specs.declared.moving.MovingStage.TheVariants.{Take, SyncTarget, SyncSource, Finish, PassedOver}
 use Rattle.thing_moving.specs.Takings.{IsDecided, IsKept, IsMerged, LooksStop, MayMove}
 
--- the move of a thing, as it stands: what is moved, and where to, what is to be done next, and the kinds of troubles that are passed over
+-- the move of a thing, as it stands: what is moved, and where to, and what is to be done next
 pub record Moving : Type 0 where
   pub pair : Pair
   pub stage : MovingStage
-  pub skips : Skips
 
 -- a move, just begun
 abbrev pub started : Pair → Moving
-started pair = record { pair = pair; stage = Take; skips = no_skips }
+started pair = record { pair = pair; stage = Take }
 
 -- the next call is at a barrier: a sync
 abbrev pub at_barrier : MovingStage → Bool
@@ -123,17 +121,17 @@ pub record MayMerge (moved : Pair) (transfer : Transfer) (pair : Pair) (names : 
 
 -- What a step may report that goes on, and where the move stands then. Once two folders are merged nothing is left to be done: what lies in the source are sources of
 -- their own. A trouble is told of whose kind none is to be passed over, or there was no memory.
-abbrev pub Tells : Moving → Did → Moving → Type 0
-Tells m (Moved pair) new = (m.stage ≡ Take) × (pair ≡ m.pair) × (new ≡ record m { stage = SyncTarget })
-Tells m (Kept path) new = (m.stage ≡ Take) × (path ≡ m.pair.target) × (new ≡ record m { stage = PassedOver })
-Tells m (Skipped path cause) new = (m.stage ≡ Take) × (path ≡ m.pair.source) × (holds m.skips (kind_in cause) ≡ true) × (new ≡ record m { stage = PassedOver })
-Tells m Barrier new = (is_dirty m.stage ≡ true) × (new ≡ record m { stage = after_sync m.pair m.stage })
-Tells m (Asked question) new = (m.stage ≡ Take) × (new ≡ m)
-Tells m (Merges transfer pair names) new = (m.stage ≡ Take) × MayMerge m.pair transfer pair names × (new ≡ record m { stage = PassedOver })
-Tells m (Troubled trouble) new =
-    (trouble.barrier ≡ at_barrier m.stage) × (is_done m.stage ≡ false) × ((is_passed_over m.skips trouble ≡ false) ⊎ (trouble.cause ≡ Memory)) × (new ≡ m)
-Tells m (Ended Finished part) new = (is_done m.stage ≡ true) × (part ≡ None) × (new ≡ m)
-Tells m did new = ⊥
+abbrev pub Tells : Replies → Moving → Did → Moving → Type 0
+Tells replies m (Moved pair) new = (m.stage ≡ Take) × (pair ≡ m.pair) × (new ≡ record m { stage = SyncTarget })
+Tells replies m (Kept path) new = (m.stage ≡ Take) × (path ≡ m.pair.target) × (new ≡ record m { stage = PassedOver })
+Tells replies m (Skipped path cause) new = (m.stage ≡ Take) × (path ≡ m.pair.source) × (holds replies.skips (kind_in cause) ≡ true) × (new ≡ record m { stage = PassedOver })
+Tells replies m Barrier new = (is_dirty m.stage ≡ true) × (new ≡ record m { stage = after_sync m.pair m.stage })
+Tells replies m (Asked question) new = (m.stage ≡ Take) × (new ≡ m)
+Tells replies m (Merges transfer pair names) new = (m.stage ≡ Take) × MayMerge m.pair transfer pair names × (new ≡ record m { stage = PassedOver })
+Tells replies m (Troubled trouble) new =
+    (trouble.barrier ≡ at_barrier m.stage) × (is_done m.stage ≡ false) × ((is_passed_over replies.skips trouble ≡ false) ⊎ (trouble.cause ≡ Memory)) × (new ≡ m)
+Tells replies m (Ended Finished part) new = (is_done m.stage ≡ true) × (part ≡ None) × (new ≡ m)
+Tells replies m did new = ⊥
 
 -- What a last step may report: each sync that is owed is tried once, and the job ends as it was ordered.
 abbrev pub Winds : Ending → Moving → Did → Moving → Type 0

@@ -7,7 +7,6 @@ ghost use Rattle.tree_trait.specs.Change.{current};
 ghost use Rattle.tree_trait.specs.Answers.{IfKnown, IsAscending};
 ghost use Rattle.job_reports.specs.Paths.{folder_of};
 ghost use Rattle.job_reports.specs.Stops.{calls_made_for};
-ghost use Rattle.job_answers.specs.Skipping.{kind_in, with_kind};
 ghost use Rattle.tree_copy.specs.Taking.{AreShort};
 ghost use Rattle.thing_moving.specs.Movings.{after_sync as synced_to, at_barrier, is_dirty, is_fresh, owed_folder, owes_target, started};
 ghost use Rattle.thing_moving.specs.MovingSteps.{IsMergedOr, Keeps, LastMovingStep, MovingSkips, MovingStep, NotRenamed, NotTaken, PassesOver};
@@ -15,7 +14,7 @@ ghost use Rattle.thing_moving.specs.Takings.{MayMove};
 
 use crate::stages::{after_target, skipped};
 use crate::taking::{Taking, take_up};
-use job_answers::{Replies, Skips, kind_of};
+use job_answers::Replies;
 use job_reports::{
     Cause, Did, Ending, LastStepResult, Pair, StepResult, Transfer, Trouble, out_of_memory,
 };
@@ -48,7 +47,6 @@ pub struct ThingMoving {
     source_folder: Path,
     folder: Path,
     stage: MovingStage,
-    skips: Skips,
 }
 
 impl Model for ThingMoving {
@@ -58,7 +56,7 @@ impl Model for ThingMoving {
 
     ghost Value = { Moving };
 
-    ghost view = { λ m. record { pair = m.pair; stage = m.stage; skips = m.skips } };
+    ghost view = { λ m. record { pair = m.pair; stage = m.stage } };
 
     ghost invariant = { λ m. (parent_of m.pair.source ≡ Some m.source_folder) × (parent_of m.pair.target ≡ Some m.folder)
         × (same_path m.pair.source m.pair.target ≡ false) };
@@ -77,12 +75,11 @@ impl ThingMoving {
             source_folder,
             folder,
             stage: MovingStage::Take,
-            skips: Skips::new(),
         }
     }
 
-    /// Does the next piece of work, which is at most one changing call of the tree, where this was answered to the job's questions. What is
-    /// asked is asked again, until an answer stands.
+    /// Does the next piece of work, which is at most one changing call of the tree, where this was answered to the job's questions and
+    /// troubles. What is asked is asked again, until an answer stands.
     pub fn step<T: Tree>(&mut self, alloc: Global, tree: &mut T, replies: Replies) -> StepResult
         ensures { MovingStep replies self.old self.new result.did result.calls (T.contents tree.old)
             (T.contents tree.new) (T.fault_count tree.old) (T.fault_count tree.new) }
@@ -104,27 +101,6 @@ impl ThingMoving {
         };
         self.stage = skipped(self.stage);
         Did::Skipped(source, cause)
-    }
-
-    /// From now on troubles of this kind are passed over.
-    pub fn skip_all(&mut self, cause: Cause)
-        ensures { self.new ≡ record self.old { skips = with_kind (kind_in cause) self.old.skips } }
-    {
-        self.skips.insert(kind_of(cause));
-    }
-
-    /// The kinds of troubles that are passed over.
-    pub fn skips(&self) -> Skips
-        ensures { result ≡ self.now.skips }
-    {
-        self.skips
-    }
-
-    /// Troubles of these kinds are passed over.
-    pub fn pass_over(&mut self, skips: Skips)
-        ensures { self.new ≡ record self.old { skips = skips } }
-    {
-        self.skips = skips;
     }
 
     /// Makes the next of the last steps of a job that is to end so: each sync that is owed is tried once.
@@ -226,7 +202,7 @@ impl ThingMoving {
             Ok(Taking::Keeps) => self.keep(alloc),
             Ok(Taking::Asks(question)) => without_call(Did::Asked(question)),
             Ok(Taking::Merges(names)) => self.merge(alloc, names),
-            Err(trouble) => self.passed_or_troubled(alloc, trouble),
+            Err(trouble) => self.passed_or_troubled(alloc, trouble, replies),
         }
     }
 
@@ -237,7 +213,6 @@ impl ThingMoving {
         ensures { MovingStep replies self.old self.new result.did result.calls (T.contents tree.old)
             (T.contents tree.new) (T.fault_count tree.old) (T.fault_count tree.new) }
     {
-        let _replies = replies;
         let Ok(pair) = self.pair().copy(alloc) else {
             return without_call(Did::Troubled(out_of_memory(false)));
         };
@@ -246,14 +221,14 @@ impl ThingMoving {
                 self.stage = MovingStage::SyncTarget;
                 with_call(Did::Moved(pair))
             }
-            Err(error) => self.not_renamed(error, pair),
+            Err(error) => self.not_renamed(error, pair, replies),
         }
     }
 
     /// The renaming was refused. One that found no memory was not made.
-    fn not_renamed(&mut self, error: TreeError, pair: Pair) -> StepResult
+    fn not_renamed(&mut self, error: TreeError, pair: Pair, replies: Replies) -> StepResult
         requires { pair ≡ self.old.pair }
-        ensures did { NotRenamed self.old error result.did self.new }
+        ensures did { NotRenamed replies self.old error result.did self.new }
         ensures calls { result.calls ≡ calls_made_for (Err error) }
     {
         let Pair { source, target } = pair;
@@ -265,7 +240,7 @@ impl ThingMoving {
                     path: Some(target),
                     barrier: false,
                 };
-                with_call(self.passed_by(trouble, source))
+                with_call(self.passed_by(trouble, source, replies))
             }
         }
     }
@@ -298,9 +273,14 @@ impl ThingMoving {
     }
 
     /// A look at the thing was refused, or it can't be moved. Want of memory is always told.
-    fn passed_or_troubled(&mut self, alloc: Global, trouble: Trouble) -> StepResult
+    fn passed_or_troubled(
+        &mut self,
+        alloc: Global,
+        trouble: Trouble,
+        replies: Replies,
+    ) -> StepResult
         requires apart { trouble.barrier ≡ false }
-        ensures did { NotTaken self.old trouble result.did self.new }
+        ensures did { NotTaken replies self.old trouble result.did self.new }
         ensures calls { result.calls ≡ 0 }
     {
         if let Cause::Memory = trouble.cause {
@@ -309,15 +289,15 @@ impl ThingMoving {
         let Ok(source) = self.pair().source.copy(alloc) else {
             return without_call(Did::Troubled(out_of_memory(false)));
         };
-        without_call(self.passed_by(trouble, source))
+        without_call(self.passed_by(trouble, source, replies))
     }
 
     /// The report of a trouble, or that the thing is passed over, where troubles of its kind are.
-    fn passed_by(&mut self, trouble: Trouble, source: Path) -> Did
+    fn passed_by(&mut self, trouble: Trouble, source: Path, replies: Replies) -> Did
         requires apart { trouble.barrier ≡ false }
-        ensures { PassesOver self.old trouble source result self.new }
+        ensures { PassesOver replies self.old trouble source result self.new }
     {
-        if !self.skips.passes_over(&trouble) {
+        if !replies.skips().passes_over(&trouble) {
             return Did::Troubled(trouble);
         }
         self.stage = MovingStage::PassedOver;

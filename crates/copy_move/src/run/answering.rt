@@ -1,11 +1,11 @@
 //! What an answer to a question or a trouble, an order and the close of the session make of a job.
 ghost use Rattle.std.specs.Prelude.{◌≡◌, Err, Ok, OnErr, OnOk, Some, false};
 ghost use Rattle.job_answers.specs.Answers.{answered as by_table};
-ghost use Rattle.copy_move.specs.Jobs.{MayAnswer, answered, closed_job, ended_course, waiting_on, waits_on};
+ghost use Rattle.copy_move.specs.Jobs.{MayAnswer, answered, closed_job, ended_course, skipping_by, waiting_on, waits_on};
 
 use super::{Course, Halt, Run};
 use job_answers::{Then, Waiting, then_after};
-use job_reports::{Answer, AnswerError, Ending};
+use job_reports::{Answer, AnswerError, Cause, Ending};
 
 impl Run {
     /// Answers the question or the trouble, by the table of what may be answered. `NotAsked` where the job waits for none, `WrongAnswer`
@@ -96,8 +96,20 @@ impl Run {
         let Course::InTrouble(halt) = self.course else {
             unreachable!()
         };
-        self.work.note_skip(halt.cause, answer);
+        self.note_skip(halt.cause, answer);
         self.course = Course::Skips(halt.cause);
+    }
+
+    /// After `SkipAll` troubles of this kind are passed over without a question.
+    fn note_skip(&mut self, cause: Cause, answer: Answer)
+        ensures { self.new ≡ record self.old { replies = skipping_by answer cause self.old.replies } }
+    {
+        match answer {
+            Answer::SkipAll => self.replies.skip_all(cause),
+            Answer::Skip | Answer::Retry | Answer::Abort => {}
+            Answer::Yes | Answer::No => {}
+            Answer::All | Answer::Update | Answer::Nothing | Answer::SizeDiffers => {}
+        }
     }
 
     /// It makes its last steps.

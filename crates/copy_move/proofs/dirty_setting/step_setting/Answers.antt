@@ -9,7 +9,7 @@ use Rattle.copy_move.proofs.dirty_setting.step_setting.Goals as goal
 
 pub returns-in_default : goal.returns-in_default
 returns-in_default g c = record {
-  steps = none_given c.args.setting.now _ _ _ _ (sym c.is_fresh.ensures ∙ c.in_default.ensures.fresh) (ap (λ (s : StepResult). s.did) c.without_call.ensures ∙ ap Troubled c.out_of_memory.ensures) (ap (λ (s : StepResult). s.calls) c.without_call.ensures);
+  steps = none_given c.args.replies c.args.setting.now _ _ _ _ (sym c.is_fresh.ensures ∙ c.in_default.ensures.fresh) (ap (λ (s : StepResult). s.did) c.without_call.ensures ∙ ap Troubled c.out_of_memory.ensures) (ap (λ (s : StepResult). s.calls) c.without_call.ensures);
   leaves = as_before (is_dirty c.args.setting.now.stage) _ _ _ c.in_default.ensures.refused;
 }
 
@@ -18,5 +18,5 @@ returns-clause-leaves g c =
     let old = c.args.setting.now in
     let new = c.step-stepped.new.self in
     follows_step _ _ _ _ _ _ _ _ _ _ _ _ c.in-Ok.readied c.is_fresh.ensures c.is_dirty.ensures c.is_dirty-2.ensures c.path.ensures
-    (c.path-2.ensures ∙ setting_stays old new _ c.step-stepped.ensures.tells) (fresh_setting old.stage) (clean_setting old new _ c.step-stepped.ensures.tells)
+    (c.path-2.ensures ∙ setting_stays c.args.replies old new _ c.step-stepped.ensures.tells) (fresh_setting old.stage) (clean_setting c.args.replies old new _ c.step-stepped.ensures.tells)
     c.in-Ok.ensures.ready c.follow.ensures

@@ -11,7 +11,7 @@ use Rattle.folder_removal.proofs.dirty_removal.step_removal.Goals as goal
 
 pub returns-in_default : goal.returns-in_default
 returns-in_default g c = record {
-  steps = steps_unmade c.args.removal.now _ _ _ _ _ _ _ (ap (λ (s : StepResult). s.did) c.without_call.ensures ∙ ap Troubled c.out_of_memory.ensures) (ap (λ (s : StepResult). s.calls) c.without_call.ensures)
+  steps = steps_unmade c.args.replies c.args.removal.now _ _ _ _ _ _ _ (ap (λ (s : StepResult). s.did) c.without_call.ensures ∙ ap Troubled c.out_of_memory.ensures) (ap (λ (s : StepResult). s.calls) c.without_call.ensures)
       (fresh_removal c.args.removal.now.stage (sym c.is_fresh.ensures ∙ c.in_default.ensures.fresh)) refl refl (omega arith);
   leaves = as_before (is_dirty c.args.removal.now.stage) _ _ _ c.in_default.ensures.refused;
 }
@@ -21,5 +21,5 @@ returns-clause-leaves g c =
     let old = c.args.removal.now in
     let new = c.step-stepped.new.self in
     follows_step _ _ _ _ _ _ _ _ _ _ _ _ c.in-Ok.readied c.is_fresh.ensures c.is_dirty.ensures c.is_dirty-2.ensures c.folder.ensures.is
-    (c.folder-2.ensures.is ∙ ap folder_of (removal_stays old new _ c.step-stepped.ensures.tells)) (λ h. ap is_dirty (fresh_removal old.stage h)) (clean_removal old new _ c.step-stepped.ensures.tells)
+    (c.folder-2.ensures.is ∙ ap folder_of (removal_stays c.args.replies old new _ c.step-stepped.ensures.tells)) (λ h. ap is_dirty (fresh_removal old.stage h)) (clean_removal c.args.replies old new _ c.step-stepped.ensures.tells)
     c.in-Ok.ensures.ready c.follow.ensures

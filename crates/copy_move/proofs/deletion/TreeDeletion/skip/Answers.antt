@@ -7,5 +7,5 @@ use Rattle.copy_move.proofs.deletion.TreeDeletion.skip.Goals as goal
 
 pub returns : goal.returns
 returns c =
-    subst (λ (d : Deleting). DeletionSkips c.args.cause d c.skip.result (seen c.skip.new.self c.self.inside.tried c.self.inside.skips)) c.self.view_is
-    (skip_made c.args.cause c.self.inside.machine c.skip.new.self c.self.inside.tried c.self.inside.skips c.self.invariant.1 c.skip.result c.self.invariant.0 c.skip.ensures)
+    subst (λ (d : Deleting). DeletionSkips c.args.cause d c.skip.result (seen c.skip.new.self c.self.inside.tried)) c.self.view_is
+    (skip_made c.args.cause c.self.inside.machine c.skip.new.self c.self.inside.tried c.self.invariant.1 c.skip.result c.self.invariant.0 c.skip.ensures)

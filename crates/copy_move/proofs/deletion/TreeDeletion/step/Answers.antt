@@ -7,17 +7,17 @@ use Rattle.copy_move.proofs.deletion.TreeDeletion.step.Goals as goal
 
 pub invariant_of-self : goal.invariant_of-self
 invariant_of-self g c =
-    then_inside c.self.inside.machine c.work-worked.new.self c.or_passed_over.new.machine c.self.inside.tried c.self.inside.skips c.self.invariant.0 c.self.invariant.1 (sym c.if-is_at_barrier.ensures) _ _ _ _ _ _ _ _ c.work-worked.ensures
+    then_inside c.self.inside.machine c.work-worked.new.self c.or_passed_over.new.machine c.self.inside.tried c.args.replies c.self.invariant.0 c.self.invariant.1 (sym c.if-is_at_barrier.ensures) _ _ _ _ _ _ _ _ c.work-worked.ensures
     c.or_passed_over.result c.or_passed_over.ensures
 
 pub returns-then-is_at_barrier : goal.returns-then-is_at_barrier
 returns-then-is_at_barrier g c =
-    subst (λ (d : Deleting). DeletionStep d d c.sync.result.did c.sync.result.calls c.args.dirty.now c.sync.new.dirty (g.T.ReadTree.contents c.args.tree.now) (g.T.ReadTree.contents c.sync.new.tree) (g.T.ReadTree.fault_count c.args.tree.now) (g.T.ReadTree.fault_count c.sync.new.tree)) c.self.view_is
-    (step_syncs c.self.inside.machine c.self.inside.tried c.self.inside.skips c.self.invariant.0 (sym c.if-is_at_barrier.ensures) _ _ _ _ _ _ _ _ c.sync.ensures)
+    subst (λ (d : Deleting). DeletionStep c.args.replies d d c.sync.result.did c.sync.result.calls c.args.dirty.now c.sync.new.dirty (g.T.ReadTree.contents c.args.tree.now) (g.T.ReadTree.contents c.sync.new.tree) (g.T.ReadTree.fault_count c.args.tree.now) (g.T.ReadTree.fault_count c.sync.new.tree)) c.self.view_is
+    (step_syncs c.self.inside.machine c.self.inside.tried c.args.replies c.self.invariant.0 (sym c.if-is_at_barrier.ensures) _ _ _ _ _ _ _ _ c.sync.ensures)
 
 pub returns-else-is_at_barrier : goal.returns-else-is_at_barrier
 returns-else-is_at_barrier g c =
-    subst (λ (d : Deleting). DeletionStep d (seen c.or_passed_over.new.machine c.self.inside.tried c.self.inside.skips) c.or_passed_over.result.did c.or_passed_over.result.calls c.args.dirty.now c.work-worked.new.dirty (g.T.ReadTree.contents c.args.tree.now) (g.T.ReadTree.contents c.work-worked.new.tree)
+    subst (λ (d : Deleting). DeletionStep c.args.replies d (seen c.or_passed_over.new.machine c.self.inside.tried) c.or_passed_over.result.did c.or_passed_over.result.calls c.args.dirty.now c.work-worked.new.dirty (g.T.ReadTree.contents c.args.tree.now) (g.T.ReadTree.contents c.work-worked.new.tree)
     (g.T.ReadTree.fault_count c.args.tree.now) (g.T.ReadTree.fault_count c.work-worked.new.tree)) c.self.view_is
-    (works_or_passes c.self.inside.machine c.work-worked.new.self c.or_passed_over.new.machine c.self.inside.tried c.self.inside.skips c.self.invariant.0 c.self.invariant.1 (sym c.if-is_at_barrier.ensures) _ _ _ _ _ _ _ _ c.work-worked.ensures
+    (works_or_passes c.self.inside.machine c.work-worked.new.self c.or_passed_over.new.machine c.self.inside.tried c.args.replies c.self.invariant.0 c.self.invariant.1 (sym c.if-is_at_barrier.ensures) _ _ _ _ _ _ _ _ c.work-worked.ensures
     c.or_passed_over.result c.or_passed_over.ensures)

@@ -7,6 +7,6 @@ use Rattle.copy_move.proofs.deletion.TreeDeletion.wind_up.Goals as goal
 
 pub returns : goal.returns
 returns g c =
-    subst (λ (d : Deleting). LastDeletionStep c.args.ending d (seen c.self.inside.machine c.try_next.new.from c.self.inside.skips) c.try_next.result.did c.try_next.result.calls c.try_next.result.left c.args.dirty.now c.try_next.new.dirty
+    subst (λ (d : Deleting). LastDeletionStep c.args.ending d (seen c.self.inside.machine c.try_next.new.from) c.try_next.result.did c.try_next.result.calls c.try_next.result.left c.args.dirty.now c.try_next.new.dirty
     (g.T.ReadTree.contents c.args.tree.now) (g.T.ReadTree.contents c.try_next.new.tree) (g.T.ReadTree.fault_count c.args.tree.now) (g.T.ReadTree.fault_count c.try_next.new.tree)) c.self.view_is
-    (last_made c.args.ending c.self.inside.machine c.self.inside.tried c.try_next.new.from c.self.inside.skips c.self.invariant.0 _ _ _ _ _ _ _ _ _ c.try_next.ensures)
+    (last_made c.args.ending c.self.inside.machine c.self.inside.tried c.try_next.new.from c.self.invariant.0 _ _ _ _ _ _ _ _ _ c.try_next.ensures)

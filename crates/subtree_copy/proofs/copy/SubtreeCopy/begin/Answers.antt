@@ -10,7 +10,7 @@ invariant_of-result c =
 
 pub returns-clause-begun : goal.returns-clause-begun
 returns-clause-begun c =
-    begun_so c.args.job c.args.top c.in_ok-source.source c.in_ok-target.target c.new-2.result (seen c.in_ok-new.field-0) c.in_ok-source.ensures c.in_ok-target.ensures c.in_ok-new.ensures c.new-2.ensures
+    begun_so c.args.job c.args.top c.in_ok-source.source c.in_ok-target.target (seen c.in_ok-new.field-0) c.in_ok-source.ensures c.in_ok-target.ensures c.in_ok-new.ensures
 
 pub returns-clause-going : goal.returns-clause-going
 returns-clause-going c = begun_going c.args.job c.in_ok-source.source c.in_ok-target.target (seen c.in_ok-new.field-0) c.in_ok-new.ensures

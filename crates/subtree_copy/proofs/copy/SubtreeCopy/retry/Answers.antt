@@ -10,4 +10,4 @@ invariant_of-self c = retried_held c.self.inside.top c.self.inside.folder (seen 
 
 pub returns-clause-retried : goal.returns-clause-retried
 returns-clause-retried c =
-    ap (λ (s : Seen). (let d : SubtreeCopying = record { top = c.self.inside.top; at = s; skips = c.self.inside.skips } in d)) c.retry.ensures.retried ∙ ap (λ (d : SubtreeCopying). retries d) c.self.view_is
+    ap (λ (s : Seen). (let d : SubtreeCopying = record { top = c.self.inside.top; at = s } in d)) c.retry.ensures.retried ∙ ap (λ (d : SubtreeCopying). retries d) c.self.view_is

@@ -11,4 +11,4 @@ invariant_of-self c = skipped_held c.self.inside.top c.self.inside.folder c.args
 
 pub returns-clause-skips : goal.returns-clause-skips
 returns-clause-skips c =
-    subst (λ (d : SubtreeCopying). SubtreeSkips c.args.cause d c.skip.result (record { top = c.self.inside.top; at = seen c.skip.new.self; skips = c.self.inside.skips })) c.self.view_is (record { skips = c.skip.ensures.skips; stands = refl })
+    subst (λ (d : SubtreeCopying). SubtreeSkips c.args.cause d c.skip.result (record { top = c.self.inside.top; at = seen c.skip.new.self })) c.self.view_is (record { skips = c.skip.ensures.skips; stands = refl })

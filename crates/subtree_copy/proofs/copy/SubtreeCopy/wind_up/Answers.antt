@@ -18,7 +18,7 @@ invariant_of-self g c = wound_held c.self.inside.top c.self.inside.folder c.args
 
 pub returns-clause-winds : goal.returns-clause-winds
 returns-clause-winds g c =
-    subst (λ (d : SubtreeCopying). LastSubtreeStep c.args.ending d (record { top = c.self.inside.top; at = seen c.wind_up-last.new.self; skips = c.self.inside.skips }) c.wind_up-last.result c.args.dirty.now c.note_try.new.self
+    subst (λ (d : SubtreeCopying). LastSubtreeStep c.args.ending d (record { top = c.self.inside.top; at = seen c.wind_up-last.new.self }) c.wind_up-last.result c.args.dirty.now c.note_try.new.self
     (g.T.ReadTree.contents c.args.tree.now) (g.T.ReadTree.contents c.wind_up-last.new.tree) (g.T.ReadTree.fault_count c.args.tree.now) (g.T.ReadTree.fault_count c.wind_up-last.new.tree)) c.self.view_is record {
       winds = c.wind_up-last.ensures.winds;
       list = c.note_try.ensures ∙ ap (λ f. after_try c.wind_up-last.result.did c.wind_up-last.result.left f c.args.dirty.now) c.folder.ensures;
@@ -29,8 +29,8 @@ pub returns-clause-wound : goal.returns-clause-wound
 returns-clause-wound g c =
     let held = c.self.invariant in
     let w = winds_wound c.self.inside.machine.item c.args.ending (seen c.self.inside.machine) (seen c.wind_up-last.new.self) c.wind_up-last.result _ _ _ _ c.wind_up-last.ensures.winds held.windable in
-    subst (λ (d : SubtreeCopying). IsWound c.args.ending d c.wind_up-last.result.did (record { top = c.self.inside.top; at = seen c.wind_up-last.new.self; skips = c.self.inside.skips })) c.self.view_is
-    record { may = w.may; top = refl; skips = refl; stage = w.stage; part = w.part }
+    subst (λ (d : SubtreeCopying). IsWound c.args.ending d c.wind_up-last.result.did (record { top = c.self.inside.top; at = seen c.wind_up-last.new.self })) c.self.view_is
+    record { may = w.may; top = refl; stage = w.stage; part = w.part }
 
 pub returns-clause-own : goal.returns-clause-own
 returns-clause-own g c =
