@@ -12,9 +12,9 @@ from document_words import AREAS, Document, crates_below, edges, repository_file
 
 README_LINES, README_WORDS, KEY_WORDS, PROMISE_WORDS, RECIPE_LINES = 130, 30, 12, 40, 30
 RECIPES = ["Add a key", "Add a kind of job"]
-MAP, PROMISES = "docs/ARCHITECTURE.md", "docs/PROMISES.md"
+MAP, PROMISES = "docs/ARCHITECTURE.md", ["docs/PROMISES.md", "docs/CRATE-PROMISES.md"]
 # What stands in code spans, and is no word of the code: placeholders, words of commands, names that are told as examples.
-NO_WORDS = set(open(os.path.join(os.path.dirname(__file__), "document_words.txt")).read().split())
+NO_WORDS = ".ci/document_words.txt"
 
 
 class Faults:
@@ -60,52 +60,78 @@ def check_map(map_of_crates, crates, faults):
         faults.unless(os.path.exists(f"crates/{name}/README.md"), f"crates/{name}", "no README")
 
 
-def signature(crate, call):
-    """The contracts of the functions of this name in a crate, as text: from the name to the body."""
-    name = call.split("::")[-1]
+def signatures(text, name):
+    """The functions of this name in a source, each from its name to its body, with their contracts."""
+    for found in re.finditer(rf"\bfn {name}\b", text):
+        lines, depth = [], 0
+        for line in text[found.start() :].splitlines():
+            lines.append(line)
+            begins_body = line.rstrip().endswith(("{", "{}")) and depth == 0 and not re.match(r"\s*(ensures|requires)", line)
+            if begins_body or (line.rstrip().endswith(";") and depth + line.count("{") == line.count("}")):
+                break
+            depth += line.count("{") - line.count("}")
+        yield "\n".join(lines)
+
+
+def contract_of(crate, call):
+    """The contracts of the calls of this name in a crate, as text."""
     found = []
     for folder, _, files in os.walk(f"crates/{crate}/src"):
         for file in files:
             with open(os.path.join(folder, file), encoding="utf-8") as source:
-                found += re.findall(rf"\bfn {name}\b.*?(?:\n\s*\{{\n|;\n)", source.read(), re.S)
+                found += signatures(source.read(), call.split("::")[-1])
     return "\n".join(found)
 
 
-def check_clause(crate, call, clauses, faults):
-    contract = signature(crate, call)
-    faults.unless(contract, PROMISES, f"{crate} has no call {call}")
+def check_clause(path, crate, call, clauses, faults):
+    """A crate has the call, and it or the trait of devices that it meets has the clauses."""
+    contract = contract_of(crate, call)
+    faults.unless(contract, path, f"{crate} has no call {call}")
+    of_trait = contract_of("tree_trait", call)
     for clause in clauses:
-        stands = re.search(rf"\b{clause}\b" if clause == "ensures" else rf"\b(ensures|requires)\*? {clause}\b", contract)
-        faults.unless(not contract or stands, PROMISES, f"{call} of {crate} has no clause {clause}")
+        label = rf"\b{clause}\b" if clause == "ensures" else rf"\b(ensures|requires)\*? {clause}\b"
+        stands = re.search(label, contract) or re.search(label, of_trait)
+        faults.unless(not contract or stands, path, f"{call} of {crate} has no clause {clause}")
 
 
-def check_wrong_bodies(cell, faults):
+def check_wrong_bodies(path, cell, faults):
     for edit, crate in re.findall(r"`(\w+)` \(`(\w+)`\)", cell):
         places = [f"crates/{crate}/must-fail/{edit}.edit", f"bench/wrong_bodies/{crate}/{edit}.edit"]
-        faults.unless(any(map(os.path.exists, places)), PROMISES, f"no wrong body {edit} of {crate}")
+        faults.unless(any(map(os.path.exists, places)), path, f"no wrong body {edit} of {crate}")
 
 
 def check_promises(promises, faults):
     """Each row is one short sentence with a call, its clauses, and its wrong bodies."""
-    rows = list(promises.promise_rows())
-    faults.unless(rows, PROMISES, "no rows")
+    rows, path = list(promises.promise_rows()), promises.path
+    faults.unless(rows, path, "no rows")
     for crate, sentence, clause, wrong in rows:
         count = len(sentence.split())
-        faults.unless(count <= PROMISE_WORDS, PROMISES, f"a promise of {count} words: {sentence[:60]} ..")
-        faults.unless(not re.search(r"[.;] \S", sentence), PROMISES, f"more than one sentence: {sentence[:60]} ..")
+        faults.unless(count <= PROMISE_WORDS, path, f"a promise of {count} words: {sentence[:60]} ..")
+        faults.unless(not re.search(r"[.;] \S", sentence), path, f"more than one sentence: {sentence[:60]} ..")
         calls = re.findall(r"`([\w:]+)`: ((?:`\w+`(?:, )?)+)", clause)
-        faults.unless(calls or "invariant of `" in clause, PROMISES, f"no clause: {sentence[:60]} ..")
+        faults.unless(calls or "invariant of `" in clause, path, f"no clause: {sentence[:60]} ..")
         for call, clauses in calls:
-            check_clause(crate, call, re.findall(r"\w+", clauses), faults)
-        check_wrong_bodies(wrong, faults)
+            check_clause(path, crate, call, re.findall(r"\w+", clauses), faults)
+        check_wrong_bodies(path, wrong, faults)
 
 
-def check_names(document, files, words, faults):
-    """Each path and each word of the code in a code span exists, and so does each place to which a link leads."""
-    for path in document.paths():
-        faults.unless(path in files, document.path, f"no file {path}")
-    for word in document.words():
-        faults.unless(word in words or word in NO_WORDS, document.path, f"no word of the code: {word}")
+def check_names(documents, tracked, faults):
+    """Each path and each word of the code in a code span exists, or is one of those that are no word of the code."""
+    files, words = repository_files(tracked), source_words(tracked)
+    with open(NO_WORDS, encoding="utf-8") as file:
+        examples = set(file.read().split())
+    needed = set()
+    for document in documents:
+        lacking = [path for path in document.paths() if path not in files and "out" not in path.split("/")]
+        lacking += [word for word in document.words() if word not in words]
+        needed.update(lacking)
+        for name in sorted(set(lacking) - examples):
+            faults.unless(False, document.path, f"nothing of the repository is called {name}")
+    faults.unless(needed >= examples, NO_WORDS, f"no document needs {sorted(examples - needed)}")
+
+
+def check_links(document, faults):
+    """There is each place to which a link leads."""
     for target, anchor in document.links():
         path = os.path.normpath(os.path.join(os.path.dirname(document.path), target)) if target else document.path
         faults.unless(os.path.exists(path), document.path, f"a link to {target}, which isn't there")
@@ -123,16 +149,18 @@ def main():
     if "--edges" in sys.argv:
         Document(MAP).write_edges(edges(crates))
     faults = Faults()
-    check_lengths(Document("README.md"), faults)
+    documents = [Document(path) for path in tracked if path.endswith(".md") and path.split("/")[0] in AREAS]
+    readme = Document("README.md")
+    check_lengths(readme, faults)
     check_recipes(Document(MAP), faults)
     check_map(Document(MAP), crates, faults)
-    check_promises(Document(PROMISES), faults)
-    files, words = repository_files(tracked), source_words(tracked)
-    readme = Document("README.md").text
-    for path in tracked:
-        if path.endswith(".md") and path.split("/")[0] in AREAS:
-            check_names(Document(path), files, words, faults)
-            faults.unless(not path.startswith("docs/") or f"({path})" in readme, "README.md", f"{path} isn't named")
+    for path in PROMISES:
+        check_promises(Document(path), faults)
+    check_names(documents, tracked, faults)
+    for document in documents:
+        check_links(document, faults)
+        told = not document.path.startswith("docs/") or f"({document.path})" in readme.text
+        faults.unless(told, readme.path, f"{document.path} isn't named")
     print("\n".join(faults.lines) or "documents: all that they name is there")
     sys.exit(1 if faults.lines else 0)
 

@@ -47,11 +47,11 @@ def repository_files(tracked):
 
 
 def source_words(tracked):
-    """All words of what isn't a document, and of the names of files."""
+    """All words of what is neither a document nor a check of documents, and of the names of files."""
     found = set()
     for path in tracked:
         found.update(WORD.findall(path))
-        if not path.endswith(".md") and os.path.isfile(path):
+        if not path.endswith(".md") and not path.startswith(".ci/document_") and os.path.isfile(path):
             with open(path, encoding="utf-8", errors="replace") as file:
                 found.update(WORD.findall(file.read()))
     return found
@@ -116,7 +116,7 @@ class Document:
         crate = None
         for line in self.lines:
             cells = [cell.strip() for cell in re.split(r"(?<!\\)\|", line)[1:-1]]
-            if len(cells) == 4 and not set(cells[0]) <= set("-") | set("crate"):
+            if len(cells) == 4 and cells[0] not in ("crate", "---"):
                 named = re.findall(r"`(\w+)`", cells[0])
                 crate = named[0] if named else crate
                 yield crate, cells[1], cells[2], cells[3]
