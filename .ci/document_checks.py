@@ -1,6 +1,6 @@
 """Checks the documents: their lengths, and that each crate, clause, file and word of the code that they name exists.
 
-Usage: python3 .ci/document_checks.py [--edges], from anywhere. It compiles nothing, and takes a second. With `--edges` it first
+Usage: python3 .ci/document_checks.py [--edges], from anywhere. It compiles nothing, and takes some seconds. With `--edges` it first
 writes into the table of crates of docs/ARCHITECTURE.md what each crate stands on, but for what stands below that anyway.
 """
 import os
