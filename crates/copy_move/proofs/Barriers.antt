@@ -4,20 +4,20 @@ use Rattle.mc_text.specs.Routes.{Route}
 use Rattle.job_reports.specs.declared.report.Did.TheVariants.{Troubled}
 use Rattle.job_reports.specs.declared.report.Trouble.{Trouble}
 use Rattle.job_answers.specs.declared.replies.Replies.{Replies}
-use Rattle.mode_setting.specs.Settings.{Setting}
-use Rattle.mode_setting.specs.Settings as settings
-use Rattle.tree_deletion.specs.Standing as standing
-use Rattle.thing_making.specs.declared.making.MakingStage.{MakingStage}
-use Rattle.thing_making.specs.declared.making.MakingStage.TheVariants as making
+use Rattle.mode_job.specs.Settings.{Setting}
+use Rattle.mode_job.specs.Settings as settings
+use Rattle.delete_job.specs.Standing as standing
+use Rattle.make_job.specs.declared.making.MakingStage.{MakingStage}
+use Rattle.make_job.specs.declared.making.MakingStage.TheVariants as making
 use Rattle.copy_move.specs.declared.work.Work.{Work}
 use Rattle.copy_move.specs.declared.work.Work.TheVariants.{Copy, Delete, Make, Move, SetMode, RemoveEmptied}
 use Rattle.copy_move.specs.Jobs.{WorkTells, at_barrier}
-use Rattle.thing_making.specs.Makings.{Making}
-use Rattle.thing_making.specs.Makings as makings
-use Rattle.thing_moving.specs.Movings.{Moving}
-use Rattle.thing_moving.specs.Movings as movings
-use Rattle.folder_removal.specs.Removals.{Removing}
-use Rattle.folder_removal.specs.Removals as removals
+use Rattle.make_job.specs.Makings.{Making}
+use Rattle.make_job.specs.Makings as makings
+use Rattle.move_job.specs.Movings.{Moving}
+use Rattle.move_job.specs.Movings as movings
+use Rattle.emptied_job.specs.Removals.{Removing}
+use Rattle.emptied_job.specs.Removals as removals
 
 -- the trouble of a making is at a barrier where its next call is
 making_barrier : (stage : MakingStage) (path : Route) (trouble : Trouble) → makings.IsTroubleAt stage path trouble → trouble.barrier ≡ makings.at_barrier stage

@@ -4,19 +4,19 @@ use Rattle.job_reports.specs.declared.report.Ending.{Ending}
 use Rattle.job_reports.specs.declared.report.Ending.TheVariants.{Finished, Aborted, Killed, NoMemory}
 use Rattle.job_reports.specs.declared.report.Did.{Did}
 use Rattle.job_reports.specs.declared.report.Did.TheVariants.{Began, Chunk, Placed, Removed, Made, Set, Kept, Skipped, Cleaned, Barrier, Asked, Merges, Moved, Troubled, Ended}
-use Rattle.thing_making.specs.declared.making.MakingStage.{MakingStage}
-use Rattle.thing_making.specs.declared.making.MakingStage.TheVariants as making
+use Rattle.make_job.specs.declared.making.MakingStage.{MakingStage}
+use Rattle.make_job.specs.declared.making.MakingStage.TheVariants as making
 use Rattle.copy_move.specs.declared.work.Work.{Work}
 use Rattle.copy_move.specs.declared.work.Work.TheVariants.{Copy, Delete, Make, Move, SetMode, RemoveEmptied}
-use Rattle.thing_making.specs.Makings.{Making}
-use Rattle.thing_making.specs.Makings as makings
+use Rattle.make_job.specs.Makings.{Making}
+use Rattle.make_job.specs.Makings as makings
 use Rattle.copy_move.specs.Jobs.{IsGoing, course_after}
-use Rattle.subtree_copy.specs.Ranks as tree
-use Rattle.subtree_copy.proofs.Answered.{waiting_law}
+use Rattle.copy_job.specs.Ranks as tree
+use Rattle.copy_job.proofs.Answered.{waiting_law}
 use Rattle.job_reports.specs.Reports.{ends}
 use Rattle.copy_move.specs.Ranks.{last_making_steps, last_rank, last_setting_steps, making_rank, rank_on, setting_rank, skip_rank, work_rank}
-use Rattle.mode_setting.specs.declared.setting.Stage.{Stage as SettingStage}
-use Rattle.mode_setting.specs.declared.setting.Stage.TheVariants as setting
+use Rattle.mode_job.specs.declared.setting.Stage.{Stage as SettingStage}
+use Rattle.mode_job.specs.declared.setting.Stage.TheVariants as setting
 use Rattle.copy_move.proofs.MovingFalls.{moving_low, moving_tried_low}
 use Rattle.copy_move.proofs.RemovalFalls.{removal_low, removal_tried_low}
 

@@ -10,12 +10,12 @@ use Rattle.job_reports.specs.declared.report.Did.TheVariants.{Barrier, Ended, Sk
 use Rattle.job_reports.specs.declared.report.Ending.{Ending}
 use Rattle.job_reports.specs.declared.report.Ending.TheVariants.{Finished}
 use Rattle.job_reports.specs.Paths.{folder_of}
-use Rattle.mode_setting.specs.Settings as settings
-use Rattle.subtree_copy.proofs.Finishes.{finish_is_still}
-use Rattle.tree_deletion.specs.Folders as folders
-use Rattle.thing_making.specs.Makings as makings
-use Rattle.thing_moving.specs.Movings as movings
-use Rattle.folder_removal.specs.Removals as removals
+use Rattle.mode_job.specs.Settings as settings
+use Rattle.copy_job.proofs.Finishes.{finish_is_still}
+use Rattle.job_unsynced.specs.Folders as folders
+use Rattle.make_job.specs.Makings as makings
+use Rattle.move_job.specs.Movings as movings
+use Rattle.emptied_job.specs.Removals as removals
 use Rattle.copy_move.specs.declared.run.Course.{Course}
 use Rattle.copy_move.specs.declared.run.Course.TheVariants.{GoesOn, Asking, InTrouble, OwedSyncFailed, Skips, Ends}
 use Rattle.copy_move.specs.declared.work.Work.{Work}

@@ -16,24 +16,24 @@ use Rattle.job_reports.specs.CallRuns.{HasMore}
 use Rattle.job_reports.specs.Reports.{ends}
 use Rattle.job_reports.specs.Paths.{folder_of, without}
 use Rattle.job_reports.specs.Stops.{out_of_memory_at}
-use Rattle.tree_deletion.specs.Folders.{is_one_of, joined}
-use Rattle.tree_deletion.specs.Standing.{at_barrier as deletion_barrier}
+use Rattle.job_unsynced.specs.Folders.{is_one_of, joined}
+use Rattle.delete_job.specs.Standing.{at_barrier as deletion_barrier}
 use Rattle.copy_move.specs.declared.work.Work.{Work}
 use Rattle.copy_move.specs.declared.work.Work.TheVariants.{Copy, Delete, Make, Move, SetMode, RemoveEmptied}
 use Rattle.copy_move.specs.declared.run.Course.{Course}
 use Rattle.copy_move.specs.declared.run.Course.TheVariants.{GoesOn, Skips, Ends}
-use Rattle.copy_move.specs.Deletions.{Deleting, left_in}
-use Rattle.copy_move.specs.Deletions as deletions
-use Rattle.copy_move.specs.DeletionSteps.{DeletionSkips, DeletionStep, LastDeletionStep, after_try, is_decided}
+use Rattle.delete_job.specs.Deletions.{Deleting, left_in}
+use Rattle.delete_job.specs.Deletions as deletions
+use Rattle.delete_job.specs.DeletionSteps.{DeletionSkips, DeletionStep, LastDeletionStep, after_try, is_decided}
 use Rattle.copy_move.specs.Jobs.{Running, CallsOn, PassesOver, TellsOn, course_after, is_fresh}
 use Rattle.copy_move.specs.Ranks.{rank_at, rank_on, tries_left}
 use Rattle.copy_move.specs.Settling.{NoneForFolder, NoneOwed, with_change}
 use Rattle.copy_move.specs.Steps.{LeavesDirty, OwnStep, OwedSyncStep, SkipSteps, SkipWalks, Walks, WalksOn, WindingStep, WorkSkips, WorkSteps, WorkWindsUp, step_made}
 use Rattle.job_reports.proofs.Runs.{risen_before}
 use Rattle.copy_move.specs.Faults.{MeetsFault}
-use Rattle.copy_move.proofs.DeletionRuns.{fewer, one_fewer}
-use Rattle.copy_move.proofs.RunSteps.{run_ends, run_goes}
-use Rattle.thing_making.proofs.MakingRuns.{same_log}
+use Rattle.delete_job.proofs.DeletionRuns.{fewer, one_fewer}
+use Rattle.copy_move.proofs.RunSteps.{fault_told, run_ends, run_goes}
+use Rattle.make_job.proofs.MakingRuns.{same_log}
 
 -- a change adds a folder at most
 pub joined_more : (folder : Route) (dirty : List Route) → length (joined folder dirty) ≤ length dirty + 1
@@ -101,7 +101,7 @@ module _ (unclaimed : Route → Type 0) (replies : Replies) (d new : Deleting) (
   falls_by Barrier (stage, a) (folder, own, left, called) less going =
       let few = one_fewer folder dirty own.dirty in
       let count : length dirty_after ≡ length (without folder dirty) = ap length left in
-      let rest : left_in new ≡ 0 = ap (λ s. Rattle.tree_deletion.specs.Standing.rank_of s new.depth new.place) (a.stage_is ∙ stage) in
+      let rest : left_in new ≡ 0 = ap (λ s. Rattle.delete_job.specs.Standing.rank_of s new.depth new.place) (a.stage_is ∙ stage) in
       omega (arith, few, count, rest)
   falls_by (Troubled trouble) t h less going = let same = ap length h in omega (arith, same)
   falls_by (Ended ending part) t h less going = absurd (true≢false going)
@@ -126,7 +126,7 @@ module _ (unclaimed : Route → Type 0) (replies : Replies) (d new : Deleting) (
     few = let few = s.few in omega (arith, few);
     unknown = s.unknown;
     later = s.later;
-    fault = s.fault;
+    fault = λ h. s.fault (fault_told did h);
     falls = λ going. falls_by did s.tells s.leaves s.fewer going;
   }
 
@@ -152,7 +152,7 @@ deletion_winds_up ending d new did calls left dirty dirty_after before after f0 
 pub deletion_skips : (cause : Cause) (d new : Deleting) (did : Did) → DeletionSkips cause d did new → deletion_barrier d.stage ≡ false → WorkSkips cause (Delete d) did (Delete new)
 deletion_skips cause d new did s apart = by s.skips
   where
-    by : ((path : Route) × (did ≡ Skipped path cause) × deletions.IsAtStage d (Rattle.tree_deletion.specs.Standing.after_item d.path path d.stage) new) ⊎ ((did ≡ Troubled (out_of_memory_at (deletion_barrier d.stage))) × (new ≡ d)) → WorkSkips cause (Delete d) did (Delete new)
+    by : ((path : Route) × (did ≡ Skipped path cause) × deletions.IsAtStage d (Rattle.delete_job.specs.Standing.after_item d.path path d.stage) new) ⊎ ((did ≡ Troubled (out_of_memory_at (deletion_barrier d.stage))) × (new ≡ d)) → WorkSkips cause (Delete d) did (Delete new)
     by (inl (path, did_is, a)) = record {
       walks = s.passes;
       skips = inl (path, did_is, a);

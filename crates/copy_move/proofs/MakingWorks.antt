@@ -13,16 +13,16 @@ use Rattle.job_reports.specs.Stops.{out_of_memory_at}
 use Rattle.job_answers.specs.declared.replies.Replies.{Replies}
 use Rattle.copy_move.specs.declared.work.Work.TheVariants.{Make}
 use Rattle.copy_move.specs.declared.run.Course.TheVariants.{GoesOn, InTrouble}
-use Rattle.copy_move.specs.DeletionSteps.{after_try}
-use Rattle.thing_making.specs.Makings.{Making, Tells, at_barrier, is_dirty}
-use Rattle.thing_making.specs.MakingSteps.{LastMakingStep, MakingSkips, MakingStep}
+use Rattle.delete_job.specs.DeletionSteps.{after_try}
+use Rattle.make_job.specs.Makings.{Making, Tells, at_barrier, is_dirty}
+use Rattle.make_job.specs.MakingSteps.{LastMakingStep, MakingSkips, MakingStep}
 use Rattle.copy_move.specs.Jobs.{course_after, unreported_skip}
 use Rattle.copy_move.specs.Ranks.{making_rank, rank_on, tries_left}
 use Rattle.copy_move.specs.Settling.{with_change}
 use Rattle.copy_move.specs.Steps.{WorkSkips, WorkSteps, WorkWindsUp}
-use Rattle.copy_move.proofs.DeletionRuns.{met_by}
 use Rattle.copy_move.proofs.Falling.{last_making_falls, making_falls, unmade_falls, waiting_falls}
 use Rattle.copy_move.proofs.FolderSteps.{one_more, tried_more, tries_after, weighs_less}
+use Rattle.copy_move.proofs.RunSteps.{met_by}
 
 -- a step
 module _ (unclaimed : Route → Type 0) (replies : Replies) (m new : Making) (did : Did) (calls : ℕ) (dirty dirty_after : List Route) (before after : Option CallLog) (f0 f1 : ℕ) where

@@ -10,11 +10,11 @@ use Rattle.job_reports.specs.declared.report.Transfer.TheVariants.{ByCopy, ByMov
 use Rattle.job_reports.specs.declared.job.Pair.{Pair}
 use Rattle.job_reports.specs.declared.report.Did.TheVariants.{Barrier, Merges, Skipped, Troubled}
 use Rattle.job_reports.specs.declared.report.Ending.{Ending}
-use Rattle.subtree_copy.specs.Merged.{MergesTop}
-use Rattle.subtree_copy.specs.Standing.{SubtreeCopying}
-use Rattle.thing_moving.specs.declared.moving.MovingStage.TheVariants.{PassedOver, Take}
-use Rattle.thing_moving.specs.Movings.{MayMerge, Moving, with_moves}
-use Rattle.subtree_copy.proofs.MergeStill.{merge_is_still}
+use Rattle.copy_job.specs.Merged.{MergesTop}
+use Rattle.copy_job.specs.Standing.{SubtreeCopying}
+use Rattle.move_job.specs.declared.moving.MovingStage.TheVariants.{PassedOver, Take}
+use Rattle.move_job.specs.Movings.{MayMerge, Moving, with_moves}
+use Rattle.copy_job.proofs.MergeStill.{merge_is_still}
 use Rattle.copy_move.specs.declared.run.Course.{Course}
 use Rattle.copy_move.specs.declared.run.Course.TheVariants.{GoesOn, Asking, InTrouble, OwedSyncFailed, Skips, Ends}
 use Rattle.copy_move.specs.declared.work.Work.{Work}

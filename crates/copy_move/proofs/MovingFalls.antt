@@ -9,9 +9,9 @@ use Rattle.job_reports.specs.declared.report.Did.{Did}
 use Rattle.job_reports.specs.declared.report.Did.TheVariants.{Began, Chunk, Placed, Removed, Made, Set, Kept, Skipped, Cleaned, Barrier, Asked, Merges, Moved, Troubled, Ended}
 use Rattle.job_reports.specs.Paths.{folder_of}
 use Rattle.job_reports.specs.Reports.{ends}
-use Rattle.thing_moving.specs.declared.moving.MovingStage.{MovingStage}
-use Rattle.thing_moving.specs.declared.moving.MovingStage.TheVariants.{Take, SyncTarget, SyncSource, Finish, PassedOver}
-use Rattle.thing_moving.specs.Movings.{Moving, Winds, after_sync, is_dirty, skipped}
+use Rattle.move_job.specs.declared.moving.MovingStage.{MovingStage}
+use Rattle.move_job.specs.declared.moving.MovingStage.TheVariants.{Take, SyncTarget, SyncSource, Finish, PassedOver}
+use Rattle.move_job.specs.Movings.{Moving, Winds, after_sync, is_dirty, skipped}
 use Rattle.copy_move.specs.Ranks.{last_moving_steps, moving_rank}
 
 -- a move in trouble has fewer steps left than one that goes on

@@ -16,20 +16,20 @@ use Rattle.job_reports.specs.Paths.{folder_of, without}
 use Rattle.job_reports.specs.Reports.{ends}
 use Rattle.job_reports.specs.Stops.{out_of_memory_at}
 use Rattle.job_answers.specs.declared.replies.Replies.{Replies}
-use Rattle.thing_moving.specs.declared.moving.MovingStage.{MovingStage}
-use Rattle.thing_moving.specs.declared.moving.MovingStage.TheVariants.{Take, SyncTarget, SyncSource, Finish, PassedOver}
-use Rattle.thing_moving.specs.Movings.{Moving, Tells, after_sync, at_barrier, is_dirty, owed_folder, owed_in, owes_target, with_moves}
-use Rattle.tree_deletion.specs.Folders.{is_of}
-use Rattle.thing_moving.specs.MovingSteps.{LastMovingStep, MovingSkips, MovingStep, TellsFault}
+use Rattle.move_job.specs.declared.moving.MovingStage.{MovingStage}
+use Rattle.move_job.specs.declared.moving.MovingStage.TheVariants.{Take, SyncTarget, SyncSource, Finish, PassedOver}
+use Rattle.move_job.specs.Movings.{Moving, Tells, after_sync, at_barrier, is_dirty, owed_folder, owed_in, owes_target, with_moves}
+use Rattle.job_unsynced.specs.Folders.{is_of}
+use Rattle.move_job.specs.MovingSteps.{LastMovingStep, MovingSkips, MovingStep, TellsFault}
 use Rattle.copy_move.specs.declared.work.Work.TheVariants.{Move}
 use Rattle.copy_move.specs.declared.run.Course.TheVariants.{GoesOn, InTrouble}
-use Rattle.copy_move.specs.DeletionSteps.{after_try}
+use Rattle.delete_job.specs.DeletionSteps.{after_try}
 use Rattle.copy_move.specs.Faults.{MeetsFault}
 use Rattle.copy_move.specs.Jobs.{course_after, unreported_skip}
 use Rattle.copy_move.specs.Ranks.{last_moving_steps, moving_rank, rank_on, tries_left}
 use Rattle.copy_move.specs.Settling.{is_own, with_change}
 use Rattle.copy_move.specs.Steps.{WorkSkips, WorkSteps, WorkWindsUp}
-use Rattle.copy_move.proofs.DeletionRuns.{fewer}
+use Rattle.delete_job.proofs.DeletionRuns.{fewer}
 use Rattle.copy_move.proofs.Falling.{waiting_falls}
 use Rattle.copy_move.proofs.FolderSteps.{one_more, tried_more, tries_after}
 use Rattle.copy_move.proofs.MovingFalls.{last_moving_falls, moving_tried_low, unmoved_falls}

@@ -13,11 +13,11 @@ use Rattle.job_reports.specs.CallRuns.{AllDone, HasMore}
 use Rattle.job_reports.specs.Paths.{without}
 use Rattle.job_reports.specs.Stops.{out_of_memory_at}
 use Rattle.job_reports.proofs.Runs.{no_more}
-use Rattle.mode_setting.specs.SettingSteps.{SyncRan, sync_of}
+use Rattle.mode_job.specs.SettingSteps.{SyncRan, sync_of}
 use Rattle.copy_move.specs.declared.run.Course.TheVariants.{GoesOn, OwedSyncFailed}
 use Rattle.copy_move.specs.Jobs.{IsGoing, Running, is_fresh}
 use Rattle.copy_move.specs.Steps.{OwedSyncStep, SyncsOwed, step_made}
-use Rattle.subtree_copy.proofs.StillTelling.{performs_tells}
+use Rattle.copy_job.proofs.StillTelling.{performs_tells}
 use Rattle.copy_move.proofs.Falling.{trouble_falls}
 use Rattle.copy_move.proofs.StillTelling.{StillTells, sync_stop_tells}
 

@@ -6,9 +6,9 @@ use Rattle.job_reports.specs.declared.report.Did.{Did}
 use Rattle.job_reports.specs.declared.report.Did.TheVariants.{Removed, Kept, Skipped, Barrier, Troubled, Ended}
 use Rattle.job_reports.specs.Reports.{ends}
 use Rattle.job_answers.specs.declared.replies.Replies.{Replies}
-use Rattle.folder_removal.specs.declared.removal.RemovalStage.{RemovalStage}
-use Rattle.folder_removal.specs.declared.removal.RemovalStage.TheVariants.{Remove, Sync, Finish, PassedOver}
-use Rattle.folder_removal.specs.Removals.{Removing, Tells, Winds, skipped}
+use Rattle.emptied_job.specs.declared.removal.RemovalStage.{RemovalStage}
+use Rattle.emptied_job.specs.declared.removal.RemovalStage.TheVariants.{Remove, Sync, Finish, PassedOver}
+use Rattle.emptied_job.specs.Removals.{Removing, Tells, Winds, skipped}
 use Rattle.copy_move.specs.declared.work.Work.TheVariants.{RemoveEmptied}
 use Rattle.copy_move.specs.Jobs.{course_after}
 use Rattle.copy_move.specs.Ranks.{last_removal_steps, rank_on, removal_rank}

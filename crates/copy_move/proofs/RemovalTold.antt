@@ -8,10 +8,10 @@ use Rattle.job_reports.specs.declared.report.Did.{Did}
 use Rattle.job_reports.specs.declared.report.Did.TheVariants.{Removed, Kept, Skipped, Barrier, Troubled, Ended}
 use Rattle.job_reports.specs.Reports.{ends}
 use Rattle.job_answers.specs.declared.replies.Replies.{Replies}
-use Rattle.folder_removal.specs.declared.removal.RemovalStage.{RemovalStage}
-use Rattle.folder_removal.specs.declared.removal.RemovalStage.TheVariants.{Remove, Sync, Finish, PassedOver}
-use Rattle.folder_removal.specs.Removals.{Removing, Tells, Winds, at_barrier, is_fresh}
-use Rattle.folder_removal.specs.Removals as removals
+use Rattle.emptied_job.specs.declared.removal.RemovalStage.{RemovalStage}
+use Rattle.emptied_job.specs.declared.removal.RemovalStage.TheVariants.{Remove, Sync, Finish, PassedOver}
+use Rattle.emptied_job.specs.Removals.{Removing, Tells, Winds, at_barrier, is_fresh}
+use Rattle.emptied_job.specs.Removals as removals
 use Rattle.copy_move.specs.declared.run.Course.{Course}
 use Rattle.copy_move.specs.declared.run.Course.TheVariants.{GoesOn, InTrouble, OwedSyncFailed, Ends}
 use Rattle.copy_move.specs.declared.work.Work.TheVariants.{RemoveEmptied}

@@ -11,11 +11,11 @@ use Rattle.job_reports.specs.declared.report.Did.TheVariants.{Skipped, Troubled}
 use Rattle.job_reports.specs.Paths.{folder_of}
 use Rattle.job_reports.specs.Stops.{out_of_memory_at}
 use Rattle.job_answers.specs.declared.replies.Replies.{Replies}
-use Rattle.folder_removal.specs.Removals.{Removing, at_barrier, is_dirty}
-use Rattle.folder_removal.specs.RemovalSteps.{LastRemovalStep, RemovalSkips, RemovalStep, TellsFault}
+use Rattle.emptied_job.specs.Removals.{Removing, at_barrier, is_dirty}
+use Rattle.emptied_job.specs.RemovalSteps.{LastRemovalStep, RemovalSkips, RemovalStep, TellsFault}
 use Rattle.copy_move.specs.declared.work.Work.TheVariants.{RemoveEmptied}
 use Rattle.copy_move.specs.declared.run.Course.TheVariants.{GoesOn, InTrouble}
-use Rattle.copy_move.specs.DeletionSteps.{after_try}
+use Rattle.delete_job.specs.DeletionSteps.{after_try}
 use Rattle.copy_move.specs.Faults.{MeetsFault}
 use Rattle.copy_move.specs.Jobs.{course_after, unreported_skip}
 use Rattle.copy_move.specs.Ranks.{rank_on, removal_rank, tries_left}

@@ -3,17 +3,54 @@ use Rattle.std.proofs.Common.{◌≡◌, ℕ, List, sym, subst, arith, Option}
 use Rattle.mc_text.specs.Routes.{Route}
 use Rattle.tree_trait.specs.declared.calls.TreeError.{TreeError}
 use Rattle.tree_trait.specs.Change.{CallLog}
+use Rattle.job_reports.specs.declared.report.Cause.{Cause}
 use Rattle.job_reports.specs.declared.report.Ending.{Ending}
 use Rattle.job_reports.specs.declared.report.Did.{Did}
 use Rattle.job_reports.specs.declared.report.Did.TheVariants.{Began, Chunk, Placed, Removed, Made, Set, Kept, Skipped, Cleaned, Barrier, Asked, Merges, Moved, Troubled, Ended}
-use Rattle.job_reports.specs.Reports.{IsFault}
+use Rattle.job_reports.specs.Reports.{IsFault, TellsFault}
 use Rattle.copy_move.specs.declared.work.Work.{Work}
 use Rattle.copy_move.specs.declared.work.Work.TheVariants.{Copy, Delete, Make, Move, SetMode, RemoveEmptied}
+use Rattle.copy_move.specs.declared.run.Course.{Course}
 use Rattle.copy_move.specs.declared.run.Course.TheVariants.{GoesOn, Ends}
 use Rattle.copy_move.specs.Jobs.{Running, TellsOn, CallsOn, WorkWinds, course_after}
 use Rattle.copy_move.specs.Faults.{MeetsFault}
 use Rattle.copy_move.specs.Steps.{StepsOn, WorkSteps, WorkWindsUp}
-use Rattle.copy_move.proofs.DeletionRuns.{met_by}
+
+-- a report that isn't a skip tells of a fault where it is one
+pub met_by : (course : Course) (P : Did → Type 0) (did : Did) → ((path : Route) (cause : Cause) → P (Skipped path cause) → ⊥) → P did → MeetsFault course did → IsFault did
+met_by course P (Troubled trouble) none p h = h
+met_by course P (Skipped path cause) none p h = absurd (none path cause p)
+met_by course P (Began part) none p h = h
+met_by course P (Chunk count) none p h = h
+met_by course P (Asked question) none p h = h
+met_by course P (Merges transfer pair names) none p h = h
+met_by course P (Moved pair) none p h = h
+met_by course P (Set path) none p h = h
+met_by course P (Placed path) none p h = h
+met_by course P (Removed path) none p h = h
+met_by course P (Made path) none p h = h
+met_by course P (Kept path) none p h = h
+met_by course P (Cleaned part) none p h = h
+met_by course P Barrier none p h = h
+met_by course P (Ended ending part) none p h = h
+
+-- a fault that a job meets as it goes on is one of which the report tells
+pub fault_told : (did : Did) → MeetsFault GoesOn did → TellsFault did
+fault_told (Troubled trouble) h = h
+fault_told (Skipped path cause) h = h
+fault_told (Began part) h = h
+fault_told (Chunk count) h = h
+fault_told (Asked question) h = h
+fault_told (Merges transfer pair names) h = h
+fault_told (Moved pair) h = h
+fault_told (Set path) h = h
+fault_told (Placed path) h = h
+fault_told (Removed path) h = h
+fault_told (Made path) h = h
+fault_told (Kept path) h = h
+fault_told (Cleaned part) h = h
+fault_told Barrier h = h
+fault_told (Ended ending part) h = h
 
 -- no last step reports a fault
 quiet_end : (ending : Ending) (old new : Work) (did : Did) → WorkWinds ending old did new → IsFault did → ⊥

@@ -11,33 +11,33 @@ use Rattle.job_reports.specs.declared.report.Did.{Did}
 use Rattle.job_reports.specs.declared.report.Did.TheVariants.{Began, Chunk, Placed, Removed, Made, Set, Kept, Skipped, Cleaned, Barrier, Asked, Merges, Moved, Troubled, Ended}
 use Rattle.job_answers.specs.declared.replies.Replies.{Replies}
 use Rattle.job_reports.proofs.Runs.{all_some}
-use Rattle.subtree_copy.specs.Known as known
-use Rattle.subtree_copy.specs.LastCalls.{LastCalls as LastTreeCalls}
-use Rattle.subtree_copy.specs.Standing.{part_of}
-use Rattle.subtree_copy.proofs.StillTelling.{known_law, performs_tells, run_tells}
+use Rattle.copy_job.specs.Known as known
+use Rattle.copy_job.specs.LastCalls.{LastCalls as LastTreeCalls}
+use Rattle.copy_job.specs.Standing.{part_of}
+use Rattle.copy_job.proofs.StillTelling.{known_law, performs_tells, run_tells}
 use Rattle.job_reports.specs.Paths.{folder_of}
 use Rattle.job_reports.specs.Stops.{sync_answer}
 use Rattle.copy_move.specs.declared.work.Work.{Work}
 use Rattle.copy_move.specs.declared.work.Work.TheVariants.{Copy, Delete, Make, Move, SetMode, RemoveEmptied}
 use Rattle.copy_move.specs.declared.run.Course.{Course}
 use Rattle.copy_move.specs.declared.run.Course.TheVariants.{GoesOn, Asking, InTrouble, OwedSyncFailed, Skips, Ends}
-use Rattle.copy_move.specs.Deletions.{DeletionCalls, IsRefused, LastCalls}
-use Rattle.copy_move.specs.Deletions as deletions
-use Rattle.thing_making.specs.Makings.{Answers, LastMakingCalls, Making, MakingCalls}
-use Rattle.thing_making.specs.Makings as makings
-use Rattle.thing_making.specs.NewThings.{making_call}
-use Rattle.thing_moving.specs.declared.moving.MovingStage.{MovingStage}
-use Rattle.thing_moving.specs.declared.moving.MovingStage.TheVariants as moving
-use Rattle.thing_moving.specs.Movings.{LastMovingCalls, Moving, MovingCalls, Stops, owed_folder}
-use Rattle.folder_removal.specs.declared.removal.RemovalStage.{RemovalStage}
-use Rattle.folder_removal.specs.declared.removal.RemovalStage.TheVariants as removal
-use Rattle.folder_removal.specs.Removals.{LastRemovalCalls, Removing, RemovalCalls}
-use Rattle.folder_removal.specs.Removals as removals
-use Rattle.copy_move.specs.ModeSettings.{LastSettingCalls}
-use Rattle.mode_setting.specs.declared.setting.Stage.{Stage as SettingStage}
-use Rattle.mode_setting.specs.declared.setting.Stage.TheVariants as setting
-use Rattle.mode_setting.specs.Settings.{Setting}
-use Rattle.mode_setting.specs.SettingSteps.{SettingCalls, SettingStops, SyncStops, TellsTried, sync_of}
+use Rattle.delete_job.specs.Deletions.{DeletionCalls, IsRefused, LastCalls}
+use Rattle.delete_job.specs.Deletions as deletions
+use Rattle.make_job.specs.Makings.{Answers, LastMakingCalls, Making, MakingCalls}
+use Rattle.make_job.specs.Makings as makings
+use Rattle.make_job.specs.NewThings.{making_call}
+use Rattle.move_job.specs.declared.moving.MovingStage.{MovingStage}
+use Rattle.move_job.specs.declared.moving.MovingStage.TheVariants as moving
+use Rattle.move_job.specs.Movings.{LastMovingCalls, Moving, MovingCalls, Stops, owed_folder}
+use Rattle.emptied_job.specs.declared.removal.RemovalStage.{RemovalStage}
+use Rattle.emptied_job.specs.declared.removal.RemovalStage.TheVariants as removal
+use Rattle.emptied_job.specs.Removals.{LastRemovalCalls, Removing, RemovalCalls}
+use Rattle.emptied_job.specs.Removals as removals
+use Rattle.mode_job.specs.ModeSettings.{LastSettingCalls}
+use Rattle.mode_job.specs.declared.setting.Stage.{Stage as SettingStage}
+use Rattle.mode_job.specs.declared.setting.Stage.TheVariants as setting
+use Rattle.mode_job.specs.Settings.{Setting}
+use Rattle.mode_job.specs.SettingSteps.{SettingCalls, SettingStops, SyncStops, TellsTried, sync_of}
 use Rattle.copy_move.specs.Jobs.{CallsOn, JobCalls, Running, WorkCalls, WorkLastCalls}
 
 abbrev pub StillTells : Option CallLog → Type 0

@@ -18,37 +18,37 @@ use Rattle.copy_move.specs.declared.work.Work.{Work}
 use Rattle.copy_move.specs.declared.work.Work.TheVariants.{Copy, Delete, Make, Move, SetMode, RemoveEmptied}
 use Rattle.copy_move.specs.declared.run.Course.{Course}
 use Rattle.copy_move.specs.declared.run.Course.TheVariants.{GoesOn, Asking, InTrouble, OwedSyncFailed, Skips, Ends}
-use Rattle.subtree_walk.specs.Places.{unopened}
-use Rattle.tree_deletion.specs.declared.deletion.Depth.TheVariants.{Top}
-use Rattle.tree_deletion.specs.declared.deletion.Stage.{Stage as DeletionStage}
-use Rattle.tree_deletion.specs.declared.deletion.Stage.TheVariants as deletion
-use Rattle.tree_deletion.specs.Standing.{after_item}
-use Rattle.tree_deletion.specs.Standing as standing
+use Rattle.tree_walk.specs.Places.{unopened}
+use Rattle.delete_job.specs.declared.deletion.Depth.TheVariants.{Top}
+use Rattle.delete_job.specs.declared.deletion.Stage.{Stage as DeletionStage}
+use Rattle.delete_job.specs.declared.deletion.Stage.TheVariants as deletion
+use Rattle.delete_job.specs.Standing.{after_item}
+use Rattle.delete_job.specs.Standing as standing
 use Rattle.job_reports.specs.Jobs.{is_link_text}
-use Rattle.thing_making.specs.declared.making.MakingStage.{MakingStage}
-use Rattle.thing_making.specs.declared.making.MakingStage.TheVariants as making
-use Rattle.thing_making.specs.declared.new_thing.NewThing.TheVariants as thing
-use Rattle.copy_move.specs.Deletions.{Deleting, IsAtStage}
-use Rattle.copy_move.specs.Deletions as deletions
-use Rattle.thing_making.specs.Makings.{Making}
-use Rattle.thing_making.specs.Makings as makings
-use Rattle.copy_move.specs.ModeSettings as modes
-use Rattle.mode_setting.specs.declared.setting.Stage.{Stage as SettingStage}
-use Rattle.mode_setting.specs.declared.setting.Stage.TheVariants as setting
-use Rattle.mode_setting.specs.Settings.{Setting}
-use Rattle.mode_setting.specs.Settings as settings
+use Rattle.make_job.specs.declared.making.MakingStage.{MakingStage}
+use Rattle.make_job.specs.declared.making.MakingStage.TheVariants as making
+use Rattle.make_job.specs.declared.new_thing.NewThing.TheVariants as thing
+use Rattle.delete_job.specs.Deletions.{Deleting, IsAtStage}
+use Rattle.delete_job.specs.Deletions as deletions
+use Rattle.make_job.specs.Makings.{Making}
+use Rattle.make_job.specs.Makings as makings
+use Rattle.mode_job.specs.ModeSettings as modes
+use Rattle.mode_job.specs.declared.setting.Stage.{Stage as SettingStage}
+use Rattle.mode_job.specs.declared.setting.Stage.TheVariants as setting
+use Rattle.mode_job.specs.Settings.{Setting}
+use Rattle.mode_job.specs.Settings as settings
 use Rattle.copy_move.specs.Jobs.{Running, JobTells, TellsOn, WorkTells, WorkWinds, answered, answered_on, copies, course_after, deletes, first_work, halt_of, is_fresh, makes, moves, removes_emptied, sets, PassesOver, taken_anew, unreported_skip}
 use Rattle.job_reports.specs.Reports.{ends}
 use Rattle.job_answers.specs.declared.replies.Replies.{Replies}
 use Rattle.job_reports.specs.declared.job.Pair.{Pair}
-use Rattle.tree_copy.specs.declared.copy.Stage.{Stage as TreeStage}
-use Rattle.tree_copy.specs.declared.copy.Stage.TheVariants as tree_stage
-use Rattle.tree_copy.specs.Standing.{after_report, is_fresh as is_tree_fresh}
-use Rattle.subtree_copy.specs.Reporting.{IsWound}
-use Rattle.subtree_copy.specs.Standing as tree
-use Rattle.subtree_copy.specs.Standing.{SubtreeCopying}
-use Rattle.subtree_copy.specs.Told.{IsAfter, part_after}
-use Rattle.subtree_copy.proofs.Tellings.{told_law}
+use Rattle.copy_tree.specs.declared.copy.Stage.{Stage as TreeStage}
+use Rattle.copy_tree.specs.declared.copy.Stage.TheVariants as tree_stage
+use Rattle.copy_tree.specs.Standing.{after_report, is_fresh as is_tree_fresh}
+use Rattle.copy_job.specs.Reporting.{IsWound}
+use Rattle.copy_job.specs.Standing as tree
+use Rattle.copy_job.specs.Standing.{SubtreeCopying}
+use Rattle.copy_job.specs.Told.{IsAfter, part_after}
+use Rattle.copy_job.proofs.Tellings.{told_law}
 use Rattle.copy_move.specs.TreeCopies as trees
 use Rattle.copy_move.specs.Told.{after_step, course_told, if_closed, running, skipped, synced, told, work_told}
 use Rattle.copy_move.proofs.MovingTold.{moving_told, moving_winds, synced_moving}

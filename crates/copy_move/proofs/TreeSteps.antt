@@ -14,27 +14,27 @@ use Rattle.job_reports.specs.declared.report.LastStepResult.{LastStepResult}
 use Rattle.job_reports.specs.Reports.{ends}
 use Rattle.job_reports.specs.Stops.{out_of_memory_at}
 use Rattle.job_answers.specs.declared.replies.Replies.{Replies}
-use Rattle.tree_copy.specs.InPlace.{IsInPlace}
-use Rattle.tree_copy.specs.Standing.{is_fresh}
-use Rattle.subtree_copy.specs.Counted as tree
-use Rattle.subtree_copy.specs.LastCalls.{LastCalls, TellsTried}
-use Rattle.subtree_copy.specs.Ranks.{last_rank, rank}
-use Rattle.subtree_copy.specs.Reporting.{ChangesOwn, IsWound}
-use Rattle.subtree_copy.specs.Standing.{SubtreeCopying, at_barrier, is_own, part_of, retries, started}
-use Rattle.subtree_copy.specs.Standing as standing
-use Rattle.subtree_copy.specs.SubtreeSteps.{LastSubtreeStep, SubtreeSkips, SubtreeSteps}
-use Rattle.subtree_copy.specs.Told.{IsAfter}
-use Rattle.subtree_copy.proofs.Answered.{answered_law, steady_law, waiting_law}
-use Rattle.subtree_copy.proofs.Barred.{barrier_law}
-use Rattle.subtree_copy.proofs.Counts.{count_law}
-use Rattle.subtree_copy.proofs.LastCounts.{last_count_law}
-use Rattle.subtree_copy.proofs.LastOnes.{last_rank_law}
-use Rattle.subtree_copy.proofs.MergedOnes.{merged_law}
-use Rattle.subtree_copy.proofs.Ranked.{rank_law}
-use Rattle.subtree_copy.proofs.Reportings.{reporting_law}
-use Rattle.subtree_copy.proofs.Tellings.{told_law}
-use Rattle.subtree_copy.proofs.Unbegun.{unbegun_law}
-use Rattle.subtree_copy.proofs.Waits.{trouble_law}
+use Rattle.copy_tree.specs.InPlace.{IsInPlace}
+use Rattle.copy_tree.specs.Standing.{is_fresh}
+use Rattle.copy_job.specs.Counted as tree
+use Rattle.copy_job.specs.LastCalls.{LastCalls, TellsTried}
+use Rattle.copy_job.specs.Ranks.{last_rank, rank}
+use Rattle.copy_job.specs.Reporting.{ChangesOwn, IsWound}
+use Rattle.copy_job.specs.Standing.{SubtreeCopying, at_barrier, is_own, part_of, retries, started}
+use Rattle.copy_job.specs.Standing as standing
+use Rattle.copy_job.specs.SubtreeSteps.{LastSubtreeStep, SubtreeSkips, SubtreeSteps}
+use Rattle.copy_job.specs.Told.{IsAfter}
+use Rattle.copy_job.proofs.Answered.{answered_law, steady_law, waiting_law}
+use Rattle.copy_job.proofs.Barred.{barrier_law}
+use Rattle.copy_job.proofs.Counts.{count_law}
+use Rattle.copy_job.proofs.LastCounts.{last_count_law}
+use Rattle.copy_job.proofs.LastOnes.{last_rank_law}
+use Rattle.copy_job.proofs.MergedOnes.{merged_law}
+use Rattle.copy_job.proofs.Ranked.{rank_law}
+use Rattle.copy_job.proofs.Reportings.{reporting_law}
+use Rattle.copy_job.proofs.Tellings.{told_law}
+use Rattle.copy_job.proofs.Unbegun.{unbegun_law}
+use Rattle.copy_job.proofs.Waits.{trouble_law}
 use Rattle.copy_move.specs.declared.work.Work.TheVariants.{Copy}
 use Rattle.copy_move.specs.declared.run.Course.TheVariants.{GoesOn}
 use Rattle.copy_move.specs.Faults.{MeetsFault}

@@ -22,38 +22,38 @@ use Rattle.job_reports.specs.declared.row.JobKind.{JobKind}
 use Rattle.job_reports.specs.declared.row.JobKind.TheVariants as kind
 use Rattle.job_reports.specs.declared.answer.Answer.{Answer}
 use Rattle.job_reports.specs.declared.answer.Answer.TheVariants.{Yes, No, All, Update, Nothing, SizeDiffers, Retry, Skip, SkipAll, Abort}
-use Rattle.thing_making.specs.declared.making.MakingStage.TheVariants as making
-use Rattle.thing_making.specs.declared.new_thing.NewThing.{NewThing}
-use Rattle.thing_making.specs.declared.new_thing.NewThing.TheVariants as thing
+use Rattle.make_job.specs.declared.making.MakingStage.TheVariants as making
+use Rattle.make_job.specs.declared.new_thing.NewThing.{NewThing}
+use Rattle.make_job.specs.declared.new_thing.NewThing.TheVariants as thing
 use Rattle.copy_move.specs.declared.work.Work.{Work}
 use Rattle.copy_move.specs.declared.work.Work.TheVariants.{Copy, Delete, Make, Move, SetMode, RemoveEmptied}
 use Rattle.copy_move.specs.declared.run.Halt.{Halt}
 use Rattle.copy_move.specs.declared.run.Course.{Course}
 use Rattle.copy_move.specs.declared.run.Course.TheVariants.{GoesOn, Asking, InTrouble, OwedSyncFailed, Skips, Ends}
-use Rattle.tree_deletion.specs.Standing.{after_item}
-use Rattle.tree_deletion.specs.Standing as standing
-use Rattle.copy_move.specs.Deletions.{DeletionCalls, IsAtStage, LastCalls, started}
-use Rattle.copy_move.specs.Deletions as deletions
-use Rattle.thing_making.specs.Makings.{LastMakingCalls, MakingCalls}
-use Rattle.thing_making.specs.Makings as makings
-use Rattle.thing_moving.specs.Movings.{LastMovingCalls, MovingCalls}
-use Rattle.thing_moving.specs.Movings as movings
-use Rattle.thing_making.specs.NewThings.{making_kind}
-use Rattle.folder_removal.specs.Removals.{LastRemovalCalls, RemovalCalls}
-use Rattle.folder_removal.specs.Removals as removals
-use Rattle.copy_move.specs.ModeSettings.{LastSettingCalls}
-use Rattle.copy_move.specs.ModeSettings as modes
+use Rattle.delete_job.specs.Standing.{after_item}
+use Rattle.delete_job.specs.Standing as standing
+use Rattle.delete_job.specs.Deletions.{DeletionCalls, IsAtStage, LastCalls, started}
+use Rattle.delete_job.specs.Deletions as deletions
+use Rattle.make_job.specs.Makings.{LastMakingCalls, MakingCalls}
+use Rattle.make_job.specs.Makings as makings
+use Rattle.move_job.specs.Movings.{LastMovingCalls, MovingCalls}
+use Rattle.move_job.specs.Movings as movings
+use Rattle.make_job.specs.NewThings.{making_kind}
+use Rattle.emptied_job.specs.Removals.{LastRemovalCalls, RemovalCalls}
+use Rattle.emptied_job.specs.Removals as removals
+use Rattle.mode_job.specs.ModeSettings.{LastSettingCalls}
+use Rattle.mode_job.specs.ModeSettings as modes
 use Rattle.copy_move.specs.TreeCopies as trees
 use Rattle.job_reports.specs.declared.job.Pair.{Pair}
-use Rattle.subtree_copy.specs.LastCalls.{LastCalls as LastTreeCalls}
-use Rattle.subtree_copy.specs.Reporting.{IsWound}
-use Rattle.subtree_copy.specs.Standing.{retries, started as tree_started}
-use Rattle.subtree_copy.specs.Standing as tree
-use Rattle.tree_copy.specs.Standing as tree_copy
-use Rattle.mode_setting.specs.declared.setting.Stage.TheVariants.{Give}
-use Rattle.mode_setting.specs.Settings.{setting}
-use Rattle.mode_setting.specs.Settings as settings
-use Rattle.mode_setting.specs.SettingSteps.{SettingCalls}
+use Rattle.copy_job.specs.LastCalls.{LastCalls as LastTreeCalls}
+use Rattle.copy_job.specs.Reporting.{IsWound}
+use Rattle.copy_job.specs.Standing.{retries, started as tree_started}
+use Rattle.copy_job.specs.Standing as tree
+use Rattle.copy_tree.specs.Standing as copy_tree
+use Rattle.mode_job.specs.declared.setting.Stage.TheVariants.{Give}
+use Rattle.mode_job.specs.Settings.{setting}
+use Rattle.mode_job.specs.Settings as settings
+use Rattle.mode_job.specs.SettingSteps.{SettingCalls}
 
 -- a live job: its number, what it does, whether it goes on, and what was answered to its questions and troubles so far
 pub record Running : Type 0 where
@@ -139,7 +139,7 @@ at_barrier (RemoveEmptied r) = removals.at_barrier r.stage
 
 -- the work of a job that has changed nothing yet
 abbrev pub is_fresh : Work → Bool
-is_fresh (Copy c) = tree_copy.is_fresh c.at.stage
+is_fresh (Copy c) = copy_tree.is_fresh c.at.stage
 is_fresh (Delete d) = standing.is_fresh d.stage
 is_fresh (Make m) = makings.is_fresh m.stage
 is_fresh (Move m) = movings.is_fresh m.stage

@@ -1,7 +1,4 @@
-pub mod DeletionSteps
 pub mod Faults
-pub mod Deletions
-pub mod ModeSettings
 pub mod Jobs
 pub mod Ranks
 pub mod Settling

@@ -1,21 +1,21 @@
 -- How many steps a job makes at most before its end or its next trouble. Each step leaves fewer.
 use Rattle.std.specs.Prelude.{ℕ, ◌+◌, ◌-◌, ◌*◌, List, length, Option, Some, None}
 use Rattle.mc_text.specs.Routes.{Route}
-use Rattle.thing_making.specs.declared.making.MakingStage.{MakingStage}
-use Rattle.thing_making.specs.declared.making.MakingStage.TheVariants as making
-use Rattle.thing_moving.specs.declared.moving.MovingStage.{MovingStage}
-use Rattle.thing_moving.specs.declared.moving.MovingStage.TheVariants as moving
-use Rattle.folder_removal.specs.declared.removal.RemovalStage.{RemovalStage}
-use Rattle.folder_removal.specs.declared.removal.RemovalStage.TheVariants as removal
-use Rattle.copy_move.specs.Deletions.{Deleting, left_in}
+use Rattle.make_job.specs.declared.making.MakingStage.{MakingStage}
+use Rattle.make_job.specs.declared.making.MakingStage.TheVariants as making
+use Rattle.move_job.specs.declared.moving.MovingStage.{MovingStage}
+use Rattle.move_job.specs.declared.moving.MovingStage.TheVariants as moving
+use Rattle.emptied_job.specs.declared.removal.RemovalStage.{RemovalStage}
+use Rattle.emptied_job.specs.declared.removal.RemovalStage.TheVariants as removal
+use Rattle.delete_job.specs.Deletions.{Deleting, left_in}
 use Rattle.copy_move.specs.declared.work.Work.{Work}
 use Rattle.copy_move.specs.declared.work.Work.TheVariants.{Copy, Delete, Make, Move, SetMode, RemoveEmptied}
 use Rattle.copy_move.specs.declared.run.Course.{Course}
 use Rattle.copy_move.specs.declared.run.Course.TheVariants.{GoesOn, Asking, InTrouble, OwedSyncFailed, Skips, Ends}
 use Rattle.copy_move.specs.Jobs.{Running}
-use Rattle.subtree_copy.specs.Ranks as tree
-use Rattle.mode_setting.specs.declared.setting.Stage.{Stage as SettingStage}
-use Rattle.mode_setting.specs.declared.setting.Stage.TheVariants as setting
+use Rattle.copy_job.specs.Ranks as tree
+use Rattle.mode_job.specs.declared.setting.Stage.{Stage as SettingStage}
+use Rattle.mode_job.specs.declared.setting.Stage.TheVariants as setting
 
 -- of a deletion that goes on: the things that are left, and its end; the folders that are to be synced are counted apart
 abbrev pub deletion_rank : Deleting → ℕ

@@ -16,19 +16,19 @@ use Rattle.job_reports.specs.declared.report.Did.{Did}
 use Rattle.job_reports.specs.Paths.{folder_of}
 use Rattle.copy_move.specs.declared.work.Work.{Work}
 use Rattle.copy_move.specs.declared.work.Work.TheVariants.{Copy, Delete, Make, Move, SetMode, RemoveEmptied}
-use Rattle.subtree_copy.specs.LastCalls.{TellsTried as TellsTreeTried}
-use Rattle.subtree_copy.specs.Reporting.{ChangesOwn}
-use Rattle.subtree_copy.specs.Standing as tree
-use Rattle.tree_deletion.specs.Folders.{is_of}
-use Rattle.tree_deletion.specs.Folders as folders
-use Rattle.copy_move.specs.Deletions.{DeletionLeaves, TellsTried}
-use Rattle.thing_making.specs.Makings.{MakingLeaves}
-use Rattle.thing_making.specs.Makings as makings
-use Rattle.thing_moving.specs.Movings.{MovingLeaves, owed_folder, with_moves}
-use Rattle.folder_removal.specs.Removals.{RemovalLeaves}
-use Rattle.folder_removal.specs.Removals as removals
-use Rattle.copy_move.specs.ModeSettings.{SettingLeaves}
-use Rattle.mode_setting.specs.Settings as settings
+use Rattle.copy_job.specs.LastCalls.{TellsTried as TellsTreeTried}
+use Rattle.copy_job.specs.Reporting.{ChangesOwn}
+use Rattle.copy_job.specs.Standing as tree
+use Rattle.job_unsynced.specs.Folders.{is_of}
+use Rattle.job_unsynced.specs.Folders as folders
+use Rattle.delete_job.specs.Deletions.{DeletionLeaves, TellsTried}
+use Rattle.make_job.specs.Makings.{MakingLeaves}
+use Rattle.make_job.specs.Makings as makings
+use Rattle.move_job.specs.Movings.{MovingLeaves, owed_folder, with_moves}
+use Rattle.emptied_job.specs.Removals.{RemovalLeaves}
+use Rattle.emptied_job.specs.Removals as removals
+use Rattle.mode_job.specs.ModeSettings.{SettingLeaves}
+use Rattle.mode_job.specs.Settings as settings
 
 -- the folder that holds what a job places, removes, or gives a mode; of a move that of the target, which a renaming finds on the mount of the other
 abbrev pub changed_folder : Work → Route

@@ -20,15 +20,15 @@ use Rattle.copy_move.specs.declared.run.Course.{Course}
 use Rattle.copy_move.specs.declared.work.Work.TheVariants.{Copy, Delete, Make, Move, SetMode, RemoveEmptied}
 use Rattle.copy_move.specs.declared.run.Course.TheVariants.{GoesOn, Asking, InTrouble, OwedSyncFailed, Skips, Ends}
 use Rattle.copy_move.specs.Faults.{MeetsFault}
-use Rattle.copy_move.specs.DeletionSteps.{Goes, Passes, TriesNext, after_try}
+use Rattle.delete_job.specs.DeletionSteps.{Goes, Passes, TriesNext, after_try}
 use Rattle.copy_move.specs.Jobs.{Running, JobTells, JobCalls, PassesOver, WorkTells, WorkCalls, WorkWinds, WorkLastCalls, at_barrier, course_after, is_fresh}
 use Rattle.copy_move.specs.Settling.{NoneForFolder, NoneOwed, TellsFolder, WorkLeaves, is_own}
 use Rattle.job_reports.specs.Paths.{without}
 use Rattle.copy_move.specs.Ranks.{last_rank, rank_at, rank_on, rank_with, work_rank}
-use Rattle.mode_setting.specs.SettingSteps.{SyncStops, sync_of}
-use Rattle.subtree_copy.specs.SubtreeSteps.{LastSubtreeStep, SubtreeSkips}
-use Rattle.thing_moving.specs.Movings as movings
-use Rattle.folder_removal.specs.Removals as removals
+use Rattle.mode_job.specs.SettingSteps.{SyncStops, sync_of}
+use Rattle.copy_job.specs.SubtreeSteps.{LastSubtreeStep, SubtreeSkips}
+use Rattle.move_job.specs.Movings as movings
+use Rattle.emptied_job.specs.Removals as removals
 use Rattle.copy_move.specs.TreeCopies as trees
 
 -- A step of a job: what it reports is allowed, the job is then as it says, it made the calls of the tree that it says, at

@@ -10,25 +10,25 @@ use Rattle.job_reports.specs.declared.report.Ending.TheVariants.{Finished, NoMem
 use Rattle.job_reports.specs.declared.report.Did.{Did}
 use Rattle.job_reports.specs.declared.report.Did.TheVariants.{Began, Chunk, Placed, Removed, Made, Set, Kept, Skipped, Cleaned, Barrier, Asked, Merges, Moved, Troubled, Ended}
 use Rattle.job_answers.specs.Decisions.{no_replies}
-use Rattle.subtree_walk.specs.Places.{unopened}
-use Rattle.tree_deletion.specs.declared.deletion.Depth.TheVariants.{Top}
-use Rattle.tree_deletion.specs.declared.deletion.Stage.TheVariants.{Going}
-use Rattle.tree_deletion.specs.Standing.{after_item}
-use Rattle.thing_making.specs.declared.making.MakingStage.TheVariants as making
+use Rattle.tree_walk.specs.Places.{unopened}
+use Rattle.delete_job.specs.declared.deletion.Depth.TheVariants.{Top}
+use Rattle.delete_job.specs.declared.deletion.Stage.TheVariants.{Going}
+use Rattle.delete_job.specs.Standing.{after_item}
+use Rattle.make_job.specs.declared.making.MakingStage.TheVariants as making
 use Rattle.copy_move.specs.declared.work.Work.{Work}
 use Rattle.copy_move.specs.declared.work.Work.TheVariants.{Copy, Delete, Make, Move, SetMode, RemoveEmptied}
 use Rattle.copy_move.specs.declared.run.Course.{Course}
 use Rattle.copy_move.specs.declared.run.Course.TheVariants.{GoesOn, Asking, InTrouble, OwedSyncFailed}
-use Rattle.thing_making.specs.Makings as makings
-use Rattle.thing_moving.specs.declared.moving.MovingStage.TheVariants as moving
-use Rattle.thing_moving.specs.Movings as movings
-use Rattle.folder_removal.specs.declared.removal.RemovalStage.TheVariants as removal
-use Rattle.folder_removal.specs.Removals as removals
-use Rattle.copy_move.specs.ModeSettings as modes
-use Rattle.mode_setting.specs.declared.setting.Stage.TheVariants as setting
-use Rattle.mode_setting.specs.Settings as settings
+use Rattle.make_job.specs.Makings as makings
+use Rattle.move_job.specs.declared.moving.MovingStage.TheVariants as moving
+use Rattle.move_job.specs.Movings as movings
+use Rattle.emptied_job.specs.declared.removal.RemovalStage.TheVariants as removal
+use Rattle.emptied_job.specs.Removals as removals
+use Rattle.mode_job.specs.ModeSettings as modes
+use Rattle.mode_job.specs.declared.setting.Stage.TheVariants as setting
+use Rattle.mode_job.specs.Settings as settings
 use Rattle.copy_move.specs.TreeCopies as trees
-use Rattle.subtree_copy.specs.Standing.{SubtreeCopying}
+use Rattle.copy_job.specs.Standing.{SubtreeCopying}
 use Rattle.copy_move.specs.Jobs.{Running, JobTells, closed_job, first_work, halt_of, is_fresh, part_of, waits_on}
 
 -- the work of the job with this number

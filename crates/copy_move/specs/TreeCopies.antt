@@ -1,5 +1,5 @@
 -- The copy of a thing, with all that lies in it, as the work of a job: what a step may report, and where the copy stands then; what that says of
--- the tree's calls; and what a history tells of it. What it does next is said in subtree_copy.
+-- the tree's calls; and what a history tells of it. What it does next is said in copy_job.
 use Rattle.std.specs.Prelude.{◌≡◌, ◌≤◌, ℕ, Bool, true, false, List, Option, Some}
 use Rattle.mc_text.specs.Routes.{Route}
 use Rattle.tree_trait.specs.Change.{CallLog}
@@ -12,21 +12,21 @@ use Rattle.job_reports.specs.declared.report.Cause.{Cause}
 use Rattle.job_reports.specs.declared.report.Did.{Did}
 use Rattle.job_reports.specs.declared.report.Did.TheVariants.{Asked, Kept, Merges, Skipped, Troubled}
 use Rattle.job_reports.specs.declared.report.Trouble.{Trouble}
-use Rattle.tree_copy.specs.declared.copy.Stage.{Stage}
-use Rattle.tree_copy.specs.declared.copy.Stage.TheVariants.{Going}
-use Rattle.tree_copy.specs.declared.item.Item.{Item}
-use Rattle.tree_copy.specs.declared.item.Item.TheVariants.{Next}
-use Rattle.tree_copy.specs.Ending.{stays_if}
-use Rattle.tree_copy.specs.Falling.{IsSteady}
-use Rattle.tree_copy.specs.Reports.{changes}
-use Rattle.tree_copy.specs.Standing.{Seen, begun, is_fresh}
-use Rattle.subtree_copy.specs.Merged.{AsksTop, IsOver, KeepsTop, MergesTop}
-use Rattle.subtree_copy.specs.Reporting.{MayTell}
-use Rattle.subtree_copy.specs.Standing.{SubtreeCopying, at_barrier, named_of, part_of}
-use Rattle.subtree_copy.specs.Standing as standing
-use Rattle.subtree_copy.specs.SubtreeSteps.{SubtreeSteps}
-use Rattle.subtree_copy.specs.Told.{IsAfter}
-use Rattle.subtree_copy.specs.Unbegun.{IsUnbegun, MayBegin}
+use Rattle.copy_tree.specs.declared.copy.Stage.{Stage}
+use Rattle.copy_tree.specs.declared.copy.Stage.TheVariants.{Going}
+use Rattle.copy_tree.specs.declared.item.Item.{Item}
+use Rattle.copy_tree.specs.declared.item.Item.TheVariants.{Next}
+use Rattle.copy_tree.specs.Ending.{stays_if}
+use Rattle.copy_tree.specs.Falling.{IsSteady}
+use Rattle.copy_tree.specs.Reports.{changes}
+use Rattle.copy_tree.specs.Standing.{Seen, begun, is_fresh}
+use Rattle.copy_job.specs.Merged.{AsksTop, IsOver, KeepsTop, MergesTop}
+use Rattle.copy_job.specs.Reporting.{MayTell}
+use Rattle.copy_job.specs.Standing.{SubtreeCopying, at_barrier, named_of, part_of}
+use Rattle.copy_job.specs.Standing as standing
+use Rattle.copy_job.specs.SubtreeSteps.{SubtreeSteps}
+use Rattle.copy_job.specs.Told.{IsAfter}
+use Rattle.copy_job.specs.Unbegun.{IsUnbegun, MayBegin}
 
 -- a copy that goes on: a step can be made, and its ranks and its beginning are as its laws want them
 pub record IsGoing (c : SubtreeCopying) : Type 0 where

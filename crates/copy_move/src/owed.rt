@@ -10,9 +10,9 @@ ghost use Rattle.tree_trait.specs.CrashImages.{Among};
 ghost use Rattle.copy_move.specs.Settling.{IsElsewhere, IsGoneForFolder, IsMountOf, LiesApart, LiesOff, NoneForFolder, NoneOwed, changed_folder, left_folder, moves_folder};
 
 use crate::work::Work;
+use job_unsynced::Dirty;
 use mc_text::{Kind, Path};
 use std::alloc::Global;
-use tree_deletion::Dirty;
 use tree_trait::{Tree, TreeError};
 
 /// The first of what is dirty that lies on the mount of a folder in which this work begins, or of one on the way there, or is owed on any, as

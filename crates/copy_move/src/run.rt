@@ -11,13 +11,12 @@ mod stepping;
 
 use crate::starting::begun_work;
 use crate::work::Work;
-use file_copy::PartTest;
 use job_answers::Replies;
-use job_reports::{Cause, Ending, Job, JobKind, StepResult};
+use job_reports::{Cause, Ending, Job, JobKind, PartTest, StepResult};
+use job_unsynced::Dirty;
 use mc_text::{NoMemory, Path};
 use std::alloc::Global;
 use std::marker::Model;
-use tree_deletion::Dirty;
 use tree_trait::Tree;
 
 /// Why a job waits for an answer, and whether it stands at a barrier, where nothing can be skipped.

@@ -4,16 +4,16 @@ ghost use Rattle.job_reports.specs.declared.job.Job.TheVariants as plan;
 ghost use Rattle.job_reports.specs.Jobs.{is_workable};
 ghost use Rattle.copy_move.specs.Jobs.{IsGoing, first_work};
 
-use crate::deletion::TreeDeletion;
 use crate::work::Work;
-use folder_removal::FolderRemoval;
+use copy_job::SubtreeCopy;
+use delete_job::TreeDeletion;
+use emptied_job::FolderRemoval;
 use job_reports::{Job, Pairs};
+use make_job::{NewThing, ThingMaking};
 use mc_text::{NoMemory, Path, Paths, Text};
-use mode_setting::ModeSetting;
+use mode_job::ModeSetting;
+use move_job::ThingMoving;
 use std::alloc::Global;
-use subtree_copy::SubtreeCopy;
-use thing_making::{NewThing, ThingMaking};
-use thing_moving::ThingMoving;
 
 /// The work of the plan of one source.
 pub(crate) fn begun_work(alloc: Global, source: &Job, id: u32) -> Result<Work, NoMemory>

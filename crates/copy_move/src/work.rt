@@ -5,19 +5,17 @@ ghost use Rattle.copy_move.specs.Jobs.{IsGoing, at_barrier, is_fresh, kind_of, p
 ghost use Rattle.copy_move.specs.Settling.{changed_folder, is_owed_anywhere, left_folder, moved_thing};
 ghost use Rattle.copy_move.specs.Steps.{WorkSkips, WorkSteps, WorkWindsUp};
 
-use crate::deletion::TreeDeletion;
-use crate::dirty_setting::{step_setting, wind_up_setting};
-use file_copy::PartTest;
-use folder_removal::{FolderRemoval, step_removal, wind_up_removal};
+use copy_job::SubtreeCopy;
+use delete_job::TreeDeletion;
+use emptied_job::{FolderRemoval, step_removal, wind_up_removal};
 use job_answers::Replies;
-use job_reports::{Cause, Did, Ending, JobKind, LastStepResult, StepResult};
+use job_reports::{Cause, Did, Ending, JobKind, LastStepResult, PartTest, StepResult};
+use job_unsynced::Dirty;
+use make_job::{ThingMaking, step_making, wind_up_making};
 use mc_text::Path;
-use mode_setting::ModeSetting;
+use mode_job::{ModeSetting, step_setting, wind_up_setting};
+use move_job::{ThingMoving, step_moving, wind_up_moving};
 use std::alloc::Global;
-use subtree_copy::SubtreeCopy;
-use thing_making::{ThingMaking, step_making, wind_up_making};
-use thing_moving::{ThingMoving, step_moving, wind_up_moving};
-use tree_deletion::Dirty;
 use tree_trait::Tree;
 
 /// The work of a job.

@@ -4,7 +4,7 @@ use Rattle.std.specs.Option.{option_map_or}
 use Rattle.tagging.specs.Patterns.{PatternText}
 use Rattle.tagging.specs.declared.pattern.PatternKind.TheVariants.{Regex}
 use Rattle.text_scan.specs.Words.{behind_word, behind_indent, unindented}
-use Rattle.typed_patterns.specs.TypedPatterns.{pattern_in}
+use Rattle.tagging.specs.TypedPatterns.{pattern_in}
 use Rattle.ext_rules.specs.declared.actions.Key.{Key}
 use Rattle.ext_rules.specs.declared.actions.Key.TheVariants.{Open, View, Edit, Include}
 use Rattle.ext_rules.specs.declared.condition.Case.{Case}

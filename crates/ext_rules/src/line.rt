@@ -1,6 +1,6 @@
 //! One line of an extension file.
 ghost use Rattle.std.specs.Prelude.{◌≡◌, IfOk};
-ghost use Rattle.typed_patterns.specs.TypedPatterns.{pattern_in};
+ghost use Rattle.tagging.specs.TypedPatterns.{pattern_in};
 ghost use Rattle.ext_rules.specs.declared.condition.Condition.TheVariants.{FoundInName};
 ghost use Rattle.ext_rules.specs.ExtLines.{reading_of, action_line, rule_line, shell_line, shell_condition, regex_line, folder_line, pattern_rule};
 
@@ -8,9 +8,8 @@ use crate::actions::{Action, Key};
 use crate::condition::{Case, Condition};
 use mc_text::{NoMemory, Text};
 use std::alloc::Global;
-use tagging::PatternKind;
+use tagging::{PatternKind, pattern_in};
 use text_scan::{behind_indent, behind_word, unindented};
-use typed_patterns::pattern_in;
 
 /// What a line says: nothing, a rule, an action, an action that is ignored, no rule, or a rule whose text is no regular
 /// expression.

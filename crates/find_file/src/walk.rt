@@ -20,8 +20,8 @@ use crate::search::Search;
 use mc_text::{Kind, Names, NoMemory, Path, PathError};
 use std::alloc::Global;
 use std::mem;
-use subtree_walk::Around;
 use tree_trait::{ReadTree, TreeError};
+use tree_walk::Around;
 
 /// What a walk does next, before it goes on with the children of the folder that is worked.
 #[derive(Debug, Drop)]

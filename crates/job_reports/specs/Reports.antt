@@ -30,6 +30,12 @@ abbrev pub IsFault : Did → Type 0
 IsFault (Troubled trouble) = trouble.cause ≡ Tree refused.Fault
 IsFault did = ⊥
 
+-- the report tells of a fault: as a trouble, or as why a thing was passed over
+abbrev pub TellsFault : Did → Type 0
+TellsFault (Troubled trouble) = trouble.cause ≡ Tree refused.Fault
+TellsFault (Skipped path cause) = cause ≡ Tree refused.Fault
+TellsFault did = ⊥
+
 -- these pass over what is in trouble
 abbrev pub passes_over : Answer → Bool
 passes_over Skip = true

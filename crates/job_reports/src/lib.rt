@@ -4,6 +4,7 @@
 mod answer;
 mod calls;
 mod job;
+mod part_test;
 mod question;
 mod report;
 mod row;
@@ -13,6 +14,7 @@ mod waits;
 pub use answer::{Answer, AnswerError};
 pub use calls::{remove_part, rename_thing, set_mode, sync_names};
 pub use job::{Job, Pair, Pairs};
+pub use part_test::PartTest;
 pub use question::Question;
 pub use report::{Cause, Did, Ending, LastStepResult, StepResult, Transfer, Trouble, is_end};
 pub use row::{JobKind, JobRow, JobRows, JobState};

@@ -11,12 +11,12 @@ use Rattle.job_reports.specs.declared.job.Pair.{Pair}
 use Rattle.job_reports.specs.declared.report.Transfer.{Transfer}
 use Rattle.job_reports.specs.declared.report.Transfer.TheVariants.{ByCopy, ByMove}
 use Rattle.job_reports.specs.Jobs.{is_link_text}
-use Rattle.session_history.specs.Sources.{child_in, children_in}
-use Rattle.subtree_copy.specs.Standing.{started}
-use Rattle.tree_copy.specs.Taking.{AreShort}
+use Rattle.session_entries.specs.Sources.{child_in, children_in}
+use Rattle.copy_job.specs.Standing.{started}
+use Rattle.copy_tree.specs.Taking.{AreShort}
 use Rattle.copy_move.specs.declared.work.Work.{Work}
 use Rattle.copy_move.specs.Jobs.{copies, deletes, first_work, makes, moves, removes_emptied, sets}
-use Rattle.thing_making.specs.declared.new_thing.NewThing.TheVariants as thing
+use Rattle.make_job.specs.declared.new_thing.NewThing.TheVariants as thing
 use Rattle.job_sources.specs.Turning.{below_steps, children_left, is_over, merged_steps, moving_steps, removal_steps, room_below, source_rank, sources_rank, steps_of, tree_steps, within_steps}
 
 -- a thing's own steps, and those of what is copied in its place

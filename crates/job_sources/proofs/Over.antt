@@ -4,7 +4,7 @@ use Rattle.std.specs.Prelude.{if◌then◌else◌, ◌&&◌}
 use Rattle.std.proofs.lemmas.Bool.{false≢true}
 use Rattle.mc_text.specs.Routes.{Route, same_path}
 use Rattle.tree_trait.specs.Change.{CallLog}
-use Rattle.folder_copy.specs.FolderCopying.{is_dirty}
+use Rattle.copy_folders.specs.FolderCopying.{is_dirty}
 use Rattle.job_answers.specs.declared.replies.Replies.{Replies}
 use Rattle.job_reports.specs.declared.report.Transfer.{Transfer}
 use Rattle.job_reports.specs.declared.report.Transfer.TheVariants.{ByCopy, ByMove}
@@ -14,19 +14,19 @@ use Rattle.job_reports.specs.declared.report.Did.{Did}
 use Rattle.job_reports.specs.declared.report.Did.TheVariants.{Kept, Skipped, Barrier, Asked, Merges, Moved, Troubled, Ended}
 use Rattle.job_reports.specs.declared.report.Ending.TheVariants.{Finished}
 use Rattle.job_reports.specs.Paths.{folder_of}
-use Rattle.session_history.specs.Sources.{children_in}
-use Rattle.subtree_copy.specs.Leaving.{owes_at_end}
-use Rattle.subtree_copy.specs.Merged.{IsOver}
-use Rattle.subtree_copy.specs.Standing.{SubtreeCopying}
-use Rattle.subtree_copy.proofs.MergedOnes.{merged_law}
-use Rattle.subtree_walk.specs.Places.{is_empty}
-use Rattle.tree_copy.specs.declared.item.Item.{Item}
-use Rattle.tree_copy.specs.declared.item.Item.TheVariants as item
-use Rattle.tree_copy.specs.Standing.{Seen}
-use Rattle.thing_moving.specs.declared.moving.MovingStage.{MovingStage}
-use Rattle.thing_moving.specs.declared.moving.MovingStage.TheVariants.{Take, SyncTarget, SyncSource, Finish, PassedOver}
-use Rattle.thing_moving.specs.Movings as movings
-use Rattle.thing_moving.specs.Movings.{Moving}
+use Rattle.session_entries.specs.Sources.{children_in}
+use Rattle.copy_job.specs.Leaving.{owes_at_end}
+use Rattle.copy_job.specs.Merged.{IsOver}
+use Rattle.copy_job.specs.Standing.{SubtreeCopying}
+use Rattle.copy_job.proofs.MergedOnes.{merged_law}
+use Rattle.tree_walk.specs.Places.{is_empty}
+use Rattle.copy_tree.specs.declared.item.Item.{Item}
+use Rattle.copy_tree.specs.declared.item.Item.TheVariants as item
+use Rattle.copy_tree.specs.Standing.{Seen}
+use Rattle.move_job.specs.declared.moving.MovingStage.{MovingStage}
+use Rattle.move_job.specs.declared.moving.MovingStage.TheVariants.{Take, SyncTarget, SyncSource, Finish, PassedOver}
+use Rattle.move_job.specs.Movings as movings
+use Rattle.move_job.specs.Movings.{Moving}
 use Rattle.copy_move.specs.declared.run.Course.{Course}
 use Rattle.copy_move.specs.declared.run.Course.TheVariants.{GoesOn, Asking, InTrouble, OwedSyncFailed, Skips, Ends}
 use Rattle.copy_move.specs.declared.work.Work.{Work}

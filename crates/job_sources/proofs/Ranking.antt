@@ -11,25 +11,25 @@ use Rattle.copy_move.specs.declared.run.Course.{Course}
 use Rattle.copy_move.specs.declared.run.Course.TheVariants.{GoesOn, Asking, InTrouble, OwedSyncFailed, Skips, Ends}
 use Rattle.copy_move.specs.Jobs.{Running, closed_course}
 use Rattle.job_reports.specs.Reports.{ends}
-use Rattle.thing_making.specs.declared.making.MakingStage.{MakingStage}
-use Rattle.thing_making.specs.declared.making.MakingStage.TheVariants as making
-use Rattle.thing_moving.specs.declared.moving.MovingStage.{MovingStage}
-use Rattle.thing_moving.specs.declared.moving.MovingStage.TheVariants as moving
-use Rattle.folder_removal.specs.declared.removal.RemovalStage.{RemovalStage}
-use Rattle.folder_removal.specs.declared.removal.RemovalStage.TheVariants as removal
-use Rattle.folder_removal.specs.Removals as removals
-use Rattle.copy_move.specs.Deletions.{Deleting, DeletionLeaves}
-use Rattle.thing_making.specs.Makings as makings
-use Rattle.mode_setting.specs.declared.setting.Stage.{Stage as SettingStage}
-use Rattle.mode_setting.specs.declared.setting.Stage.TheVariants as setting
-use Rattle.mode_setting.specs.Settings as settings
+use Rattle.make_job.specs.declared.making.MakingStage.{MakingStage}
+use Rattle.make_job.specs.declared.making.MakingStage.TheVariants as making
+use Rattle.move_job.specs.declared.moving.MovingStage.{MovingStage}
+use Rattle.move_job.specs.declared.moving.MovingStage.TheVariants as moving
+use Rattle.emptied_job.specs.declared.removal.RemovalStage.{RemovalStage}
+use Rattle.emptied_job.specs.declared.removal.RemovalStage.TheVariants as removal
+use Rattle.emptied_job.specs.Removals as removals
+use Rattle.delete_job.specs.Deletions.{Deleting, DeletionLeaves}
+use Rattle.make_job.specs.Makings as makings
+use Rattle.mode_job.specs.declared.setting.Stage.{Stage as SettingStage}
+use Rattle.mode_job.specs.declared.setting.Stage.TheVariants as setting
+use Rattle.mode_job.specs.Settings as settings
 use Rattle.copy_move.specs.Ranks.{last_making_steps, last_moving_steps, last_rank, last_removal_steps, last_setting_steps, making_rank, moving_rank, rank_at, rank_on, rank_with, removal_rank, setting_rank, work_rank}
-use Rattle.tree_deletion.specs.Folders.{joined}
+use Rattle.job_unsynced.specs.Folders.{joined}
 use Rattle.copy_move.specs.Settling.{WorkLeaves}
 use Rattle.job_reports.specs.Paths.{folder_of, without}
 use Rattle.copy_move.specs.Steps.{LeavesDirty, RunStep, OwedSyncStep, SyncsOwed, step_made}
 use Rattle.copy_move.specs.Told.{if_closed}
-use Rattle.copy_move.proofs.DeletionRuns.{fewer, one_fewer}
+use Rattle.delete_job.proofs.DeletionRuns.{fewer, one_fewer}
 use Rattle.copy_move.proofs.FolderSteps.{joined_more, one_more, tried_more}
 use Rattle.copy_move.proofs.MovingWorks.{two_more}
 

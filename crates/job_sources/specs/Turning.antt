@@ -12,15 +12,15 @@ use Rattle.job_reports.specs.declared.report.Transfer.{Transfer}
 use Rattle.job_reports.specs.declared.report.Transfer.TheVariants.{ByCopy, ByMove}
 use Rattle.job_reports.specs.Jobs.{is_workable}
 use Rattle.job_reports.specs.Reports.{ends}
-use Rattle.folder_copy.specs.FolderCopying.{is_dirty}
-use Rattle.session_history.specs.declared.history.Event.TheVariants.{Step, Next}
-use Rattle.session_history.specs.Sources.{left_by}
-use Rattle.subtree_copy.specs.Leaving.{owes_at_end}
-use Rattle.subtree_walk.specs.Places.{is_empty}
-use Rattle.tree_copy.specs.declared.item.Item.{Item}
-use Rattle.tree_copy.specs.declared.item.Item.TheVariants as item
-use Rattle.tree_copy.specs.Standing.{Seen}
-use Rattle.thing_moving.specs.Movings as movings
+use Rattle.copy_folders.specs.FolderCopying.{is_dirty}
+use Rattle.session_entries.specs.declared.history.Event.TheVariants.{Step, Next}
+use Rattle.session_entries.specs.Sources.{left_by}
+use Rattle.copy_job.specs.Leaving.{owes_at_end}
+use Rattle.tree_walk.specs.Places.{is_empty}
+use Rattle.copy_tree.specs.declared.item.Item.{Item}
+use Rattle.copy_tree.specs.declared.item.Item.TheVariants as item
+use Rattle.copy_tree.specs.Standing.{Seen}
+use Rattle.move_job.specs.Movings as movings
 use Rattle.copy_move.specs.declared.run.Course.{Course}
 use Rattle.copy_move.specs.declared.run.Course.TheVariants.{GoesOn as OnWay, Asking, InTrouble, OwedSyncFailed, Skips, Ends}
 use Rattle.copy_move.specs.declared.work.Work.{Work}

@@ -2,7 +2,7 @@
 ghost use Rattle.std.specs.Prelude.{◌≡◌, ◌∷◌, [], IfOk, map, true};
 ghost use Rattle.std.specs.List.{list_all};
 ghost use Rattle.job_reports.specs.Jobs.{is_workable};
-ghost use Rattle.session_history.specs.Sources.{are_workable, sources_of};
+ghost use Rattle.session_entries.specs.Sources.{are_workable, sources_of};
 ghost use Rattle.job_sources.specs.Turning.{move_source, pair_source, path_source};
 
 use crate::later::Later;

@@ -2,14 +2,14 @@
 ghost use Rattle.std.specs.Prelude.{◌≡◌, ◌⊎◌, [], None, OnErr, OnOk, Some, if◌then◌else◌, true};
 ghost use Rattle.job_reports.specs.Jobs.{is_workable};
 ghost use Rattle.job_reports.specs.Reports.{ends};
-ghost use Rattle.session_history.specs.Sources.{left_by};
+ghost use Rattle.session_entries.specs.Sources.{left_by};
 ghost use Rattle.job_sources.specs.Turning.{GoesOn, MayFollow, Reports, RunsShort, Turns, finishes, merges};
 
 use crate::later::Later;
 use copy_move::Run;
 use job_reports::{Did, Ending, Job, StepResult, is_end};
 use mc_text::{NoMemory, Path};
-use session_history::Event;
+use session_entries::Event;
 use std::alloc::Global;
 
 /// What is written down of a step, how many changing calls it made, and the job as it goes on.

@@ -12,31 +12,31 @@ use Rattle.job_reports.specs.declared.report.Did.{Did}
 use Rattle.job_reports.specs.declared.report.Did.TheVariants.{Began as BeganPart, Chunk, Placed, Removed, Made, Set, Kept, Skipped, Cleaned, Barrier, Asked, Merges, Moved, Troubled, Ended}
 use Rattle.job_reports.specs.declared.report.Trouble.{Trouble}
 use Rattle.job_reports.specs.declared.report.Ending.TheVariants.{Finished, Aborted, Killed, NoMemory}
-use Rattle.session_history.specs.declared.history.Entry.{Entry}
-use Rattle.session_history.specs.declared.history.Event.{Event}
-use Rattle.session_history.specs.declared.history.Event.TheVariants.{Key, Look, Sought, Began, Order, Step, Closed}
-use Rattle.session_history.specs.declared.history.JobOrder.TheVariants.{Answered}
+use Rattle.session_entries.specs.declared.history.Entry.{Entry}
+use Rattle.session_entries.specs.declared.history.Event.{Event}
+use Rattle.session_entries.specs.declared.history.Event.TheVariants.{Key, Look, Sought, Began, Order, Step, Closed}
+use Rattle.session_entries.specs.declared.history.JobOrder.TheVariants.{Answered}
 use Rattle.job_reports.specs.declared.answer.Answer.{Answer}
 use Rattle.job_reports.specs.declared.job.Job.{Job}
-use Rattle.session_history.specs.declared.refusal.Refusal.{Refusal}
+use Rattle.session_entries.specs.declared.refusal.Refusal.{Refusal}
 use Rattle.copy_move.specs.Jobs.{Running, answered, begun_work, closed_job, part_of, waits_on}
 use Rattle.job_reports.specs.Reports.{ends}
 use Rattle.copy_move.specs.Told.{after_step, if_closed, running, told}
 use Rattle.copy_move.specs.declared.work.Work.{Work}
 use Rattle.copy_move.specs.declared.run.Course.TheVariants.{OwedSyncFailed}
 use Rattle.copy_move.specs.Steps.{OwnStep, RunStep, OwedSyncStep, SyncsOwed, step_made}
-use Rattle.session_history.specs.Refusals.{AreRefused}
-use Rattle.history_laws.specs.Traces.{IsUnclaimed, EventLeads, IsJob, Stand, StepLeads, before_others, begun, ordered, with_job}
+use Rattle.session_entries.specs.Refusals.{AreRefused}
+use Rattle.laws_sessions.specs.Traces.{IsUnclaimed, EventLeads, IsJob, Stand, StepLeads, before_others, begun, ordered, with_job}
 use Rattle.copy_move.proofs.OwedSyncs.{owed_tells}
 use Rattle.copy_move.proofs.StillTelling.{StillTells, step_tells}
 use Rattle.copy_move.proofs.Telling.{answered_told, began_told, closed_told, fresh_told, step_told, sync_told}
-use Rattle.history_laws.proofs.Owing.{step_law}
-use Rattle.history_laws.proofs.Reports.{with_one}
-use Rattle.session_history.specs.Sources.{IsInTurn, are_workable, later as rest_of, left_by, sources_of}
-use Rattle.job_boxes.specs.LiveJobs.{takes_answer}
+use Rattle.laws_sessions.proofs.Owing.{step_law}
+use Rattle.laws_sessions.proofs.Reports.{with_one}
+use Rattle.session_entries.specs.Sources.{IsInTurn, are_workable, later as rest_of, left_by, sources_of}
+use Rattle.ui_job_boxes.specs.LiveJobs.{takes_answer}
 use Rattle.mc_ui.specs.Screens.{Begins, Answers, Ends, LookLeads, Screen}
-use Rattle.job_plans.specs.Refused.{has_fault}
-use Rattle.history_log.specs.Told.{news_left, waits_told}
+use Rattle.ui_plans.specs.Refused.{has_fault}
+use Rattle.session_log.specs.Told.{news_left, waits_told}
 use Rattle.mc_desk.specs.Tallies.{Tally, faults_in, can_step, end_unseen_event, next_id}
 use Rattle.mc_desk.specs.Desks.{Seen, noted, stand_of, stand_with, with_end}
 use Rattle.mc_desk.specs.LiveRows.{row_of, rows_told}
@@ -98,12 +98,12 @@ module _ (contents contents_after : Option CallLog) (same : contents_after ≡ c
 
   -- an entry that makes no changing call
   leads_on : (old new : Seen) (e : Entry) (after : Option Running) → e.calls ≡ old.tally.calls → ((log : CallLog) → contents ≡ Some log → EventLeads (stand_of old) e.what (stand_with after new.dirty) log log)
-      → new.job ≡ if_closed (Rattle.session_history.specs.Entries.closes e.what || old.tally.closed) after → Leads contents contents_after old new e
+      → new.job ≡ if_closed (Rattle.session_entries.specs.Entries.closes e.what || old.tally.closed) after → Leads contents contents_after old new e
   leads_on old new e after calls leads job log known = (log, after, same ∙ known, leads log known, job, (let l : length log.changes ≡ length log.changes = refl in omega (arith, calls)))
 
   -- nor changes where the session stands
   leads_still : (old new : Seen) (e : Entry) → e.calls ≡ old.tally.calls → new.dirty ≡ old.dirty → ((log : CallLog) → stand_with old.job new.dirty ≡ stand_of old → EventLeads (stand_of old) e.what (stand_with old.job new.dirty) log log)
-      → new.job ≡ if_closed (Rattle.session_history.specs.Entries.closes e.what || old.tally.closed) old.job → Leads contents contents_after old new e
+      → new.job ≡ if_closed (Rattle.session_entries.specs.Entries.closes e.what || old.tally.closed) old.job → Leads contents contents_after old new e
   leads_still old new e calls dirty leads job = leads_on old new e old.job calls (λ log known. leads log (ap (stand_with old.job) dirty)) job
 
 -- a job that was begun is the one that is live

@@ -9,8 +9,8 @@ use Rattle.job_reports.specs.declared.row.JobKind.{JobKind}
 use Rattle.job_reports.specs.declared.row.JobRow.{JobRow}
 use Rattle.copy_move.specs.Jobs.{Running, kind_of, part_of, path_of, waits_on}
 use Rattle.copy_move.specs.Told.{told, work_told}
-use Rattle.subtree_copy.specs.Standing as tree
-use Rattle.tree_copy.specs.Ending.{stays_if}
+use Rattle.copy_job.specs.Standing as tree
+use Rattle.copy_tree.specs.Ending.{stays_if}
 use Rattle.mc_desk.specs.LiveRows.{question_in, rows_of, state_with, trouble_in, waits_in}
 use Rattle.mc_desk.specs.Tallies.{can_step}
 

@@ -3,9 +3,9 @@ use Rattle.std.proofs.Common.{◌≡◌, ℕ, true, List, [], sym, ◌∙◌, ap
 use Rattle.key_screen.specs.declared.keys.Key.{Key as KeyType}
 use Rattle.tree_trait.specs.Change.{CallLog}
 use Rattle.job_reports.specs.declared.row.JobRow.{JobRow}
-use Rattle.session_history.specs.declared.refusal.BeginError.TheVariants.{NoMoreIds}
-use Rattle.session_history.specs.declared.refusal.Refusal.{Refusal}
-use Rattle.session_history.specs.declared.refusal.Refusal.TheVariants as refusal
+use Rattle.session_entries.specs.declared.refusal.BeginError.TheVariants.{NoMoreIds}
+use Rattle.session_entries.specs.declared.refusal.Refusal.{Refusal}
+use Rattle.session_entries.specs.declared.refusal.Refusal.TheVariants as refusal
 use Rattle.mc_ui.specs.declared.asks.Ask.{Ask}
 use Rattle.mc_ui.specs.declared.asks.Ask.TheVariants as ask
 use Rattle.mc_ui.specs.declared.asks.Told.{Told}

@@ -4,7 +4,7 @@ use Rattle.key_screen.specs.declared.keys.Key.{Key as KeyType}
 use Rattle.key_screen.specs.declared.keys.Base.TheVariants.{Unknown}
 use Rattle.tree_trait.specs.Change.{CallLog}
 use Rattle.job_reports.specs.declared.row.JobRow.{JobRow}
-use Rattle.session_history.specs.declared.refusal.Refusal.{Refusal}
+use Rattle.session_entries.specs.declared.refusal.Refusal.{Refusal}
 use Rattle.mc_ui.specs.Screens.{Screen}
 use Rattle.mc_ui.specs.Seekings.{is_seeking}
 use Rattle.mc_ui.proofs.UnknownKeys.{unknown_stays}

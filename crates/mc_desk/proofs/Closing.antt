@@ -3,13 +3,13 @@ use Rattle.std.proofs.Common.{◌≡◌, ℕ, ◌+◌, ◌≤◌, ◌∷◌, Boo
 use Rattle.key_screen.specs.declared.keys.Key.{Key as KeyType}
 use Rattle.mc_text.specs.Routes.{Route}
 use Rattle.tree_trait.specs.Change.{CallLog}
-use Rattle.session_history.specs.declared.history.Event.TheVariants.{Closed, Key}
+use Rattle.session_entries.specs.declared.history.Event.TheVariants.{Closed, Key}
 use Rattle.copy_move.proofs.Telling.{closed_told}
 use Rattle.mc_ui.specs.Screens.{Screen}
 use Rattle.mc_ui.specs.Seekings.{is_seeking}
 use Rattle.mc_desk.specs.declared.starts.Start.{Start}
 use Rattle.mc_desk.specs.declared.standing.Standing.{Standing}
-use Rattle.history_log.specs.Logs.{Logged, plain_entry}
+use Rattle.session_log.specs.Logs.{Logged, plain_entry}
 use Rattle.mc_desk.specs.Outputs.{Output}
 use Rattle.mc_desk.specs.Shown.{PutsNothing}
 use Rattle.mc_desk.specs.Standings.{awaited, closed_standing}

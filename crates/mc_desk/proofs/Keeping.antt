@@ -4,22 +4,22 @@ use Rattle.std.specs.Option.{option_map}
 use Rattle.mc_text.specs.Routes.{Route}
 use Rattle.tree_trait.specs.Change.{CallLog}
 use Rattle.tree_trait.specs.Answers.{IfKnown}
-use Rattle.session_history.specs.declared.history.Entry.{Entry}
-use Rattle.session_history.specs.declared.history.Event.{Event}
-use Rattle.session_history.specs.declared.history.Event.TheVariants.{Key, Look, Sought, Began, Order, Step, Next, Closed}
+use Rattle.session_entries.specs.declared.history.Entry.{Entry}
+use Rattle.session_entries.specs.declared.history.Event.{Event}
+use Rattle.session_entries.specs.declared.history.Event.TheVariants.{Key, Look, Sought, Began, Order, Step, Next, Closed}
 use Rattle.copy_move.specs.Jobs.{Running}
 use Rattle.copy_move.specs.Told.{told, if_closed}
-use Rattle.session_history.specs.Entries.{closes, is_closed, calls_in}
-use Rattle.session_history.specs.Sources.{AreInTurn, IsInTurn, left_after, sources_left}
-use Rattle.history_laws.specs.Traces.{IsTraced, IsTracedTo, at_rest}
-use Rattle.history_laws.specs.Traces as traces
-use Rattle.history_laws.proofs.Moments.{traced_count}
+use Rattle.session_entries.specs.Entries.{closes, is_closed, calls_in}
+use Rattle.session_entries.specs.Sources.{AreInTurn, IsInTurn, left_after, sources_left}
+use Rattle.laws_sessions.specs.Traces.{IsTraced, IsTracedTo, at_rest}
+use Rattle.laws_sessions.specs.Traces as traces
+use Rattle.laws_sessions.proofs.Moments.{traced_count}
 use Rattle.mc_ui.specs.Screens.{Screen}
 use Rattle.mc_desk.specs.declared.starts.Start.{Start}
 use Rattle.mc_desk.specs.declared.starts.StartMode.{StartMode}
 use Rattle.mc_desk.specs.declared.starts.StartMode.TheVariants.{Panels, View}
-use Rattle.history_log.specs.Logs.{Logged}
-use Rattle.history_log.specs.Told.{news_left}
+use Rattle.session_log.specs.Logs.{Logged}
+use Rattle.session_log.specs.Told.{news_left}
 use Rattle.mc_desk.specs.Tallies.{Tally, tally, after_entry, most_calls, faults_in, next_id}
 use Rattle.mc_desk.specs.LiveRows.{rows_told}
 use Rattle.mc_desk.specs.Sessions.{Before, IsOpeningIn, IsSession, SessionState, Traces, BeginsIn, EventLeads, HasCauses, IsTimely, Counts}

@@ -7,22 +7,22 @@ use Rattle.mc_text.specs.Routes.{Route}
 use Rattle.tree_trait.specs.Change.{CallLog}
 use Rattle.tree_trait.specs.Answers.{IfKnown, HasRisen}
 use Rattle.job_reports.specs.declared.row.JobRow.{JobRow}
-use Rattle.session_history.specs.declared.history.Event.TheVariants.{Look}
-use Rattle.session_history.specs.declared.refusal.Refusal.{Refusal}
-use Rattle.session_history.specs.Refusals.{AreRefused}
+use Rattle.session_entries.specs.declared.history.Event.TheVariants.{Look}
+use Rattle.session_entries.specs.declared.refusal.Refusal.{Refusal}
+use Rattle.session_entries.specs.Refusals.{AreRefused}
 use Rattle.copy_move.specs.Told.{told}
 use Rattle.mc_ui.specs.Screens.{LookLeads, Screen}
-use Rattle.box_words.specs.declared.message.Message.{Message}
-use Rattle.job_plans.specs.Refused.{has_fault}
+use Rattle.ui_words.specs.declared.message.Message.{Message}
+use Rattle.ui_plans.specs.Refused.{has_fault}
 use Rattle.mc_desk.specs.declared.starts.Start.{Start}
 use Rattle.mc_desk.specs.declared.standing.Due.{Due}
 use Rattle.mc_desk.specs.declared.standing.Standing.{Standing}
-use Rattle.history_log.specs.Told.{waits_told, news_left}
+use Rattle.session_log.specs.Told.{waits_told, news_left}
 use Rattle.mc_desk.specs.LiveRows.{rows_of, rows_told}
-use Rattle.history_log.specs.Logs.{Logged}
+use Rattle.session_log.specs.Logs.{Logged}
 use Rattle.mc_desk.specs.Outputs.{FitsScreen, Output, ShowsFrame}
 use Rattle.mc_desk.specs.Shown.{frame_at, frame_due, rows_then}
-use Rattle.mc_screen.specs.Drawings.{Display}
+use Rattle.screen_draw.specs.Drawings.{Display}
 use Rattle.mc_ui.specs.Frames.{frame_of}
 use Rattle.mc_desk.specs.Standings.{after_look, awaited, tally_of}
 use Rattle.mc_desk.specs.Tallies.{Tally, can_step, faults_in, next_id}

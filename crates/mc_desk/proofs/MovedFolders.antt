@@ -10,10 +10,10 @@ use Rattle.job_reports.specs.declared.report.Ending.TheVariants.{Finished, Abort
 use Rattle.job_reports.specs.declared.report.Did.{Did}
 use Rattle.job_reports.specs.declared.report.Did.TheVariants.{Began, Chunk, Placed, Removed, Made, Set, Kept, Skipped, Cleaned, Barrier, Asked, Merges, Moved, Troubled, Ended}
 use Rattle.job_reports.specs.Paths.{folder_of, without}
-use Rattle.tree_deletion.specs.Folders.{joined, with_change}
-use Rattle.thing_moving.specs.declared.moving.MovingStage.{MovingStage}
-use Rattle.thing_moving.specs.declared.moving.MovingStage.TheVariants.{Take, SyncTarget, SyncSource, Finish, PassedOver}
-use Rattle.thing_moving.specs.Movings.{Moving, Tells, after_sync, is_dirty, owes_target, with_moves}
+use Rattle.job_unsynced.specs.Folders.{joined, with_change}
+use Rattle.move_job.specs.declared.moving.MovingStage.{MovingStage}
+use Rattle.move_job.specs.declared.moving.MovingStage.TheVariants.{Take, SyncTarget, SyncSource, Finish, PassedOver}
+use Rattle.move_job.specs.Movings.{Moving, Tells, after_sync, is_dirty, owes_target, with_moves}
 
 -- nothing, or both folders join, or one leaves
 abbrev pub FoldersMove : Did → Pair → List Route → List Route → Type 0

@@ -10,30 +10,30 @@ use Rattle.job_reports.specs.declared.report.Did.{Did}
 use Rattle.job_reports.specs.declared.report.Did.TheVariants.{Began, Chunk, Placed, Removed, Made, Set, Kept, Skipped, Cleaned, Barrier, Asked, Merges, Moved, Troubled, Ended}
 use Rattle.job_reports.specs.declared.report.Ending.{Ending}
 use Rattle.job_reports.specs.declared.report.Ending.TheVariants.{Finished, Aborted, Killed, NoMemory}
-use Rattle.session_history.specs.declared.history.Event.TheVariants.{Step}
-use Rattle.session_history.specs.declared.history.Entry.{Entry}
+use Rattle.session_entries.specs.declared.history.Event.TheVariants.{Step}
+use Rattle.session_entries.specs.declared.history.Entry.{Entry}
 use Rattle.copy_move.specs.declared.work.Work.{Work}
 use Rattle.copy_move.specs.declared.work.Work.TheVariants.{Copy, Delete, Make, Move, SetMode, RemoveEmptied}
 use Rattle.copy_move.specs.declared.run.Course.{Course}
 use Rattle.copy_move.specs.declared.run.Course.TheVariants.{GoesOn, Asking, InTrouble, OwedSyncFailed, Skips, Ends}
-use Rattle.copy_move.specs.Deletions.{Deleting, DeletionLeaves}
-use Rattle.copy_move.specs.Deletions as deletions
-use Rattle.copy_move.specs.DeletionSteps.{after_try}
-use Rattle.thing_making.specs.declared.making.MakingStage.{MakingStage}
-use Rattle.thing_making.specs.declared.making.MakingStage.TheVariants as making
-use Rattle.thing_making.specs.Makings as makings
-use Rattle.thing_moving.specs.Movings.{Moving, with_moves}
-use Rattle.folder_removal.specs.declared.removal.RemovalStage.{RemovalStage}
-use Rattle.folder_removal.specs.declared.removal.RemovalStage.TheVariants as removal
-use Rattle.folder_removal.specs.Removals as removals
-use Rattle.mode_setting.specs.Settings as settings
+use Rattle.delete_job.specs.Deletions.{Deleting, DeletionLeaves}
+use Rattle.delete_job.specs.Deletions as deletions
+use Rattle.delete_job.specs.DeletionSteps.{after_try}
+use Rattle.make_job.specs.declared.making.MakingStage.{MakingStage}
+use Rattle.make_job.specs.declared.making.MakingStage.TheVariants as making
+use Rattle.make_job.specs.Makings as makings
+use Rattle.move_job.specs.Movings.{Moving, with_moves}
+use Rattle.emptied_job.specs.declared.removal.RemovalStage.{RemovalStage}
+use Rattle.emptied_job.specs.declared.removal.RemovalStage.TheVariants as removal
+use Rattle.emptied_job.specs.Removals as removals
+use Rattle.mode_job.specs.Settings as settings
 use Rattle.copy_move.specs.Jobs.{Running, TellsOn, WorkTells}
 use Rattle.copy_move.specs.Settling.{WorkLeaves, is_own, with_change}
-use Rattle.tree_deletion.specs.Folders.{joined}
+use Rattle.job_unsynced.specs.Folders.{joined}
 use Rattle.tree_trait.proofs.Visible.{same_path-self}
 use Rattle.job_reports.specs.Paths.{folder_of, without}
 use Rattle.copy_move.specs.Steps.{LeavesDirty, RunStep, step_made}
-use Rattle.history_laws.proofs.Intact.{own_folder}
+use Rattle.laws_sessions.proofs.Intact.{own_folder}
 use Rattle.mc_desk.specs.Desks.{HasMoved, HasRemoved, HasSynced, MovesDirty}
 use Rattle.mc_desk.proofs.Adding.{entry}
 use Rattle.mc_desk.proofs.MovedFolders.{FoldersMove, folders_move}

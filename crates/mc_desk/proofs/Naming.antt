@@ -6,18 +6,18 @@ use Rattle.job_reports.specs.declared.report.Did.{Did}
 use Rattle.job_reports.specs.declared.report.Did.TheVariants.{Began as BeganPart, Chunk, Placed, Removed, Made, Set, Kept, Skipped, Cleaned, Barrier, Asked, Merges, Moved, Troubled, Ended}
 use Rattle.job_reports.specs.declared.answer.Answer.{Answer}
 use Rattle.job_reports.specs.declared.answer.Answer.TheVariants.{Yes, No, All, Update, Nothing, SizeDiffers, Retry, Skip, SkipAll, Abort}
-use Rattle.session_history.specs.declared.history.Entry.{Entry}
-use Rattle.session_history.specs.declared.history.Event.{Event}
-use Rattle.session_history.specs.declared.history.Event.TheVariants.{Key, Look, Sought, Began, Order, Step, Next, Closed}
-use Rattle.session_history.specs.declared.history.JobOrder.TheVariants.{Answered}
+use Rattle.session_entries.specs.declared.history.Entry.{Entry}
+use Rattle.session_entries.specs.declared.history.Event.{Event}
+use Rattle.session_entries.specs.declared.history.Event.TheVariants.{Key, Look, Sought, Began, Order, Step, Next, Closed}
+use Rattle.session_entries.specs.declared.history.JobOrder.TheVariants.{Answered}
 use Rattle.copy_move.specs.declared.work.Work.{Work}
 use Rattle.copy_move.specs.declared.run.Course.{Course}
 use Rattle.copy_move.specs.declared.run.Course.TheVariants.{GoesOn, Asking, InTrouble, OwedSyncFailed, Skips, Ends}
 use Rattle.job_reports.specs.declared.job.Job.{Job}
-use Rattle.session_history.specs.Sources.{sources_of}
+use Rattle.session_entries.specs.Sources.{sources_of}
 use Rattle.copy_move.specs.Jobs.{Running, answered, answered_on, begun_work, first_work}
-use Rattle.history_laws.specs.ToldJob.{live_job, after_event}
-use Rattle.session_history.specs.Entries.{is_closed}
+use Rattle.laws_sessions.specs.ToldJob.{live_job, after_event}
+use Rattle.session_entries.specs.Entries.{is_closed}
 use Rattle.copy_move.specs.Told.{if_closed, after_step, running, turned, with_next}
 use Rattle.mc_desk.specs.Tallies.{due_in, due_after, can_step}
 

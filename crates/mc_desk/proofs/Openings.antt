@@ -16,17 +16,17 @@ use Rattle.resolving.specs.declared.error.ResolveError.TheVariants.{Tree, TooMan
 use Rattle.resolving.specs.declared.walking.Wanted.TheVariants.{AnyThing, FolderAlone}
 use Rattle.resolving.specs.Errors.{Answers}
 use Rattle.resolving.specs.Resolution.{resolved}
-use Rattle.mc_panels.specs.Panels.{PanelState}
-use Rattle.mc_panels.specs.Goings.{ShowsResolved}
+use Rattle.panel_state.specs.Panels.{PanelState}
+use Rattle.panel_state.specs.Goings.{ShowsResolved}
 use Rattle.panel_pair.specs.declared.side.Side.{Side}
 use Rattle.panel_pair.specs.declared.side.Side.TheVariants.{Left, Right}
 use Rattle.panel_pair.specs.Openings.{OpensBoth, RefusesSide, ShowsPath}
 use Rattle.panel_pair.specs.Pairs.{PairState}
 use Rattle.mc_viewer.specs.Viewing.{IsReadable, IsRefused}
-use Rattle.viewer_mode.specs.declared.opening.Opening.TheVariants.{Viewed, NoWay, Unread}
-use Rattle.viewer_mode.specs.declared.opening.Opening.{Opening}
-use Rattle.viewer_mode.specs.Openings.{OpensThing, ReadsToOpen}
-use Rattle.viewer_mode.specs.ViewerScreens.{ViewerScreen}
+use Rattle.ui_viewer.specs.declared.opening.Opening.TheVariants.{Viewed, NoWay, Unread}
+use Rattle.ui_viewer.specs.declared.opening.Opening.{Opening}
+use Rattle.ui_viewer.specs.Openings.{OpensThing, ReadsToOpen}
+use Rattle.ui_viewer.specs.ViewerScreens.{ViewerScreen}
 use Rattle.mc_ui.specs.Screens.{Screen, opened_screen}
 use Rattle.mc_desk.specs.Sessions.{OpensPanels, OpensViewer, just_opened}
 use Rattle.mc_desk.specs.declared.starts.StartError.{StartError}

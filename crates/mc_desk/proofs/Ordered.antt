@@ -9,18 +9,18 @@ use Rattle.job_reports.specs.declared.report.Did.{Did}
 use Rattle.job_reports.specs.declared.report.Did.TheVariants.{Began as BeganPart, Chunk, Placed, Removed, Made, Set, Kept, Skipped, Cleaned, Barrier, Asked, Merges, Moved, Troubled, Ended}
 use Rattle.job_reports.specs.declared.report.Ending.TheVariants.{Finished}
 use Rattle.job_reports.specs.declared.report.Trouble.{Trouble}
-use Rattle.session_history.specs.declared.history.Entry.{Entry}
-use Rattle.session_history.specs.declared.history.Event.{Event}
-use Rattle.session_history.specs.declared.history.Event.TheVariants.{Key, Look, Sought, Began, Order, Step, Next, Closed}
-use Rattle.session_history.specs.declared.history.JobOrder.TheVariants.{Answered}
-use Rattle.session_history.specs.Entries.{is_closed}
-use Rattle.session_history.specs.Sources.{sources_of}
+use Rattle.session_entries.specs.declared.history.Entry.{Entry}
+use Rattle.session_entries.specs.declared.history.Event.{Event}
+use Rattle.session_entries.specs.declared.history.Event.TheVariants.{Key, Look, Sought, Began, Order, Step, Next, Closed}
+use Rattle.session_entries.specs.declared.history.JobOrder.TheVariants.{Answered}
+use Rattle.session_entries.specs.Entries.{is_closed}
+use Rattle.session_entries.specs.Sources.{sources_of}
 use Rattle.copy_move.specs.declared.run.Course.{Course}
 use Rattle.copy_move.specs.declared.run.Course.TheVariants.{GoesOn, Asking, InTrouble, OwedSyncFailed, Skips, Ends}
 use Rattle.copy_move.specs.declared.work.Work.{Work}
 use Rattle.copy_move.specs.Jobs.{Running, answered, answered_on, begun_work, closed_course, first_work, halt_of, is_fresh}
 use Rattle.copy_move.specs.Told.{after_step, course_told, if_closed, running, turned, with_next}
-use Rattle.history_laws.specs.ToldJob.{after_event, live_job}
+use Rattle.laws_sessions.specs.ToldJob.{after_event, live_job}
 
 abbrev pub NeverSo : Course → Type 0
 NeverSo course = course ≡ Ends Finished → ⊥

@@ -3,17 +3,17 @@ use Rattle.std.proofs.Common.{◌≡◌, ℕ, ◌≤◌, ◌∷◌, Bool, true, 
 use Rattle.tree_trait.specs.declared.devices.SinkError.{SinkError}
 use Rattle.mc_text.specs.Routes.{Route}
 use Rattle.tree_trait.specs.Change.{CallLog}
-use Rattle.session_history.specs.declared.history.Event.TheVariants.{Sought}
+use Rattle.session_entries.specs.declared.history.Event.TheVariants.{Sought}
 use Rattle.mc_ui.specs.Screens.{Screen}
 use Rattle.mc_ui.specs.Seekings.{is_seeking}
 use Rattle.mc_desk.specs.declared.starts.Start.{Start}
 use Rattle.mc_desk.specs.declared.standing.Standing.{Standing}
-use Rattle.history_log.specs.Told.{waits_told}
+use Rattle.session_log.specs.Told.{waits_told}
 use Rattle.mc_desk.specs.LiveRows.{rows_of, rows_told}
-use Rattle.history_log.specs.Logs.{Logged}
+use Rattle.session_log.specs.Logs.{Logged}
 use Rattle.mc_desk.specs.Outputs.{FitsScreen, Output, ShowsFrame}
 use Rattle.mc_desk.specs.Shown.{frame_due}
-use Rattle.mc_screen.specs.Drawings.{Display}
+use Rattle.screen_draw.specs.Drawings.{Display}
 use Rattle.mc_ui.specs.Frames.{frame_of}
 use Rattle.mc_desk.specs.Searches.{HasSought}
 use Rattle.mc_desk.specs.Standings.{awaited}

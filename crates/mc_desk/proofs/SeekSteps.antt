@@ -3,7 +3,7 @@ use Rattle.std.proofs.Common.{◌≡◌, ◌⊎◌, ℕ, ◌+◌, ◌≤◌, ◌
 use Rattle.std.specs.Prelude.{zero, suc}
 use Rattle.std.proofs.lemmas.Bool.{false≢true}
 use Rattle.tree_trait.specs.Change.{CallLog}
-use Rattle.find_mode.specs.Listings.{IsKept}
+use Rattle.ui_find.specs.Listings.{IsKept}
 use Rattle.mc_ui.specs.Screens.{Screen}
 use Rattle.mc_ui.specs.Seekings.{SeekLeads, is_seeking, list_in, with_list}
 use Rattle.mc_desk.specs.Searches.{ListsNothing, Seeks, SeeksOn, steps_ahead}

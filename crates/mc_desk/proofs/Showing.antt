@@ -4,19 +4,19 @@ use Rattle.std.specs.Prelude.{if◌then◌else◌}
 use Rattle.std.proofs.lemmas.Bool.{false≢true, true≢false}
 use Rattle.tree_trait.specs.declared.devices.SinkError.{SinkError}
 use Rattle.key_screen.specs.Grids.{CellGrid}
-use Rattle.session_history.specs.declared.history.Entry.{Entry}
+use Rattle.session_entries.specs.declared.history.Entry.{Entry}
 use Rattle.copy_move.specs.Jobs.{Running, waits_on}
 use Rattle.copy_move.specs.Told.{told}
 use Rattle.mc_ui.specs.Screens.{Screen}
 use Rattle.mc_desk.specs.declared.granting.Deed.{Deed}
 use Rattle.mc_desk.specs.declared.granting.Deed.TheVariants as deed
-use Rattle.history_log.specs.Logs.{followed}
+use Rattle.session_log.specs.Logs.{followed}
 use Rattle.mc_desk.specs.Standings.{event_of}
-use Rattle.history_log.specs.Told.{waits_told}
+use Rattle.session_log.specs.Told.{waits_told}
 use Rattle.mc_desk.specs.Desks.{IsShown, Seen, ShowsDesk, frame_now}
 use Rattle.mc_desk.specs.Outputs.{FitsScreen, Output, ShowsFrame, ShowsLast}
 use Rattle.mc_desk.specs.Shown.{ShowsOverAny, none_before}
-use Rattle.mc_screen.specs.Drawings.{Display, HasSizeOf}
+use Rattle.screen_draw.specs.Drawings.{Display, HasSizeOf}
 use Rattle.mc_ui.specs.Screens.{HasSameSize}
 use Rattle.mc_desk.specs.Tallies.{Tally, can_step, tally}
 

@@ -6,7 +6,7 @@ use Rattle.std.proofs.Math.Seq.{drop-append_seam}
 use Rattle.tree_trait.specs.Answers.{HasRisen, IfKnown}
 use Rattle.tree_trait.specs.declared.devices.SinkError.{SinkError}
 use Rattle.key_screen.specs.Grids.{CellGrid}
-use Rattle.mc_screen.specs.Drawings.{Display, HasDrawn, HasSizeOf, IsDrawing, Shows}
+use Rattle.screen_draw.specs.Drawings.{Display, HasDrawn, HasSizeOf, IsDrawing, Shows}
 use Rattle.tree_trait.specs.declared.devices.SinkError.TheVariants.{Fault}
 use Rattle.mc_desk.specs.Outputs.{Blames, CountsAll, IsTerminal, Output, ShowsFrame, output_of}
 use Rattle.mc_desk.specs.Shown.{CutsFrame, DrawsBehind, DrawsFrame, HasGiven, Put, PutsFrame, ShowsOverAny, put_since}

@@ -12,25 +12,25 @@ use Rattle.job_reports.specs.declared.report.Trouble.{Trouble}
 use Rattle.job_reports.specs.Waits.{waits_at}
 use Rattle.job_reports.specs.declared.waits.Waits.{Waits}
 use Rattle.job_reports.specs.declared.waits.Waits.TheVariants as waits_with
-use Rattle.session_history.specs.declared.history.Entry.{Entry}
-use Rattle.session_history.specs.declared.history.Event.{Event}
-use Rattle.session_history.specs.declared.history.Event.TheVariants.{Key, Look, Sought, Began, Order, Step, Next, Closed}
-use Rattle.session_history.specs.declared.history.JobOrder.TheVariants.{Answered}
+use Rattle.session_entries.specs.declared.history.Entry.{Entry}
+use Rattle.session_entries.specs.declared.history.Event.{Event}
+use Rattle.session_entries.specs.declared.history.Event.TheVariants.{Key, Look, Sought, Began, Order, Step, Next, Closed}
+use Rattle.session_entries.specs.declared.history.JobOrder.TheVariants.{Answered}
 use Rattle.job_reports.specs.declared.job.Job.{Job}
-use Rattle.session_history.specs.Entries.{is_closed}
-use Rattle.session_history.specs.Sources.{sources_of}
+use Rattle.session_entries.specs.Entries.{is_closed}
+use Rattle.session_entries.specs.Sources.{sources_of}
 use Rattle.copy_move.specs.declared.work.Work.{Work}
 use Rattle.copy_move.specs.declared.run.Course.{Course}
 use Rattle.copy_move.specs.declared.run.Course.TheVariants.{GoesOn, Asking, InTrouble, OwedSyncFailed, Skips, Ends}
 use Rattle.copy_move.specs.Jobs.{Running, MayAnswer, TellsOn, answered, answered_on, begun_work, closed_course, closed_job, first_work, halt_of, is_fresh, waiting_on, waits_on}
 use Rattle.copy_move.specs.Told.{IsAllowedStep, after_step, course_told, if_closed, running, told, turned, with_next}
-use Rattle.history_laws.specs.ToldJob.{after_event, live_job}
+use Rattle.laws_sessions.specs.ToldJob.{after_event, live_job}
 use Rattle.job_answers.specs.Answers.{answered as then_after, waiting_of}
 use Rattle.job_answers.specs.declared.answer.Waiting.TheVariants as waiting
-use Rattle.job_boxes.specs.LiveJobs.{takes_answer, waiting_with}
+use Rattle.ui_job_boxes.specs.LiveJobs.{takes_answer, waiting_with}
 use Rattle.mc_ui.specs.Screens.{Screen}
 use Rattle.mc_desk.specs.declared.starts.Start.{Start}
-use Rattle.history_log.specs.Told.{is_report, reported_waits, waits_told}
+use Rattle.session_log.specs.Told.{is_report, reported_waits, waits_told}
 use Rattle.mc_desk.specs.LiveRows.{question_in, row_of, state_with, trouble_in, waits_in}
 use Rattle.mc_desk.specs.Sessions.{Before, EventLeads, IsSession, SessionState, before_entry}
 

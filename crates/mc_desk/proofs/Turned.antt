@@ -8,16 +8,16 @@ use Rattle.job_reports.specs.declared.job.Job.{Job}
 use Rattle.job_reports.specs.declared.report.Did.TheVariants.{Ended}
 use Rattle.job_reports.specs.declared.report.Ending.TheVariants.{Finished, NoMemory}
 use Rattle.job_reports.specs.Jobs.{is_workable}
-use Rattle.session_history.specs.declared.history.Event.TheVariants.{Next, Step}
-use Rattle.session_history.specs.Sources.{later as rest_of}
+use Rattle.session_entries.specs.declared.history.Event.TheVariants.{Next, Step}
+use Rattle.session_entries.specs.Sources.{later as rest_of}
 use Rattle.copy_move.specs.declared.run.Course.TheVariants.{Ends, GoesOn}
 use Rattle.copy_move.specs.Jobs.{Running, part_of, waits_on}
 use Rattle.copy_move.specs.Steps.{OwnStep, RunStep, SyncsOwed, step_made}
 use Rattle.copy_move.specs.Told.{if_closed, told, turned}
 use Rattle.copy_move.proofs.Finishing.{Finishes, finish_stays, turned_alike, turned_told}
 use Rattle.copy_move.proofs.Telling.{closed_told}
-use Rattle.history_laws.specs.Traces.{IsJob, IsUnclaimed, WorkLeads, before_others, with_job}
-use Rattle.history_laws.proofs.Reports.{with_one}
+use Rattle.laws_sessions.specs.Traces.{IsJob, IsUnclaimed, WorkLeads, before_others, with_job}
+use Rattle.laws_sessions.proofs.Reports.{with_one}
 use Rattle.mc_ui.specs.Screens.{Screen}
 use Rattle.mc_desk.specs.declared.starts.Start.{Start}
 use Rattle.mc_desk.specs.Desks.{IsDesk, Seen, kept_room}

@@ -9,13 +9,13 @@ use Rattle.job_reports.specs.declared.report.Did.{Did}
 use Rattle.job_reports.specs.declared.report.Did.TheVariants.{Ended}
 use Rattle.job_reports.specs.declared.report.Ending.TheVariants.{Finished, NoMemory}
 use Rattle.job_reports.specs.Reports.{ends}
-use Rattle.session_history.specs.declared.history.Event.TheVariants.{Next, Step}
+use Rattle.session_entries.specs.declared.history.Event.TheVariants.{Next, Step}
 use Rattle.copy_move.specs.Jobs.{Running, part_of, waits_on}
 use Rattle.copy_move.specs.Steps.{RunStep, step_made}
 use Rattle.copy_move.proofs.Finishing.{Finishes}
 use Rattle.copy_move.proofs.Merging.{merge_stays}
 use Rattle.copy_move.specs.Told.{if_closed, told}
-use Rattle.history_laws.specs.Traces.{IsUnclaimed}
+use Rattle.laws_sessions.specs.Traces.{IsUnclaimed}
 use Rattle.mc_desk.specs.declared.starts.Start.{Start}
 use Rattle.job_sources.specs.declared.turning.Stepped.{Stepped}
 use Rattle.mc_desk.specs.Desks.{IsDesk, MovesDirty, Seen, rank_of}

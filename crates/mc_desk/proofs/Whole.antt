@@ -11,27 +11,27 @@ use Rattle.job_reports.specs.declared.report.Did.TheVariants.{Ended}
 use Rattle.job_reports.specs.declared.report.Ending.TheVariants.{NoMemory}
 use Rattle.job_reports.specs.declared.job.Job.{Job}
 use Rattle.job_reports.specs.declared.row.JobRow.{JobRow}
-use Rattle.session_history.specs.Sources.{are_workable, later as rest_of, left_by, sources_of}
-use Rattle.session_history.specs.declared.history.Entry.{Entry}
-use Rattle.session_history.specs.declared.history.Event.TheVariants.{Key, Look, Sought, Began, Order, Step, Closed}
-use Rattle.session_history.specs.declared.history.JobOrder.TheVariants.{Answered}
+use Rattle.session_entries.specs.Sources.{are_workable, later as rest_of, left_by, sources_of}
+use Rattle.session_entries.specs.declared.history.Entry.{Entry}
+use Rattle.session_entries.specs.declared.history.Event.TheVariants.{Key, Look, Sought, Began, Order, Step, Closed}
+use Rattle.session_entries.specs.declared.history.JobOrder.TheVariants.{Answered}
 use Rattle.job_reports.specs.declared.answer.Answer.{Answer}
-use Rattle.session_history.specs.declared.refusal.Refusal.{Refusal}
+use Rattle.session_entries.specs.declared.refusal.Refusal.{Refusal}
 use Rattle.copy_move.specs.declared.run.Course.{Course}
 use Rattle.copy_move.specs.declared.run.Course.TheVariants.{GoesOn, Asking, InTrouble, OwedSyncFailed, Skips, Ends}
 use Rattle.copy_move.specs.Jobs.{Running, MayAnswer, answered, begun_work, closed_course, closed_job, part_of, waits_on}
 use Rattle.job_reports.specs.Reports.{ends}
-use Rattle.history_laws.specs.ToldJob.{after_event, live_job}
+use Rattle.laws_sessions.specs.ToldJob.{after_event, live_job}
 use Rattle.copy_move.specs.Told.{if_closed, running, told}
-use Rattle.session_history.specs.Entries.{is_closed}
+use Rattle.session_entries.specs.Entries.{is_closed}
 use Rattle.copy_move.specs.Steps.{RunStep, step_made}
-use Rattle.session_history.specs.Refusals.{AreRefused}
-use Rattle.history_laws.specs.Traces.{IsUnclaimed}
-use Rattle.job_boxes.specs.LiveJobs.{takes_answer}
+use Rattle.session_entries.specs.Refusals.{AreRefused}
+use Rattle.laws_sessions.specs.Traces.{IsUnclaimed}
+use Rattle.ui_job_boxes.specs.LiveJobs.{takes_answer}
 use Rattle.mc_ui.specs.Screens.{Screen, Begins, Answers, LookLeads}
-use Rattle.box_words.specs.declared.message.Message.{Message}
-use Rattle.job_plans.specs.Refused.{has_fault}
-use Rattle.history_log.specs.Told.{news_left, waits_told}
+use Rattle.ui_words.specs.declared.message.Message.{Message}
+use Rattle.ui_plans.specs.Refused.{has_fault}
+use Rattle.session_log.specs.Told.{news_left, waits_told}
 use Rattle.mc_desk.specs.Tallies.{Tally, faults_in, can_step, next_id}
 use Rattle.mc_desk.specs.declared.starts.Start.{Start}
 use Rattle.mc_desk.specs.LiveRows.{row_of, rows_of, rows_told}

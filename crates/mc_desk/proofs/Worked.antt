@@ -10,9 +10,9 @@ use Rattle.mc_text.specs.Routes.{Route}
 use Rattle.tree_trait.specs.Change.{CallLog}
 use Rattle.tree_trait.specs.Answers.{IfKnown, HasRisen}
 use Rattle.job_reports.specs.declared.row.JobRow.{JobRow}
-use Rattle.session_history.specs.declared.history.Event.TheVariants.{Key}
-use Rattle.session_history.specs.declared.refusal.Refusal.{Refusal}
-use Rattle.session_history.specs.Refusals.{AreRefused}
+use Rattle.session_entries.specs.declared.history.Event.TheVariants.{Key}
+use Rattle.session_entries.specs.declared.refusal.Refusal.{Refusal}
+use Rattle.session_entries.specs.Refusals.{AreRefused}
 use Rattle.job_reports.specs.declared.answer.Answer.{Answer}
 use Rattle.job_reports.specs.declared.answer.Answer.TheVariants.{Yes, No, All, Update, Nothing, SizeDiffers, Retry, Skip, SkipAll, Abort}
 use Rattle.job_reports.specs.declared.job.Job.{Job as JobPlan}
@@ -25,23 +25,23 @@ use Rattle.copy_move.specs.declared.work.Work.TheVariants.{Copy, Delete, Make, M
 use Rattle.copy_move.specs.declared.run.Course.{Course}
 use Rattle.copy_move.specs.declared.run.Course.TheVariants.{GoesOn, Asking, InTrouble, OwedSyncFailed, Skips, Ends}
 use Rattle.copy_move.specs.Jobs.{MayAnswer, Running, answered, answered_on, begun_work, kind_of, path_of, taken_anew, waiting_on, waits_on}
-use Rattle.session_history.specs.Sources.{sources_of}
+use Rattle.session_entries.specs.Sources.{sources_of}
 use Rattle.copy_move.specs.Told.{running, told}
-use Rattle.job_boxes.specs.LiveJobs.{can_answer, takes_answer}
+use Rattle.ui_job_boxes.specs.LiveJobs.{can_answer, takes_answer}
 use Rattle.mc_ui.specs.Screens.{Answers, Begins, Screen}
 use Rattle.mc_ui.specs.Seekings.{is_seeking}
-use Rattle.job_plans.specs.Refused.{has_fault}
+use Rattle.ui_plans.specs.Refused.{has_fault}
 use Rattle.mc_desk.specs.declared.starts.Start.{Start}
 use Rattle.mc_desk.specs.declared.granting.Deed.{Deed}
 use Rattle.mc_desk.specs.declared.granting.Deed.TheVariants as deed
 use Rattle.mc_desk.specs.declared.standing.Standing.{Standing}
 use Rattle.mc_desk.specs.Granting.{CanBeDone, IsWorked, KeyWorks, with_deed}
-use Rattle.history_log.specs.Told.{waits_told}
+use Rattle.session_log.specs.Told.{waits_told}
 use Rattle.mc_desk.specs.LiveRows.{question_in, row_of, rows_of, rows_told, state_with, trouble_in}
-use Rattle.history_log.specs.Logs.{Logged, followed}
+use Rattle.session_log.specs.Logs.{Logged, followed}
 use Rattle.mc_desk.specs.Outputs.{FitsScreen, Output, ShowsFrame}
 use Rattle.mc_desk.specs.Shown.{DrawsBehind, DrawsFrame, Put, begun_rows, frame_at, frame_due, ready_row, rows_then, none_before}
-use Rattle.mc_screen.specs.Drawings.{Display}
+use Rattle.screen_draw.specs.Drawings.{Display}
 use Rattle.mc_ui.specs.Frames.{frame_of}
 use Rattle.mc_desk.specs.Standings.{MayCarryOut, after_answer, after_deed, awaited, event_of, order_of}
 use Rattle.mc_desk.specs.Tallies.{can_step, faults_in, next_id}

@@ -9,16 +9,16 @@ use Rattle.key_screen.specs.declared.keys.Key.{Key as KeyType}
 use Rattle.key_screen.specs.DecodedKeys.{decoded_keys}
 use Rattle.job_reports.specs.declared.job.Job.{Job}
 use Rattle.job_reports.specs.declared.report.Did.TheVariants.{Barrier, Moved, Removed}
-use Rattle.session_history.specs.declared.history.Event.TheVariants.{Step}
-use Rattle.session_history.specs.declared.history.Entry.{Entry}
-use Rattle.session_history.specs.Sources.{sources_left}
+use Rattle.session_entries.specs.declared.history.Event.TheVariants.{Step}
+use Rattle.session_entries.specs.declared.history.Entry.{Entry}
+use Rattle.session_entries.specs.Sources.{sources_left}
 use Rattle.copy_move.specs.Jobs.{Running}
 use Rattle.copy_move.specs.Told.{told}
 use Rattle.copy_move.specs.Settling.{is_own}
-use Rattle.tree_deletion.specs.Folders.{joined}
+use Rattle.job_unsynced.specs.Folders.{joined}
 use Rattle.job_reports.specs.Paths.{folder_of, without}
 use Rattle.job_reports.specs.declared.job.Pair.{Pair}
-use Rattle.history_laws.specs.Traces.{Stand, before_others}
+use Rattle.laws_sessions.specs.Traces.{Stand, before_others}
 use Rattle.mc_ui.specs.Screens.{Screen, Ends}
 use Rattle.mc_ui.specs.Seekings.{is_seeking}
 use Rattle.mc_desk.specs.Shown.{ShowsOverAny, none_before}
@@ -30,9 +30,9 @@ use Rattle.mc_desk.specs.declared.replies.StepReply.{StepReply}
 use Rattle.mc_desk.specs.declared.replies.StepReply.TheVariants.{Ended, Idle}
 use Rattle.mc_desk.specs.Tallies.{Tally, can_step, tally, faults_in, keys_in}
 use Rattle.mc_desk.specs.Sessions.{IsSession, SessionState}
-use Rattle.history_log.specs.Logs.{Logged}
+use Rattle.session_log.specs.Logs.{Logged}
 use Rattle.mc_desk.specs.Outputs.{FitsScreen, Output}
-use Rattle.history_log.specs.Told.{waits_told}
+use Rattle.session_log.specs.Told.{waits_told}
 use Rattle.mc_desk.specs.LiveRows.{rows_of}
 use Rattle.mc_ui.specs.Frames.{frame_of}
 use Rattle.key_screen.specs.Grids.{CellGrid}

@@ -4,11 +4,11 @@ use Rattle.tree_trait.specs.Change.{CallLog}
 use Rattle.key_screen.specs.declared.keys.Key.{Key as KeyType}
 use Rattle.job_reports.specs.declared.row.JobRow.{JobRow}
 use Rattle.job_reports.specs.declared.job.Job.{Job}
-use Rattle.session_history.specs.Sources.{are_workable}
-use Rattle.session_history.specs.declared.refusal.BeginError.TheVariants.{NoMoreIds}
-use Rattle.session_history.specs.declared.refusal.Refusal.{Refusal}
-use Rattle.session_history.specs.declared.refusal.Refusal.TheVariants as refusal
-use Rattle.job_boxes.specs.LiveJobs.{can_answer}
+use Rattle.session_entries.specs.Sources.{are_workable}
+use Rattle.session_entries.specs.declared.refusal.BeginError.TheVariants.{NoMoreIds}
+use Rattle.session_entries.specs.declared.refusal.Refusal.{Refusal}
+use Rattle.session_entries.specs.declared.refusal.Refusal.TheVariants as refusal
+use Rattle.ui_job_boxes.specs.LiveJobs.{can_answer}
 use Rattle.mc_ui.specs.Screens.{Answers, Begins, Ends, KeyLeads, Screen, at_second, told_refusal, with_ask}
 use Rattle.mc_ui.specs.declared.asks.Ask.{Ask}
 use Rattle.mc_ui.specs.declared.asks.Ask.TheVariants as ask

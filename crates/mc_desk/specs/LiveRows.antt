@@ -8,10 +8,10 @@ use Rattle.job_reports.specs.declared.row.JobState.{JobState}
 use Rattle.job_reports.specs.declared.row.JobState.TheVariants.{Ready, Asking, Troubled}
 use Rattle.job_reports.specs.declared.waits.Waits.{Waits}
 use Rattle.job_reports.specs.declared.waits.Waits.TheVariants as waits
-use Rattle.session_history.specs.declared.history.Entry.{Entry}
+use Rattle.session_entries.specs.declared.history.Entry.{Entry}
 use Rattle.copy_move.specs.Jobs.{Running, kind_of, path_of, waits_on}
-use Rattle.history_laws.specs.ToldJob.{live_job}
-use Rattle.history_log.specs.Told.{waits_told}
+use Rattle.laws_sessions.specs.ToldJob.{live_job}
+use Rattle.session_log.specs.Told.{waits_told}
 
 -- a job that waits for an answer waits with what was told; each other has a next step
 abbrev pub waits_in : Running → Option Waits → Option Waits

@@ -5,7 +5,7 @@ use Rattle.tree_trait.specs.declared.devices.SinkError.{SinkError}
 use Rattle.tree_trait.specs.declared.devices.SinkError.TheVariants.{Fault}
 use Rattle.key_screen.specs.Grids.{CellGrid}
 use Rattle.mc_ui.specs.Screens.{Screen}
-use Rattle.mc_screen.specs.Drawings.{Display, HasSizeOf}
+use Rattle.screen_draw.specs.Drawings.{Display, HasSizeOf}
 use Rattle.mc_desk.specs.Shown.{DrawsFrame, HasGiven, HasPutNothing, Put, ShowsOverAny, put_since}
 
 -- what was put, the frame drawn last, how many bytes the drawings that ended have put, and whether the screen has failed

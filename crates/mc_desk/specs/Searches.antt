@@ -1,9 +1,9 @@
 -- What the steps of a search make of the screen, and which entry tells of them.
 use Rattle.std.specs.Prelude.{◌≡◌, ◌⊎◌, ℕ, ◌≤◌, zero, suc, Bool, true, false, ⊤, not, Option}
 use Rattle.tree_trait.specs.Change.{CallLog}
-use Rattle.session_history.specs.declared.history.Event.{Event}
-use Rattle.session_history.specs.declared.history.Event.TheVariants.{Key, Look, Sought, Began, Order, Step, Next, Closed}
-use Rattle.find_mode.specs.Listings.{IsKept, steps_to_end}
+use Rattle.session_entries.specs.declared.history.Event.{Event}
+use Rattle.session_entries.specs.declared.history.Event.TheVariants.{Key, Look, Sought, Began, Order, Step, Next, Closed}
+use Rattle.ui_find.specs.Listings.{IsKept, steps_to_end}
 use Rattle.mc_ui.specs.Screens.{Screen}
 use Rattle.mc_ui.specs.Seekings.{SeekLeads, is_seeking, list_in, with_list}
 

@@ -7,29 +7,29 @@ use Rattle.tree_trait.specs.Answers.{HasRisen, IfKnown}
 use Rattle.job_reports.specs.declared.answer.Answer.{Answer}
 use Rattle.job_reports.specs.declared.job.Job.{Job}
 use Rattle.job_reports.specs.declared.row.JobRow.{JobRow}
-use Rattle.session_history.specs.declared.history.Event.{Event}
-use Rattle.session_history.specs.declared.history.Event.TheVariants.{Key, Look, Sought, Began, Order, Step, Next, Closed}
-use Rattle.session_history.specs.declared.history.JobOrder.TheVariants.{Answered}
-use Rattle.session_history.specs.declared.history.Entry.{Entry}
+use Rattle.session_entries.specs.declared.history.Event.{Event}
+use Rattle.session_entries.specs.declared.history.Event.TheVariants.{Key, Look, Sought, Began, Order, Step, Next, Closed}
+use Rattle.session_entries.specs.declared.history.JobOrder.TheVariants.{Answered}
+use Rattle.session_entries.specs.declared.history.Entry.{Entry}
 use Rattle.job_reports.specs.declared.report.Did.{Did}
 use Rattle.copy_move.specs.Jobs.{Running}
 use Rattle.copy_move.specs.Faults.{MeetsFault}
 use Rattle.copy_move.specs.Told.{IsAllowedStep, MayTurn}
-use Rattle.session_history.specs.Refusals.{AreRefused}
-use Rattle.session_history.specs.Entries.{calls_in, last_id}
-use Rattle.session_history.specs.Sources.{IsInTurn, are_workable, sources_left}
-use Rattle.history_laws.specs.Traces.{Follows, Stand, at_rest, nothing_live}
-use Rattle.box_words.specs.declared.message.Message.{Message}
-use Rattle.job_plans.specs.Refused.{has_fault}
-use Rattle.job_boxes.specs.LiveJobs.{takes_answer}
+use Rattle.session_entries.specs.Refusals.{AreRefused}
+use Rattle.session_entries.specs.Entries.{calls_in, last_id}
+use Rattle.session_entries.specs.Sources.{IsInTurn, are_workable, sources_left}
+use Rattle.laws_sessions.specs.Traces.{Follows, Stand, at_rest, nothing_live}
+use Rattle.ui_words.specs.declared.message.Message.{Message}
+use Rattle.ui_plans.specs.Refused.{has_fault}
+use Rattle.ui_job_boxes.specs.LiveJobs.{takes_answer}
 use Rattle.mc_ui.specs.Screens.{Screen, Planned, Begins, Answers, Ends, LookLeads, opened_screen, with_viewer}
 use Rattle.mc_ui.specs.Seekings.{is_seeking}
 use Rattle.mc_ui.specs.declared.viewing.Leaving.TheVariants as leaving
 use Rattle.panel_pair.specs.Openings.{OpensBoth}
 use Rattle.panel_pair.specs.Pairs.{PairState, opened_pair, unread_pair}
-use Rattle.viewer_mode.specs.declared.opening.Opening.TheVariants.{Viewed}
-use Rattle.viewer_mode.specs.Openings.{OpensThing}
-use Rattle.viewer_mode.specs.ViewerScreens.{ViewerScreen}
+use Rattle.ui_viewer.specs.declared.opening.Opening.TheVariants.{Viewed}
+use Rattle.ui_viewer.specs.Openings.{OpensThing}
+use Rattle.ui_viewer.specs.ViewerScreens.{ViewerScreen}
 use Rattle.mc_desk.specs.declared.starts.Start.{Start}
 use Rattle.mc_desk.specs.declared.starts.StartMode.{StartMode}
 use Rattle.mc_desk.specs.declared.starts.StartMode.TheVariants.{Panels, View}
@@ -37,7 +37,7 @@ use Rattle.mc_desk.specs.Granting.{KeyWorks}
 use Rattle.mc_desk.specs.LiveRows.{rows_told}
 use Rattle.mc_desk.specs.Searches.{EventSeeks}
 use Rattle.mc_desk.specs.Shown.{EventDraws, HasPutNothing, Put, frame_due, none_before}
-use Rattle.history_log.specs.Told.{news_left}
+use Rattle.session_log.specs.Told.{news_left}
 use Rattle.mc_desk.specs.Tallies.{Tally, tally, most_calls, faults_in, next_id}
 
 -- no key is worked in a closed session, where something is to be looked at, while a search goes on, or after one was lost

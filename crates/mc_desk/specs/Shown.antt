@@ -6,16 +6,16 @@ use Rattle.std.specs.Option.{option_map}
 use Rattle.job_reports.specs.declared.job.Job.{Job}
 use Rattle.job_reports.specs.declared.row.JobRow.{JobRow}
 use Rattle.job_reports.specs.declared.row.JobState.TheVariants.{Ready}
-use Rattle.session_history.specs.declared.history.Entry.{Entry}
-use Rattle.session_history.specs.Sources.{sources_of}
-use Rattle.session_history.specs.declared.history.Event.{Event}
-use Rattle.session_history.specs.declared.history.Event.TheVariants.{Key, Look, Sought, Began, Order, Step, Next, Closed}
+use Rattle.session_entries.specs.declared.history.Entry.{Entry}
+use Rattle.session_entries.specs.Sources.{sources_of}
+use Rattle.session_entries.specs.declared.history.Event.{Event}
+use Rattle.session_entries.specs.declared.history.Event.TheVariants.{Key, Look, Sought, Began, Order, Step, Next, Closed}
 use Rattle.copy_move.specs.Jobs.{begun_work}
 use Rattle.copy_move.specs.Told.{running}
 use Rattle.mc_desk.specs.LiveRows.{rows_of}
 use Rattle.mc_ui.specs.Screens.{Screen, Planned, Begins, Answers, Ends}
-use Rattle.mc_screen.specs.Drawings.{HasSizeOf, Shows}
-use Rattle.mc_screen.specs.Sparse.{IsSparse}
+use Rattle.screen_draw.specs.Drawings.{HasSizeOf, Shows}
+use Rattle.screen_draw.specs.Sparse.{IsSparse}
 use Rattle.mc_ui.specs.Frames.{frame_of}
 
 -- what a session has put since its opening, where the sink tells, and whether its last drawing was cut short

@@ -1,10 +1,10 @@
 -- What a session has come to, as the desk keeps it, and what a key's request, a look and the close make of that.
 use Rattle.std.specs.Prelude.{◌≡◌, ℕ, Bool, true, false, ⊤, if◌then◌else◌, List, [], Option, Some, None}
 use Rattle.std.specs.Option.{option_map}
-use Rattle.session_history.specs.declared.history.Event.{Event}
-use Rattle.session_history.specs.declared.history.Event.TheVariants as event
-use Rattle.session_history.specs.declared.history.JobOrder.TheVariants.{Answered}
-use Rattle.session_history.specs.declared.history.Entry.{Entry}
+use Rattle.session_entries.specs.declared.history.Event.{Event}
+use Rattle.session_entries.specs.declared.history.Event.TheVariants as event
+use Rattle.session_entries.specs.declared.history.JobOrder.TheVariants.{Answered}
+use Rattle.session_entries.specs.declared.history.Entry.{Entry}
 use Rattle.job_reports.specs.declared.answer.Answer.{Answer as AnswerType}
 use Rattle.job_reports.specs.declared.job.Job.{Job as JobPlan}
 use Rattle.copy_move.specs.Jobs.{MayAnswer, Running, answered, closed_job}

@@ -18,9 +18,9 @@ use Rattle.panel_pair.specs.declared.side.Side.TheVariants.{Left, Right}
 use Rattle.mc_ui.specs.Screens.{Screen}
 use Rattle.mc_desk.specs.declared.starts.StartError.{StartError}
 use Rattle.mc_desk.specs.declared.starts.StartError.TheVariants.{Resolve, Memory}
-use Rattle.history_log.specs.Logs.{Logged}
-use Rattle.viewer_mode.specs.declared.opening.Opening.{Opening}
-use Rattle.viewer_mode.specs.declared.opening.Opening.TheVariants.{Viewed, NoWay, Unread}
+use Rattle.session_log.specs.Logs.{Logged}
+use Rattle.ui_viewer.specs.declared.opening.Opening.{Opening}
+use Rattle.ui_viewer.specs.declared.opening.Opening.TheVariants.{Viewed, NoWay, Unread}
 use Rattle.mc_desk.specs.Sessions.{IsOpening, viewing_alone}
 use Rattle.mc_desk.specs.declared.starts.Start.{Start}
 use Rattle.mc_desk.specs.declared.starts.StartMode.{StartMode}

@@ -3,12 +3,12 @@ use Rattle.std.specs.Prelude.{ℕ, ◌+◌, ◌-◌, ◌^◌, nat_lt, Bool, true
 use Rattle.std.specs.Option.{option_map}
 use Rattle.key_screen.specs.declared.keys.Key.{Key as KeyType}
 use Rattle.job_reports.specs.declared.report.Did.TheVariants.{Ended}
-use Rattle.session_history.specs.declared.history.Event.{Event}
-use Rattle.session_history.specs.declared.history.Event.TheVariants.{Key, Look, Sought, Began, Order, Step, Next, Closed}
-use Rattle.session_history.specs.declared.history.Entry.{Entry}
+use Rattle.session_entries.specs.declared.history.Event.{Event}
+use Rattle.session_entries.specs.declared.history.Event.TheVariants.{Key, Look, Sought, Began, Order, Step, Next, Closed}
+use Rattle.session_entries.specs.declared.history.Entry.{Entry}
 use Rattle.copy_move.specs.Jobs.{Running, waits_on}
-use Rattle.history_laws.specs.ToldJob.{live_job, after_event}
-use Rattle.session_history.specs.Entries.{last_id, is_closed, closes, id_after, calls_in}
+use Rattle.laws_sessions.specs.ToldJob.{live_job, after_event}
+use Rattle.session_entries.specs.Entries.{last_id, is_closed, closes, id_after, calls_in}
 use Rattle.copy_move.specs.Told.{if_closed}
 
 -- a job has ended, and no look has taken it up

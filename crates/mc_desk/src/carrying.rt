@@ -1,6 +1,6 @@
 //! What a key asked is carried out, and then the frame is drawn.
 ghost use Rattle.std.specs.Prelude.{◌≡◌, false};
-ghost use Rattle.history_log.specs.Told.{waits_told};
+ghost use Rattle.session_log.specs.Told.{waits_told};
 ghost use Rattle.mc_desk.specs.LiveRows.{rows_of};
 ghost use Rattle.mc_desk.specs.Outputs.{FitsScreen, ShowsFrame};
 ghost use Rattle.mc_desk.specs.Standings.{MayCarryOut, after_deed, event_of};
@@ -10,9 +10,9 @@ use crate::granting::Deed;
 use crate::standing::Standing;
 use crate::tag::Tag;
 use crate::terminal::Terminal;
-use history_log::Log;
 use mc_ui::Ui;
-use session_history::Event;
+use session_entries::Event;
+use session_log::Log;
 use std::alloc::Global;
 use tree_trait::{Sink, SinkError};
 

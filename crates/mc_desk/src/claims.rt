@@ -1,5 +1,5 @@
 //! Which paths of parts may be taken.
-use file_copy::PartTest;
+use job_reports::PartTest;
 use mc_text::Path;
 
 /// No other job is live, so no path is claimed.

@@ -2,11 +2,11 @@
 ghost use Rattle.std.specs.Prelude.{◌≡◌, ◌<◌, ◌≤◌, false, true, [], Option, IfOk, IfErr, IsSome, IsTrue, OnOk, None, Some, if◌then◌else◌, reverse};
 ghost use Rattle.tree_trait.specs.Change.{current};
 ghost use Rattle.tree_trait.specs.Answers.{IfKnown, HasRisen};
-ghost use Rattle.session_history.specs.Sources.{AreInTurn};
-ghost use Rattle.history_laws.specs.ToldJob.{live_job};
+ghost use Rattle.session_entries.specs.Sources.{AreInTurn};
+ghost use Rattle.laws_sessions.specs.ToldJob.{live_job};
 ghost use Rattle.copy_move.specs.Told.{IsReady};
-ghost use Rattle.history_laws.specs.Traces.{IsTracedTo};
-ghost use Rattle.history_log.specs.Logs.{jobs_begun};
+ghost use Rattle.laws_sessions.specs.Traces.{IsTracedTo};
+ghost use Rattle.session_log.specs.Logs.{jobs_begun};
 ghost use Rattle.mc_desk.specs.Sessions.{BeginsIn, EndsSession};
 ghost use Rattle.mc_desk.specs.Starts.{CanStart, IsStartCause, is_start_fault};
 ghost use Rattle.mc_desk.specs.Tallies.{can_step, faults_in, has_lost};

@@ -1,7 +1,7 @@
 //! What the desk does about what a key asks.
 ghost use Rattle.std.specs.Prelude.{◌≡◌, ◌∷◌, [], true, IfOk, OnErr, Some};
-ghost use Rattle.session_history.specs.Sources.{are_workable};
-ghost use Rattle.job_plans.specs.Reading.{ReadsTree};
+ghost use Rattle.session_entries.specs.Sources.{are_workable};
+ghost use Rattle.ui_plans.specs.Reading.{ReadsTree};
 ghost use Rattle.mc_ui.specs.Screens.{is_request};
 ghost use Rattle.mc_desk.specs.declared.granting.Granted.{Granted as GrantedType};
 ghost use Rattle.mc_desk.specs.Granting.{CanBeWorked, IsGranted, IsWorked, told_of};
@@ -13,7 +13,7 @@ use job_sources::sources_in;
 use key_screen::Key;
 use mc_text::NoMemory;
 use mc_ui::{Ask, KeyAct, Told, Ui};
-use session_history::{BeginError, Refusal, Refusals};
+use session_entries::{BeginError, Refusal, Refusals};
 use std::alloc::Global;
 use tree_trait::Tree;
 

@@ -5,21 +5,21 @@ ghost use Rattle.tree_trait.specs.Answers.{IfKnown, HasRisen};
 ghost use Rattle.mc_desk.specs.Outputs.{FitsScreen};
 ghost use Rattle.mc_text.specs.Routes.{path_text};
 ghost use Rattle.panel_pair.specs.Pairs.{unread_pair};
-ghost use Rattle.viewer_mode.specs.Openings.{OpensThing, ReadsToOpen};
+ghost use Rattle.ui_viewer.specs.Openings.{OpensThing, ReadsToOpen};
 ghost use Rattle.mc_desk.specs.Sessions.{IsOpeningIn, OpensPanels, OpensViewer, viewing_alone};
 ghost use Rattle.mc_desk.specs.Starts.{IsOpened, Starts, is_start_fault, place_of as place_on, start_error, unread_error, viewed_alone};
 
 use crate::starts::{Start, StartError, StartMode, StartPlace};
-use history_log::Log;
-use mc_screen::Screen;
 use mc_text::{NoMemory, Path};
 use mc_ui::{Leaving, Ui};
 use panel_pair::{Panels, Side, Unopened};
 use resolving::ResolveError;
+use screen_draw::Screen;
+use session_log::Log;
 use std::alloc::Global;
 use std::convert::AsStr;
 use tree_trait::{ReadTree, Tree, TreeError};
-use viewer_mode::{Opening, ViewerMode, open_thing};
+use ui_viewer::{Opening, ViewerMode, open_thing};
 
 /// The screen of a session at a second of the clock, as it begins, with no box open, and an empty log.
 pub fn open<T: Tree>(

@@ -1,12 +1,12 @@
 //! The rows of the live jobs, as the screen sees them.
 ghost use Rattle.std.specs.Prelude.{◌≡◌, ◌∷◌, [], IfOk};
-ghost use Rattle.history_log.specs.Told.{waits_told};
+ghost use Rattle.session_log.specs.Told.{waits_told};
 ghost use Rattle.mc_desk.specs.LiveRows.{question_in, row_of as row_for, rows_of as rows_for, state_with, trouble_in, waits_in as told_in};
 
 use copy_move::Run;
-use history_log::Log;
 use job_reports::{JobRow, JobRows, JobState, Question, Trouble, Waits};
 use mc_text::NoMemory;
+use session_log::Log;
 use std::alloc::Global;
 
 /// The rows of the live jobs. There is at most one today.

@@ -3,7 +3,7 @@ ghost use Rattle.std.specs.Prelude.{◌≡◌, ◌≤◌, ◌<◌, true, false, 
 ghost use Rattle.mc_ui.specs.Frames.{frame_of};
 ghost use Rattle.mc_ui.specs.Screens.{HasSameSize};
 ghost use Rattle.mc_ui.specs.Seekings.{is_seeking};
-ghost use Rattle.history_log.specs.Told.{waits_told};
+ghost use Rattle.session_log.specs.Told.{waits_told};
 ghost use Rattle.mc_desk.specs.LiveRows.{rows_of};
 ghost use Rattle.mc_desk.specs.Outputs.{FitsScreen, ShowsFrame};
 ghost use Rattle.mc_desk.specs.Searches.{HasSought, steps_ahead};
@@ -12,10 +12,10 @@ ghost use Rattle.mc_desk.specs.Standings.{sought_entry as entry_of_steps};
 use crate::tag::Tag;
 use crate::terminal::Terminal;
 use copy_move::Run;
-use history_log::Log;
 use mc_text::NoMemory;
 use mc_ui::Ui;
-use session_history::{Entry, Event};
+use session_entries::{Entry, Event};
+use session_log::Log;
 use std::alloc::Global;
 use tree_trait::{ReadTree, Sink, SinkError};
 

@@ -11,7 +11,7 @@ use crate::replies::DeskReply;
 use copy_move::Run;
 use job_reports::Answer;
 use job_sources::Later;
-use session_history::{Event, JobOrder};
+use session_entries::{Event, JobOrder};
 use std::alloc::Global;
 
 /// What is to be looked at before the next key is taken.

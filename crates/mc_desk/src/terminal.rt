@@ -1,19 +1,19 @@
 //! The terminal of a session: its sink, the frame that was drawn last, and what was put.
 ghost use Rattle.std.specs.Prelude.{◌≡◌, ◌+◌, ◌≤◌, ◌<◌, ◌^◌, [], true, false, Err};
-ghost use Rattle.history_log.specs.Told.{waits_told};
+ghost use Rattle.session_log.specs.Told.{waits_told};
 ghost use Rattle.mc_desk.specs.LiveRows.{rows_of as rows_for};
 ghost use Rattle.mc_desk.specs.Outputs.{Blames, CountsAll, FitsScreen, IsFirstOutput, ShowsFrame, ShowsLast};
 ghost use Rattle.mc_desk.specs.Shown.{HasGiven, put_since};
-ghost use Rattle.mc_screen.specs.Drawings.{HasSizeOf};
+ghost use Rattle.screen_draw.specs.Drawings.{HasSizeOf};
 ghost use Rattle.mc_ui.specs.Frames.{frame_of};
 
 use crate::rows::rows_of;
 use crate::tag::Tag;
 use copy_move::Run;
-use history_log::Log;
 use key_screen::Grid;
-use mc_screen::Screen;
 use mc_ui::Ui;
+use screen_draw::Screen;
+use session_log::Log;
 use std::alloc::Global;
 use std::marker::{Model, PhantomData};
 use tree_trait::{Sink, SinkError};

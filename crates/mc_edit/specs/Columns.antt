@@ -1,6 +1,6 @@
 -- The columns of a line: where its units stand on the screen when the line begins in column 0 (own).
 use Rattle.std.specs.Prelude.{ℕ, ◌+◌, nat_lt, nat_le, List, [], ◌∷◌, length, if◌then◌else◌}
-use Rattle.shown_units.specs.Units.{unit_columns}
+use Rattle.text_units.specs.Units.{unit_columns}
 
 -- the column in which the unit that holds the place begins, or the columns of the line; the first unit begins at
 -- `start`, in column `column`

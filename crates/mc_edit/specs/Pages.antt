@@ -5,7 +5,7 @@ use Rattle.gap_text.specs.PointedText.{PointedText}
 use Rattle.mc_edit.specs.Moves.{column_at}
 use Rattle.mc_edit.specs.Lines.{line_start, line_end, line_at}
 use Rattle.mc_edit.specs.Units.{units}
-use Rattle.shown_units.specs.Units.{piece_in_sight, unit_columns}
+use Rattle.text_units.specs.Units.{piece_in_sight, unit_columns}
 
 -- what is in sight of a line whose first unit stands in this column
 abbrev pub row_of_units : ℕ → ℕ → ℕ → List (List ℕ) → List ℕ

@@ -4,7 +4,7 @@ ghost use Rattle.mc_edit.specs.Units.{units, end_after, start_before};
 ghost use Rattle.mc_edit.specs.Columns.{column_of, place_in_column};
 
 use crate::units::units_of;
-use shown_units::unit_columns;
+use text_units::unit_columns;
 
 /// The start of the last unit that begins before the place.
 pub fn start_before(line: &[u8], at: usize) -> usize

@@ -8,8 +8,8 @@ use crate::lines::{line_end, line_start, slice_of};
 use crate::units::units_of;
 use gap_text::GapText;
 use mc_text::{NoMemory, Rows, Text};
-use shown_units::{Sight, push_piece, unit_columns};
 use std::alloc::Global;
+use text_units::{Sight, push_piece, unit_columns};
 
 /// The rows of at most so many lines, from the one that begins at a place.
 pub fn rows_from(

@@ -3,12 +3,12 @@ use Rattle.std.proofs.Common.{◌≡◌, ◌≢◌, ◌<◌, ◌≤◌, ℕ, tru
 use Rattle.tree_trait.specs.Change.{CallLog, current}
 use Rattle.tree_trait.specs.Answers.{HasRisen, IfKnown}
 use Rattle.mc_text.specs.Routes.{Route}
-use Rattle.start_words.specs.Asked.{asked_by}
-use Rattle.start_words.specs.Folders.{started_in}
+use Rattle.main_words.specs.Asked.{asked_by}
+use Rattle.main_words.specs.Folders.{started_in}
 use Rattle.mc_main.specs.declared.words.Surroundings.{Surroundings}
-use Rattle.start_words.specs.declared.words.Words.{Words}
-use Rattle.start_words.specs.declared.words.Words.TheVariants.{Panels, View, NotBuilt}
-use Rattle.start_words.specs.declared.words.Words.TheVariants as asks
+use Rattle.main_words.specs.declared.words.Words.{Words}
+use Rattle.main_words.specs.declared.words.Words.TheVariants.{Panels, View, NotBuilt}
+use Rattle.main_words.specs.declared.words.Words.TheVariants as asks
 use Rattle.mc_desk.specs.declared.starts.StartError.{StartError}
 use Rattle.mc_desk.specs.declared.starts.StartError.TheVariants.{Resolve, Memory}
 use Rattle.mc_desk.specs.declared.starts.Start.{Start}

@@ -3,19 +3,19 @@ use Rattle.std.proofs.Common.{◌≡◌, ◌⊎◌, ◌≤◌, ℕ, Bool, true, 
 use Rattle.mc_text.specs.Routes.{Route}
 use Rattle.tree_trait.specs.Change.{CallLog, current}
 use Rattle.tree_trait.specs.Answers.{IfKnown, HasRisen}
-use Rattle.session_history.specs.declared.history.Entry.{Entry}
-use Rattle.session_history.specs.LiveJobs.{IsLivePart, live_jobs}
-use Rattle.history_laws.specs.Traces.{IsTraced, IsTracedTo, at_rest}
-use Rattle.history_laws.proofs.Calmed.{calm_law}
-use Rattle.history_laws.proofs.Done.{done_law}
-use Rattle.history_laws.proofs.Histories.{traced_reached}
-use Rattle.history_laws.proofs.Moments.{replay_law, session_law}
-use Rattle.history_laws.proofs.WholeMoments.{whole_law}
-use Rattle.outcome_laws.proofs.AnswersLaw.{answered_law}
-use Rattle.outcome_laws.proofs.Elsewhere.{untouched_law}
-use Rattle.outcome_laws.proofs.KeptSessions.{kept_law}
-use Rattle.outcome_laws.proofs.Outcome.{outcome_law}
-use Rattle.outcome_laws.proofs.Together.{all_sources_law}
+use Rattle.session_entries.specs.declared.history.Entry.{Entry}
+use Rattle.session_entries.specs.LiveJobs.{IsLivePart, live_jobs}
+use Rattle.laws_sessions.specs.Traces.{IsTraced, IsTracedTo, at_rest}
+use Rattle.laws_sessions.proofs.Calmed.{calm_law}
+use Rattle.laws_sessions.proofs.Done.{done_law}
+use Rattle.laws_sessions.proofs.Histories.{traced_reached}
+use Rattle.laws_sessions.proofs.Moments.{replay_law, session_law}
+use Rattle.laws_sessions.proofs.WholeMoments.{whole_law}
+use Rattle.laws_outcomes.proofs.AnswersLaw.{answered_law}
+use Rattle.laws_outcomes.proofs.Elsewhere.{untouched_law}
+use Rattle.laws_outcomes.proofs.KeptSessions.{kept_law}
+use Rattle.laws_outcomes.proofs.Outcome.{outcome_law}
+use Rattle.laws_outcomes.proofs.Together.{all_sources_law}
 use Rattle.mc_desk.specs.declared.starts.Start.{Start}
 use Rattle.mc_desk.specs.Sessions.{EndsSession}
 use Rattle.mc_desk.specs.Shown.{HasGiven, put_since}

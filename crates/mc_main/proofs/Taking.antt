@@ -4,7 +4,7 @@ use Rattle.std.specs.Prelude.{slice_get, slice_index_or}
 use Rattle.tree_trait.specs.declared.devices.SourceFault.{SourceFault}
 use Rattle.tree_trait.specs.Answers.{IfKnown}
 use Rattle.tree_trait.specs.Devices.{HasTaken as HasGiven}
-use Rattle.session_history.specs.declared.history.Entry.{Entry}
+use Rattle.session_entries.specs.declared.history.Entry.{Entry}
 use Rattle.mc_desk.specs.declared.replies.DeskReply.{DeskReply}
 use Rattle.mc_desk.specs.declared.replies.DeskReply.TheVariants.{Go, Wait, Quit}
 use Rattle.mc_desk.specs.Tallies.{keys_in}

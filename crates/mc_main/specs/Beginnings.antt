@@ -1,12 +1,12 @@
 -- How a run begins, by its words and by the folder in which it was started: with a session, or with a text that is printed in
 -- place of one.
 use Rattle.std.specs.Prelude.{◌≡◌, ℕ, List, [], ◌∷◌, ◌++◌, Option, Some, None, codes}
-use Rattle.start_words.specs.declared.words.Words.{Words}
-use Rattle.start_words.specs.declared.words.Words.TheVariants.{Panels, View, NotBuilt}
-use Rattle.start_words.specs.declared.words.Words.TheVariants as asked
-use Rattle.start_words.specs.Folders.{home_in, started_in}
-use Rattle.start_words.specs.Asked.{asked_by}
-use Rattle.start_words.specs.Sizes.{size_said}
+use Rattle.main_words.specs.declared.words.Words.{Words}
+use Rattle.main_words.specs.declared.words.Words.TheVariants.{Panels, View, NotBuilt}
+use Rattle.main_words.specs.declared.words.Words.TheVariants as asked
+use Rattle.main_words.specs.Folders.{home_in, started_in}
+use Rattle.main_words.specs.Asked.{asked_by}
+use Rattle.main_words.specs.Sizes.{size_said}
 use Rattle.mc_desk.specs.declared.starts.Start.{Start}
 use Rattle.mc_desk.specs.declared.starts.StartMode.{StartMode}
 use Rattle.mc_desk.specs.declared.starts.StartMode.TheVariants as opens

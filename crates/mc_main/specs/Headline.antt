@@ -10,18 +10,18 @@ use Rattle.tree_trait.specs.CrashImages.{all_settled, IsCrashImage}
 use Rattle.tree_trait.specs.Answers.{HasRisen, IfKnown}
 use Rattle.tree_trait.specs.declared.devices.SourceFault.{SourceFault}
 use Rattle.key_screen.specs.DecodedKeys.{decoded_keys}
-use Rattle.session_history.specs.declared.history.Entry.{Entry}
-use Rattle.history_laws.specs.Calmed.{CalmsOthers}
-use Rattle.history_laws.specs.Replayed.{log_prefix, replayed_tree}
-use Rattle.session_history.specs.Entries.{IsMoment}
-use Rattle.history_laws.specs.Safe.{IsSafe}
-use Rattle.history_laws.specs.Staying.{StaysDone}
-use Rattle.history_laws.specs.Whole.{LeavesWhole}
-use Rattle.outcome_laws.specs.AllSources.{LeavesAll}
-use Rattle.outcome_laws.specs.Answered.{FollowsAnswers}
-use Rattle.outcome_laws.specs.Keeps.{LeavesKept}
-use Rattle.outcome_laws.specs.Outcomes.{IsOutcome, Leaves}
-use Rattle.outcome_laws.specs.Untouched.{LeavesAlone}
+use Rattle.session_entries.specs.declared.history.Entry.{Entry}
+use Rattle.laws_sessions.specs.Calmed.{CalmsOthers}
+use Rattle.laws_sessions.specs.Replayed.{log_prefix, replayed_tree}
+use Rattle.session_entries.specs.Entries.{IsMoment}
+use Rattle.laws_sessions.specs.Safe.{IsSafe}
+use Rattle.laws_sessions.specs.Staying.{StaysDone}
+use Rattle.laws_sessions.specs.Whole.{LeavesWhole}
+use Rattle.laws_outcomes.specs.AllSources.{LeavesAll}
+use Rattle.laws_outcomes.specs.Answered.{FollowsAnswers}
+use Rattle.laws_outcomes.specs.Keeps.{LeavesKept}
+use Rattle.laws_outcomes.specs.Outcomes.{IsOutcome, Leaves}
+use Rattle.laws_outcomes.specs.Untouched.{LeavesAlone}
 use Rattle.mc_desk.specs.Tallies.{keys_in}
 use Rattle.mc_desk.specs.declared.starts.Start.{Start}
 use Rattle.mc_desk.specs.Sessions.{EndsSession}
@@ -31,7 +31,7 @@ use Rattle.mc_desk.specs.Starts.{CanStart, file_refusal, path_refusal}
 use Rattle.mc_desk.specs.Shown.{HasGiven, Put}
 use Rattle.mc_desk.specs.ShownEntries.{CutsEntry, ShowsEntry, draws}
 use Rattle.mc_desk.specs.Desks.{LacksSecond}
-use Rattle.start_words.specs.declared.words.Words.{Words}
+use Rattle.main_words.specs.declared.words.Words.{Words}
 use Rattle.mc_main.specs.declared.words.Surroundings.{Surroundings}
 use Rattle.mc_main.specs.Beginnings.{printed_for, session_start}
 use Rattle.mc_main.specs.Printed.{MayPut}

@@ -4,9 +4,9 @@ use Rattle.mc_text.specs.Drawn.{drawn}
 use Rattle.resolving.specs.declared.error.ResolveError.{ResolveError}
 use Rattle.tree_trait.specs.Change.{CallLog, current}
 use Rattle.tree_trait.specs.Answers.{HasRisen, IfKnown}
-use Rattle.start_words.specs.declared.words.Words.{Words}
+use Rattle.main_words.specs.declared.words.Words.{Words}
 use Rattle.mc_main.specs.declared.words.Surroundings.{Surroundings}
-use Rattle.box_words.specs.Causes.{resolve_words}
+use Rattle.ui_words.specs.Causes.{resolve_words}
 use Rattle.mc_desk.specs.declared.starts.StartError.{StartError}
 use Rattle.mc_desk.specs.declared.starts.StartError.TheVariants.{Resolve, Memory}
 use Rattle.mc_desk.specs.declared.starts.Start.{Start}

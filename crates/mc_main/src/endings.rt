@@ -1,9 +1,9 @@
 //! How a run ends: after its session, or before one began.
 ghost use Rattle.std.specs.Prelude.{◌≡◌, ◌≢◌, ◌≤◌, ◌<◌, ◌++◌, [], true, IfOk, Option, None, Some, reverse, string_bytes};
 ghost use Rattle.tree_trait.specs.Answers.{IfKnown, HasRisen};
-ghost use Rattle.history_laws.specs.ToldJob.{live_job};
-ghost use Rattle.history_laws.specs.Traces.{IsTracedTo};
-ghost use Rattle.history_log.specs.Logs.{jobs_begun};
+ghost use Rattle.laws_sessions.specs.ToldJob.{live_job};
+ghost use Rattle.laws_sessions.specs.Traces.{IsTracedTo};
+ghost use Rattle.session_log.specs.Logs.{jobs_begun};
 ghost use Rattle.mc_desk.specs.Tallies.{faults_in, has_lost};
 ghost use Rattle.mc_desk.specs.Desks.{IsFresh, RanNothing};
 ghost use Rattle.mc_main.specs.Printed.{MayPutCause, PrintsCause, PutsSome, start_line as line_for};
@@ -15,7 +15,7 @@ use crate::words::Typed;
 use mc_desk::{Desk, Ended, Refused, StartError, Tag, resolve_text};
 use mc_text::{NoMemory, drawn};
 use resolving::ResolveError;
-use session_history::{Entries, History};
+use session_entries::{Entries, History};
 use std::alloc::Global;
 use tree_trait::{Clock, Sink, SinkError, Source, Spawner, Tree};
 

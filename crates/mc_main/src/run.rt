@@ -1,9 +1,9 @@
 //! One run of the file manager over its devices.
 ghost use Rattle.std.specs.Prelude.{◌≡◌, ◌⊎◌, ◌≤◌, ◌++◌, true, [], Option, None, Some, IsSome, reverse};
 ghost use Rattle.tree_trait.specs.Answers.{IfKnown, HasRisen};
-ghost use Rattle.history_laws.specs.ToldJob.{live_job};
-ghost use Rattle.history_laws.specs.Traces.{IsTracedTo};
-ghost use Rattle.history_log.specs.Logs.{jobs_begun};
+ghost use Rattle.laws_sessions.specs.ToldJob.{live_job};
+ghost use Rattle.laws_sessions.specs.Traces.{IsTracedTo};
+ghost use Rattle.session_log.specs.Logs.{jobs_begun};
 ghost use Rattle.mc_desk.specs.Shown.{put_since};
 ghost use Rattle.mc_desk.specs.Tallies.{faults_in, has_lost};
 ghost use Rattle.mc_desk.specs.Desks.{RanNothing};

@@ -3,9 +3,9 @@ ghost use Rattle.std.specs.Prelude.{◌≡◌, ◌<◌, Some, IfOk};
 ghost use Rattle.mc_main.specs.Beginnings.{IsBeginning, asked_in, start_with, status_with, surroundings_in, text_of, word_for as word_of};
 
 use crate::run::Env;
+use main_words::{Size, Words, WordsError, home_folder, read_words, started_folder};
 use mc_desk::{Start, StartMode, StartPlace};
 use mc_text::{NoMemory, Path, Text};
-use start_words::{Size, Words, WordsError, home_folder, read_words, started_folder};
 use std::alloc::Global;
 
 /// A text that is printed in place of a session.

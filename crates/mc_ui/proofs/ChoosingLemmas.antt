@@ -3,11 +3,11 @@ use Rattle.std.proofs.Common.{◌≡◌, List, [], ◌∷◌, ◌∙◌, sym, ap
 use Rattle.std.specs.Prelude.{IfOk}
 use Rattle.mc_text.specs.declared.error.NoMemory.{NoMemory}
 use Rattle.tree_trait.specs.FileSystem.{View}
-use Rattle.session_history.specs.declared.refusal.Refusal.{Refusal}
-use Rattle.mc_panels.specs.Panels.{PanelState}
-use Rattle.job_plans.specs.declared.choosing.Choice.{Choice}
-use Rattle.job_plans.specs.declared.choosing.Opens.{Opens}
-use Rattle.job_plans.specs.Choices.{IsChoice, choice_refusals}
+use Rattle.session_entries.specs.declared.refusal.Refusal.{Refusal}
+use Rattle.panel_state.specs.Panels.{PanelState}
+use Rattle.ui_plans.specs.declared.choosing.Choice.{Choice}
+use Rattle.ui_plans.specs.declared.choosing.Opens.{Opens}
+use Rattle.ui_plans.specs.Choices.{IsChoice, choice_refusals}
 use Rattle.mc_ui.specs.declared.asks.Ask.TheVariants.{Nothing}
 use Rattle.mc_ui.specs.declared.asks.KeyAct.{KeyAct}
 use Rattle.mc_ui.specs.Screens.{Chooses, Screen, after_choice, told_refusal}

@@ -8,15 +8,15 @@ use Rattle.tree_trait.specs.Answers.{IfKnown}
 use Rattle.resolving.specs.declared.error.ResolveError.{ResolveError}
 use Rattle.resolving.specs.declared.error.ResolveError.TheVariants as resolve
 use Rattle.key_screen.specs.declared.keys.Key.{Key}
-use Rattle.session_history.specs.declared.refusal.Refusal.{Refusal}
-use Rattle.session_history.specs.declared.refusal.Refusal.TheVariants.{Resolve}
+use Rattle.session_entries.specs.declared.refusal.Refusal.{Refusal}
+use Rattle.session_entries.specs.declared.refusal.Refusal.TheVariants.{Resolve}
 use Rattle.panel_pair.specs.declared.command.PanelCommand.TheVariants.{GoTo}
 use Rattle.panel_pair.specs.Commands.{CommandReads}
 use Rattle.panel_pair.specs.Pairs.{PairState}
-use Rattle.find_mode.specs.declared.act.FindAct.{FindAct}
-use Rattle.find_mode.specs.declared.act.FindAct.TheVariants.{Stays, Refused, Goes, Leaves}
-use Rattle.find_mode.specs.declared.act.FindRefusal.{FindRefusal}
-use Rattle.find_mode.specs.FindScreens.{FindScreen, KeyLeads}
+use Rattle.ui_find.specs.declared.act.FindAct.{FindAct}
+use Rattle.ui_find.specs.declared.act.FindAct.TheVariants.{Stays, Refused, Goes, Leaves}
+use Rattle.ui_find.specs.declared.act.FindRefusal.{FindRefusal}
+use Rattle.ui_find.specs.FindScreens.{FindScreen, KeyLeads}
 use Rattle.mc_ui.specs.declared.asks.Ask.TheVariants.{Nothing}
 use Rattle.mc_ui.specs.declared.asks.KeyAct.{KeyAct}
 use Rattle.mc_ui.specs.Boxes.{FindBox}

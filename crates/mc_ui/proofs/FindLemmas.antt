@@ -7,24 +7,24 @@ use Rattle.tree_trait.specs.Change.{CallLog}
 use Rattle.tree_trait.specs.Answers.{IfKnown}
 use Rattle.key_screen.specs.declared.keys.Key.{Key}
 use Rattle.mc_dialogs.specs.InputKeys.{InputState, input_after, input_shut}
-use Rattle.box_words.specs.declared.replies.LineReply.{LineReply}
-use Rattle.box_words.specs.declared.replies.LineReply.TheVariants as line
-use Rattle.box_words.specs.BoxKeys.{line_reply}
-use Rattle.home_paths.specs.Homes.{with_home}
+use Rattle.ui_words.specs.declared.replies.LineReply.{LineReply}
+use Rattle.ui_words.specs.declared.replies.LineReply.TheVariants as line
+use Rattle.ui_words.specs.BoxKeys.{line_reply}
+use Rattle.resolving.specs.Homes.{with_home}
 use Rattle.tagging.specs.Patterns.{PatternText}
-use Rattle.session_history.specs.Refusals.{AreRefused}
-use Rattle.find_mode.specs.declared.act.FindAct.{FindAct}
-use Rattle.find_mode.specs.declared.act.FindAct.TheVariants.{Stays, Refused, Goes, Leaves}
-use Rattle.find_mode.specs.declared.act.FindRefusal.TheVariants.{NoWay, NoPattern}
-use Rattle.find_mode.specs.declared.asking.Asked.{Asked}
-use Rattle.find_mode.specs.declared.asking.Asked.TheVariants.{Start, Names, Content}
-use Rattle.find_mode.specs.declared.asking.Asking.{Asking}
-use Rattle.find_mode.specs.declared.command.FindCommand.{FindCommand}
-use Rattle.find_mode.specs.declared.command.FindCommand.TheVariants as command
-use Rattle.find_mode.specs.FindKeys.{find_command}
-use Rattle.find_mode.specs.FindScreens.{AnswerLeads, ByAsking, CommandLeads, FindScreen, KeyLeads, LineLeads, NamesLead, StartLeads, choice}
-use Rattle.typed_patterns.specs.TypedPatterns.{pattern_in}
-use Rattle.find_mode.specs.Listings.{chosen}
+use Rattle.session_entries.specs.Refusals.{AreRefused}
+use Rattle.ui_find.specs.declared.act.FindAct.{FindAct}
+use Rattle.ui_find.specs.declared.act.FindAct.TheVariants.{Stays, Refused, Goes, Leaves}
+use Rattle.ui_find.specs.declared.act.FindRefusal.TheVariants.{NoWay, NoPattern}
+use Rattle.ui_find.specs.declared.asking.Asked.{Asked}
+use Rattle.ui_find.specs.declared.asking.Asked.TheVariants.{Start, Names, Content}
+use Rattle.ui_find.specs.declared.asking.Asking.{Asking}
+use Rattle.ui_find.specs.declared.command.FindCommand.{FindCommand}
+use Rattle.ui_find.specs.declared.command.FindCommand.TheVariants as command
+use Rattle.ui_find.specs.FindKeys.{find_command}
+use Rattle.ui_find.specs.FindScreens.{AnswerLeads, ByAsking, CommandLeads, FindScreen, KeyLeads, LineLeads, NamesLead, StartLeads, choice}
+use Rattle.tagging.specs.TypedPatterns.{pattern_in}
+use Rattle.ui_find.specs.Listings.{chosen}
 use Rattle.mc_ui.specs.Findings.{find_refusal}
 use Rattle.mc_ui.proofs.NoWays.{leads_nowhere}
 

@@ -8,16 +8,16 @@ use Rattle.tree_trait.specs.Answers.{HasRisen}
 use Rattle.resolving.specs.declared.error.ResolveError.TheVariants as resolve
 use Rattle.key_screen.specs.declared.keys.Key.{Key}
 use Rattle.job_reports.proofs.Runs.{risen_before}
-use Rattle.session_history.specs.declared.refusal.Refusal.{Refusal}
-use Rattle.session_history.specs.Refusals.{AreRefused}
-use Rattle.job_plans.specs.Refused.{has_fault}
-use Rattle.job_plans.specs.Reading.{ReadsTree}
-use Rattle.find_mode.specs.declared.act.FindAct.{FindAct}
-use Rattle.find_mode.specs.declared.act.FindAct.TheVariants.{Refused}
-use Rattle.find_mode.specs.declared.act.FindRefusal.{FindRefusal}
-use Rattle.find_mode.specs.declared.act.FindRefusal.TheVariants.{NoWay, NoPattern}
-use Rattle.find_mode.specs.FindScreens.{FindScreen, KeyLeads}
-use Rattle.find_mode.specs.FindScreens as find
+use Rattle.session_entries.specs.declared.refusal.Refusal.{Refusal}
+use Rattle.session_entries.specs.Refusals.{AreRefused}
+use Rattle.ui_plans.specs.Refused.{has_fault}
+use Rattle.ui_plans.specs.Reading.{ReadsTree}
+use Rattle.ui_find.specs.declared.act.FindAct.{FindAct}
+use Rattle.ui_find.specs.declared.act.FindAct.TheVariants.{Refused}
+use Rattle.ui_find.specs.declared.act.FindRefusal.{FindRefusal}
+use Rattle.ui_find.specs.declared.act.FindRefusal.TheVariants.{NoWay, NoPattern}
+use Rattle.ui_find.specs.FindScreens.{FindScreen, KeyLeads}
+use Rattle.ui_find.specs.FindScreens as find
 use Rattle.mc_ui.specs.Findings.{find_refusal}
 use Rattle.mc_ui.specs.declared.asks.KeyAct.{KeyAct}
 use Rattle.mc_ui.proofs.FindFollowing.{told_act}

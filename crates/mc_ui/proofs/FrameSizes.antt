@@ -5,15 +5,15 @@ use Rattle.job_reports.specs.declared.row.JobRow.{JobRow}
 use Rattle.mc_dialogs.specs.ListKeys.{list_lines}
 use Rattle.mc_dialogs.specs.ModeKeys.{mode_lines}
 use Rattle.mc_dialogs.specs.QuestionKeys.{plain_lines}
-use Rattle.box_words.specs.BoxLines.{delete_lines, waits_lines}
-use Rattle.job_boxes.specs.JobBoxes.{JobBoxState, DeleteBox, MaskBox, TargetBox, FolderBox, LinkTextBox, LinkNameBox, NewModeBox, AnswerBox}
-use Rattle.job_boxes.specs.Paintings.{with_job_box}
-use Rattle.job_list.specs.JobLists.{jobs_lines}
-use Rattle.viewer_mode.proofs.BoxSizes.{box_columns_same, box_lines_same, input_columns_same, input_lines_same}
-use Rattle.find_mode.specs.declared.asking.Asking.{Asking}
-use Rattle.find_mode.specs.Listings.{ListingState}
-use Rattle.find_mode.specs.FindScreens.{FindScreen, page_of}
-use Rattle.find_mode.specs.FindFrames.{found_lines, painted, with_find}
+use Rattle.ui_words.specs.BoxLines.{delete_lines, waits_lines}
+use Rattle.ui_job_boxes.specs.JobBoxes.{JobBoxState, DeleteBox, MaskBox, TargetBox, FolderBox, LinkTextBox, LinkNameBox, NewModeBox, AnswerBox}
+use Rattle.ui_job_boxes.specs.Paintings.{with_job_box}
+use Rattle.ui_job_list.specs.JobLists.{jobs_lines}
+use Rattle.ui_viewer.proofs.BoxSizes.{box_columns_same, box_lines_same, input_columns_same, input_lines_same}
+use Rattle.ui_find.specs.declared.asking.Asking.{Asking}
+use Rattle.ui_find.specs.Listings.{ListingState}
+use Rattle.ui_find.specs.FindScreens.{FindScreen, page_of}
+use Rattle.ui_find.specs.FindFrames.{found_lines, painted, with_find}
 use Rattle.panel_boxes.specs.declared.panel_box.PanelBox.{PanelBox}
 use Rattle.panel_boxes.specs.declared.panel_box.PanelBox.TheVariants.{Pending, Typed, Options}
 use Rattle.panel_boxes.specs.Paintings.{with_panel_box}

@@ -12,36 +12,36 @@ use Rattle.resolving.specs.declared.error.ResolveError.{ResolveError}
 use Rattle.resolving.specs.declared.error.ResolveError.TheVariants as resolve
 use Rattle.key_screen.specs.declared.keys.Key.{Key}
 use Rattle.mc_dialogs.specs.InputKeys.{InputState, input_after, input_shut}
-use Rattle.box_words.specs.declared.replies.LineReply.{LineReply}
-use Rattle.box_words.specs.declared.replies.LineReply.TheVariants as line
-use Rattle.box_words.specs.BoxKeys.{line_reply}
-use Rattle.session_history.specs.declared.refusal.Refusal.{Refusal}
-use Rattle.session_history.specs.declared.refusal.Refusal.TheVariants.{Read, Resolve}
-use Rattle.session_history.specs.Refusals.{AreRefused, IsListRefused, IsReadRefused, IsResolveRefused}
-use Rattle.mc_panels.specs.Readings.{ListsFolder}
+use Rattle.ui_words.specs.declared.replies.LineReply.{LineReply}
+use Rattle.ui_words.specs.declared.replies.LineReply.TheVariants as line
+use Rattle.ui_words.specs.BoxKeys.{line_reply}
+use Rattle.session_entries.specs.declared.refusal.Refusal.{Refusal}
+use Rattle.session_entries.specs.declared.refusal.Refusal.TheVariants.{Read, Resolve}
+use Rattle.session_entries.specs.Refusals.{AreRefused, IsListRefused, IsReadRefused, IsResolveRefused}
+use Rattle.panel_state.specs.Readings.{ListsFolder}
 use Rattle.panel_pair.specs.Readings.{HasReadCause}
 use Rattle.panel_pair.specs.Readings as pair
-use Rattle.job_plans.specs.Refused.{has_fault, is_fault, is_resolve_fault}
-use Rattle.job_plans.specs.Reading.{ReadsTree}
+use Rattle.ui_plans.specs.Refused.{has_fault, is_fault, is_resolve_fault}
+use Rattle.ui_plans.specs.Reading.{ReadsTree}
 use Rattle.mc_viewer.specs.declared.error.ViewError.TheVariants as error
 use Rattle.mc_viewer.specs.declared.subject.Subject.{Subject}
 use Rattle.mc_viewer.specs.declared.subject.Subject.TheVariants.{File, Output}
 use Rattle.mc_viewer.specs.Viewing.{IsRefused}
-use Rattle.viewer_mode.specs.declared.act.ViewerAct.{ViewerAct}
-use Rattle.viewer_mode.specs.declared.act.ViewerAct.TheVariants.{Stays, Refused, Leaves}
-use Rattle.viewer_mode.specs.declared.asking.Asking.{Asking}
-use Rattle.viewer_mode.specs.declared.asking.Question.{Question}
-use Rattle.viewer_mode.specs.declared.command.ViewerCommand.{ViewerCommand}
-use Rattle.viewer_mode.specs.declared.command.ViewerCommand.TheVariants as command
-use Rattle.viewer_mode.specs.declared.motion.Motion.{Motion}
-use Rattle.viewer_mode.specs.declared.motion.Motion.TheVariants as motion
-use Rattle.viewer_mode.specs.declared.opening.Opening.{Opening}
-use Rattle.viewer_mode.specs.declared.opening.Opening.TheVariants.{Viewed, NoWay, Unread}
-use Rattle.viewer_mode.specs.Motions.{motion_of}
-use Rattle.viewer_mode.specs.Openings.{OpensThing, ReadsToOpen}
-use Rattle.viewer_mode.specs.ViewerKeys.{viewer_command}
-use Rattle.viewer_mode.specs.ViewerScreens.{AnswerLeads, ByAsking, CommandLeads, KeyLeads, LineLeads, ViewerScreen, after_message}
-use Rattle.viewer_mode.specs.ViewerScreens as screens
+use Rattle.ui_viewer.specs.declared.act.ViewerAct.{ViewerAct}
+use Rattle.ui_viewer.specs.declared.act.ViewerAct.TheVariants.{Stays, Refused, Leaves}
+use Rattle.ui_viewer.specs.declared.asking.Asking.{Asking}
+use Rattle.ui_viewer.specs.declared.asking.Question.{Question}
+use Rattle.ui_viewer.specs.declared.command.ViewerCommand.{ViewerCommand}
+use Rattle.ui_viewer.specs.declared.command.ViewerCommand.TheVariants as command
+use Rattle.ui_viewer.specs.declared.motion.Motion.{Motion}
+use Rattle.ui_viewer.specs.declared.motion.Motion.TheVariants as motion
+use Rattle.ui_viewer.specs.declared.opening.Opening.{Opening}
+use Rattle.ui_viewer.specs.declared.opening.Opening.TheVariants.{Viewed, NoWay, Unread}
+use Rattle.ui_viewer.specs.Motions.{motion_of}
+use Rattle.ui_viewer.specs.Openings.{OpensThing, ReadsToOpen}
+use Rattle.ui_viewer.specs.ViewerKeys.{viewer_command}
+use Rattle.ui_viewer.specs.ViewerScreens.{AnswerLeads, ByAsking, CommandLeads, KeyLeads, LineLeads, ViewerScreen, after_message}
+use Rattle.ui_viewer.specs.ViewerScreens as screens
 use Rattle.mc_ui.specs.declared.asks.Ask.TheVariants.{Nothing}
 use Rattle.mc_ui.specs.declared.asks.KeyAct.{KeyAct}
 use Rattle.mc_ui.specs.Viewings.{opening_refusals, told_by, viewed_path}

@@ -1,7 +1,7 @@
 -- Where no things are sought nothing is listed, and another list changes nothing.
 use Rattle.std.proofs.Common.{◌≡◌, refl}
-use Rattle.find_mode.specs.FindScreens.{FindScreen}
-use Rattle.find_mode.specs.Listings.{ListingState, no_listing}
+use Rattle.ui_find.specs.FindScreens.{FindScreen}
+use Rattle.ui_find.specs.Listings.{ListingState, no_listing}
 use Rattle.mc_ui.specs.declared.dialog.Dialog.{Dialog}
 use Rattle.mc_ui.specs.declared.dialog.Dialog.TheVariants as box
 use Rattle.mc_ui.specs.Boxes.{seen_box}

@@ -5,18 +5,18 @@ use Rattle.key_screen.specs.declared.keys.Key.{Key}
 use Rattle.key_screen.specs.declared.keys.Base.TheVariants.{Unknown}
 use Rattle.tree_trait.specs.Change.{CallLog}
 use Rattle.job_reports.specs.declared.row.JobRow.{JobRow}
-use Rattle.session_history.specs.declared.refusal.Refusal.{Refusal}
-use Rattle.job_boxes.specs.declared.job_box.JobReply.{JobReply}
-use Rattle.job_boxes.specs.JobBoxes.{JobBoxState}
-use Rattle.job_boxes.specs.Replies.{box_after}
-use Rattle.job_boxes.proofs.UnknownKeys.{unknown_stays as job_stays}
+use Rattle.session_entries.specs.declared.refusal.Refusal.{Refusal}
+use Rattle.ui_job_boxes.specs.declared.job_box.JobReply.{JobReply}
+use Rattle.ui_job_boxes.specs.JobBoxes.{JobBoxState}
+use Rattle.ui_job_boxes.specs.Replies.{box_after}
+use Rattle.ui_job_boxes.proofs.UnknownKeys.{unknown_stays as job_stays}
 use Rattle.mc_ui.specs.Boxes.{Box, NoBox, OneJobBox, PanelsBox, FindBox, JobsBox}
-use Rattle.find_mode.specs.declared.act.FindAct.{FindAct}
-use Rattle.find_mode.specs.FindScreens.{FindScreen}
-use Rattle.find_mode.proofs.UnknownKeys.{unknown_stays as find_stays}
-use Rattle.viewer_mode.specs.declared.act.ViewerAct.{ViewerAct}
-use Rattle.viewer_mode.specs.ViewerScreens.{ViewerScreen}
-use Rattle.viewer_mode.proofs.UnknownKeys.{unknown_stays as viewer_stays}
+use Rattle.ui_find.specs.declared.act.FindAct.{FindAct}
+use Rattle.ui_find.specs.FindScreens.{FindScreen}
+use Rattle.ui_find.proofs.UnknownKeys.{unknown_stays as find_stays}
+use Rattle.ui_viewer.specs.declared.act.ViewerAct.{ViewerAct}
+use Rattle.ui_viewer.specs.ViewerScreens.{ViewerScreen}
+use Rattle.ui_viewer.proofs.UnknownKeys.{unknown_stays as viewer_stays}
 use Rattle.mc_ui.specs.declared.viewing.ViewedFile.{ViewedFile}
 use Rattle.mc_ui.specs.Screens.{ByBox, ByViewing, FindFollows, FindLeads, JobFollows, JobLeads, KeyLeads, Screen, WorksKey, after_act, after_message, around, at_second, with_viewer, without_box}
 use Rattle.mc_ui.specs.PanelKeys.{plain_base}

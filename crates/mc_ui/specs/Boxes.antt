@@ -1,12 +1,12 @@
 -- What stands over the panels: a box, and a message over it.
 use Rattle.std.specs.Prelude.{List, [], ◌∷◌, Option, Some, None}
 use Rattle.job_reports.specs.declared.waits.Waits.{Waits}
-use Rattle.session_history.specs.declared.refusal.Refusal.{Refusal}
-use Rattle.box_words.specs.declared.message.Message.{Message}
-use Rattle.box_words.specs.declared.message.Message.TheVariants.{Refused}
-use Rattle.find_mode.specs.FindScreens.{FindScreen}
-use Rattle.job_boxes.specs.JobBoxes.{JobBoxState, AnswerBox, seen}
-use Rattle.job_list.specs.declared.list.JobList.{JobList}
+use Rattle.session_entries.specs.declared.refusal.Refusal.{Refusal}
+use Rattle.ui_words.specs.declared.message.Message.{Message}
+use Rattle.ui_words.specs.declared.message.Message.TheVariants.{Refused}
+use Rattle.ui_find.specs.FindScreens.{FindScreen}
+use Rattle.ui_job_boxes.specs.JobBoxes.{JobBoxState, AnswerBox, seen}
+use Rattle.ui_job_list.specs.declared.list.JobList.{JobList}
 use Rattle.panel_boxes.specs.declared.panel_box.PanelBox.{PanelBox}
 use Rattle.mc_ui.specs.declared.dialog.Dialog.{Dialog}
 use Rattle.mc_ui.specs.declared.dialog.Dialog.TheVariants as dialog

@@ -5,18 +5,18 @@ use Rattle.job_reports.specs.declared.row.JobRow.{JobRow}
 use Rattle.job_reports.specs.declared.row.JobState.{JobState}
 use Rattle.job_reports.specs.declared.row.JobState.TheVariants as state
 use Rattle.key_screen.specs.Grids.{CellGrid}
-use Rattle.mc_frame.specs.declared.jobs_line.JobCounts.{JobCounts}
-use Rattle.mc_frame.specs.Frames.{panels_frame}
+use Rattle.screen_frame.specs.declared.jobs_line.JobCounts.{JobCounts}
+use Rattle.screen_frame.specs.Frames.{panels_frame}
 use Rattle.mc_dialogs.specs.Boxes.{with_box}
 use Rattle.mc_dialogs.specs.QuestionKeys.{plain_lines}
-use Rattle.box_words.specs.declared.message.Message.{Message}
-use Rattle.box_words.specs.BoxLines.{message_lines}
-use Rattle.find_mode.specs.FindFrames.{with_find}
-use Rattle.job_boxes.specs.Paintings.{with_job_box}
-use Rattle.job_list.specs.JobLists.{with_jobs}
+use Rattle.ui_words.specs.declared.message.Message.{Message}
+use Rattle.ui_words.specs.BoxLines.{message_lines}
+use Rattle.ui_find.specs.FindFrames.{with_find}
+use Rattle.ui_job_boxes.specs.Paintings.{with_job_box}
+use Rattle.ui_job_list.specs.JobLists.{with_jobs}
 use Rattle.panel_boxes.specs.Paintings.{with_panel_box}
 use Rattle.panel_pair.specs.Frames.{panes_of}
-use Rattle.viewer_mode.specs.ViewerFrames.{frame_of as viewer_frame}
+use Rattle.ui_viewer.specs.ViewerFrames.{frame_of as viewer_frame}
 use Rattle.mc_ui.specs.declared.viewing.ViewedFile.{ViewedFile}
 use Rattle.mc_ui.specs.Boxes.{Box, NoBox, OneJobBox, PanelsBox, FindBox, JobsBox}
 use Rattle.mc_ui.specs.Screens.{Screen, frame_size}

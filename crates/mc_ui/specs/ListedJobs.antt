@@ -2,11 +2,11 @@
 use Rattle.std.specs.Prelude.{List}
 use Rattle.key_screen.specs.declared.keys.Key.{Key}
 use Rattle.job_reports.specs.declared.row.JobRow.{JobRow}
-use Rattle.job_list.specs.declared.act.JobsAct.{JobsAct}
-use Rattle.job_list.specs.declared.act.JobsAct.TheVariants as jobs
-use Rattle.job_list.specs.declared.list.JobList.{JobList}
-use Rattle.job_list.specs.JobLists.{act_by, list_by}
-use Rattle.job_boxes.specs.JobBoxes.{AnswerBox}
+use Rattle.ui_job_list.specs.declared.act.JobsAct.{JobsAct}
+use Rattle.ui_job_list.specs.declared.act.JobsAct.TheVariants as jobs
+use Rattle.ui_job_list.specs.declared.list.JobList.{JobList}
+use Rattle.ui_job_list.specs.JobLists.{act_by, list_by}
+use Rattle.ui_job_boxes.specs.JobBoxes.{AnswerBox}
 use Rattle.mc_ui.specs.Boxes.{Box, NoBox, OneJobBox, JobsBox}
 
 -- what stands there once a key came to this: the list, in its place the box of a question or a trouble, or nothing

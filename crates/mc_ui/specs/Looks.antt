@@ -5,8 +5,8 @@ use Rattle.tree_trait.specs.Answers.{IfKnown}
 use Rattle.job_reports.specs.declared.row.JobRow.{JobRow}
 use Rattle.job_reports.specs.declared.waits.Waits.{Waits}
 use Rattle.job_reports.specs.Waits.{waits_of}
-use Rattle.session_history.specs.declared.refusal.Refusal.{Refusal}
-use Rattle.session_history.specs.declared.refusal.Refusal.TheVariants.{Resolve}
+use Rattle.session_entries.specs.declared.refusal.Refusal.{Refusal}
+use Rattle.session_entries.specs.declared.refusal.Refusal.TheVariants.{Resolve}
 use Rattle.panel_pair.specs.declared.looking.Unread.{Unread}
 use Rattle.panel_pair.specs.Looks.{ShowsLooks}
 use Rattle.panel_pair.specs.Looks as pair

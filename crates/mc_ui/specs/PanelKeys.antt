@@ -7,8 +7,8 @@ use Rattle.panel_pair.specs.declared.command.PanelCommand.{PanelCommand}
 use Rattle.panel_pair.specs.Keys.{key_command}
 use Rattle.panel_boxes.specs.declared.opening.Opening.{Opening}
 use Rattle.panel_boxes.specs.Openings.{opening_of}
-use Rattle.box_words.specs.declared.carry.Carry.TheVariants.{Copy, Move}
-use Rattle.job_plans.specs.declared.choosing.Opens.TheVariants.{Delete, SourceMask}
+use Rattle.ui_words.specs.declared.carry.Carry.TheVariants.{Copy, Move}
+use Rattle.ui_plans.specs.declared.choosing.Opens.TheVariants.{Delete, SourceMask}
 use Rattle.mc_ui.specs.declared.panel_command.KeyCommand.{KeyCommand}
 use Rattle.mc_ui.specs.declared.panel_command.KeyCommand.TheVariants.{Work, ShowHelp, View, Open, AskFolder, OpenPanelBox, Find, Quit, Nothing}
 

@@ -13,34 +13,34 @@ use Rattle.job_reports.specs.declared.answer.Answer.{Answer}
 use Rattle.job_reports.specs.declared.job.Job.{Job}
 use Rattle.job_reports.specs.declared.row.JobRow.{JobRow}
 use Rattle.job_reports.specs.declared.waits.Waits.{Waits}
-use Rattle.session_history.specs.Sources.{are_workable}
-use Rattle.session_history.specs.declared.refusal.PlanError.TheVariants.{NoSelection, TooLong}
-use Rattle.session_history.specs.declared.refusal.Refusal.{Refusal}
-use Rattle.session_history.specs.declared.refusal.Refusal.TheVariants.{Tree, Read, Resolve, Plan, Typed}
+use Rattle.session_entries.specs.Sources.{are_workable}
+use Rattle.session_entries.specs.declared.refusal.PlanError.TheVariants.{NoSelection, TooLong}
+use Rattle.session_entries.specs.declared.refusal.Refusal.{Refusal}
+use Rattle.session_entries.specs.declared.refusal.Refusal.TheVariants.{Tree, Read, Resolve, Plan, Typed}
 use Rattle.mc_ui.specs.declared.asks.Ask.{Ask}
 use Rattle.mc_ui.specs.declared.asks.Ask.TheVariants as ask
 use Rattle.mc_ui.specs.declared.asks.Told.{Told}
 use Rattle.mc_ui.specs.declared.asks.Told.TheVariants as told
-use Rattle.box_words.specs.declared.message.Message.{Message}
-use Rattle.box_words.specs.declared.message.Message.TheVariants.{Refused, Help}
-use Rattle.job_plans.specs.declared.choosing.Choice.{Choice}
-use Rattle.job_plans.specs.declared.choosing.Choice.TheVariants as choice
-use Rattle.job_plans.specs.declared.choosing.Opens.{Opens}
-use Rattle.job_plans.specs.declared.choosing.Opens.TheVariants as opens
+use Rattle.ui_words.specs.declared.message.Message.{Message}
+use Rattle.ui_words.specs.declared.message.Message.TheVariants.{Refused, Help}
+use Rattle.ui_plans.specs.declared.choosing.Choice.{Choice}
+use Rattle.ui_plans.specs.declared.choosing.Choice.TheVariants as choice
+use Rattle.ui_plans.specs.declared.choosing.Opens.{Opens}
+use Rattle.ui_plans.specs.declared.choosing.Opens.TheVariants as opens
 use Rattle.mc_ui.specs.declared.panel_command.KeyCommand.{KeyCommand}
 use Rattle.mc_ui.specs.declared.panel_command.KeyCommand.TheVariants.{Work, ShowHelp, View, Open, AskFolder, OpenPanelBox, Find, Quit, Nothing}
-use Rattle.find_mode.specs.declared.act.FindAct.{FindAct}
-use Rattle.find_mode.specs.declared.act.FindAct.TheVariants as found
-use Rattle.find_mode.specs.FindScreens.{FindScreen, KeyLeads as FindKeyLeads, opened as opened_find}
-use Rattle.job_boxes.specs.declared.job_box.JobReply.{JobReply}
-use Rattle.job_boxes.specs.declared.job_box.JobReply.TheVariants as job
-use Rattle.job_boxes.specs.JobBoxes.{Around, JobBoxState, FolderBox, LinkTextBox, seen}
-use Rattle.job_boxes.specs.LiveJobs.{can_answer}
-use Rattle.job_boxes.specs.Openings.{box_of, link_asked}
-use Rattle.job_boxes.specs.Replies.{BoxLeads, box_after}
-use Rattle.job_list.specs.JobLists.{opened_list}
-use Rattle.mc_panels.specs.Goings.{way_of}
-use Rattle.mc_panels.specs.Panels.{PanelState, current_name}
+use Rattle.ui_find.specs.declared.act.FindAct.{FindAct}
+use Rattle.ui_find.specs.declared.act.FindAct.TheVariants as found
+use Rattle.ui_find.specs.FindScreens.{FindScreen, KeyLeads as FindKeyLeads, opened as opened_find}
+use Rattle.ui_job_boxes.specs.declared.job_box.JobReply.{JobReply}
+use Rattle.ui_job_boxes.specs.declared.job_box.JobReply.TheVariants as job
+use Rattle.ui_job_boxes.specs.JobBoxes.{Around, JobBoxState, FolderBox, LinkTextBox, seen}
+use Rattle.ui_job_boxes.specs.LiveJobs.{can_answer}
+use Rattle.ui_job_boxes.specs.Openings.{box_of, link_asked}
+use Rattle.ui_job_boxes.specs.Replies.{BoxLeads, box_after}
+use Rattle.ui_job_list.specs.JobLists.{opened_list}
+use Rattle.panel_state.specs.Goings.{way_of}
+use Rattle.panel_state.specs.Panels.{PanelState, current_name}
 use Rattle.panel_boxes.specs.declared.panel_box.PanelBox.{PanelBox}
 use Rattle.panel_boxes.specs.declared.panel_box.PanelReply.{PanelReply}
 use Rattle.panel_boxes.specs.declared.panel_box.PanelReply.TheVariants as panel
@@ -52,21 +52,21 @@ use Rattle.panel_pair.specs.declared.frame.FrameSize.{FrameSize}
 use Rattle.panel_pair.specs.Commands.{CommandDone, CommandReads}
 use Rattle.panel_pair.specs.Frames.{page_of as page_of_lines}
 use Rattle.panel_pair.specs.Pairs.{PairState, untagged_pair}
-use Rattle.box_words.specs.BoxKeys.{closes_message}
-use Rattle.box_words.specs.BoxLines.{folder_line}
-use Rattle.job_plans.specs.Reading.{sight}
-use Rattle.job_plans.specs.Choices.{IsChoice, choice_refusals}
+use Rattle.ui_words.specs.BoxKeys.{closes_message}
+use Rattle.ui_words.specs.BoxLines.{folder_line}
+use Rattle.ui_plans.specs.Reading.{sight}
+use Rattle.ui_plans.specs.Choices.{IsChoice, choice_refusals}
 use Rattle.mc_ui.specs.Boxes.{Box, NoBox, OneJobBox, PanelsBox, FindBox, JobsBox, first_refusal, with_news, with_refusal, with_waits}
 use Rattle.mc_ui.specs.Findings.{find_refusal}
 use Rattle.mc_ui.specs.ListedJobs.{left_by_jobs}
 use Rattle.mc_ui.specs.Looks.{LooksAgain, shown_waits}
 use Rattle.mc_ui.specs.PanelKeys.{panel_command_of, plain_base}
-use Rattle.viewer_mode.specs.declared.act.ViewerAct.{ViewerAct}
-use Rattle.viewer_mode.specs.declared.act.ViewerAct.TheVariants as viewer
-use Rattle.viewer_mode.specs.declared.opening.Opening.{Opening}
-use Rattle.viewer_mode.specs.declared.opening.Opening.TheVariants.{Viewed, NoWay, Unread}
-use Rattle.viewer_mode.specs.Openings.{OpensThing}
-use Rattle.viewer_mode.specs.ViewerScreens.{ViewerScreen, KeyLeads as ViewerKeyLeads}
+use Rattle.ui_viewer.specs.declared.act.ViewerAct.{ViewerAct}
+use Rattle.ui_viewer.specs.declared.act.ViewerAct.TheVariants as viewer
+use Rattle.ui_viewer.specs.declared.opening.Opening.{Opening}
+use Rattle.ui_viewer.specs.declared.opening.Opening.TheVariants.{Viewed, NoWay, Unread}
+use Rattle.ui_viewer.specs.Openings.{OpensThing}
+use Rattle.ui_viewer.specs.ViewerScreens.{ViewerScreen, KeyLeads as ViewerKeyLeads}
 use Rattle.mc_ui.specs.declared.viewing.Leaving.{Leaving}
 use Rattle.mc_ui.specs.declared.viewing.Leaving.TheVariants as leaving
 use Rattle.mc_ui.specs.declared.viewing.ViewedFile.{ViewedFile}

@@ -1,8 +1,8 @@
 -- What a step of a search makes of the screen.
 use Rattle.std.specs.Prelude.{ℕ, Bool, is_some, Option}
 use Rattle.tree_trait.specs.Change.{CallLog}
-use Rattle.find_mode.specs.FindScreens.{with_listing}
-use Rattle.find_mode.specs.Listings.{ListingState, StepLeads, no_listing}
+use Rattle.ui_find.specs.FindScreens.{with_listing}
+use Rattle.ui_find.specs.Listings.{ListingState, StepLeads, no_listing}
 use Rattle.mc_ui.specs.Boxes.{Box, FindBox}
 use Rattle.mc_ui.specs.Screens.{Screen}
 

@@ -5,16 +5,16 @@ use Rattle.mc_viewer.specs.declared.error.ViewError.TheVariants as error
 use Rattle.mc_viewer.specs.declared.subject.Subject.{Subject}
 use Rattle.mc_viewer.specs.declared.subject.Subject.TheVariants.{File, Output}
 use Rattle.key_screen.specs.declared.keys.Key.{Key}
-use Rattle.viewer_mode.specs.declared.act.ViewerAct.{ViewerAct}
-use Rattle.viewer_mode.specs.declared.act.ViewerAct.TheVariants.{Refused}
-use Rattle.viewer_mode.specs.declared.opening.Opening.{Opening}
-use Rattle.viewer_mode.specs.declared.opening.Opening.TheVariants.{Viewed, NoWay, Unread}
-use Rattle.viewer_mode.specs.Motions.{LooksAtNothing}
-use Rattle.viewer_mode.specs.ViewerScreens.{wanted}
-use Rattle.session_history.specs.declared.refusal.Refusal.{Refusal}
-use Rattle.session_history.specs.declared.refusal.Refusal.TheVariants.{Read, Resolve}
-use Rattle.mc_panels.specs.declared.going.Way.{Way}
-use Rattle.mc_panels.specs.declared.going.Way.TheVariants.{Nowhere, Up, Into}
+use Rattle.ui_viewer.specs.declared.act.ViewerAct.{ViewerAct}
+use Rattle.ui_viewer.specs.declared.act.ViewerAct.TheVariants.{Refused}
+use Rattle.ui_viewer.specs.declared.opening.Opening.{Opening}
+use Rattle.ui_viewer.specs.declared.opening.Opening.TheVariants.{Viewed, NoWay, Unread}
+use Rattle.ui_viewer.specs.Motions.{LooksAtNothing}
+use Rattle.ui_viewer.specs.ViewerScreens.{wanted}
+use Rattle.session_entries.specs.declared.refusal.Refusal.{Refusal}
+use Rattle.session_entries.specs.declared.refusal.Refusal.TheVariants.{Read, Resolve}
+use Rattle.panel_state.specs.declared.going.Way.{Way}
+use Rattle.panel_state.specs.declared.going.Way.TheVariants.{Nowhere, Up, Into}
 use Rattle.mc_ui.specs.declared.viewing.ViewedFile.{ViewedFile}
 
 -- Enter leads from a row to a folder

@@ -1,6 +1,6 @@
 //! What a key asks of the desk, and what it is told of that.
 use job_reports::{Answer, Job};
-use session_history::{Refusal, Refusals};
+use session_entries::{Refusal, Refusals};
 
 /// What a key asks.
 #[derive(Debug, Drop)]

@@ -1,8 +1,8 @@
 //! The box that stands over the panels.
-use find_mode::FindMode;
-use job_boxes::JobBox;
-use job_list::JobList;
 use panel_boxes::PanelBox;
+use ui_find::FindMode;
+use ui_job_boxes::JobBox;
+use ui_job_list::JobList;
 
 /// What stands over the panels.
 #[derive(Debug, Drop)]

@@ -1,7 +1,7 @@
 //! The frame of the screen.
 ghost use Rattle.std.specs.Prelude.{◌≡◌, ◌<◌, ◌^◌, length, IfOk, OnOk};
 ghost use Rattle.mc_dialogs.specs.Boxes.{with_box};
-ghost use Rattle.mc_frame.specs.Frames.{panels_frame};
+ghost use Rattle.screen_frame.specs.Frames.{panels_frame};
 ghost use Rattle.mc_dialogs.specs.QuestionKeys.{plain_lines as plain_lines_of};
 ghost use Rattle.panel_pair.specs.Frames.{panes_of};
 ghost use Rattle.mc_ui.specs.Frames.{counts_of as counts_in, frame_below, frame_of, with_message, with_over};
@@ -12,14 +12,14 @@ mod counting;
 
 use crate::dialog::Dialog;
 use crate::ui::Ui;
-use box_words::{Message, message_lines};
 use counting::counts_of;
 use job_reports::JobRows;
 use key_screen::Grid;
 use mc_dialogs::{paint_box, plain_lines};
-use mc_frame::paint_panels;
 use mc_text::{NoMemory, Rows};
+use screen_frame::paint_panels;
 use std::alloc::Global;
+use ui_words::{Message, message_lines};
 
 impl Ui {
     /// The frame of the screen while these jobs are live. It takes the time of the cells and texts on the screen and of the jobs'

@@ -9,8 +9,8 @@ mod ui;
 mod viewing;
 
 pub use asks::{Ask, KeyAct, Told};
-pub use box_words::{Chosen, Message, resolve_text};
 pub use dialog::Dialog;
-pub use job_plans::{Choice, JobPlan, choose, plan_carry};
 pub use ui::Ui;
+pub use ui_plans::{Choice, JobPlan, choose, plan_carry};
+pub use ui_words::{Chosen, Message, resolve_text};
 pub use viewing::{Leaving, ViewedFile};

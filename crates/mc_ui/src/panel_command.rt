@@ -3,11 +3,11 @@ ghost use Rattle.std.specs.Prelude.{◌≡◌};
 ghost use Rattle.panel_boxes.specs.Openings.{opening_of as opening_by};
 ghost use Rattle.mc_ui.specs.PanelKeys.{box_or_other, meta_command as command_of_meta, other_command as command_of_base, panel_command_of, plain_base as plain_base_of};
 
-use box_words::Carry;
-use job_plans::Opens;
 use key_screen::{Base, Key};
 use panel_boxes::{Opening, opening_of};
 use panel_pair::{PanelCommand, key_command};
+use ui_plans::Opens;
+use ui_words::Carry;
 
 /// What a key does while no box is open.
 #[derive(Debug, Drop)]

@@ -2,7 +2,7 @@
 ghost use Rattle.std.specs.Prelude.{◌≡◌, ◌<◌, ◌^◌, [], true, is_some, None, OnErr, IfOk};
 ghost use Rattle.mc_ui.specs.declared.asks.KeyAct.{KeyAct as KeyActType};
 ghost use Rattle.mc_ui.specs.PanelKeys.{plain_base};
-ghost use Rattle.job_plans.specs.Reading.{ReadsTree};
+ghost use Rattle.ui_plans.specs.Reading.{ReadsTree};
 ghost use Rattle.mc_ui.specs.Boxes.{seen_box};
 ghost use Rattle.mc_ui.specs.Viewings.{LeavesUnread};
 ghost use Rattle.mc_ui.specs.Screens.{Asks, HasSameSize, KeyLeads, WorksBelow, WorksKey, after_message, at_second, frame_size, opened_screen, page_of, settled as screen_settled, with_ask, with_viewer, without_box};
@@ -20,7 +20,6 @@ use crate::asks::{Ask, KeyAct, Told};
 use crate::dialog::Dialog;
 use crate::panel_command::plain_base;
 use crate::viewing::{Leaving, ViewedFile};
-use box_words::{Message, closes_message};
 use job_reports::JobRows;
 use key_screen::Key;
 use mc_text::{NoMemory, Path};
@@ -30,7 +29,8 @@ use std::alloc::Global;
 use std::marker::Model;
 use std::mem;
 use tree_trait::ReadTree;
-use viewer_mode::ViewerMode;
+use ui_viewer::ViewerMode;
+use ui_words::{Message, closes_message};
 
 /// What the screen shows. Contracts see the panels, the second of the last key, the box, the message and the file that is viewed.
 #[derive(Drop)]

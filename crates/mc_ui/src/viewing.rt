@@ -1,5 +1,5 @@
 //! A file that is viewed on the whole screen.
-use viewer_mode::ViewerMode;
+use ui_viewer::ViewerMode;
 
 /// What leaving a viewed file does.
 #[derive(Clone, Copy, Debug, Drop, PartialEq, Eq)]

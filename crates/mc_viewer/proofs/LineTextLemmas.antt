@@ -8,7 +8,7 @@ use Rattle.std.proofs.lemmas.Str.{IsUtf8-from_is_utf8, is_utf8-from_IsUtf8, IsUt
 use Rattle.std.proofs.lemmas.List.{take-take, get_or-take, length-take-le}
 use Rattle.mc_viewer.specs.declared.layout.Shape.{Shape}
 use Rattle.mc_viewer.specs.declared.layout.Shape.TheVariants.{Wrapped, Unwrapped, Hex}
-use Rattle.shown_units.specs.Units.{unit_columns}
+use Rattle.text_units.specs.Units.{unit_columns}
 use Rattle.mc_viewer.specs.Units.{unit_length, first_unit}
 use Rattle.mc_viewer.specs.Rows.{line_length, wrapped_length, row_length}
 use Rattle.mc_viewer.proofs.UnitLemmas.{unit_fits, unit_shortest, unit_text, unit_some}

@@ -2,10 +2,10 @@
 use Rattle.std.proofs.Common.{◌≡◌, ℕ, zero, suc, ◌+◌, ◌-◌, ◌*◌, ◌<◌, ◌≤◌, ◌⊎◌, inl, inr, List, [], ◌∷◌, take, refl, sym, ap, ◌∙◌, arith, ⊎_elim, subst}
 use Rattle.std.proofs.lemmas.Bool.{cases_lt}
 use Rattle.std.proofs.lemmas.List.{take-take}
-use Rattle.shown_units.specs.Units.{unit_columns}
+use Rattle.text_units.specs.Units.{unit_columns}
 use Rattle.mc_viewer.specs.Units.{unit_length, first_unit}
 use Rattle.mc_viewer.specs.Rows.{wrapped_length}
-use Rattle.shown_units.proofs.UnitLemmas.{columns_some}
+use Rattle.text_units.proofs.UnitLemmas.{columns_some}
 use Rattle.mc_viewer.proofs.UnitLemmas.{unit_local, unit_some, unit_short}
 use Rattle.mc_viewer.proofs.LineLemmas.{is_ten}
 use Rattle.mc_viewer.proofs.RowLemmas.{wrapped-newline, wrapped-full, wrapped-taken}

@@ -5,7 +5,7 @@ use Rattle.std.proofs.lemmas.Bool.Decides.{nat_tests}
 use Rattle.std.proofs.lemmas.List.{take-take, take_all, take_min, get_or-take}
 use Rattle.mc_viewer.specs.declared.layout.Layout.{Layout}
 use Rattle.mc_viewer.specs.declared.layout.Shape.TheVariants.{Wrapped}
-use Rattle.shown_units.specs.Units.{unit_columns}
+use Rattle.text_units.specs.Units.{unit_columns}
 use Rattle.mc_viewer.specs.Units.{unit_length, first_unit, is_plain}
 use Rattle.mc_viewer.specs.Rows.{wrapped_length, row_length, row_holding, IsLineStart}
 use Rattle.mc_viewer.specs.Windows.{IsPieceAt, window_of}

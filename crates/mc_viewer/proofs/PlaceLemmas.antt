@@ -6,7 +6,7 @@ use Rattle.std.proofs.lemmas.List.{take-take, drop-take, drop_all}
 use Rattle.std.proofs.lemmas.Slice.Eq.{bytes_eq-Decides}
 use Rattle.memchr.specs.Find.{OccursAt, FindsNeedle}
 use Rattle.memchr.proofs.lemmas.MatchLemmas.{OccursAt-part, OccursAt-from_part}
-use Rattle.line_search.specs.declared.sought.Sought.TheVariants.{At, Nowhere}
+use Rattle.text_search.specs.declared.sought.Sought.TheVariants.{At, Nowhere}
 use Rattle.mc_viewer.specs.Searches.{first_place, text_sought}
 
 module _ (text : List ℕ) (some : 1 ≤ length text) where

@@ -13,7 +13,7 @@ use Rattle.unicode_width.specs.Width.{char_width, str_width}
 use Rattle.unicode_width.proofs.Rules.{is_simple, width_or_zero, str_width-simple}
 use Rattle.mc_text.specs.Fit.{cluster_columns}
 use Rattle.mc_text.specs.Drawn.{is_drawable}
-use Rattle.shown_units.specs.Units.{is_shown, unit_columns, unit_text, columns_in_sight, piece_in_sight}
+use Rattle.text_units.specs.Units.{is_shown, unit_columns, unit_text, columns_in_sight, piece_in_sight}
 use Rattle.mc_viewer.specs.Units.{unit_length, first_unit, is_plain}
 
 plain-below : (byte : ℕ) → is_plain byte ≡ true → byte < 128

@@ -2,9 +2,9 @@
 use Rattle.std.proofs.Common.{◌≡◌, ℕ, zero, suc, ◌+◌, ◌≤◌, true, false, List, [], length, drop, Result, Ok, Err, IfErr, IfOk, refl, sym, ap, ◌∙◌, arith, ⊎_elim, inl, inr, ◌⊎◌}
 use Rattle.std.proofs.lemmas.Bool.{cases_Bool, cond-true, cond-false, eq-eqb, ne_eqb}
 use Rattle.std.proofs.lemmas.List.{drop_all, drop-drop}
-use Rattle.line_search.specs.declared.sought.Sought.TheVariants.{Nowhere}
-use Rattle.line_search.specs.Lines.{is_pattern, in_lines}
-use Rattle.line_search.proofs.LineLemmas.{in_lines-past}
+use Rattle.text_search.specs.declared.sought.Sought.TheVariants.{Nowhere}
+use Rattle.text_search.specs.Lines.{is_pattern, in_lines}
+use Rattle.text_search.proofs.LineLemmas.{in_lines-past}
 use Rattle.mc_viewer.specs.declared.error.ViewError.{ViewError}
 use Rattle.mc_viewer.specs.declared.error.ViewError.TheVariants as error
 use Rattle.mc_viewer.specs.declared.search.Search.{Search}

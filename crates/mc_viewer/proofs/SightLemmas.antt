@@ -5,13 +5,13 @@ use Rattle.std.proofs.lemmas.List.{take-take, drop_all}
 use Rattle.std.proofs.Math.Seq.{drop-cons}
 use Rattle.mc_viewer.specs.declared.layout.Shape.{Shape}
 use Rattle.mc_viewer.specs.declared.layout.Shape.TheVariants.{Wrapped, Unwrapped, Hex}
-use Rattle.shown_units.specs.Units.{unit_columns, columns_in_sight, piece_in_sight}
+use Rattle.text_units.specs.Units.{unit_columns, columns_in_sight, piece_in_sight}
 use Rattle.mc_viewer.specs.Units.{unit_length, first_unit}
 use Rattle.mc_viewer.specs.Rows.{wrapped_length}
-use Rattle.hex_rows.specs.HexRows.{hex_row}
+use Rattle.text_units.specs.HexRows.{hex_row}
 use Rattle.mc_viewer.specs.Pages.{line_in_sight, row_text}
 use Rattle.mc_viewer.specs.Windows.{window_of}
-use Rattle.shown_units.proofs.UnitLemmas.{columns_some}
+use Rattle.text_units.proofs.UnitLemmas.{columns_some}
 use Rattle.mc_viewer.proofs.UnitLemmas.{unit_local, unit_some, unit_short}
 use Rattle.mc_viewer.proofs.LineLemmas.{is_ten}
 use Rattle.mc_viewer.proofs.LocalLemmas.{first_unit-local, wrapped-local}

@@ -1,10 +1,10 @@
 -- What a page shows (own).
 use Rattle.std.specs.Prelude.{ℕ, zero, suc, ◌+◌, ◌-◌, ◌==◌, List, [], ◌∷◌, ◌++◌, take, drop, map, if◌then◌else◌}
-use Rattle.hex_rows.specs.HexRows.{hex_row}
+use Rattle.text_units.specs.HexRows.{hex_row}
 use Rattle.mc_viewer.specs.declared.layout.Shape.{Shape}
 use Rattle.mc_viewer.specs.declared.layout.Shape.TheVariants.{Wrapped, Unwrapped, Hex}
 use Rattle.mc_viewer.specs.declared.layout.Layout.{Layout}
-use Rattle.shown_units.specs.Units.{unit_columns, piece_in_sight}
+use Rattle.text_units.specs.Units.{unit_columns, piece_in_sight}
 use Rattle.mc_viewer.specs.Units.{unit_length, first_unit}
 use Rattle.mc_viewer.specs.Rows.{wrapped_length, all_rows, row_holding, rows_from}
 

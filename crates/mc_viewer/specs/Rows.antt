@@ -2,7 +2,7 @@
 use Rattle.std.specs.Prelude.{ℕ, zero, suc, ◌+◌, ◌-◌, ◌==◌, nat_le, nat_lt, min, ◌≡◌, ◌<◌, ⊤, ◌||◌, List, [], ◌∷◌, ◌++◌, length, drop, slice_index, if◌then◌else◌}
 use Rattle.mc_viewer.specs.declared.layout.Shape.{Shape}
 use Rattle.mc_viewer.specs.declared.layout.Shape.TheVariants.{Wrapped, Unwrapped, Hex}
-use Rattle.shown_units.specs.Units.{unit_columns}
+use Rattle.text_units.specs.Units.{unit_columns}
 use Rattle.mc_viewer.specs.Units.{unit_length, first_unit}
 
 -- the bytes of the first line, with the newline that ends it

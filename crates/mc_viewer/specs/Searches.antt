@@ -3,9 +3,9 @@ use Rattle.std.specs.Prelude.{◌≡◌, ◌≢◌, ⊤, ℕ, ◌+◌, ◌==◌,
 use Rattle.std.specs.Option.{option_map_or}
 use Rattle.std.specs.Str.{bytes_eq}
 use Rattle.tree_trait.specs.declared.calls.TreeError.TheVariants as tree
-use Rattle.line_search.specs.declared.sought.Sought.{Sought}
-use Rattle.line_search.specs.declared.sought.Sought.TheVariants.{At, Nowhere, TooLong, NoPattern}
-use Rattle.line_search.specs.Lines.{lines_sought}
+use Rattle.text_search.specs.declared.sought.Sought.{Sought}
+use Rattle.text_search.specs.declared.sought.Sought.TheVariants.{At, Nowhere, TooLong, NoPattern}
+use Rattle.text_search.specs.Lines.{lines_sought}
 use Rattle.mc_viewer.specs.declared.layout.Shape.TheVariants.{Unwrapped}
 use Rattle.mc_viewer.specs.declared.error.ViewError.{ViewError}
 use Rattle.mc_viewer.specs.declared.error.ViewError.TheVariants as error

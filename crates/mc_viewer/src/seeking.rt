@@ -14,8 +14,8 @@ use crate::state::{State, layout_of, with_top};
 use crate::subject::Subject;
 use crate::walking::row_holding;
 use crate::window::sought;
-use line_search::Sought;
 use std::alloc::Global;
+use text_search::Sought;
 use tree_trait::{ReadTree, TreeError};
 
 /// Where a search from the top leads.

@@ -6,10 +6,9 @@ ghost use Rattle.mc_viewer.specs.Windows.{window_of};
 use crate::layout::{Layout, Shape};
 use crate::rows::wrapped_length;
 use crate::units::{front, push_piece, rest_from, unit_columns, unit_length};
-use hex_rows::hex_row;
 use mc_text::{NoMemory, Text};
-use shown_units::Sight;
 use std::alloc::Global;
+use text_units::{Sight, hex_row};
 
 /// How many bytes from a row's start on show what the row shows, where so many are left. A character has four bytes at
 /// most and a column at least.

@@ -1,12 +1,12 @@
 //! The units of a file.
 ghost use Rattle.std.specs.Prelude.{◌≡◌, ◌≤◌, ◌<◌, ◌+◌, ◌^◌, ◌∷◌, [], ◌++◌, length, take, drop, string_bytes, true, IfOk, IfSome};
 ghost use Rattle.std.specs.Str.{is_utf8};
-ghost use Rattle.shown_units.specs.Units.{unit_columns, piece_in_sight};
+ghost use Rattle.text_units.specs.Units.{unit_columns, piece_in_sight};
 ghost use Rattle.mc_viewer.specs.Units.{unit_length, is_plain};
 
-use shown_units::Sight;
 use std::alloc::AllocError;
 use std::str;
+use text_units::Sight;
 
 /// The bytes of the first unit.
 #[tactic(auto, using(crate::proofs::UnitLemmas::unit_fits))]
@@ -72,7 +72,7 @@ pub fn unit_columns(column: usize, unit: &[u8]) -> usize
 {
     match plain_byte(unit) {
         Some(_byte) => 1,
-        None => shown_units::unit_columns(column, unit),
+        None => text_units::unit_columns(column, unit),
     }
 }
 
@@ -90,7 +90,7 @@ pub fn push_piece(
 {
     match plain_byte(unit) {
         Some(byte) => push_plain(row, sight, column, byte),
-        None => shown_units::push_piece(row, sight, column, unit),
+        None => text_units::push_piece(row, sight, column, unit),
     }
 }
 

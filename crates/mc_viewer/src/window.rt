@@ -2,7 +2,7 @@
 ghost use Rattle.std.specs.Prelude.{◌≡◌, ◌≤◌, ◌<◌, ◌^◌, ◌+◌, length, drop, IfOk, IfErr, IfSome, true};
 ghost use Rattle.tree_trait.specs.Answers.{IfKnown, HasCause};
 ghost use Rattle.memchr.specs.Find.{FindsNeedle};
-ghost use Rattle.line_search.specs.Lines.{in_lines, lines_sought};
+ghost use Rattle.text_search.specs.Lines.{in_lines, lines_sought};
 ghost use Rattle.mc_viewer.specs.Viewing.{IfShorter, IsReadError, AsTheTreeSays, is_output};
 ghost use Rattle.mc_viewer.specs.Searches.{sought, text_sought};
 
@@ -10,10 +10,10 @@ use crate::error::ViewError;
 use crate::reading::piece;
 use crate::search::Search;
 use crate::subject::Subject;
-use line_search::{LineMatcher, LineRegex, PART_BYTES, Part, RegexError, Sought};
 use memchr::memmem::Finder;
 use std::alloc::Global;
 use std::convert::AsStr;
+use text_search::{LineMatcher, LineRegex, PART_BYTES, Part, RegexError, Sought};
 use tree_trait::{ReadTree, TreeError};
 
 /// The places of a piece at which a text is sought. It has as many bytes more as the text, so that it shows each place whole.

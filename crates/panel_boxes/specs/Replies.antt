@@ -10,17 +10,17 @@ use Rattle.mc_dialogs.specs.InputKeys.{InputState, input_after, input_shut}
 use Rattle.mc_dialogs.specs.ListKeys.{ListState, list_after, list_shut}
 use Rattle.tagging.specs.declared.pattern.PatternKind.{PatternKind}
 use Rattle.tagging.specs.Patterns.{PatternText}
-use Rattle.typed_patterns.specs.TypedPatterns.{pattern_in}
+use Rattle.tagging.specs.TypedPatterns.{pattern_in}
 use Rattle.panel_listing.specs.declared.error.FormatError.{FormatError}
 use Rattle.panel_listing.specs.declared.error.FormatError.TheVariants.{NoSize, UnknownField, BadWidth, Memory}
 use Rattle.panel_listing.specs.FormatTexts.{RowFormat, format_of}
-use Rattle.mc_panels.specs.declared.arranging.Arrangement.TheVariants.{Sorted, Reversed, Filtered}
-use Rattle.mc_panels.specs.declared.format.Layout.TheVariants.{Columns}
-use Rattle.mc_panels.specs.Panels.{PanelState}
+use Rattle.panel_state.specs.declared.arranging.Arrangement.TheVariants.{Sorted, Reversed, Filtered}
+use Rattle.panel_state.specs.declared.format.Layout.TheVariants.{Columns}
+use Rattle.panel_state.specs.Panels.{PanelState}
 use Rattle.panel_pair.specs.declared.command.PanelCommand.{PanelCommand}
 use Rattle.panel_pair.specs.declared.command.PanelCommand.TheVariants as command
 use Rattle.panel_pair.specs.Pairs.{PairState}
-use Rattle.session_history.specs.declared.refusal.TypedError.TheVariants.{BadPattern, BadFormat}
+use Rattle.session_entries.specs.declared.refusal.TypedError.TheVariants.{BadPattern, BadFormat}
 use Rattle.panel_boxes.specs.declared.options.PanelOption.{PanelOption}
 use Rattle.panel_boxes.specs.declared.options.PanelOption.TheVariants as option
 use Rattle.panel_boxes.specs.declared.panel_box.Asked.{Asked}

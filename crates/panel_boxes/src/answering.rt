@@ -10,9 +10,9 @@ use crate::panel_box::{Asked, PanelBox, PanelReply};
 use crate::typed::typed_reply;
 use key_screen::{Base, Key};
 use mc_dialogs::{InputLine, ListBox, Reply, Shut};
-use mc_panels::{Arrangement, Panel, PanelFormat};
 use mc_text::NoMemory;
 use panel_pair::{PanelCommand, Panels};
+use panel_state::{Arrangement, Panel, PanelFormat};
 use std::alloc::Global;
 use tagging::PatternKind;
 

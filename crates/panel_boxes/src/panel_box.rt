@@ -1,7 +1,7 @@
 //! A box of the panels, and what a key makes of it.
 use mc_dialogs::{InputLine, ListBox};
 use panel_pair::PanelCommand;
-use session_history::TypedError;
+use session_entries::TypedError;
 
 /// What an input line asks for.
 #[derive(Clone, Copy, Debug, Drop, PartialEq, Eq)]

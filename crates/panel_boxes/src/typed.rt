@@ -1,19 +1,18 @@
 //! What a text comes to that was typed in an input line.
 ghost use Rattle.std.specs.Prelude.{◌≡◌, ◌≢◌, IfOk};
-ghost use Rattle.typed_patterns.specs.TypedPatterns.{pattern_in};
+ghost use Rattle.tagging.specs.TypedPatterns.{pattern_in};
 ghost use Rattle.panel_listing.specs.FormatTexts.{format_of};
 ghost use Rattle.panel_boxes.specs.Replies.{by_pattern, fault_reply, filter_command, filter_reply, format_reply, typed_reply};
 
 use crate::panel_box::{Asked, PanelReply};
-use mc_panels::{Arrangement, PanelFormat};
 use mc_text::{NoMemory, Text};
 use panel_listing::FormatError;
 use panel_pair::PanelCommand;
-use session_history::TypedError;
+use panel_state::{Arrangement, PanelFormat};
+use session_entries::TypedError;
 use std::alloc::Global;
 use std::convert::AsStr;
-use tagging::{Pattern, PatternKind};
-use typed_patterns::pattern_in;
+use tagging::{Pattern, PatternKind, pattern_in};
 
 /// What a text comes to that a line asked for, while patterns are of this kind.
 pub fn typed_reply(

@@ -1,8 +1,8 @@
 -- What Enter makes of the current panel it makes of the pair.
 use Rattle.std.proofs.Common.{◌≡◌, ℕ, refl, sym, subst}
-use Rattle.mc_panels.specs.declared.going.Going.{Going}
-use Rattle.mc_panels.specs.Panels.{PanelState}
-use Rattle.mc_panels.specs.Goings.{way_of, Enters}
+use Rattle.panel_state.specs.declared.going.Going.{Going}
+use Rattle.panel_state.specs.Panels.{PanelState}
+use Rattle.panel_state.specs.Goings.{way_of, Enters}
 use Rattle.tagging.specs.declared.pattern.PatternKind.{PatternKind}
 use Rattle.panel_pair.specs.declared.command.PanelCommand.{PanelCommand}
 use Rattle.panel_pair.specs.declared.command.PanelCommand.TheVariants.{Enter}

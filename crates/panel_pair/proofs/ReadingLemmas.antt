@@ -9,10 +9,10 @@ use Rattle.resolving.specs.declared.error.ResolveError.TheVariants.{Tree, TooMan
 use Rattle.resolving.specs.declared.walking.Wanted.TheVariants.{FolderAlone}
 use Rattle.resolving.specs.Errors.{Answers}
 use Rattle.resolving.specs.Resolution.{resolved}
-use Rattle.mc_panels.specs.declared.going.Way.{Way}
-use Rattle.mc_panels.specs.declared.going.Way.TheVariants.{Nowhere, Up, Into}
-use Rattle.mc_panels.specs.Panels.{PanelState, current_text}
-use Rattle.mc_panels.specs.Goings.{way_of, Reads, ShowsNext, ShowsResolved}
+use Rattle.panel_state.specs.declared.going.Way.{Way}
+use Rattle.panel_state.specs.declared.going.Way.TheVariants.{Nowhere, Up, Into}
+use Rattle.panel_state.specs.Panels.{PanelState, current_text}
+use Rattle.panel_state.specs.Goings.{way_of, Reads, ShowsNext, ShowsResolved}
 use Rattle.panel_pair.specs.declared.command.PanelCommand.{PanelCommand}
 use Rattle.panel_pair.specs.declared.command.PanelCommand.TheVariants.{Move, SwitchPanel, SwapPanels, Enter, ReadAgain, Back, Forward, GoTo, Toggle, Invert, Select, Unselect, Compare, Arrange, ShowColumns, ShowBrief, ToggleHidden, SwitchPatterns}
 use Rattle.panel_pair.specs.Commands.{CommandReads}

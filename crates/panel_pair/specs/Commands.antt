@@ -4,16 +4,16 @@ use Rattle.tree_trait.specs.Refusals.{holder}
 use Rattle.tree_trait.specs.Change.{CallLog}
 use Rattle.resolving.specs.declared.error.ResolveError.{ResolveError}
 use Rattle.resolving.specs.declared.error.ResolveError.TheVariants.{Memory}
-use Rattle.mc_panels.specs.declared.arranging.Arrangement.{Arrangement}
-use Rattle.mc_panels.specs.declared.arranging.Arrangement.TheVariants.{Hidden}
-use Rattle.mc_panels.specs.declared.going.Going.{Going}
-use Rattle.mc_panels.specs.Panels.{PanelState, moved_by, with_format, with_brief}
-use Rattle.mc_panels.specs.Readings.{ShowsFolder, read_again, gone_to_path}
-use Rattle.mc_panels.specs.Goings.{way_of, Enters, Reads, Turns, ShowsNext}
-use Rattle.mc_panels.specs.declared.visits.Turn.TheVariants.{Earlier, Later}
-use Rattle.mc_panels.specs.Selections.{toggled_current, selected, unselected, inverted_files}
-use Rattle.mc_panels.specs.Arrangements.{arranged_again, HasSameItems}
-use Rattle.mc_panels.specs.Comparisons.{compared}
+use Rattle.panel_state.specs.declared.arranging.Arrangement.{Arrangement}
+use Rattle.panel_state.specs.declared.arranging.Arrangement.TheVariants.{Hidden}
+use Rattle.panel_state.specs.declared.going.Going.{Going}
+use Rattle.panel_state.specs.Panels.{PanelState, moved_by, with_format, with_brief}
+use Rattle.panel_state.specs.Readings.{ShowsFolder, read_again, gone_to_path}
+use Rattle.panel_state.specs.Goings.{way_of, Enters, Reads, Turns, ShowsNext}
+use Rattle.panel_state.specs.declared.visits.Turn.TheVariants.{Earlier, Later}
+use Rattle.panel_state.specs.Selections.{toggled_current, selected, unselected, inverted_files}
+use Rattle.panel_state.specs.Arrangements.{arranged_again, HasSameItems}
+use Rattle.panel_state.specs.Comparisons.{compared}
 use Rattle.panel_pair.specs.declared.command.PanelCommand.{PanelCommand}
 use Rattle.panel_pair.specs.declared.command.PanelCommand.TheVariants.{Move, SwitchPanel, SwapPanels, Enter, ReadAgain, Back, Forward, GoTo, Toggle, Invert, Select, Unselect, Compare, Arrange, ShowColumns, ShowBrief, ToggleHidden, SwitchPatterns}
 use Rattle.panel_pair.specs.Pairs.{PairState, opposite, other_kind, with_current}

@@ -3,20 +3,20 @@ use Rattle.std.specs.Prelude.{ℕ, ◌+◌, ◌-◌, ◌/◌, Bool, true, false,
 use Rattle.mc_text.specs.Routes.{path_text}
 use Rattle.key_screen.specs.declared.cells.Attr.{Attr}
 use Rattle.key_screen.specs.declared.cells.Attr.TheVariants.{Plain, Bold, Reverse}
-use Rattle.mc_frame.specs.declared.panes.Item.{Item}
-use Rattle.mc_frame.specs.declared.panes.Pane.{Pane}
-use Rattle.mc_frame.specs.declared.panes.Panes.{Panes}
-use Rattle.mc_frame.specs.declared.panes.Panes.TheVariants.{Both, Whole}
-use Rattle.mc_frame.specs.declared.panes.Shape.{Shape}
-use Rattle.mc_frame.specs.declared.panes.Shape.TheVariants as shape
-use Rattle.mc_panels.specs.declared.format.Layout.{Layout}
-use Rattle.mc_panels.specs.declared.format.Layout.TheVariants.{Columns, Brief}
-use Rattle.mc_panels.specs.declared.window.Mark.{Mark}
-use Rattle.mc_panels.specs.declared.window.Mark.TheVariants as mark
-use Rattle.mc_panels.specs.declared.window.View.{View}
-use Rattle.mc_panels.specs.Formats.{FormatState, format_meant}
-use Rattle.mc_panels.specs.Panels.{PanelState, current_text}
-use Rattle.mc_panels.specs.Windows.{panel_heading, panel_rows, mark_of}
+use Rattle.screen_frame.specs.declared.panes.Item.{Item}
+use Rattle.screen_frame.specs.declared.panes.Pane.{Pane}
+use Rattle.screen_frame.specs.declared.panes.Panes.{Panes}
+use Rattle.screen_frame.specs.declared.panes.Panes.TheVariants.{Both, Whole}
+use Rattle.screen_frame.specs.declared.panes.Shape.{Shape}
+use Rattle.screen_frame.specs.declared.panes.Shape.TheVariants as shape
+use Rattle.panel_state.specs.declared.format.Layout.{Layout}
+use Rattle.panel_state.specs.declared.format.Layout.TheVariants.{Columns, Brief}
+use Rattle.panel_state.specs.declared.window.Mark.{Mark}
+use Rattle.panel_state.specs.declared.window.Mark.TheVariants as mark
+use Rattle.panel_state.specs.declared.window.View.{View}
+use Rattle.panel_state.specs.Formats.{FormatState, format_meant}
+use Rattle.panel_state.specs.Panels.{PanelState, current_text}
+use Rattle.panel_state.specs.Windows.{panel_heading, panel_rows, mark_of}
 use Rattle.panel_pair.specs.declared.frame.FrameSize.{FrameSize}
 use Rattle.panel_pair.specs.declared.side.Side.{Side}
 use Rattle.panel_pair.specs.declared.side.Side.TheVariants.{Left, Right}

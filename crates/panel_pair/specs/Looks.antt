@@ -1,7 +1,7 @@
 -- What reading both panels again makes of them (own; a panel whose folder can't be read stays as it was).
 use Rattle.std.specs.Prelude.{◌≡◌, ℕ}
 use Rattle.tree_trait.specs.Change.{CallLog}
-use Rattle.mc_panels.specs.Rereadings.{IsAttempt, IsReadAgain, ShowsAgain, ShowsAttempt, refusal_in}
+use Rattle.panel_state.specs.Rereadings.{IsAttempt, IsReadAgain, ShowsAgain, ShowsAttempt, refusal_in}
 use Rattle.panel_pair.specs.declared.looking.Reread.{Reread}
 use Rattle.panel_pair.specs.declared.looking.Unread.{Unread}
 use Rattle.panel_pair.specs.Pairs.{PairState, left_panel, right_panel}

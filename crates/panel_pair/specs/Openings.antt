@@ -5,8 +5,8 @@ use Rattle.tree_trait.specs.Change.{CallLog, current}
 use Rattle.resolving.specs.declared.error.ResolveError.{ResolveError}
 use Rattle.resolving.specs.declared.walking.Wanted.TheVariants.{FolderAlone}
 use Rattle.resolving.specs.Resolution.{resolved}
-use Rattle.mc_panels.specs.Panels.{PanelState}
-use Rattle.mc_panels.specs.Goings.{ShowsResolved}
+use Rattle.panel_state.specs.Panels.{PanelState}
+use Rattle.panel_state.specs.Goings.{ShowsResolved}
 use Rattle.panel_pair.specs.declared.opening.Unopened.{Unopened}
 use Rattle.panel_pair.specs.declared.side.Side.{Side}
 use Rattle.panel_pair.specs.declared.side.Side.TheVariants.{Left, Right}

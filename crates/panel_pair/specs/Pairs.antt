@@ -4,8 +4,8 @@ use Rattle.panel_listing.specs.Listings.{Listed, nothing_listed}
 use Rattle.mc_text.specs.Routes.{Route}
 use Rattle.tagging.specs.declared.pattern.PatternKind.{PatternKind}
 use Rattle.tagging.specs.declared.pattern.PatternKind.TheVariants.{Shell, Regex}
-use Rattle.mc_panels.specs.Panels.{PanelState, untagged}
-use Rattle.mc_panels.specs.Readings.{opened_panel}
+use Rattle.panel_state.specs.Panels.{PanelState, untagged}
+use Rattle.panel_state.specs.Readings.{opened_panel}
 use Rattle.panel_pair.specs.declared.side.Side.{Side}
 use Rattle.panel_pair.specs.declared.side.Side.TheVariants.{Left, Right}
 

@@ -9,8 +9,8 @@ use Rattle.resolving.specs.declared.error.ResolveError.TheVariants.{Fault}
 use Rattle.resolving.specs.declared.walking.Wanted.TheVariants.{FolderAlone}
 use Rattle.resolving.specs.Errors.{Answers}
 use Rattle.resolving.specs.Resolution.{resolved}
-use Rattle.mc_panels.specs.Readings.{ListsFolder}
-use Rattle.mc_panels.specs.Rereadings.{refusal_in}
+use Rattle.panel_state.specs.Readings.{ListsFolder}
+use Rattle.panel_state.specs.Rereadings.{refusal_in}
 use Rattle.panel_pair.specs.declared.looking.Reread.{Reread}
 
 -- a refusal has its cause in the tree: that of listing a folder, or of the folder that a text leads to

@@ -3,8 +3,8 @@ use Rattle.std.specs.Prelude.{◌≡◌, ℕ, ◌<◌, List, ◌∷◌, map, len
 use Rattle.mc_text.specs.Routes.{Route, spelled}
 use Rattle.mc_text.specs.declared.error.PathError.{PathError}
 use Rattle.mc_text.specs.declared.error.PathError.TheVariants.{TooLong}
-use Rattle.mc_panels.specs.Panels.{PanelState}
-use Rattle.mc_panels.specs.Selections.{selection}
+use Rattle.panel_state.specs.Panels.{PanelState}
+use Rattle.panel_state.specs.Selections.{selection}
 
 -- the paths of names in a folder
 abbrev pub paths_in : Route → List (List ℕ) → List Route

@@ -1,7 +1,7 @@
 //! What keys do to the panels, but for those that open a box, begin a job or end the session.
 use key_screen::Base;
-use mc_panels::{Arrangement, PanelFormat};
 use mc_text::Path;
+use panel_state::{Arrangement, PanelFormat};
 use tagging::Pattern;
 
 /// What a key does to the panels. All but `SwitchPanel`, `SwapPanels`, `Compare`,

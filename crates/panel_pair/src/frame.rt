@@ -1,14 +1,14 @@
 //! What the frame shows of the panels.
 ghost use Rattle.std.specs.Prelude.{◌≡◌, ◌<◌, ◌+◌, ◌++◌, ◌^◌, IfOk, OnOk};
-ghost use Rattle.mc_panels.specs.Windows.{panel_rows};
+ghost use Rattle.panel_state.specs.Windows.{panel_rows};
 ghost use Rattle.panel_pair.specs.Frames.{has_whole_screen, inside, items_from, look_of as mark_look, page_of, pane_of as pane_for, panes_of, shape_of as layout_shape};
 
 use crate::panels::Panels;
 use crate::side::Side;
 use key_screen::Attr;
-use mc_frame::{Item, Items, Pane, Panes, Shape};
-use mc_panels::{Layout, Mark, Panel, View};
 use mc_text::{NoMemory, Text};
+use panel_state::{Layout, Mark, Panel, View};
+use screen_frame::{Item, Items, Pane, Panes, Shape};
 use std::alloc::Global;
 
 /// The size of the screen, and the second of the last key since 1970, by which the times in rows are told.

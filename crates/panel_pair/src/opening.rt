@@ -3,15 +3,15 @@ ghost use Rattle.std.specs.Prelude.{◌≡◌, IfOk, IfErr};
 ghost use Rattle.mc_text.specs.Routes.{path_text};
 ghost use Rattle.tree_trait.specs.Answers.{IfKnown, HasCause};
 ghost use Rattle.resolving.specs.Errors.{CarriesCause};
-ghost use Rattle.mc_panels.specs.Readings.{opened_panel};
+ghost use Rattle.panel_state.specs.Readings.{opened_panel};
 ghost use Rattle.panel_pair.specs.Pairs.{opened_pair, unread_pair};
 ghost use Rattle.panel_pair.specs.Openings.{OpensBoth, ShowsPath, refused_opening};
 ghost use Rattle.panel_pair.specs.Readings.{ReadsTree};
 
 use crate::panels::Panels;
 use crate::side::Side;
-use mc_panels::Panel;
 use mc_text::{NoMemory, Path};
+use panel_state::Panel;
 use resolving::{ResolveError, Wanted, resolve};
 use std::alloc::Global;
 use std::convert::AsStr;

@@ -3,7 +3,7 @@ ghost use Rattle.std.specs.Prelude.{◌≡◌};
 ghost use Rattle.panel_pair.specs.Pairs.{left_panel, right_panel, untagged_pair};
 
 use crate::side::Side;
-use mc_panels::Panel;
+use panel_state::Panel;
 use std::marker::Model;
 use tagging::PatternKind;
 

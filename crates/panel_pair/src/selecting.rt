@@ -1,6 +1,6 @@
 //! What a job takes from the panels.
 ghost use Rattle.std.specs.Prelude.{◌≡◌, ◌≢◌, IfOk, IfErr};
-ghost use Rattle.mc_panels.specs.Selections.{selection};
+ghost use Rattle.panel_state.specs.Selections.{selection};
 ghost use Rattle.panel_pair.specs.Selected.{paths_in, selected_paths, IsTooLong};
 
 use crate::panels::Panels;

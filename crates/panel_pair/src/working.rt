@@ -2,17 +2,17 @@
 ghost use Rattle.std.specs.Prelude.{◌≡◌, ◌<◌, ◌^◌, not, OnOk, OnErr, IfErr};
 ghost use Rattle.tree_trait.specs.Answers.{IfKnown, HasCause};
 ghost use Rattle.resolving.specs.Errors.{CarriesCause};
-ghost use Rattle.mc_panels.specs.declared.arranging.Arrangement.TheVariants.{Hidden};
-ghost use Rattle.mc_panels.specs.Arrangements.{arranged_again, HasSameItems};
-ghost use Rattle.mc_panels.specs.Readings.{outcome};
+ghost use Rattle.panel_state.specs.declared.arranging.Arrangement.TheVariants.{Hidden};
+ghost use Rattle.panel_state.specs.Arrangements.{arranged_again, HasSameItems};
+ghost use Rattle.panel_state.specs.Readings.{outcome};
 ghost use Rattle.panel_pair.specs.Commands.{CommandDone, CommandReads, switched};
 ghost use Rattle.panel_pair.specs.Pairs.{other_kind as kind_across};
 ghost use Rattle.panel_pair.specs.Readings.{ReadsTree, refused_in};
 
 use crate::command::PanelCommand;
 use crate::panels::Panels;
-use mc_panels::{Panel, Turn, compare_panels};
 use mc_text::NoMemory;
+use panel_state::{Panel, Turn, compare_panels};
 use resolving::ResolveError;
 use std::alloc::Global;
 use std::mem;

@@ -1,3 +1,4 @@
 pub mod Errors
 pub mod Resolution
 pub mod Places
+pub mod Homes

@@ -4,8 +4,10 @@
 mod ahead;
 mod ending;
 mod error;
+mod home;
 mod looking;
 mod walking;
 
 pub use error::ResolveError;
+pub use home::with_home;
 pub use walking::{Wanted, resolve};

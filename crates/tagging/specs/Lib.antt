@@ -7,3 +7,4 @@ pub mod Regexes
 pub mod Patterns
 pub mod TagSets
 pub mod Compared
+pub mod TypedPatterns

@@ -12,6 +12,7 @@ mod parse;
 mod pattern;
 mod regex_name;
 mod tags;
+mod typed;
 mod walk;
 
 pub use bracket::{BracketSet, Span};
@@ -20,3 +21,4 @@ pub use error::PatternError;
 pub use glob::{GlobPart, ShellPattern};
 pub use pattern::{Pattern, PatternKind};
 pub use tags::Tags;
+pub use typed::pattern_in;

@@ -5,7 +5,7 @@ use Rattle.std.specs.Option.{option_map_or}
 use Rattle.std.specs.Str.{bytes_eq}
 use Rattle.tagging.specs.declared.pattern.PatternKind.{PatternKind}
 use Rattle.text_scan.specs.Words.{behind_word, is_blank}
-use Rattle.typed_patterns.specs.TypedPatterns.{pattern_in}
+use Rattle.tagging.specs.TypedPatterns.{pattern_in}
 use Rattle.user_menu.specs.Words.{FirstWord, first_word}
 use Rattle.user_menu.specs.declared.condition.Panel.TheVariants.{Here, There}
 use Rattle.user_menu.specs.declared.condition.Sense.{Sense}

@@ -7,9 +7,8 @@ use crate::condition::{Panel, Sense, Term, Test};
 use crate::words::first_word;
 use mc_text::{NoMemory, Text};
 use std::alloc::Global;
-use tagging::PatternKind;
+use tagging::{PatternKind, pattern_in};
 use text_scan::{behind_indent, behind_word};
-use typed_patterns::pattern_in;
 
 /// What the letter of a term asks.
 #[derive(Clone, Copy, Drop)]

@@ -10,12 +10,11 @@ ghost use Rattle.copy_move.specs.Steps.{OwedSyncStep, OwnStep, RunStep, SkipStep
 
 use super::{Course, Halt, Run};
 use crate::owed::first_owed;
-use file_copy::PartTest;
-use job_reports::{Cause, Did, Ending, StepResult, out_of_memory};
+use job_reports::{Cause, Did, Ending, PartTest, StepResult, out_of_memory};
+use job_unsynced::{Dirty, without_call};
 use mc_text::Path;
-use mode_setting::sync_thing;
+use mode_job::sync_thing;
 use std::alloc::Global;
-use tree_deletion::{Dirty, without_call};
 use tree_trait::Tree;
 
 impl Run {

@@ -15,9 +15,9 @@ use crate::rows::rows_of;
 use crate::seeking::{Shown, drawn_behind, seek_and_show, sought_entry};
 use crate::standing::{Due, can_step};
 use crate::tag::Tag;
-use history_log::plain_entry;
 use key_screen::{Base, Fed, Key};
-use session_history::{Entry, Event, Refusals};
+use session_entries::{Entry, Event, Refusals};
+use session_log::plain_entry;
 use std::alloc::Global;
 use tree_trait::{Sink, SinkError, Spawner, Tree};
 

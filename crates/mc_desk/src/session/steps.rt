@@ -2,15 +2,15 @@
 ghost use Rattle.std.specs.Prelude.{◌≡◌, ◌<◌, ◌≤◌, true, None, IsSome, ◌||◌, reverse, if◌then◌else◌};
 ghost use Rattle.std.specs.Option.{is_none};
 ghost use Rattle.copy_move.specs.Told.{if_closed, IsReady};
-ghost use Rattle.session_history.specs.Sources.{AreInTurn};
-ghost use Rattle.history_laws.specs.ToldJob.{live_job};
-ghost use Rattle.history_laws.specs.Traces.{IsTracedTo};
+ghost use Rattle.session_entries.specs.Sources.{AreInTurn};
+ghost use Rattle.laws_sessions.specs.ToldJob.{live_job};
+ghost use Rattle.laws_sessions.specs.Traces.{IsTracedTo};
 ghost use Rattle.mc_desk.specs.Sessions.{EndsSession};
 ghost use Rattle.mc_desk.specs.Tallies.{can_step, faults_in, keys_in, has_lost};
 ghost use Rattle.mc_desk.specs.Outputs.{Blames};
 ghost use Rattle.mc_desk.specs.Shown.{HasGiven, put_since};
 ghost use Rattle.mc_desk.specs.Desks.{KeepsKeys, MovesDirty, RanNothing, idle_reply, rank_of};
-ghost use Rattle.history_log.specs.Logs.{jobs_begun};
+ghost use Rattle.session_log.specs.Logs.{jobs_begun};
 
 use super::Session;
 use crate::claims::NoClaims;
@@ -18,9 +18,9 @@ use crate::replies::{Ended, StepReply};
 use crate::standing::closed;
 use crate::tag::Tag;
 use copy_move::Run;
-use history_log::plain_entry;
 use job_sources::{Stepped, ended_without_memory, go_on};
-use session_history::{Entry, Event};
+use session_entries::{Entry, Event};
+use session_log::plain_entry;
 use std::alloc::Global;
 use tree_trait::{Sink, Spawner, Tree};
 

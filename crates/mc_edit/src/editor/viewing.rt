@@ -6,8 +6,8 @@ use super::Editor;
 use crate::moves::column_at;
 use crate::pages::{rows_from, top_of};
 use mc_text::{NoMemory, Rows};
-use shown_units::Sight;
 use std::alloc::Global;
+use text_units::Sight;
 
 /// Rows of a text, and the row and the column of the point on them.
 #[derive(Debug, Drop)]

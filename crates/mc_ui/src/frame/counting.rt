@@ -1,10 +1,10 @@
 //! How many jobs are in each state.
 ghost use Rattle.std.specs.Prelude.{◌≡◌, ◌≤◌, ◌<◌, ◌+◌, ◌^◌, length};
-ghost use Rattle.mc_frame.specs.JobsLine.{live_jobs};
+ghost use Rattle.screen_frame.specs.JobsLine.{live_jobs};
 ghost use Rattle.mc_ui.specs.Frames.{counted as one_more, counts_of as counts_in};
 
 use job_reports::{JobRow, JobState};
-use mc_frame::JobCounts;
+use screen_frame::JobCounts;
 
 /// Counts the live jobs by their states.
 pub fn counts_of(rows: &[JobRow]) -> JobCounts

@@ -1,6 +1,6 @@
 //! Things are sought: how the box opens, and its keys. It was taken out while it is worked in, and is put back where it stays.
 ghost use Rattle.std.specs.Prelude.{◌≡◌, None, OnErr, OnOk, IfOk};
-ghost use Rattle.job_plans.specs.Reading.{ReadsTree};
+ghost use Rattle.ui_plans.specs.Reading.{ReadsTree};
 ghost use Rattle.mc_ui.specs.declared.asks.Ask.{Ask};
 ghost use Rattle.mc_ui.specs.declared.asks.KeyAct.{KeyAct as KeyActType};
 ghost use Rattle.mc_ui.specs.Boxes.{FindBox, NoBox, seen_box};
@@ -11,14 +11,14 @@ use super::Ui;
 use super::panel_keys::asking_nothing;
 use crate::asks::KeyAct;
 use crate::dialog::Dialog;
-use find_mode::{FindAct, FindMode, FindRefusal};
 use key_screen::Key;
 use mc_text::{NoMemory, Path};
 use panel_pair::PanelCommand;
 use resolving::ResolveError;
-use session_history::{Refusal, TypedError};
+use session_entries::{Refusal, TypedError};
 use std::alloc::Global;
 use tree_trait::ReadTree;
+use ui_find::{FindAct, FindMode, FindRefusal};
 
 impl Ui {
     /// Asks what is to be sought.

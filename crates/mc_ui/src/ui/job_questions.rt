@@ -1,9 +1,9 @@
 //! The boxes of jobs. A box was taken out while it is worked in, and is put back where it stays.
 ghost use Rattle.std.specs.Prelude.{◌≡◌, [], false, true, OnErr, OnOk, IfOk};
-ghost use Rattle.box_words.specs.BoxLines.{folder_line};
-ghost use Rattle.job_boxes.specs.JobBoxes.{FolderBox, LinkTextBox, seen};
-ghost use Rattle.job_boxes.specs.Openings.{link_asked};
-ghost use Rattle.job_plans.specs.Reading.{ReadsTree};
+ghost use Rattle.ui_words.specs.BoxLines.{folder_line};
+ghost use Rattle.ui_job_boxes.specs.JobBoxes.{FolderBox, LinkTextBox, seen};
+ghost use Rattle.ui_job_boxes.specs.Openings.{link_asked};
+ghost use Rattle.ui_plans.specs.Reading.{ReadsTree};
 ghost use Rattle.mc_ui.specs.declared.asks.KeyAct.{KeyAct as KeyActType};
 ghost use Rattle.mc_ui.specs.Boxes.{NoBox, OneJobBox, seen_box};
 ghost use Rattle.mc_ui.specs.Screens.{Asks, JobLeads, with_ask};
@@ -12,12 +12,12 @@ use super::Ui;
 use super::panel_keys::{asking, asking_nothing};
 use crate::asks::{Ask, KeyAct};
 use crate::dialog::Dialog;
-use job_boxes::{JobBox, JobReply, Surroundings};
 use job_reports::{Job, JobRows};
 use key_screen::Key;
 use mc_text::NoMemory;
 use std::alloc::Global;
 use tree_trait::ReadTree;
+use ui_job_boxes::{JobBox, JobReply, Surroundings};
 
 impl Ui {
     /// Asks for a new folder.

@@ -9,12 +9,12 @@ use super::Ui;
 use super::panel_keys::asking_nothing;
 use crate::asks::KeyAct;
 use crate::dialog::Dialog;
-use job_boxes::JobBox;
-use job_list::{JobList, JobsAct};
 use job_reports::JobRows;
 use key_screen::Key;
 use mc_text::NoMemory;
 use std::alloc::Global;
+use ui_job_boxes::JobBox;
+use ui_job_list::{JobList, JobsAct};
 
 impl Ui {
     /// A key while these jobs are listed: the list stays or is shut, or the box of what a job waits with stands in its place.

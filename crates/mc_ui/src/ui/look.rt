@@ -1,25 +1,25 @@
 //! Looks: what the screen takes up of what the live jobs did.
 ghost use Rattle.std.specs.Prelude.{◌≡◌, List, None, OnErr, IfOk};
 ghost use Rattle.std.specs.Option.{option_map};
-ghost use Rattle.mc_panels.specs.Rereadings.{refusal_in};
+ghost use Rattle.panel_state.specs.Rereadings.{refusal_in};
 ghost use Rattle.panel_pair.specs.Looks.{IsRereadOf, LooksAgain as PanelsLookAgain, TakesReread, unread_of};
-ghost use Rattle.session_history.specs.declared.refusal.Refusal.{Refusal as RefusalType};
+ghost use Rattle.session_entries.specs.declared.refusal.Refusal.{Refusal as RefusalType};
 ghost use Rattle.mc_ui.specs.Looks.{LooksAgain, ReadsAgain, shown_waits as waits_in, told_unread};
-ghost use Rattle.job_plans.specs.Reading.{ReadsTree};
+ghost use Rattle.ui_plans.specs.Reading.{ReadsTree};
 ghost use Rattle.mc_ui.specs.Boxes.{first_refusal, with_news, with_refusal, with_waits};
 ghost use Rattle.mc_ui.specs.Screens.{HasSameSize, LookLeads, page_of, with_panels, with_told};
 
 use super::Ui;
 use crate::dialog::Dialog;
-use box_words::Message;
-use job_boxes::JobBox;
 use job_reports::{JobRows, Waits};
-use mc_panels::Attempt;
 use mc_text::NoMemory;
 use panel_pair::Reread;
-use session_history::{Refusal, Refusals};
+use panel_state::Attempt;
+use session_entries::{Refusal, Refusals};
 use std::alloc::Global;
 use tree_trait::ReadTree;
+use ui_job_boxes::JobBox;
+use ui_words::Message;
 
 impl Ui {
     /// Takes up what the live jobs did. After a job's end, which `has_unseen_end` says, each panel is read again. A question or a

@@ -2,7 +2,7 @@
 ghost use Rattle.std.specs.Prelude.{◌≡◌, ◌∷◌, [], false, None, OnErr, IfOk};
 ghost use Rattle.mc_ui.specs.declared.asks.KeyAct.{KeyAct as KeyActType};
 ghost use Rattle.mc_ui.specs.PanelKeys.{panel_command_of};
-ghost use Rattle.job_plans.specs.Reading.{ReadsTree, sight};
+ghost use Rattle.ui_plans.specs.Reading.{ReadsTree, sight};
 ghost use Rattle.mc_ui.specs.Boxes.{NoBox, seen_box};
 ghost use Rattle.mc_ui.specs.Screens.{Chooses, CommandLeads, HasSameSize, WellAsked, Works, is_request, told_refusal, with_ask};
 
@@ -10,17 +10,17 @@ use super::Ui;
 use crate::asks::{Ask, KeyAct};
 use crate::dialog::Dialog;
 use crate::panel_command::{KeyCommand, panel_command};
-use box_words::Message;
-use job_boxes::JobBox;
-use job_plans::{Choice, Opens, choose};
 use job_reports::JobRows;
 use key_screen::Key;
 use mc_text::NoMemory;
 use panel_pair::PanelCommand;
 use resolving::ResolveError;
-use session_history::{PlanError, Refusal, Refusals};
+use session_entries::{PlanError, Refusal, Refusals};
 use std::alloc::Global;
 use tree_trait::ReadTree;
+use ui_job_boxes::JobBox;
+use ui_plans::{Choice, Opens, choose};
+use ui_words::Message;
 
 impl Ui {
     /// A key while no box is open: each command is a row.

@@ -1,6 +1,6 @@
 //! The boxes of the panels. A box was taken out while it is worked in, and is put back where it stays.
 ghost use Rattle.std.specs.Prelude.{◌≡◌, None, OnErr, OnOk, IfOk};
-ghost use Rattle.job_plans.specs.Reading.{ReadsTree};
+ghost use Rattle.ui_plans.specs.Reading.{ReadsTree};
 ghost use Rattle.panel_boxes.specs.Openings.{opened as opened_box};
 ghost use Rattle.panel_boxes.specs.Replies.{box_after, reply_to};
 ghost use Rattle.mc_ui.specs.declared.asks.Ask.{Ask};
@@ -12,14 +12,14 @@ use super::Ui;
 use super::panel_keys::asking_nothing;
 use crate::asks::KeyAct;
 use crate::dialog::Dialog;
-use job_list::JobList;
-use job_plans::Opens;
 use key_screen::Key;
 use mc_text::NoMemory;
 use panel_boxes::{Opening, PanelBox, PanelReply};
-use session_history::Refusal;
+use session_entries::Refusal;
 use std::alloc::Global;
 use tree_trait::ReadTree;
+use ui_job_list::JobList;
+use ui_plans::Opens;
 
 impl Ui {
     /// Opens a box of the panels.

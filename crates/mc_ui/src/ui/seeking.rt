@@ -1,17 +1,17 @@
 //! The steps of a search, while what it finds is listed.
 ghost use Rattle.std.specs.Prelude.{◌≡◌, ◌≤◌, ◌<◌, false, true, is_some, None, OnErr, OnOk};
-ghost use Rattle.find_mode.specs.FindScreens.{with_listing};
-ghost use Rattle.find_mode.specs.Listings.{IsKept, StepLeads, steps_to_end};
+ghost use Rattle.ui_find.specs.FindScreens.{with_listing};
+ghost use Rattle.ui_find.specs.Listings.{IsKept, StepLeads, steps_to_end};
 ghost use Rattle.mc_ui.specs.Boxes.{FindBox, NoBox, seen_box};
 ghost use Rattle.mc_ui.specs.Screens.{HasSameSize};
 ghost use Rattle.mc_ui.specs.Seekings.{SeekLeads, is_seeking as does_seek, list_in, with_list};
 
 use super::Ui;
 use crate::dialog::Dialog;
-use find_mode::FindMode;
 use mc_text::NoMemory;
 use std::alloc::Global;
 use tree_trait::ReadTree;
+use ui_find::FindMode;
 
 impl Ui {
     /// Makes one step of the search that goes on, if one does: at most a look and the read of a file, or a listing. Where memory is

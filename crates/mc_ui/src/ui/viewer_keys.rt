@@ -1,11 +1,11 @@
 //! The viewer: how F3 opens it, and its keys. A viewed file was taken out while its key is worked, and is put back after it.
 ghost use Rattle.std.specs.Prelude.{◌≡◌, [], ◌<◌, false, None, Some, OnErr, IfOk, vec_len, vec_capacity};
-ghost use Rattle.mc_panels.specs.Goings.{way_of};
-ghost use Rattle.mc_panels.specs.Panels.{current_name};
-ghost use Rattle.job_plans.specs.Reading.{ReadsTree};
-ghost use Rattle.viewer_mode.specs.Openings.{OpensThing};
-ghost use Rattle.viewer_mode.specs.Motions.{LooksAtNothing};
-ghost use Rattle.viewer_mode.specs.ViewerScreens.{KeyLeads as ViewerKeyLeads, wanted};
+ghost use Rattle.panel_state.specs.Goings.{way_of};
+ghost use Rattle.panel_state.specs.Panels.{current_name};
+ghost use Rattle.ui_plans.specs.Reading.{ReadsTree};
+ghost use Rattle.ui_viewer.specs.Openings.{OpensThing};
+ghost use Rattle.ui_viewer.specs.Motions.{LooksAtNothing};
+ghost use Rattle.ui_viewer.specs.ViewerScreens.{KeyLeads as ViewerKeyLeads, wanted};
 ghost use Rattle.mc_ui.specs.declared.asks.KeyAct.{KeyAct as KeyActType};
 ghost use Rattle.mc_ui.specs.declared.ui.viewer_keys.ViewerDeed.{ViewerDeed as ViewerDeedType};
 ghost use Rattle.mc_ui.specs.Viewings.{goes_on as goes_on_by, opening_refusals, told_by as told_of_act, viewed_path as path_viewed};
@@ -16,14 +16,14 @@ use super::panel_keys::{asking, asking_nothing};
 use crate::asks::{Ask, KeyAct};
 use crate::viewing::{Leaving, ViewedFile};
 use key_screen::Key;
-use mc_panels::Panel;
 use mc_text::{NoMemory, Path};
 use mc_viewer::{Subject, ViewError};
 use panel_pair::PanelCommand;
-use session_history::{Refusal, Refusals};
+use panel_state::Panel;
+use session_entries::{Refusal, Refusals};
 use std::alloc::Global;
 use tree_trait::ReadTree;
-use viewer_mode::{Opening, ViewerAct, ViewerMode, open_thing};
+use ui_viewer::{Opening, ViewerAct, ViewerMode, open_thing};
 
 /// What a key of the viewer came to, and what the tree refused to it.
 #[derive(Debug, Drop)]

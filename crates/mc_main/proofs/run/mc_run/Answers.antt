@@ -1,7 +1,7 @@
 -- A run is safe at each moment, what it finished stays done, the tree is what it tells, its keys are those of the bytes that were taken, and it is complete.
 use Rattle.std.proofs.Common.{rules, reverse, inl, inr, refl, ◌≡◌, ◌≤◌, ◌<◌, ◌∙◌, sym, subst, ap, IsSome, Option, Some, arith}
 use Rattle.tree_trait.specs.Answers.{HasRisen}
-use Rattle.history_laws.specs.Traces.{IsTracedTo}
+use Rattle.laws_sessions.specs.Traces.{IsTracedTo}
 use Rattle.mc_desk.specs.declared.starts.Start.{Start}
 use Rattle.mc_desk.specs.Tallies.{faults_in}
 use Rattle.mc_main.specs.Beginnings.{asked_in, session_start, surroundings_in, status_with}

@@ -1,6 +1,6 @@
 -- What was read is what the words ask for.
 use Rattle.std.proofs.Common.{◌≡◌, refl, rules, sym, subst, ap, ◌∙◌, None, Some}
-use Rattle.start_words.specs.Asked.{asked_by}
+use Rattle.main_words.specs.Asked.{asked_by}
 use Rattle.mc_main.specs.declared.run.Env.{Env}
 use Rattle.mc_main.specs.declared.words.Printed.TheVariants.{Usage}
 use Rattle.mc_main.specs.Beginnings.{IsBeginning, printed_for, surroundings_in}

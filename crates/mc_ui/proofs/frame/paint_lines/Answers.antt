@@ -1,7 +1,7 @@
 -- A box leaves the size as it was.
 use Rattle.std.proofs.Common.{◌∙◌, ap}
 use Rattle.key_screen.specs.Grids.{CellGrid}
-use Rattle.viewer_mode.proofs.BoxSizes.{box_columns_same, box_lines_same}
+use Rattle.ui_viewer.proofs.BoxSizes.{box_columns_same, box_lines_same}
 use Rattle.mc_ui.proofs.frame.paint_lines.Goals as goal
 
 pub returns-clause-size : goal.returns-clause-size

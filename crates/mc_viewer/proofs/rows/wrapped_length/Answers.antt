@@ -1,6 +1,6 @@
 -- Unit by unit.
 use Rattle.std.proofs.Common.{◌≡◌, ◌+◌, ◌<◌, ◌≤◌, length, take, drop, arith, ap, sym, ◌∙◌, ⊎_elim, length-drop}
-use Rattle.shown_units.specs.Units.{unit_columns}
+use Rattle.text_units.specs.Units.{unit_columns}
 use Rattle.mc_viewer.specs.Units.{unit_length, first_unit}
 use Rattle.mc_viewer.proofs.RowLemmas.{wrapped-behind, wrapped-end, wrapped-newline_at, wrapped-full_at}
 use Rattle.mc_viewer.proofs.rows.wrapped_length.Goals as goal

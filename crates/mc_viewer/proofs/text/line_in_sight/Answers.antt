@@ -1,7 +1,7 @@
 -- Unit by unit.
 use Rattle.std.proofs.Common.{◌≡◌, ◌+◌, ◌≤◌, List, ℕ, ◌++◌, length, take, drop, string_bytes, arith, ap, sym, ◌∙◌, append_assoc, length-drop}
 use Rattle.std.proofs.lemmas.List.{append-nil}
-use Rattle.shown_units.specs.Units.{unit_columns, piece_in_sight}
+use Rattle.text_units.specs.Units.{unit_columns, piece_in_sight}
 use Rattle.mc_viewer.specs.Units.{unit_length, first_unit}
 use Rattle.mc_viewer.specs.Pages.{line_in_sight}
 use Rattle.mc_viewer.proofs.SightLemmas.{sight-behind, sight-newline_at, sight-end}

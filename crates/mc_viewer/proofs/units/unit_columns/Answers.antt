@@ -1,6 +1,6 @@
 -- A plain character has one column.
 use Rattle.std.proofs.Common.{sym, ap, ◌∙◌}
-use Rattle.shown_units.specs.Units.{unit_columns}
+use Rattle.text_units.specs.Units.{unit_columns}
 use Rattle.mc_viewer.proofs.PlainLemmas.{plain_columns}
 use Rattle.mc_viewer.proofs.units.unit_columns.Goals as goal
 

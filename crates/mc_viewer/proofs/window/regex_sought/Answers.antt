@@ -1,6 +1,6 @@
 -- The matcher searches for the expression.
 use Rattle.std.proofs.Common.{◌≡◌, drop, subst, IfOk}
-use Rattle.line_search.specs.Lines.{in_lines}
+use Rattle.text_search.specs.Lines.{in_lines}
 use Rattle.mc_viewer.proofs.window.regex_sought.Goals as goal
 
 pub returns-clause-shown : goal.returns-clause-shown

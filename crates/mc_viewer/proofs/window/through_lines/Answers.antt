@@ -2,8 +2,8 @@
 use Rattle.std.proofs.Common.{◌≡◌, [], length, drop, ap, sym, ◌∙◌, arith, length-take, length-drop}
 use Rattle.std.proofs.lemmas.Bool.{eqb-true}
 use Rattle.std.proofs.lemmas.List.{drop_all}
-use Rattle.line_search.specs.Lines.{in_lines}
-use Rattle.line_search.proofs.LineLemmas.{in_lines-past}
+use Rattle.text_search.specs.Lines.{in_lines}
+use Rattle.text_search.proofs.LineLemmas.{in_lines-past}
 use Rattle.mc_viewer.specs.Viewing.{held}
 use Rattle.mc_viewer.proofs.SeekLemmas.{lines-further}
 use Rattle.mc_viewer.proofs.window.through_lines.Goals as goal

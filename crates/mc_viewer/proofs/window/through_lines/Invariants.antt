@@ -1,6 +1,6 @@
 -- What is sought from the beginning is what is sought from here; the tree stays, and its count of faults doesn't fall.
 use Rattle.std.proofs.Common.{◌≡◌, ◌≤◌, ◌-◌, drop, true}
-use Rattle.line_search.specs.Lines.{in_lines}
+use Rattle.text_search.specs.Lines.{in_lines}
 use Rattle.mc_viewer.specs.Viewing.{IfShorter, is_output}
 use Rattle.mc_viewer.proofs.window.through_lines.Given as goal
 

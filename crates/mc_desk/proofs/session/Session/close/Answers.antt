@@ -1,6 +1,6 @@
 -- The end of keys is written down.
 use Rattle.std.proofs.Common.{rules, ◌≡◌, ◌∷◌, false, ap, ◌∙◌, arith}
-use Rattle.session_history.specs.declared.history.Entry.{Entry}
+use Rattle.session_entries.specs.declared.history.Entry.{Entry}
 use Rattle.mc_desk.proofs.Closing.{closed_whole}
 use Rattle.mc_desk.proofs.session.Session.close.Goals as goal
 

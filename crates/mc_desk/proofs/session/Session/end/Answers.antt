@@ -1,7 +1,7 @@
 -- A session is a trace of its tree's calls.
 use Rattle.std.proofs.Common.{reverse, ap, sym, subst, ◌≡◌, ◌∙◌, None}
-use Rattle.session_history.specs.Sources.{AreInTurn}
-use Rattle.history_laws.specs.Traces.{IsTracedTo, Stand, at_rest}
+use Rattle.session_entries.specs.Sources.{AreInTurn}
+use Rattle.laws_sessions.specs.Traces.{IsTracedTo, Stand, at_rest}
 use Rattle.mc_desk.specs.Sessions.{IsSession, SessionState}
 use Rattle.mc_desk.specs.Desks.{Seen, stand_with, with_end}
 use Rattle.mc_desk.specs.Outputs.{Output}

@@ -1,7 +1,7 @@
 -- A look is written down as it was made.
 use Rattle.std.proofs.Common.{rules, ◌≡◌, ◌≤◌, ◌∷◌, false, ℕ, Option, Some, IsSome, refl, ap, sym, ◌∙◌, subst, arith}
-use Rattle.session_history.specs.declared.history.Event.TheVariants.{Look}
-use Rattle.history_log.specs.Told.{waits_told, news_left}
+use Rattle.session_entries.specs.declared.history.Event.TheVariants.{Look}
+use Rattle.session_log.specs.Told.{waits_told, news_left}
 use Rattle.mc_desk.specs.LiveRows.{rows_of}
 use Rattle.mc_desk.proofs.Adding.{entry}
 use Rattle.mc_desk.specs.Outputs.{ShowsFrame}

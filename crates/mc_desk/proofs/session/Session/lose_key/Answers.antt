@@ -1,10 +1,10 @@
 -- The key is written down as lost, and the desk closed.
 use Rattle.std.proofs.Common.{rules, ◌≡◌, ◌≤◌, ◌∷◌, false, true, None, refl, ap, ◌∙◌, arith}
-use Rattle.session_history.specs.declared.history.Entry.{Entry}
-use Rattle.session_history.specs.declared.history.Event.TheVariants.{Closed, Key}
+use Rattle.session_entries.specs.declared.history.Entry.{Entry}
+use Rattle.session_entries.specs.declared.history.Event.TheVariants.{Closed, Key}
 use Rattle.mc_ui.specs.Seekings.{is_seeking}
 use Rattle.mc_desk.specs.Desks.{Seen}
-use Rattle.history_log.specs.Logs.{plain_entry}
+use Rattle.session_log.specs.Logs.{plain_entry}
 use Rattle.mc_desk.specs.Standings.{awaited}
 use Rattle.mc_desk.proofs.Adding.{entry}
 use Rattle.mc_desk.proofs.Closing.{lost_whole}

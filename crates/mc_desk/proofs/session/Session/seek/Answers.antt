@@ -1,8 +1,8 @@
 -- The steps of a search are written down as they were made.
 use Rattle.std.proofs.Common.{rules, ◌≡◌, ◌≤◌, ◌<◌, ◌∷◌, true, None, ap, sym, ◌∙◌, subst, arith}
-use Rattle.session_history.specs.declared.history.Entry.{Entry}
-use Rattle.session_history.specs.declared.history.Event.TheVariants.{Sought}
-use Rattle.history_log.specs.Told.{waits_told}
+use Rattle.session_entries.specs.declared.history.Entry.{Entry}
+use Rattle.session_entries.specs.declared.history.Event.TheVariants.{Sought}
+use Rattle.session_log.specs.Told.{waits_told}
 use Rattle.mc_desk.specs.LiveRows.{rows_of}
 use Rattle.mc_desk.specs.Outputs.{ShowsFrame}
 use Rattle.mc_desk.specs.Searches.{HasSought, steps_ahead}

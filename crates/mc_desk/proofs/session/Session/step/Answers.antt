@@ -5,7 +5,7 @@ use Rattle.std.specs.Option.{option_map}
 use Rattle.std.proofs.lemmas.Bool.{both_ways, true≢false}
 use Rattle.job_reports.specs.declared.report.Did.TheVariants.{Ended}
 use Rattle.job_reports.specs.declared.report.Ending.TheVariants.{NoMemory}
-use Rattle.session_history.specs.declared.history.Event.TheVariants.{Step}
+use Rattle.session_entries.specs.declared.history.Event.TheVariants.{Step}
 use Rattle.copy_move.specs.Jobs.{waits_on}
 use Rattle.copy_move.specs.Told.{told}
 use Rattle.mc_desk.specs.Tallies.{Tally}

@@ -1,15 +1,15 @@
 -- A key is written down as it was worked, and what it asked for directly after it; its frame is on the terminal then.
 use Rattle.std.proofs.Common.{rules, ◌≡◌, ◌≤◌, ◌∷◌, false, None, ap, sym, subst, ◌∙◌, arith}
-use Rattle.session_history.specs.declared.history.Event.TheVariants.{Key}
+use Rattle.session_entries.specs.declared.history.Event.TheVariants.{Key}
 use Rattle.mc_ui.specs.Seekings.{is_seeking}
 use Rattle.mc_desk.specs.Desks.{IsDesk, Seen, ShowsDesk, seen_of}
 use Rattle.mc_desk.specs.Granting.{IsWorked}
-use Rattle.history_log.specs.Told.{waits_told}
+use Rattle.session_log.specs.Told.{waits_told}
 use Rattle.mc_desk.specs.LiveRows.{rows_of}
 use Rattle.mc_desk.specs.Outputs.{ShowsFrame}
 use Rattle.mc_ui.specs.Frames.{frame_of}
 use Rattle.mc_desk.specs.declared.standing.Standing.{Standing}
-use Rattle.history_log.specs.Logs.{followed}
+use Rattle.session_log.specs.Logs.{followed}
 use Rattle.mc_desk.specs.Standings.{after_deed, awaited, event_of}
 use Rattle.mc_desk.specs.Tallies.{next_id}
 use Rattle.mc_desk.proofs.Adding.{entry}

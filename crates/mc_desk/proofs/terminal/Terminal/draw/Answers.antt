@@ -2,7 +2,7 @@
 use Rattle.std.proofs.Common.{◌≡◌, false, true, ap, sym, subst, ◌∙◌, refl, Ok, Err}
 use Rattle.tree_trait.specs.declared.devices.SinkError.TheVariants.{Fault, Memory}
 use Rattle.mc_desk.specs.Outputs.{Output, ShowsFrame, output_of}
-use Rattle.mc_screen.specs.Drawings.{HasSizeOf}
+use Rattle.screen_draw.specs.Drawings.{HasSizeOf}
 use Rattle.mc_desk.proofs.Terminals.{cut_shows, ended_shows, ended_terminal}
 use Rattle.mc_desk.proofs.terminal.Terminal.draw.Goals as goal
 

@@ -1,6 +1,6 @@
 -- The box of a job is what stood over the panels.
 use Rattle.std.proofs.Common.{sym, ◌∙◌, ap}
-use Rattle.job_boxes.specs.JobBoxes.{seen}
+use Rattle.ui_job_boxes.specs.JobBoxes.{seen}
 use Rattle.mc_ui.specs.Boxes.{OneJobBox, seen_box}
 use Rattle.mc_ui.proofs.OverPanels.{box_leads}
 use Rattle.mc_ui.proofs.ui.Ui.key_below.Goals as goal

@@ -1,6 +1,6 @@
 -- What a key came to while things are sought is what it makes of the screen.
 use Rattle.std.proofs.Common.{◌∙◌, ap, refl, subst}
-use Rattle.find_mode.specs.declared.act.FindAct.{FindAct}
+use Rattle.ui_find.specs.declared.act.FindAct.{FindAct}
 use Rattle.mc_ui.specs.declared.asks.KeyAct.{KeyAct}
 use Rattle.mc_ui.proofs.FindFollowing.{goes_leads, leaves_leads, lost_on, refused_leads, shown, stays_leads}
 use Rattle.mc_ui.proofs.FindLemmas.{Tells, key_tells}

@@ -1,9 +1,9 @@
 -- The screen is that of what choosing came to.
 use Rattle.std.proofs.Common.{◌≡◌, refl, rules, ap, IfOk}
-use Rattle.job_plans.specs.declared.choosing.Choice.TheVariants as choice
-use Rattle.job_plans.specs.Reading.{sight}
-use Rattle.session_history.specs.declared.refusal.PlanError.TheVariants.{NoSelection, TooLong}
-use Rattle.session_history.specs.declared.refusal.Refusal.TheVariants.{Plan, Tree}
+use Rattle.ui_plans.specs.declared.choosing.Choice.TheVariants as choice
+use Rattle.ui_plans.specs.Reading.{sight}
+use Rattle.session_entries.specs.declared.refusal.PlanError.TheVariants.{NoSelection, TooLong}
+use Rattle.session_entries.specs.declared.refusal.Refusal.TheVariants.{Plan, Tree}
 use Rattle.mc_ui.specs.declared.asks.KeyAct.{KeyAct}
 use Rattle.mc_ui.specs.Screens.{after_choice, told_refusal}
 use Rattle.mc_ui.proofs.ChoosingLemmas.{opened_on, refused_on}

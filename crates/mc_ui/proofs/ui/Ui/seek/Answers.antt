@@ -1,10 +1,10 @@
 -- The step is that of what stood in the box.
 use Rattle.std.proofs.Common.{◌≡◌, true, false, refl, sym, ◌∙◌, ap, subst}
 use Rattle.std.specs.Prelude.{◌<◌, is_some, OnOk, OnErr}
-use Rattle.find_mode.specs.FindScreens.{with_listing}
+use Rattle.ui_find.specs.FindScreens.{with_listing}
 use Rattle.std.proofs.lemmas.Bool.{false≢true}
 use Rattle.tree_trait.specs.Change.{current}
-use Rattle.find_mode.specs.Listings.{IsKept, ListingState, StepLeads, comes_to, steps_to_end}
+use Rattle.ui_find.specs.Listings.{IsKept, ListingState, StepLeads, comes_to, steps_to_end}
 use Rattle.mc_ui.specs.Boxes.{Box, FindBox, seen_box}
 use Rattle.mc_ui.specs.Screens.{Screen}
 use Rattle.mc_ui.specs.Seekings.{SeekLeads, list_in, listing_in}

@@ -1,8 +1,8 @@
 -- What is sought is put back as the step left it.
 use Rattle.std.proofs.Common.{◌≡◌, true, sym, ◌∙◌, ap, subst}
 use Rattle.std.specs.Prelude.{◌<◌, is_some, OnOk, OnErr}
-use Rattle.find_mode.specs.FindScreens.{FindScreen, with_listing}
-use Rattle.find_mode.specs.Listings.{IsKept, StepLeads, steps_to_end}
+use Rattle.ui_find.specs.FindScreens.{FindScreen, with_listing}
+use Rattle.ui_find.specs.Listings.{IsKept, StepLeads, steps_to_end}
 use Rattle.mc_ui.specs.Boxes.{FindBox}
 use Rattle.mc_ui.specs.Screens.{Screen}
 use Rattle.mc_ui.specs.Seekings.{list_in}

@@ -1,6 +1,6 @@
 -- What was refused is what the path leads to.
 use Rattle.std.proofs.Common.{refl, ap, arith}
-use Rattle.mc_panels.specs.Panels.{PanelState}
+use Rattle.panel_state.specs.Panels.{PanelState}
 use Rattle.panel_pair.specs.declared.opening.Unopened.{Unopened}
 use Rattle.panel_pair.proofs.ReadingLemmas.{path_cause, reads_later}
 use Rattle.panel_pair.proofs.panels.Panels.open.Goals as goal

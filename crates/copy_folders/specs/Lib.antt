@@ -1,0 +1,3 @@
+pub mod FolderCopying
+pub mod FolderSteps
+pub mod Levels

@@ -1,5 +1,0 @@
-use Rattle.crash_law.proofs.Calling.{removed_law}
-use Rattle.crash_law.proofs.done_calls.what_a_call_to_remove_keeps.Goals as goal
-
-pub returns : goal.returns
-returns c = removed_law

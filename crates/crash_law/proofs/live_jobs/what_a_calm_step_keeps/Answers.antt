@@ -1,5 +1,0 @@
-use Rattle.crash_law.proofs.Tables.{calm_law}
-use Rattle.crash_law.proofs.live_jobs.what_a_calm_step_keeps.Goals as goal
-
-pub returns : goal.returns
-returns c = calm_law

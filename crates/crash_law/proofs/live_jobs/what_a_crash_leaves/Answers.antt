@@ -1,5 +1,0 @@
-use Rattle.crash_law.proofs.Tables.{safe_law}
-use Rattle.crash_law.proofs.live_jobs.what_a_crash_leaves.Goals as goal
-
-pub returns : goal.returns
-returns c = safe_law

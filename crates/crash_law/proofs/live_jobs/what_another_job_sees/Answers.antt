@@ -1,5 +1,0 @@
-use Rattle.crash_law.proofs.Syncing.{frame_law}
-use Rattle.crash_law.proofs.live_jobs.what_another_job_sees.Goals as goal
-
-pub returns : goal.returns
-returns c = frame_law

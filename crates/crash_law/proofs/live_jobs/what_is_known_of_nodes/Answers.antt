@@ -1,5 +1,0 @@
-use Rattle.crash_law.proofs.Tables.{nodes_law}
-use Rattle.crash_law.proofs.live_jobs.what_is_known_of_nodes.Goals as goal
-
-pub returns : goal.returns
-returns c = nodes_law

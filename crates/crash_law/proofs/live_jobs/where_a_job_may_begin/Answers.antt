@@ -1,5 +1,0 @@
-use Rattle.crash_law.proofs.Tables.{begin_law}
-use Rattle.crash_law.proofs.live_jobs.where_a_job_may_begin.Goals as goal
-
-pub returns : goal.returns
-returns c = begin_law

@@ -1,5 +1,0 @@
-use Rattle.crash_law.proofs.Tables.{rest_law}
-use Rattle.crash_law.proofs.live_jobs.where_paths_come_to_rest.Goals as goal
-
-pub returns : goal.returns
-returns c = rest_law

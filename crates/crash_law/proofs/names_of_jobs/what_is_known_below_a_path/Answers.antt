@@ -1,5 +1,0 @@
-use Rattle.crash_law.proofs.Unworked.{unworked_law}
-use Rattle.crash_law.proofs.names_of_jobs.what_is_known_below_a_path.Goals as goal
-
-pub returns : goal.returns
-returns c = unworked_law

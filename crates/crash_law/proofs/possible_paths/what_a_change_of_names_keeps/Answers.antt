@@ -1,5 +1,0 @@
-use Rattle.crash_law.proofs.Guarding.{naming_law}
-use Rattle.crash_law.proofs.possible_paths.what_a_change_of_names_keeps.Goals as goal
-
-pub returns : goal.returns
-returns c = naming_law

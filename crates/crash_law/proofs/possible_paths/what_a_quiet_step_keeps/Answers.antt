@@ -1,5 +1,0 @@
-use Rattle.crash_law.proofs.Guarding.{quiet_law}
-use Rattle.crash_law.proofs.possible_paths.what_a_quiet_step_keeps.Goals as goal
-
-pub returns : goal.returns
-returns c = quiet_law

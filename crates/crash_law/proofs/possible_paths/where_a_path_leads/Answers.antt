@@ -1,5 +1,0 @@
-use Rattle.crash_law.proofs.Leading.{find_law}
-use Rattle.crash_law.proofs.possible_paths.where_a_path_leads.Goals as goal
-
-pub returns : goal.returns
-returns c = find_law

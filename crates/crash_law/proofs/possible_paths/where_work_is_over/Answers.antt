@@ -1,5 +1,0 @@
-use Rattle.crash_law.proofs.Guarding.{settle_law}
-use Rattle.crash_law.proofs.possible_paths.where_work_is_over.Goals as goal
-
-pub returns : goal.returns
-returns c = settle_law

@@ -1,5 +1,0 @@
-use Rattle.crash_law.proofs.ModeLaws.{modes_law}
-use Rattle.crash_law.proofs.quiet_calls.what_a_mode_leaves.Goals as goal
-
-pub returns : goal.returns
-returns c = modes_law

@@ -1,5 +1,0 @@
-use Rattle.crash_law.proofs.ModeLaws.{setting_law}
-use Rattle.crash_law.proofs.quiet_calls.what_a_setting_of_a_mode_keeps.Goals as goal
-
-pub returns : goal.returns
-returns c = setting_law

@@ -1,5 +1,0 @@
-use Rattle.crash_law.proofs.Syncing.{sync_law}
-use Rattle.crash_law.proofs.quiet_calls.what_a_sync_keeps.Goals as goal
-
-pub returns : goal.returns
-returns c = sync_law

@@ -1,5 +1,0 @@
-use Rattle.crash_law.proofs.Syncing.{synced_law}
-use Rattle.crash_law.proofs.quiet_calls.what_a_sync_of_a_folder_settles.Goals as goal
-
-pub returns : goal.returns
-returns c = synced_law

@@ -1,5 +1,0 @@
-use Rattle.crash_law.proofs.Syncing.{unaltered_law}
-use Rattle.crash_law.proofs.quiet_calls.what_is_not_altered.Goals as goal
-
-pub returns : goal.returns
-returns c = unaltered_law

@@ -1,5 +1,0 @@
-use Rattle.crash_law.proofs.Syncing.{below_law}
-use Rattle.crash_law.proofs.quiet_calls.what_is_settled_below.Goals as goal
-
-pub returns : goal.returns
-returns c = below_law

@@ -1,5 +1,0 @@
-use Rattle.crash_law.proofs.Simpler.{deletion_law}
-use Rattle.crash_law.proofs.simple_sessions.what_a_crash_leaves_of_deletions.Goals as goal
-
-pub returns : goal.returns
-returns c = deletion_law

@@ -1,7 +1,0 @@
-//! What is moved.
-ghost use Rattle.crash_law.specs.Whole.{WholeLaw};
-
-/// What is moved stands whole at its source or at its target.
-pub fn what_is_moved_stays_whole()
-    ensures { WholeLaw }
-{}

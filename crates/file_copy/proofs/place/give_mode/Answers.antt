@@ -1,7 +1,0 @@
--- With another mode than the source's there is one call.
-use Rattle.std.proofs.Common.{false}
-use Rattle.file_copy.proofs.Placing.{ran_moding}
-use Rattle.file_copy.proofs.place.give_mode.Goals as goal
-
-pub returns : goal.returns
-returns g c = ran_moding c.args.part.now c.args.mode false c.set_mode.result _ _ _ _ c.if-mode.false c.set_mode.ensures

@@ -1,5 +1,0 @@
-use Rattle.file_save.proofs.RefusedCalls.{refused_law}
-use Rattle.file_save.proofs.laws.what_a_refused_call_keeps.Goals as goal
-
-pub returns : goal.returns
-returns c = refused_law

@@ -1,2 +1,0 @@
-pub mod FolderCopying
-pub mod FolderSteps

@@ -1,5 +1,0 @@
-use Rattle.history_laws.proofs.WholeMoments.{whole_law}
-use Rattle.history_laws.proofs.what_a_crash_leaves_of_a_moved_thing.Goals as goal
-
-pub returns : goal.returns
-returns c = whole_law

@@ -1,5 +1,0 @@
-use Rattle.history_laws.proofs.Moments.{session_law}
-use Rattle.history_laws.proofs.what_a_crash_leaves_of_a_session.Goals as goal
-
-pub returns : goal.returns
-returns c = session_law

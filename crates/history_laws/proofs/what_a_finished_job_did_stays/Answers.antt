@@ -1,5 +1,0 @@
-use Rattle.history_laws.proofs.Lasting.{finished_stays_law}
-use Rattle.history_laws.proofs.what_a_finished_job_did_stays.Goals as goal
-
-pub returns : goal.returns
-returns c = finished_stays_law

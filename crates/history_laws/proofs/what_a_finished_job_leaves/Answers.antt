@@ -1,5 +1,0 @@
-use Rattle.history_laws.proofs.FinishedPaths.{finished_law}
-use Rattle.history_laws.proofs.what_a_finished_job_leaves.Goals as goal
-
-pub returns : goal.returns
-returns c = finished_law

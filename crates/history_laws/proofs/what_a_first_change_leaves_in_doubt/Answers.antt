@@ -1,5 +1,0 @@
-use Rattle.history_laws.proofs.FirstChanges.{first_change_law}
-use Rattle.history_laws.proofs.what_a_first_change_leaves_in_doubt.Goals as goal
-
-pub returns : goal.returns
-returns c = first_change_law

@@ -1,5 +1,0 @@
-use Rattle.history_laws.proofs.Owing.{step_law}
-use Rattle.history_laws.proofs.what_a_step_of_a_run_tells.Goals as goal
-
-pub returns : goal.returns
-returns c = step_law

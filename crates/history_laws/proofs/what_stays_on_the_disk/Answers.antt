@@ -1,5 +1,0 @@
-use Rattle.history_laws.proofs.ModesStay.{stays_law}
-use Rattle.history_laws.proofs.what_stays_on_the_disk.Goals as goal
-
-pub returns : goal.returns
-returns c = stays_law

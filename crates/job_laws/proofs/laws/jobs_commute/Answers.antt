@@ -1,8 +1,0 @@
-use Rattle.job_laws.proofs.CommutingLemmas.{works_commute, outcomes_commute}
-use Rattle.job_laws.proofs.laws.jobs_commute.Goals as goal
-
-pub returns-clause-works : goal.returns-clause-works
-returns-clause-works c = works_commute
-
-pub returns-clause-outcomes : goal.returns-clause-outcomes
-returns-clause-outcomes c = outcomes_commute

@@ -1,0 +1,5 @@
+use Rattle.laws_sessions.proofs.FinishedPaths.{finished_law}
+use Rattle.laws_sessions.proofs.what_a_finished_job_leaves.Goals as goal
+
+pub returns : goal.returns
+returns c = finished_law

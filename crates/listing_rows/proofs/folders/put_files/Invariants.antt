@@ -1,6 +1,0 @@
--- The tree was not called yet.
-use Rattle.std.proofs.Common.{◌≡◌, []}
-use Rattle.listing_rows.proofs.folders.put_files.Given as goal
-
-abbrev pub invariant-loop-place : goal.invariant-loop-place
-invariant-loop-place l = l.tree.log.changes ≡ []

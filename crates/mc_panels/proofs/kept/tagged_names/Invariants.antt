@@ -1,8 +1,0 @@
--- The tagged names so far.
-use Rattle.std.proofs.Common.{◌≡◌, filter, take}
-use Rattle.std.specs.FinSet.{contains}
-use Rattle.mc_panels.specs.Wanted.{names_of}
-use Rattle.mc_panels.proofs.kept.tagged_names.Given as goal
-
-abbrev pub invariant-loop-item : goal.invariant-loop-item
-invariant-loop-item l = l.names ≡ filter (contains l.tags) (names_of (take l.item-index l.items))

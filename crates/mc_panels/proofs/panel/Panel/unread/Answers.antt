@@ -1,9 +1,0 @@
--- A panel that shows nothing is steady.
-use Rattle.std.proofs.Common.{subst, sym}
-use Rattle.panel_listing.specs.Listings.{Listed}
-use Rattle.mc_panels.specs.Panels.{IsSteady}
-use Rattle.mc_panels.proofs.ReadingLemmas.{nothing_steady}
-use Rattle.mc_panels.proofs.panel.Panel.unread.Goals as goal
-
-pub invariant_of-result : goal.invariant_of-result
-invariant_of-result c = subst (λ (l : Listed). IsSteady c.first_wish.result l 0 0) (sym c.nothing.ensures) (nothing_steady c.first_wish.result)

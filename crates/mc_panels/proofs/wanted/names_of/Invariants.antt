@@ -1,7 +1,0 @@
--- The names so far.
-use Rattle.std.proofs.Common.{◌≡◌, map, take}
-use Rattle.mc_panels.specs.Wanted.{names_of}
-use Rattle.mc_panels.proofs.wanted.names_of.Given as goal
-
-abbrev pub invariant-loop-item : goal.invariant-loop-item
-invariant-loop-item l = l.names ≡ names_of (map (λ item. item.now) (take l.item-index l.items))

@@ -1,6 +1,0 @@
-use Rattle.key_screen.specs.DrawnText.{cluster_columns}
-use Rattle.mc_screen.proofs.strokes.width_of.Goals as goal
-
-pub returns : goal.returns
-unfolding cluster_columns
-returns c = c.width.ensures.value

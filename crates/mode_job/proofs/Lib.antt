@@ -1,0 +1,3 @@
+mod Giving
+pub mod DirtySettings
+mod Trying

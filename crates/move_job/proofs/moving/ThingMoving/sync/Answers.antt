@@ -1,0 +1,26 @@
+-- Without memory no call was made; a sync changes nothing that can be seen, refused or not.
+use Rattle.std.proofs.Common.{true, ap, ◌∙◌, refl, arith}
+use Rattle.tree_trait.specs.declared.calls.TreeError.TheVariants as refused
+use Rattle.job_reports.specs.declared.report.Did.TheVariants.{Troubled}
+use Rattle.job_reports.specs.declared.report.StepResult.{StepResult}
+use Rattle.job_reports.specs.Stops.{trouble_at}
+use Rattle.move_job.proofs.MovingRuns.{err_is, steps_synced, steps_unsynced}
+use Rattle.move_job.proofs.moving.ThingMoving.sync.Goals as goal
+
+pub returns-in_default : goal.returns-in_default
+returns-in_default g c =
+    steps_unsynced c.args.replies c.args.self.now _ _ _ _ _ c.without_call.result.did c.without_call.result.calls c.requires.stage c.owed-owed.result.now c.owed-owed.ensures refl
+    refused.Memory (ap (λ (s : StepResult). s.did) c.without_call.ensures ∙ ap Troubled c.out_of_memory.ensures) (ap (λ (s : StepResult). s.calls) c.without_call.ensures)
+    (λ log known. known) (λ h. h) (omega arith) (λ h. absurd cc)
+
+pub returns-in-Ok-sync_folder : goal.returns-in-Ok-sync_folder
+returns-in-Ok-sync_folder g c =
+    steps_synced c.args.replies c.args.self.now _ _ _ _ _ c.with_call.result.did c.with_call.result.calls c.owed-owed.result.now (ap (λ (s : StepResult). s.did) c.with_call.ensures)
+    (ap (λ (s : StepResult). s.calls) c.with_call.ensures) c.requires.stage c.owed-owed.ensures c.note_synced.ensures
+    (λ log known. c.in-Ok-sync_folder.ensures.answer log known) c.sync_folder.ensures.stays_unknown c.sync_folder.ensures.cause.later
+
+pub returns-in-Err : goal.returns-in-Err
+returns-in-Err g c =
+    steps_unsynced c.args.replies c.args.self.now _ _ _ _ _ c.refused.result.did c.refused.result.calls c.requires.stage c.owed-owed.result.now c.owed-owed.ensures refl
+    c.in-Err.error (c.refused.ensures.did ∙ ap (λ q. Troubled (trouble_at c.in-Err.error q true)) c.in-Ok.ensures) c.refused.ensures.calls
+    (λ log known. c.in-Err.ensures.answer log known) c.sync_folder.ensures.stays_unknown c.sync_folder.ensures.cause.later (λ h. c.in-Err.ensures.cause.risen (err_is c.in-Err.error h))

@@ -1,5 +1,0 @@
-use Rattle.subtree_copy.proofs.LastCounts.{last_count_law}
-use Rattle.subtree_copy.proofs.laws.a_last_step_counts_its_calls.Goals as goal
-
-pub returns : goal.returns
-returns c = last_count_law

@@ -1,5 +1,0 @@
-use Rattle.subtree_copy.proofs.Barred.{barrier_law}
-use Rattle.subtree_copy.proofs.laws.a_trouble_stands_where_the_copy_does.Goals as goal
-
-pub returns : goal.returns
-returns c = barrier_law

@@ -1,5 +1,0 @@
-use Rattle.subtree_copy.proofs.LastOnes.{last_rank_law}
-use Rattle.subtree_copy.proofs.laws.each_last_step_leaves_fewer.Goals as goal
-
-pub returns : goal.returns
-returns c = last_rank_law

@@ -1,5 +1,0 @@
-use Rattle.subtree_copy.proofs.Unbegun.{unbegun_law}
-use Rattle.subtree_copy.proofs.laws.what_an_unbegun_copy_is.Goals as goal
-
-pub returns : goal.returns
-returns c = unbegun_law

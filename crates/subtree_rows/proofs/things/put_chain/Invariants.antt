@@ -1,6 +1,0 @@
--- The tree was not called yet.
-use Rattle.std.proofs.Common.{◌≡◌, []}
-use Rattle.subtree_rows.proofs.things.put_chain.Given as goal
-
-abbrev pub invariant-loop : goal.invariant-loop
-invariant-loop l = l.tree.log.changes ≡ []

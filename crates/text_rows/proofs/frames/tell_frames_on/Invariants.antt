@@ -1,5 +1,0 @@
-use Rattle.std.proofs.Common.{◌≡◌}
-use Rattle.text_rows.proofs.frames.tell_frames_on.Given as goal
-
-abbrev pub invariant-loop-written : goal.invariant-loop-written
-invariant-loop-written l = (l.screen.grid.lines ≡ 10) × (l.screen.grid.columns ≡ 40)

@@ -1,0 +1,2 @@
+mod ColumnLemmas
+pub mod UnitLemmas

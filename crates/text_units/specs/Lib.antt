@@ -1,0 +1,2 @@
+pub mod HexRows
+pub mod Units

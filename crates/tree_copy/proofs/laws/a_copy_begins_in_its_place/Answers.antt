@@ -1,5 +1,0 @@
-use Rattle.tree_copy.proofs.Beginnings.{beginning_law}
-use Rattle.tree_copy.proofs.laws.a_copy_begins_in_its_place.Goals as goal
-
-pub returns : goal.returns
-returns c = beginning_law

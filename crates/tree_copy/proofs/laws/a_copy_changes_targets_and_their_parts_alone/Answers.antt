@@ -1,5 +1,0 @@
-use Rattle.tree_copy.proofs.CallLaws.{call_law}
-use Rattle.tree_copy.proofs.laws.a_copy_changes_targets_and_their_parts_alone.Goals as goal
-
-pub returns : goal.returns
-returns c = call_law

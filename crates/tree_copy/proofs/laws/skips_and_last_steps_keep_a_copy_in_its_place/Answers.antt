@@ -1,5 +1,0 @@
-use Rattle.tree_copy.proofs.Staying.{staying_law}
-use Rattle.tree_copy.proofs.laws.skips_and_last_steps_keep_a_copy_in_its_place.Goals as goal
-
-pub returns : goal.returns
-returns c = staying_law

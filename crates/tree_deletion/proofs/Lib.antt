@@ -1,8 +1,0 @@
-mod Decided
-mod Items
-mod OnWay
-mod Refusals
-mod Synced
-mod Worked
-pub mod Changes
-pub mod Staying

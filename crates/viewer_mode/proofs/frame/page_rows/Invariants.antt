@@ -1,7 +1,0 @@
--- the rows so far, and those to come
-use Rattle.std.proofs.Common.{◌≡◌, ◌++◌, map, drop}
-use Rattle.viewer_mode.specs.ViewerFrames.{page_row}
-use Rattle.viewer_mode.proofs.frame.page_rows.Given as goal
-
-abbrev pub invariant-loop-text : goal.invariant-loop-text
-invariant-loop-text l = l.rows.items ++ map page_row (drop l.text-index l.texts) ≡ map page_row l.texts
