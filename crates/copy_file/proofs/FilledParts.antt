@@ -7,8 +7,8 @@ use Rattle.std.proofs.Math.ListN.{drop_of_length-le}
 use Rattle.mc_text.specs.declared.kind.Kind.TheVariants.{File}
 use Rattle.tree_trait.specs.declared.file_system.Node.{Node}
 use Rattle.tree_trait.specs.FileSystem.{value}
-use Rattle.tree_trait.specs.Change.{overwritten}
-use Rattle.copy_file.specs.Copied.{copied}
+use Rattle.tree_trait.specs.Change.{overwritten_bytes}
+use Rattle.copy_file.specs.Copied.{copied_value}
 
 take_as_long : {A : Type 0} (n : ℕ) (xs : List A) → take (length (take n xs)) xs ≡ take n xs
 take_as_long zero xs = refl
@@ -17,7 +17,7 @@ take_as_long (suc n) (x ∷ xs) = ap (λ ys. x ∷ ys) (take_as_long n xs)
 
 -- the next bytes are written behind the first
 pub written_on : (source : List ℕ) (done count : ℕ) → done ≤ length source
-    → overwritten (take done source) done (take count (drop done source)) ≡ take (done + length (take count (drop done source))) source
+    → overwritten_bytes (take done source) done (take count (drop done source)) ≡ take (done + length (take count (drop done source))) source
 written_on source done count few =
     let long : length (take done source) ≡ done = length-take-le done source few in
     let bytes : List ℕ = take count (drop done source) in
@@ -33,5 +33,5 @@ pub record Holds (n : Node) (bytes : List ℕ) (mode : ℕ) : Type 0 where
   pub mode_is : n.mode ≡ mode
   pub unnamed : n.unnamed ≡ 0
 
-pub holds_copy : (n from : Node) → from.kind ≡ File → Holds n from.bytes from.mode → value n ≡ copied (value from)
+pub holds_copy : (n from : Node) → from.kind ≡ File → Holds n from.bytes from.mode → value n ≡ copied_value (value from)
 holds_copy n from file h = rw (h.kind, h.bytes_are, h.mode_is, h.unnamed, file) refl

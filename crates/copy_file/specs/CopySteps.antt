@@ -16,7 +16,7 @@ use Rattle.job_reports.specs.declared.stop.Stop.{Stop}
 use Rattle.copy_file.specs.declared.work.Made.{Made}
 use Rattle.copy_file.specs.declared.work.AfterStep.{AfterStep}
 use Rattle.job_reports.specs.CallRuns.{AllDone, HasMore}
-use Rattle.copy_file.specs.Copying.{Places, Copying, IsSound, Tells, skipped, at_barrier, steps_left}
+use Rattle.copy_file.specs.Copying.{Places, Copying, IsSound, Tells, skipped_stage, at_barrier, steps_left}
 use Rattle.copy_file.specs.declared.stage.SourceFacts.{SourceFacts}
 use Rattle.copy_file.specs.CopyCalls.{CopyCalls, BeginStops, PartStops, making, making_with}
 use Rattle.copy_file.specs.Looking.{HasRange, IsReady, AreFactsOf}
@@ -50,7 +50,7 @@ pub record StepsOn (unclaimed : Route → Type 0) (old new : Copying) (did : Did
 -- a skip reports the source as skipped, or that there is no memory for the report, and then it changes nothing
 abbrev pub Skips : Cause → Copying → Did → Copying → Type 0
 Skips cause old did new =
-    ((did ≡ Skipped old.source cause) × (new ≡ record old { stage = skipped old.stage }))
+    ((did ≡ Skipped old.source cause) × (new ≡ record old { stage = skipped_stage old.stage }))
     ⊎ ((did ≡ Troubled (out_of_memory_at (at_barrier old.stage))) × (new ≡ old))
 
 -- A step that says where it left the copy: the copy then is sound.

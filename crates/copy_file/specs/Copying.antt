@@ -37,8 +37,8 @@ abbrev pub places_of : Copying → Places
 places_of c = places c.job c.source c.target
 
 -- the copy just begun
-abbrev pub begun : ℕ → Route → Route → Copying
-begun job source target = copying (places job source target) Begin Synced
+abbrev pub begun_copy : ℕ → Route → Route → Copying
+begun_copy job source target = copying (places job source target) Begin Synced
 
 -- a part that is filled has no more bytes than its source was said to have, a file holds at most 2^63 of them, and a mode
 -- has twelve bits; where a part stands whose removal was not tried in vain, the folder is to be synced
@@ -112,12 +112,12 @@ Tells c (Moved pair) new = ⊥
 Tells c (Skipped path cause) new = ⊥
 
 -- a file that is skipped is not copied; a part that stands is to be removed
-abbrev pub skipped : Stage → Stage
-skipped Begin = Decided
-skipped (Fill part facts done) = Clean part next.Decided
-skipped (Clean part follows) = Clean part next.Decided
-skipped (Left part) = Left part
-skipped Decided = Decided
+abbrev pub skipped_stage : Stage → Stage
+skipped_stage Begin = Decided
+skipped_stage (Fill part facts done) = Clean part next.Decided
+skipped_stage (Clean part follows) = Clean part next.Decided
+skipped_stage (Left part) = Left part
+skipped_stage Decided = Decided
 
 -- a copy that is taken anew begins at the first byte, when its part was removed; what was placed or skipped stays so
 abbrev pub taken_anew : Stage → Stage

@@ -9,7 +9,7 @@ use Rattle.tree_trait.specs.declared.calls.TreeError.{TreeError}
 use Rattle.tree_trait.specs.declared.calls.TreeError.TheVariants as refused
 use Rattle.tree_trait.specs.Calls.{Stat}
 use Rattle.tree_trait.specs.FileSystem.{node}
-use Rattle.tree_trait.specs.Change.{found}
+use Rattle.tree_trait.specs.Change.{found_node}
 use Rattle.tree_trait.specs.Refusals.{refusal_of}
 use Rattle.tree_trait.specs.Answers.{IsMeta}
 use Rattle.job_reports.specs.declared.report.Cause.{Cause}
@@ -24,7 +24,7 @@ use Rattle.job_reports.specs.Stops.{IsTroubleWithPath}
 
 -- the file that a path leads to
 abbrev pub file_at : FileSystem → Route → Node
-file_at s path = node s (found s path)
+file_at s path = node s (found_node s path)
 
 -- what the source was said to be is what it is
 pub record AreFactsOf (s : FileSystem) (source : Route) (facts : SourceFacts) : Type 0 where

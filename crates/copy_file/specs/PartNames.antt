@@ -1,7 +1,7 @@
 -- The name of a part: the first of a thousand that is free beside the target.
 use Rattle.std.specs.Prelude.{◌≡◌, ◌≢◌, ℕ, ◌<◌, ◌≤◌, List, [], ◌∷◌, ◌++◌, length, Option, Some, None}
 use Rattle.std.specs.Fmt.{decimal}
-use Rattle.mc_text.specs.Routes.{Route, spelled}
+use Rattle.mc_text.specs.Routes.{Route, spelled_route}
 use Rattle.tree_trait.specs.declared.file_system.FileSystem.{FileSystem}
 use Rattle.tree_trait.specs.declared.calls.TreeError.TheVariants as refused
 use Rattle.tree_trait.specs.Calls.{Stat}
@@ -18,7 +18,7 @@ part_name job k = 46 ∷ 109 ∷ 99 ∷ 46 ∷ decimal job ++ 46 ∷ decimal k +
 
 -- a path has at most so many bytes (PATH_MAX of 4,096)
 abbrev pub IsShort : Route → Type 0
-IsShort path = length (spelled path) ≤ 4096
+IsShort path = length (spelled_route path) ≤ 4096
 
 -- The path of a part may be taken: it is neither the target nor the source, no job has a claim on it, and nothing stands
 -- there. Where a path would be too long nothing can stand, and no job can have a claim.

@@ -6,7 +6,7 @@ ghost use Rattle.copy_file.specs.Chunks.{HasCount, Wrote};
 ghost use Rattle.copy_file.specs.CopyCalls.{ReadStops, next_bytes as bytes_of};
 ghost use Rattle.job_reports.specs.Reading.{Peeks};
 
-use crate::item::Item;
+use crate::item::CopyPaths;
 use crate::place::write_part;
 use crate::stage::SourceFacts;
 use job_reports::{
@@ -23,7 +23,7 @@ const CHUNK_BYTES: u64 = 65_536;
 pub(crate) fn write_chunk<T: Tree>(
     alloc: Global,
     tree: &mut T,
-    item: &Item,
+    item: &CopyPaths,
     part: &Path,
     facts: SourceFacts,
     done: u64,
@@ -46,7 +46,7 @@ pub(crate) fn write_chunk<T: Tree>(
 fn next_bytes<T: Tree>(
     alloc: Global,
     tree: &mut T,
-    item: &Item,
+    item: &CopyPaths,
     facts: SourceFacts,
     done: u64,
 ) -> Result<Vec<u8>, Trouble>

@@ -1,14 +1,14 @@
 //! The copy of one file, a piece of work at each step.
 ghost use Rattle.std.specs.Prelude.{◌≡◌, None, Some, length, true, option_map};
 ghost use Rattle.mc_text.specs.Routes.{parent_of};
-ghost use Rattle.copy_file.specs.Copying.{IsSound, at_barrier, begun, is_dirty, is_fresh, part_at, skipped as skipped_to, taken_anew as stage_anew};
+ghost use Rattle.copy_file.specs.Copying.{IsSound, at_barrier, begun_copy, is_dirty, is_fresh, part_at, skipped_stage as skipped_to, taken_anew as stage_anew};
 ghost use Rattle.job_reports.specs.Paths.{folder_of};
 ghost use Rattle.copy_file.specs.CopySteps.{Skips, StepsOn};
 ghost use Rattle.copy_file.specs.LastSteps.{WindsOn, left_at};
 ghost use Rattle.copy_file.specs.Looking.{HasRange};
 ghost use Rattle.copy_file.specs.PartSteps.{IsNext, MakesPart, WritesNext};
 
-use crate::item::Item;
+use crate::item::CopyPaths;
 use crate::stage::{FolderState, Next, SourceFacts, Stage};
 use crate::winding::wind;
 use crate::work::{AfterStep, begin_known, work, write_next};
@@ -22,7 +22,7 @@ use tree_trait::Tree;
 /// The copy of one file to a path at which nothing stands, or what an answer replaces.
 #[derive(Debug, Drop)]
 pub struct FileCopy {
-    item: Item,
+    item: CopyPaths,
     stage: Stage,
     folder: FolderState,
 }
@@ -42,10 +42,10 @@ impl FileCopy {
     pub fn new(job: u32, source: Path, source_folder: Path, target: Path, folder: Path) -> FileCopy
         requires source { parent_of source ≡ Some source_folder }
         requires target { parent_of target ≡ Some folder }
-        ensures { result ≡ begun job source target }
+        ensures { result ≡ begun_copy job source target }
     {
         FileCopy {
-            item: Item::new(job, source, source_folder, target, folder),
+            item: CopyPaths::new(job, source, source_folder, target, folder),
             stage: Stage::Begin,
             folder: FolderState::Synced,
         }

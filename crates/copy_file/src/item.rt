@@ -9,7 +9,7 @@ use std::marker::Model;
 
 /// The paths of a copy, and the number of its job.
 #[derive(Debug, Drop)]
-pub struct Item {
+pub struct CopyPaths {
     job: u32,
     source: Path,
     source_folder: Path,
@@ -17,7 +17,7 @@ pub struct Item {
     folder: Path,
 }
 
-impl Model for Item {
+impl Model for CopyPaths {
     ghost use Rattle.std.specs.Prelude.{◌≡◌};
     ghost use Rattle.copy_file.specs.Copying.{Places};
     ghost use Rattle.job_reports.specs.Paths.{folder_of};
@@ -29,14 +29,14 @@ impl Model for Item {
     ghost invariant = { λ i. (i.source_folder ≡ folder_of i.source) × (i.folder ≡ folder_of i.target) };
 }
 
-impl Item {
+impl CopyPaths {
     /// The two folders hold the source and the target.
-    pub fn new(job: u32, source: Path, source_folder: Path, target: Path, folder: Path) -> Item
+    pub fn new(job: u32, source: Path, source_folder: Path, target: Path, folder: Path) -> CopyPaths
         requires source { parent_of source ≡ Some source_folder }
         requires target { parent_of target ≡ Some folder }
         ensures { result ≡ places job source target }
     {
-        Item {
+        CopyPaths {
             job,
             source,
             source_folder,

@@ -14,7 +14,7 @@ mod winding;
 mod work;
 
 pub use copy::FileCopy;
-pub use item::Item;
+pub use item::CopyPaths;
 pub use looks::{look, look_at_target};
 pub use part_name::choose_part;
 pub use stage::{FolderState, Next, SourceFacts, Stage};

@@ -8,7 +8,7 @@ ghost use Rattle.copy_file.specs.Looking.{AreFactsOf, AreSeen, FactsSeen, HasRan
 ghost use Rattle.job_reports.specs.Reading.{Peeks, StatStops, TargetStops};
 ghost use Rattle.job_reports.specs.Stops.{IsTroubleWithPath};
 
-use crate::item::Item;
+use crate::item::CopyPaths;
 use crate::stage::SourceFacts;
 use job_reports::{Cause, Trouble, missing_or_trouble, reading_trouble, trouble_with_path};
 use mc_text::{Kind, Path};
@@ -27,7 +27,7 @@ pub(crate) struct Seen {
 pub(crate) fn looks<T: Tree>(
     alloc: Global,
     tree: &mut T,
-    item: &Item,
+    item: &CopyPaths,
 ) -> Result<SourceFacts, Trouble>
     ensures known { IfKnown (T.contents tree.old) (λ log. MatchResult result
         (λ facts. IsReady (current log) item.now × AreFactsOf (current log) item.now.source facts)
@@ -46,7 +46,7 @@ pub(crate) fn looks<T: Tree>(
 pub(crate) fn look_at_places<T: Tree>(
     alloc: Global,
     tree: &mut T,
-    item: &Item,
+    item: &CopyPaths,
 ) -> Result<Seen, Trouble>
     ensures known { IfKnown (T.contents tree.old) (λ log. MatchResult result
         (λ seen. AreSeen (current log) item.now seen)
@@ -110,7 +110,7 @@ pub fn look_at_target<T: Tree>(
 }
 
 /// What the looks come to, where nothing may stand at the target.
-fn judge(alloc: Global, item: &Item, seen: Seen) -> Result<SourceFacts, Trouble>
+fn judge(alloc: Global, item: &CopyPaths, seen: Seen) -> Result<SourceFacts, Trouble>
     ensures { Judges item.now seen.source seen.target result }
 {
     match seen.target {
@@ -120,14 +120,18 @@ fn judge(alloc: Global, item: &Item, seen: Seen) -> Result<SourceFacts, Trouble>
 }
 
 /// What stands at the target is a trouble.
-pub(crate) fn in_the_way(alloc: Global, item: &Item, target: Meta) -> Trouble
+pub(crate) fn in_the_way(alloc: Global, item: &CopyPaths, target: Meta) -> Trouble
     ensures { IsTroubleWithPath (Cause.TargetKind target.kind) item.now.target result }
 {
     trouble_with_path(alloc, Cause::TargetKind(target.kind), item.target())
 }
 
 /// What is said of a source, which is to be a file.
-pub(crate) fn facts_of(alloc: Global, item: &Item, source: Meta) -> Result<SourceFacts, Trouble>
+pub(crate) fn facts_of(
+    alloc: Global,
+    item: &CopyPaths,
+    source: Meta,
+) -> Result<SourceFacts, Trouble>
     ensures { FactsSeen item.now source result }
 {
     match source.kind {

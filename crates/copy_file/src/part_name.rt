@@ -7,7 +7,7 @@ ghost use Rattle.job_reports.specs.Reading.{Peeks};
 ghost use Rattle.job_reports.specs.Stops.{IsTroubleWithPath};
 ghost use Rattle.copy_file.specs.PartNames.{IsChosen, IsPathOf, IsShort, IsTaken, IsTakenPath, NameStops, PathStops, TryStops, part_name as name_of};
 
-use crate::item::Item;
+use crate::item::CopyPaths;
 use job_reports::{Cause, PartTest, Trouble, missing_or_trouble, out_of_memory, trouble_with_path};
 use mc_text::{Name, NoMemory, Path, PathError};
 use std::alloc::Global;
@@ -21,7 +21,7 @@ pub fn choose_part<T: Tree, P: PartTest>(
     alloc: Global,
     tree: &mut T,
     parts: &P,
-    item: &Item,
+    item: &CopyPaths,
 ) -> Result<Path, Trouble>
     ensures known { IfKnown (T.contents tree.old) (λ log. MatchResult result
         (IsChosen (current log) (λ path. P.is_free parts.now path ≡ true) item.now)
@@ -44,7 +44,7 @@ fn try_name<T: Tree, P: PartTest>(
     alloc: Global,
     tree: &mut T,
     parts: &P,
-    item: &Item,
+    item: &CopyPaths,
     k: u32,
 ) -> Result<Option<Path>, Trouble>
     ensures known { IfKnown (T.contents tree.old) (λ log. MatchResult result
@@ -61,7 +61,7 @@ fn try_name<T: Tree, P: PartTest>(
 }
 
 /// The trouble of a path that is too long. The paths of the copy itself are none of that kind.
-fn too_long(alloc: Global, item: &Item) -> Trouble
+fn too_long(alloc: Global, item: &CopyPaths) -> Trouble
     ensures named { IsTroubleWithPath Cause.TooLong item.now.source result }
     ensures source { IsShort item.now.source }
     ensures target { IsShort item.now.target }
@@ -76,7 +76,7 @@ fn try_path<T: Tree, P: PartTest>(
     alloc: Global,
     tree: &mut T,
     parts: &P,
-    item: &Item,
+    item: &CopyPaths,
     path: Path,
 ) -> Result<Option<Path>, Trouble>
     requires { IsShort path }
@@ -99,7 +99,7 @@ fn try_path<T: Tree, P: PartTest>(
 }
 
 /// Whether a part may not come to this path, whatever stands there.
-fn is_barred<P: PartTest>(parts: &P, item: &Item, path: &Path) -> bool
+fn is_barred<P: PartTest>(parts: &P, item: &CopyPaths, path: &Path) -> bool
     ensures { result ≡ (same_path path.now item.now.target || same_path path.now item.now.source
         || not (P.is_free parts.now path.now)) }
 {
@@ -107,7 +107,7 @@ fn is_barred<P: PartTest>(parts: &P, item: &Item, path: &Path) -> bool
 }
 
 /// The path of the part with this number, or none where it would be too long.
-fn part_path(alloc: Global, item: &Item, k: u32) -> Result<Option<Path>, NoMemory>
+fn part_path(alloc: Global, item: &CopyPaths, k: u32) -> Result<Option<Path>, NoMemory>
     ensures { IfOk result (IsPathOf item.now k) }
 {
     let name = part_name(alloc, item.job(), k)?;

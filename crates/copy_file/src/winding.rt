@@ -4,7 +4,7 @@ ghost use Rattle.copy_file.specs.Copying.{IsSound, copying};
 ghost use Rattle.copy_file.specs.LastSteps.{Ends, Leaves, Removes, WindMoves, removable};
 ghost use Rattle.job_reports.specs.Stops.{refusal_in};
 
-use crate::item::Item;
+use crate::item::CopyPaths;
 use crate::stage::{FolderState, Stage};
 use job_reports::{Did, Ending, calls_made, refusal_in};
 use mc_text::Path;
@@ -26,7 +26,7 @@ pub(crate) struct AfterLastStep {
 pub(crate) fn wind<T: Tree>(
     alloc: Global,
     tree: &mut T,
-    item: &Item,
+    item: &CopyPaths,
     stage: Stage,
     folder: FolderState,
     ending: Ending,
@@ -52,7 +52,12 @@ pub(crate) fn wind<T: Tree>(
 }
 
 /// Tries to remove the part. One that stays has had its try, and the folder's sync is tried at once.
-fn remove_or_leave<T: Tree>(alloc: Global, tree: &mut T, item: &Item, part: Path) -> AfterLastStep
+fn remove_or_leave<T: Tree>(
+    alloc: Global,
+    tree: &mut T,
+    item: &CopyPaths,
+    part: Path,
+) -> AfterLastStep
     ensures { Removes item.now part result (T.contents tree.old) (T.contents tree.new)
         (T.fault_count tree.old) (T.fault_count tree.new) }
 {
@@ -69,7 +74,13 @@ fn remove_or_leave<T: Tree>(alloc: Global, tree: &mut T, item: &Item, part: Path
 }
 
 /// The sync of the folder after so many calls, where the part stays.
-fn leave<T: Tree>(alloc: Global, tree: &mut T, item: &Item, part: Path, calls: u64) -> AfterLastStep
+fn leave<T: Tree>(
+    alloc: Global,
+    tree: &mut T,
+    item: &CopyPaths,
+    part: Path,
+    calls: u64,
+) -> AfterLastStep
     requires { calls ≤ 1 }
     ensures { Leaves item.now part calls result (T.contents tree.old) (T.contents tree.new)
         (T.fault_count tree.old) (T.fault_count tree.new) }
@@ -88,7 +99,7 @@ fn leave<T: Tree>(alloc: Global, tree: &mut T, item: &Item, part: Path, calls: u
 fn sync_or_end<T: Tree>(
     alloc: Global,
     tree: &mut T,
-    item: &Item,
+    item: &CopyPaths,
     stage: Stage,
     folder: FolderState,
     ending: Ending,
@@ -103,7 +114,7 @@ fn sync_or_end<T: Tree>(
     }
 }
 
-fn try_sync<T: Tree>(alloc: Global, tree: &mut T, item: &Item, stage: Stage) -> AfterLastStep
+fn try_sync<T: Tree>(alloc: Global, tree: &mut T, item: &CopyPaths, stage: Stage) -> AfterLastStep
     requires { removable stage ≡ None }
     ensures { (ending : Ending) → WindMoves ending (copying item.now stage FolderState.Dirty) result (T.contents tree.old) (T.contents tree.new)
         (T.fault_count tree.old) (T.fault_count tree.new) }

@@ -8,7 +8,7 @@ ghost use Rattle.copy_file.specs.Looking.{HasRange};
 ghost use Rattle.copy_file.specs.LastSteps.{left_at};
 
 use crate::chunk::write_chunk;
-use crate::item::Item;
+use crate::item::CopyPaths;
 use crate::looks::looks;
 use crate::part_name::choose_part;
 use crate::place::{PART_MODE, make_part, place, write_part};
@@ -32,7 +32,7 @@ pub(crate) fn work<T: Tree, P: PartTest>(
     alloc: Global,
     tree: &mut T,
     parts: &P,
-    item: &Item,
+    item: &CopyPaths,
     stage: Stage,
     folder: FolderState,
 ) -> AfterStep
@@ -80,7 +80,7 @@ fn begin<T: Tree, P: PartTest>(
     alloc: Global,
     tree: &mut T,
     parts: &P,
-    item: &Item,
+    item: &CopyPaths,
     folder: FolderState,
 ) -> AfterStep
     ensures { MovesOn (λ path. P.is_free parts.now path ≡ true) (copying item.now Stage.Begin folder) result (T.contents tree.old) (T.contents tree.new)
@@ -105,7 +105,7 @@ fn begin_part<T: Tree, P: PartTest>(
     alloc: Global,
     tree: &mut T,
     parts: &P,
-    item: &Item,
+    item: &CopyPaths,
 ) -> Result<Made, Stop>
     ensures { Begins (λ path. P.is_free parts.now path ≡ true) item.now result (T.contents tree.old) (T.contents tree.new)
         (T.fault_count tree.old) (T.fault_count tree.new) }
@@ -122,7 +122,7 @@ pub(crate) fn make_named<T: Tree, P: PartTest>(
     alloc: Global,
     tree: &mut T,
     parts: &P,
-    item: &Item,
+    item: &CopyPaths,
     facts: SourceFacts,
 ) -> Result<Made, Stop>
     requires { HasRange facts }
@@ -147,7 +147,7 @@ pub(crate) fn begin_known<T: Tree, P: PartTest>(
     alloc: Global,
     tree: &mut T,
     parts: &P,
-    item: &Item,
+    item: &CopyPaths,
     facts: SourceFacts,
     folder: FolderState,
 ) -> AfterStep
@@ -231,7 +231,7 @@ fn write_behind<T: Tree>(
 fn fill<T: Tree>(
     alloc: Global,
     tree: &mut T,
-    item: &Item,
+    item: &CopyPaths,
     part: Path,
     facts: SourceFacts,
     done: u64,
@@ -259,7 +259,7 @@ fn fill<T: Tree>(
 fn finish_part<T: Tree>(
     alloc: Global,
     tree: &mut T,
-    item: &Item,
+    item: &CopyPaths,
     part: Path,
     facts: SourceFacts,
     done: u64,
@@ -287,7 +287,13 @@ fn finish_part<T: Tree>(
     }
 }
 
-fn clean<T: Tree>(alloc: Global, tree: &mut T, item: &Item, part: Path, next: Next) -> AfterStep
+fn clean<T: Tree>(
+    alloc: Global,
+    tree: &mut T,
+    item: &CopyPaths,
+    part: Path,
+    next: Next,
+) -> AfterStep
     ensures { MovesOn (λ _. ⊤) (copying item.now (Stage.Clean part next) FolderState.Dirty) result (T.contents tree.old) (T.contents tree.new)
         (T.fault_count tree.old) (T.fault_count tree.new) }
 {
@@ -312,7 +318,12 @@ fn after_clean(next: Next) -> Stage
 }
 
 /// The folder is synced before the end, so that a finished copy is on the disk.
-fn conclude<T: Tree>(alloc: Global, tree: &mut T, item: &Item, folder: FolderState) -> AfterStep
+fn conclude<T: Tree>(
+    alloc: Global,
+    tree: &mut T,
+    item: &CopyPaths,
+    folder: FolderState,
+) -> AfterStep
     ensures { MovesOn (λ _. ⊤) (copying item.now Stage.Decided folder) result (T.contents tree.old) (T.contents tree.new)
         (T.fault_count tree.old) (T.fault_count tree.new) }
 {
@@ -330,7 +341,7 @@ fn conclude<T: Tree>(alloc: Global, tree: &mut T, item: &Item, folder: FolderSta
     }
 }
 
-fn sync_names<T: Tree>(alloc: Global, tree: &mut T, item: &Item) -> AfterStep
+fn sync_names<T: Tree>(alloc: Global, tree: &mut T, item: &CopyPaths) -> AfterStep
     ensures { MovesOn (λ _. ⊤) (copying item.now Stage.Decided FolderState.Dirty) result (T.contents tree.old) (T.contents tree.new)
         (T.fault_count tree.old) (T.fault_count tree.new) }
 {

@@ -63,11 +63,11 @@ closing (Close owed) = Close owed
 closing Done = Done
 
 -- a folder that can't be made is skipped with all below it; one that can't be given its mode keeps that of its making
-abbrev pub skipped : Stage → Stage
-skipped (Make mode) = Done
-skipped (Close owed) = Close None
-skipped (Fill owed) = Fill owed
-skipped Done = Done
+abbrev pub skipped_stage : Stage → Stage
+skipped_stage (Make mode) = Done
+skipped_stage (Close owed) = Close None
+skipped_stage (Fill owed) = Fill owed
+skipped_stage Done = Done
 
 -- What a step may report, and where the copy stands then. A missing folder is made, its children are copied, it is given the
 -- mode that is owed, what is dirty is synced, and only then is it closed.

@@ -21,7 +21,7 @@ use Rattle.copy_folders.specs.declared.stage.NamesState.TheVariants.{Synced, Dir
 use Rattle.copy_folders.specs.declared.stage.FolderDid.{FolderDid}
 use Rattle.copy_folders.specs.declared.stage.FolderDid.TheVariants.{Made, Set, Barrier, Closed, Troubled}
 use Rattle.copy_folders.specs.declared.work.AfterStep.{AfterStep}
-use Rattle.copy_folders.specs.FolderCopying.{FolderCopying, IsSound, Tells, at_barrier, folder_mode, skipped, steps_left}
+use Rattle.copy_folders.specs.FolderCopying.{FolderCopying, IsSound, Tells, at_barrier, folder_mode, skipped_stage, steps_left}
 
 -- the call that comes next where the copy stands, if there is one
 abbrev pub next_call : Route → Stage → NamesState → List Call
@@ -82,7 +82,7 @@ moved_by stop stage names = record { did = Troubled stop.trouble; calls = stop.c
 -- a skip reports the source as skipped, or that there is no memory for the report, and then it changes nothing
 abbrev pub Skips : Cause → FolderCopying → Did → FolderCopying → Type 0
 Skips cause old did new =
-    ((did ≡ report.Skipped old.source cause) × (new ≡ record old { stage = skipped old.stage }))
+    ((did ≡ report.Skipped old.source cause) × (new ≡ record old { stage = skipped_stage old.stage }))
     ⊎ ((did ≡ report.Troubled (out_of_memory_at (at_barrier old.stage))) × (new ≡ old))
 
 -- The folder's sync was tried, whatever it answered: the refusal is told, and a fault only where the tree's count has risen.

@@ -9,7 +9,7 @@ use Rattle.copy_folders.specs.declared.stage.NamesState.{NamesState}
 use Rattle.copy_folders.specs.declared.stage.NamesState.TheVariants.{Dirty}
 use Rattle.copy_folders.specs.FolderCopying.{FolderCopying, at_barrier, closing, is_dirty}
 use Rattle.copy_folders.specs.FolderSteps.{StepsOn, at_sync}
-use Rattle.tree_walk.specs.Places.{OpenFolder, Place, noted, without_next}
+use Rattle.tree_walk.specs.Places.{OpenFolder, Place, noted_folder, without_next}
 use Rattle.copy_folders.specs.declared.level.Level.{Level}
 
 -- the folder that is worked, those around it, the nearest first, and how many levels the copy may go down. The outermost is the folder
@@ -38,8 +38,8 @@ abbrev pub outermost : OpenFolder → FolderCopying → Levels
 outermost names copy = record { inner = level names copy; around = []; left = 257 }
 
 -- the same, as the place of a walk over names
-abbrev pub walked : Levels → Place
-walked l = record { inner = l.inner.names; around = map (λ (o : Level). o.names) l.around; left = l.left }
+abbrev pub walked_place : Levels → Place
+walked_place l = record { inner = l.inner.names; around = map (λ (o : Level). o.names) l.around; left = l.left }
 
 abbrev pub with_names : OpenFolder → Levels → Levels
 with_names names l = record l { inner = level names l.inner.copy }
@@ -48,28 +48,28 @@ abbrev pub with_copy : FolderCopying → Levels → Levels
 with_copy copy l = record l { inner = level l.inner.names copy }
 
 -- the next name is done with: it was copied, or it was left
-abbrev pub passed : Bool → Levels → Levels
-passed left l = with_names (noted left (without_next l.inner.names)) l
+abbrev pub passed_levels : Bool → Levels → Levels
+passed_levels left l = with_names (noted_folder left (without_next l.inner.names)) l
 
 -- all names that are left are passed over
-abbrev pub emptied : Levels → Levels
-emptied l = with_names (record { path = l.inner.names.path; names = []; spared = true }) l
+abbrev pub emptied_levels : Levels → Levels
+emptied_levels l = with_names (record { path = l.inner.names.path; names = []; spared = true }) l
 
 -- a name in the target of the folder that is worked was changed
-abbrev pub dirtied : Bool → Levels → Levels
-dirtied changed l = with_copy (if changed then record l.inner.copy { names = Dirty } else l.inner.copy) l
+abbrev pub dirtied_levels : Bool → Levels → Levels
+dirtied_levels changed l = with_copy (if changed then record l.inner.copy { names = Dirty } else l.inner.copy) l
 
 -- its children are decided
-abbrev pub closed : Levels → Levels
-closed l = with_copy (record l.inner.copy { stage = closing l.inner.copy.stage }) l
+abbrev pub levels_closed : Levels → Levels
+levels_closed l = with_copy (record l.inner.copy { stage = closing l.inner.copy.stage }) l
 
 -- the copy goes down into the folder that has the next name
-abbrev pub entered : OpenFolder → FolderCopying → Levels → Levels
-entered names copy l = record { inner = level names copy; around = level (without_next l.inner.names) l.inner.copy ∷ l.around; left = l.left - 1 }
+abbrev pub entered_levels : OpenFolder → FolderCopying → Levels → Levels
+entered_levels names copy l = record { inner = level names copy; around = level (without_next l.inner.names) l.inner.copy ∷ l.around; left = l.left - 1 }
 
 -- the folder was made, which changed a name in the one around it, and is gone into; else all stays
 abbrev pub made_levels : Stage → OpenFolder → FolderCopying → Levels → Levels
-made_levels (Fill owed) names copy l = entered names copy (dirtied true l)
+made_levels (Fill owed) names copy l = entered_levels names copy (dirtied_levels true l)
 made_levels (Make mode) names copy l = l
 made_levels (Close owed) names copy l = l
 made_levels Done names copy l = l

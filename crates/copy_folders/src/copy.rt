@@ -1,6 +1,6 @@
 //! The copy of a folder: its beginning, and its end when its children are decided.
 ghost use Rattle.std.specs.Prelude.{◌≡◌, ◌≤◌, true, None};
-ghost use Rattle.copy_folders.specs.FolderCopying.{IsSound, at_barrier, closing, copying, is_dirty, is_ready, skipped as skipped_to};
+ghost use Rattle.copy_folders.specs.FolderCopying.{IsSound, at_barrier, closing, copying, is_dirty, is_ready, skipped_stage as skipped_to};
 ghost use Rattle.copy_folders.specs.FolderSteps.{Skips, StepsOn, SyncTried, at_sync};
 
 use crate::stage::{FolderStep, NamesState, Stage};

@@ -11,6 +11,6 @@ mod stage;
 mod work;
 
 pub use copy::FolderCopy;
-pub use level::{LEVELS, Level};
+pub use level::{COPY_LEVELS, Level};
 pub use stack::Stack;
 pub use stage::{FolderDid, FolderStep, NamesState, Stage};

@@ -3,11 +3,11 @@ ghost use Rattle.std.specs.Prelude.{◌≡◌, ◌+◌, ◌<◌, ◌≤◌, ◌=
 ghost use Rattle.copy_folders.specs.FolderCopying.{is_dirty, is_ready};
 ghost use Rattle.copy_folders.specs.FolderSteps.{Skips, StepsOn, SyncTried};
 ghost use Rattle.tree_walk.specs.Places.{is_empty, is_one_of};
-ghost use Rattle.copy_folders.specs.Levels.{IsLeft, LeavesClean, NearestSyncs, closed, coming, dirtied, emptied, entered, is_around_dirty, is_sync_next, made_levels, outermost, owed_at, owes, passed, target_around, with_copy};
+ghost use Rattle.copy_folders.specs.Levels.{IsLeft, LeavesClean, NearestSyncs, levels_closed, coming, dirtied_levels, emptied_levels, entered_levels, is_around_dirty, is_sync_next, made_levels, outermost, owed_at, owes, passed_levels, target_around, with_copy};
 
 use crate::around::{is_nearest_dirty, sync_nearest, target_of_nearest};
 use crate::copy::FolderCopy;
-use crate::level::{LEVELS, Level};
+use crate::level::{COPY_LEVELS, Level};
 use crate::stage::{FolderStep, NamesState, Stage};
 use job_reports::{Cause, Did, LastStepResult};
 use mc_text::{Name, Names, NoMemory, Path};
@@ -44,7 +44,7 @@ impl Stack {
         Stack {
             inner: Level { names, copy },
             around: Around::new(alloc),
-            left: LEVELS,
+            left: COPY_LEVELS,
         }
     }
 
@@ -166,7 +166,7 @@ impl Stack {
 
     /// The next name is done with: it was copied, or it was left.
     pub fn pass(&mut self, left: bool)
-        ensures passed { self.new.levels ≡ passed left self.old.levels }
+        ensures passed { self.new.levels ≡ passed_levels left self.old.levels }
     {
         self.inner.names.pass();
         self.inner.names.note(left);
@@ -174,7 +174,7 @@ impl Stack {
 
     /// All names that are left there are passed over.
     pub fn pass_rest(&mut self, alloc: Global) -> Result<(), NoMemory>
-        ensures emptied { OnOk result (self.new.levels ≡ emptied self.old.levels) }
+        ensures emptied { OnOk result (self.new.levels ≡ emptied_levels self.old.levels) }
         ensures same { OnErr result (self.new.levels ≡ self.old.levels) }
     {
         let path = self.inner.names.path().copy(alloc)?;
@@ -194,7 +194,7 @@ impl Stack {
 
     /// A name in the target of the folder that is worked was changed, if one was.
     pub fn mark_dirty_if(&mut self, changed: bool)
-        ensures dirtied { self.new.levels ≡ dirtied changed self.old.levels }
+        ensures dirtied { self.new.levels ≡ dirtied_levels changed self.old.levels }
     {
         if changed {
             self.inner.copy.mark_dirty();
@@ -210,7 +210,7 @@ impl Stack {
 
     /// Its children are decided.
     pub fn close(&mut self)
-        ensures closed { self.new.levels ≡ closed self.old.levels }
+        ensures closed { self.new.levels ≡ levels_closed self.old.levels }
     {
         self.inner.copy.close();
     }
@@ -247,7 +247,7 @@ impl Stack {
     fn enter(&mut self, names: Opened, copy: FolderCopy)
         requires deeper { 1 ≤ self.old.levels.left }
         requires room { 0 < self.old.spare }
-        ensures entered { self.new.levels ≡ entered names copy (dirtied true self.old.levels) }
+        ensures entered { self.new.levels ≡ entered_levels names copy (dirtied_levels true self.old.levels) }
     {
         self.inner.copy.mark_dirty();
         self.inner.names.pass();

@@ -24,15 +24,15 @@ use Rattle.copy_link.specs.declared.stage.Next.TheVariants as link_next
 use Rattle.tree_walk.specs.Places.{OpenFolder}
 use Rattle.copy_folders.specs.Levels.{level}
 use Rattle.copy_folders.specs.declared.level.Level.{Level}
-use Rattle.copy_tree.specs.declared.item.Item.{Item}
-use Rattle.copy_tree.specs.declared.item.Item.TheVariants.{Next, File, Link, Stays}
+use Rattle.copy_tree.specs.declared.item.ItemAtWork.{ItemAtWork}
+use Rattle.copy_tree.specs.declared.item.ItemAtWork.TheVariants.{Next, File, Link, Stays}
 use Rattle.copy_tree.specs.declared.progress.Progress.{Progress}
 use Rattle.copy_tree.specs.declared.progress.Progress.TheVariants.{UnderWay, Decided, Anew}
 use Rattle.copy_tree.specs.Falling.{AllMade, HasName, IsSteady, is_made}
 use Rattle.copy_tree.specs.Progress.{link_progress, progress}
 use Rattle.copy_tree.specs.Skipping.{SkipsAt, SkipsNamed, SkipsRest, retried_at}
 use Rattle.copy_tree.specs.Standing.{Seen}
-use Rattle.copy_tree.specs.Steps.{IsWorkable, idle, settled}
+use Rattle.copy_tree.specs.TreeCopySteps.{IsWorkable, idle, copy_after_progress}
 use Rattle.copy_tree.proofs.Beginnings.{beginning_law}
 use Rattle.copy_tree.proofs.Fallings.{all_leave, falling_law}
 use Rattle.copy_job.specs.Passing.{OrPassedOver}
@@ -50,14 +50,14 @@ other_copy : (inner : Level) (copy : FolderCopying) (around : List Level) → (i
 other_copy inner copy [] same h = same h
 other_copy inner copy (outer ∷ around) same h = (same h.0, h.1)
 
-settled_steady : (p : Progress) (item : Item) (c : Seen) → HasName item c.levels → AllMade c.levels.inner c.levels.around → IsSteady (settled p item (idle c))
+settled_steady : (p : Progress) (item : ItemAtWork) (c : Seen) → HasName item c.levels → AllMade c.levels.inner c.levels.around → IsSteady (copy_after_progress p item (idle c))
 settled_steady UnderWay item c has made = record { named = has; made = made }
 settled_steady Decided item c has made = record { named = tt; made = other_names c.levels.inner _ c.levels.around made }
 settled_steady Anew item c has made = record { named = tt; made = made }
 
 -- nothing is at work
 steady_next : (c : Seen) → c.item ≡ Next → AllMade c.levels.inner c.levels.around → IsSteady c
-steady_next c none made = record { named = subst (λ (i : Item). HasName i c.levels) (sym none) tt; made = made }
+steady_next c none made = record { named = subst (λ (i : ItemAtWork). HasName i c.levels) (sym none) tt; made = made }
 
 same_steady : (old new : Seen) → new ≡ old → IsSteady old → IsSteady new
 same_steady old new is h = subst IsSteady (sym is) h
@@ -66,7 +66,7 @@ rest_steady : (cause : Cause) (old new : Seen) (did : Did) → SkipsRest cause o
 rest_steady cause old new did (inl s) none h = subst IsSteady (sym s.1) (steady_next _ none (other_names old.levels.inner _ old.levels.around h.made))
 rest_steady cause old new did (inr room) none h = same_steady old new room.1 h
 
-skipped_made : (stage : Stage) → is_made stage ≡ true → is_made (folder.skipped stage) ≡ true
+skipped_made : (stage : Stage) → is_made stage ≡ true → is_made (folder.skipped_stage stage) ≡ true
 skipped_made (Make mode) h = refl
 skipped_made (Fill owed) h = refl
 skipped_made (Close owed) h = refl
@@ -83,18 +83,18 @@ named_steady (name ∷ names) cause old new did (inl s) none h = subst IsSteady 
 named_steady (name ∷ names) cause old new did (inr (inl s)) none h = rest_steady cause old new did s.1 none h
 named_steady (name ∷ names) cause old new did (inr (inr room)) none h = same_steady old new room.1 h
 
-skip_steady : (item : Item) (cause : Cause) (old new : Seen) (did : Did) → old.item ≡ item → SkipsAt item cause old did new → IsSteady old → IsSteady new
+skip_steady : (item : ItemAtWork) (cause : Cause) (old new : Seen) (did : Did) → old.item ≡ item → SkipsAt item cause old did new → IsSteady old → IsSteady new
 skip_steady Next cause old new did is s h = named_steady old.levels.inner.names.names cause old new did s is h
 skip_steady (File f) cause old new did is (moved, skips, stands) h =
-    subst IsSteady (sym stands) (settled_steady (progress moved.stage) (File moved) old (let n = subst (λ (i : Item). HasName i old.levels) is h.named in n) h.made)
+    subst IsSteady (sym stands) (settled_steady (progress moved.stage) (File moved) old (let n = subst (λ (i : ItemAtWork). HasName i old.levels) is h.named in n) h.made)
 skip_steady (Link l) cause old new did is (moved, skips, stands) h =
-    subst IsSteady (sym stands) (settled_steady (link_progress moved.stage) (Link moved) old (let n = subst (λ (i : Item). HasName i old.levels) is h.named in n) h.made)
+    subst IsSteady (sym stands) (settled_steady (link_progress moved.stage) (Link moved) old (let n = subst (λ (i : ItemAtWork). HasName i old.levels) is h.named in n) h.made)
 skip_steady (Stays part) cause old new did is s h = absurd s
 
-retry_steady : (item : Item) (c : Seen) → c.item ≡ item → IsSteady c → IsSteady (retried_at item c)
+retry_steady : (item : ItemAtWork) (c : Seen) → c.item ≡ item → IsSteady c → IsSteady (retried_at item c)
 retry_steady Next c is h = h
-retry_steady (File f) c is h = settled_steady _ (File (record f { stage = file_anew f.stage })) c (let n = subst (λ (i : Item). HasName i c.levels) is h.named in n) h.made
-retry_steady (Link l) c is h = settled_steady _ (Link (record l { stage = link_anew l.stage })) c (let n = subst (λ (i : Item). HasName i c.levels) is h.named in n) h.made
+retry_steady (File f) c is h = settled_steady _ (File (record f { stage = file_anew f.stage })) c (let n = subst (λ (i : ItemAtWork). HasName i c.levels) is h.named in n) h.made
+retry_steady (Link l) c is h = settled_steady _ (Link (record l { stage = link_anew l.stage })) c (let n = subst (λ (i : ItemAtWork). HasName i c.levels) is h.named in n) h.made
 retry_steady (Stays part) c is h = h
 
 -- each step does
@@ -122,7 +122,7 @@ abbrev OneMore : ℕ → Seen → Seen → Type 0
 OneMore most old new = rank_by most new ≤ rank_by most old + anew most + 4
 
 file_retried : (most : ℕ) (c : Seen) (f : Copying) (stage : FileStage) → f.stage ≡ stage → progress stage ≡ UnderWay → left_at stage ≡ None → c.item ≡ File f
-    → OneMore most c (settled (progress (file_anew stage)) (File (record f { stage = file_anew stage })) (idle c))
+    → OneMore most c (copy_after_progress (progress (file_anew stage)) (File (record f { stage = file_anew stage })) (idle c))
 file_retried most c f (file_stage.Fill part facts done) at going left is =
     let was : item_rank most c.item ≡ file_rank most (file_stage.Fill part facts done) = ap (item_rank most) is ∙ ap (file_rank most) at in omega (arith, was)
 file_retried most c f (file_stage.Clean part file_next.Begin) at going left is =
@@ -134,7 +134,7 @@ file_retried most c f file_stage.Begin at going left is = absurd (let e : ⊥ = 
 file_retried most c f file_stage.Decided at going left is = absurd (let e : ⊥ = cc in e)
 
 link_retried : (most : ℕ) (c : Seen) (l : LinkCopying) (stage : LinkStage) → l.stage ≡ stage → link_progress stage ≡ UnderWay → c.item ≡ Link l
-    → OneMore most c (settled (link_progress (link_anew stage)) (Link (record l { stage = link_anew stage })) (idle c))
+    → OneMore most c (copy_after_progress (link_progress (link_anew stage)) (Link (record l { stage = link_anew stage })) (idle c))
 link_retried most c l link_stage.Place at going is = let was : item_rank most c.item ≡ 8 = ap (item_rank most) is ∙ ap (link_rank most) at in omega (arith, was)
 link_retried most c l (link_stage.Clean link_next.Again) at going is = let was : item_rank most c.item ≡ anew most + 4 = ap (item_rank most) is ∙ ap (link_rank most) at in omega (arith, was)
 link_retried most c l (link_stage.Clean link_next.Decided) at going is = let was : item_rank most c.item ≡ 4 = ap (item_rank most) is ∙ ap (link_rank most) at in omega (arith, was)
@@ -143,7 +143,7 @@ link_retried most c l link_stage.Make at going is = absurd (let e : ⊥ = cc in 
 link_retried most c l link_stage.Again at going is = absurd (let e : ⊥ = cc in e)
 link_retried most c l link_stage.Decided at going is = absurd (let e : ⊥ = cc in e)
 
-retry_more : (most : ℕ) (item : Item) (c : Seen) → c.item ≡ item → IsWorkable item → OneMore most c (retried_at item c)
+retry_more : (most : ℕ) (item : ItemAtWork) (c : Seen) → c.item ≡ item → IsWorkable item → OneMore most c (retried_at item c)
 retry_more most Next c is can = omega arith
 retry_more most (File f) c is can = file_retried most c f f.stage refl can.0 can.1 is
 retry_more most (Link l) c is can = link_retried most c l l.stage refl can.0 is
@@ -180,7 +180,7 @@ link_last most link_stage.Left = omega arith
 link_last most link_stage.Again = omega arith
 link_last most link_stage.Decided = omega arith
 
-item_last : (most : ℕ) (item : Item) → IsWorkable item → last_of item < item_rank most item
+item_last : (most : ℕ) (item : ItemAtWork) → IsWorkable item → last_of item < item_rank most item
 item_last most Next can = omega arith
 item_last most (File f) can = file_last most f.stage
 item_last most (Link l) can = link_last most l.stage

@@ -10,13 +10,13 @@ use Rattle.job_reports.specs.declared.report.Did.TheVariants.{Began, Chunk, Plac
 use Rattle.job_reports.specs.declared.report.StepResult.{StepResult}
 use Rattle.copy_folders.specs.declared.stage.FolderDid.{FolderDid}
 use Rattle.copy_folders.specs.declared.stage.FolderDid.TheVariants as folder_did
-use Rattle.copy_tree.specs.declared.item.Item.{Item}
-use Rattle.copy_tree.specs.declared.item.Item.TheVariants.{Next, File, Link, Stays}
+use Rattle.copy_tree.specs.declared.item.ItemAtWork.{ItemAtWork}
+use Rattle.copy_tree.specs.declared.item.ItemAtWork.TheVariants.{Next, File, Link, Stays}
 use Rattle.copy_tree.specs.Parts.{IsPartPlace}
 use Rattle.copy_tree.specs.Reports.{IsToldAs}
 use Rattle.copy_tree.specs.Skipping as machine
 use Rattle.copy_tree.specs.Standing.{Seen}
-use Rattle.copy_tree.specs.Steps.{TakesAsked, TakesKept, TakesNext, WorksOn}
+use Rattle.copy_tree.specs.TreeCopySteps.{TakesAsked, TakesKept, TakesNext, WorksOn}
 use Rattle.copy_job.specs.Leaving.{may_leave}
 use Rattle.copy_job.specs.SubtreeSteps.{ListSteps}
 use Rattle.copy_job.proofs.Targets.{works_at_once}
@@ -51,7 +51,7 @@ module _ (unclaimed : Route → Type 0) (replies : Replies) (old new : Seen) (qu
   takes_asked (inr (inr (inr (inr (inr (inr (inr (next, inl (debt, e))))))))) = absurd (folder_no_ask e.report question e.says)
   takes_asked (inr (inr (inr (inr (inr (inr (inr (next, inr (debt, f, same))))))))) = absurd (let e = f.says in let g : ⊥ = cc in g)
 
-  works_asked : (item : Item) → WorksOn item unclaimed replies old new (Asked question) before after → (item ≡ Next) × Asks
+  works_asked : (item : ItemAtWork) → WorksOn item unclaimed replies old new (Asked question) before after → (item ≡ Next) × Asks
   works_asked Next (inl s) = absurd (folder_no_ask s.report question s.says)
   works_asked Next (inr t) = (refl, takes_asked t.1)
   works_asked (File f) w = absurd w.tells
@@ -73,7 +73,7 @@ module _ (unclaimed : Route → Type 0) (replies : Replies) (old new : Seen) (pa
   takes_kept (inr (inr (inr (inr (inr (inr (inr (next, inl (debt, e))))))))) = absurd (folder_no_keep e.report path e.says)
   takes_kept (inr (inr (inr (inr (inr (inr (inr (next, inr (debt, f, same))))))))) = absurd (let e = f.says in let g : ⊥ = cc in g)
 
-  works_kept : (item : Item) → WorksOn item unclaimed replies old new (Kept path) before after → (item ≡ Next) × Keeps
+  works_kept : (item : ItemAtWork) → WorksOn item unclaimed replies old new (Kept path) before after → (item ≡ Next) × Keeps
   works_kept Next (inl s) = absurd (folder_no_keep s.report path s.says)
   works_kept Next (inr t) = (refl, takes_kept t.1)
   works_kept (File f) w = absurd w.tells
@@ -104,7 +104,7 @@ named_no_ask (name ∷ names) cause old new question (inr (inl (long, inl s))) =
 named_no_ask (name ∷ names) cause old new question (inr (inl (long, inr s))) = let e = s.0 in let g : ⊥ = cc in g
 named_no_ask (name ∷ names) cause old new question (inr (inr s)) = let e = s.0 in let g : ⊥ = cc in g
 
-pub skip_no_ask : (item : Item) (cause : Cause) (old new : Seen) (question : Question) → machine.SkipsAt item cause old (Asked question) new → ⊥
+pub skip_no_ask : (item : ItemAtWork) (cause : Cause) (old new : Seen) (question : Question) → machine.SkipsAt item cause old (Asked question) new → ⊥
 skip_no_ask Next cause old new question s = named_no_ask old.levels.inner.names.names cause old new question s
 skip_no_ask (File f) cause old new question (moved, inl s, stands) = let e = s.0 in let g : ⊥ = cc in g
 skip_no_ask (File f) cause old new question (moved, inr s, stands) = let e = s.0 in let g : ⊥ = cc in g
@@ -120,7 +120,7 @@ named_no_keep (name ∷ names) cause old new path (inr (inl (long, inl s))) = le
 named_no_keep (name ∷ names) cause old new path (inr (inl (long, inr s))) = let e = s.0 in let g : ⊥ = cc in g
 named_no_keep (name ∷ names) cause old new path (inr (inr s)) = let e = s.0 in let g : ⊥ = cc in g
 
-pub skip_no_keep : (item : Item) (cause : Cause) (old new : Seen) (path : Route) → machine.SkipsAt item cause old (Kept path) new → ⊥
+pub skip_no_keep : (item : ItemAtWork) (cause : Cause) (old new : Seen) (path : Route) → machine.SkipsAt item cause old (Kept path) new → ⊥
 skip_no_keep Next cause old new path s = named_no_keep old.levels.inner.names.names cause old new path s
 skip_no_keep (File f) cause old new path (moved, inl s, stands) = let e = s.0 in let g : ⊥ = cc in g
 skip_no_keep (File f) cause old new path (moved, inr s, stands) = let e = s.0 in let g : ⊥ = cc in g

@@ -31,12 +31,12 @@ use Rattle.copy_link.specs.LinkCopying as link
 use Rattle.copy_link.specs.LinkCopying.{LinkCopying}
 use Rattle.copy_link.specs.LinkSteps as link_steps
 use Rattle.copy_link.specs.declared.stage.Stage.TheVariants as link_stage
-use Rattle.tree_walk.specs.Places.{opened}
+use Rattle.tree_walk.specs.Places.{opened_folder}
 use Rattle.copy_folders.specs.declared.level.Level.{Level}
 use Rattle.copy_folders.specs.Levels.{Levels, is_around_dirty, made_levels, owed_at}
 use Rattle.copy_tree.specs.declared.due.Due.TheVariants.{End, Thing}
-use Rattle.copy_tree.specs.declared.item.Item.{Item}
-use Rattle.copy_tree.specs.declared.item.Item.TheVariants.{Next, File, Link, Stays}
+use Rattle.copy_tree.specs.declared.item.ItemAtWork.{ItemAtWork}
+use Rattle.copy_tree.specs.declared.item.ItemAtWork.TheVariants.{Next, File, Link, Stays}
 use Rattle.copy_tree.specs.declared.progress.Progress.TheVariants.{UnderWay}
 use Rattle.copy_tree.specs.Falling.{AllMade, IsSteady, is_made}
 use Rattle.copy_tree.specs.Parts.{IsPartPlace}
@@ -44,7 +44,7 @@ use Rattle.copy_tree.specs.Progress.{link_progress, progress}
 use Rattle.copy_tree.specs.Reports.{IsToldAs}
 use Rattle.copy_tree.specs.Skipping as machine
 use Rattle.copy_tree.specs.Standing.{Seen, due, due_at}
-use Rattle.copy_tree.specs.Steps.{FileWorks, FolderEnds, FolderMakes, GoesOn, IsWorkable, LeavesAll, LinkWorks, SyncsAround, TakesNext, WhyStopped, WorksOn, at_end, has_debt, idle, link_begun, noted, settled}
+use Rattle.copy_tree.specs.TreeCopySteps.{FileWorks, FolderEnds, FolderMakes, GoesOn, IsWorkable, LeavesAll, LinkWorks, SyncsAround, TakesNext, WhyStopped, WorksOn, at_end, has_debt, idle, link_begun, noted_copy, copy_after_progress}
 use Rattle.copy_tree.proofs.Fallings.{all_leave}
 use Rattle.copy_job.specs.Barriers.{BarrierLaw}
 use Rattle.copy_job.specs.Leaving.{may_leave}
@@ -69,7 +69,7 @@ next_at (name ∷ names) c pair is = (name, names, refl)
 -- nothing bars a name that is next
 pub unbarred : (c : Seen) → c.item ≡ Next → is_around_dirty c.levels.around ≡ false → HasNext c → at_barrier c ≡ false
 unbarred c free clean h =
-    ap (λ (i : Item). barrier_at i c.levels) free
+    ap (λ (i : ItemAtWork). barrier_at i c.levels) free
     ∙ (ap (λ b. b || barrier_at_name c.levels.inner.names.names c.levels.inner.copy.stage) clean ∙ ap (λ names. barrier_at_name names c.levels.inner.copy.stage) h.2)
 
 pub why_next : (unclaimed : Route → Type 0) (replies : Replies) (c : Seen) (t : Trouble) (before : Option CallLog) → WhyStopped unclaimed replies c t before → HasNext c
@@ -86,9 +86,9 @@ pub link_same : (l m : LinkCopying) (report : Did) (t : Trouble) → link.Tells 
 link_same l m report t tells is = subst (λ (d : Did). link.Tells l d m) is tells
 
 -- what is taken up anew has a name yet
-anew_next : (changed : Bool) (did : Did) (c : Seen) → is_around_dirty c.levels.around ≡ false → HasNext c → at_barrier (noted did changed (idle c)) ≡ false
-anew_next true did c clean h = unbarred (noted did true (idle c)) refl clean h
-anew_next false did c clean h = unbarred (noted did false (idle c)) refl clean h
+anew_next : (changed : Bool) (did : Did) (c : Seen) → is_around_dirty c.levels.around ≡ false → HasNext c → at_barrier (noted_copy did changed (idle c)) ≡ false
+anew_next true did c clean h = unbarred (noted_copy did true (idle c)) refl clean h
+anew_next false did c clean h = unbarred (noted_copy did false (idle c)) refl clean h
 
 file_begins : (unclaimed : Route → Type 0) (f : Copying) (old new : Seen) (did : Did) (before after : Option CallLog) (t : Trouble) → FileWorks unclaimed f old new did before after → Says did t → f.stage ≡ file_stage.Begin
     → is_around_dirty old.levels.around ≡ false → HasNext old → t.barrier ≡ at_barrier new
@@ -97,7 +97,7 @@ file_begins unclaimed f old new did before after t w says begin clean h =
     let m = w.moved in
     let stage : m.stage ≡ file_stage.Begin = ap (λ (x : Copying). x.stage) same.1 ∙ begin in
     (same.0 ∙ ap file.at_barrier begin)
-    ∙ sym (ap at_barrier w.stands ∙ (ap (λ s. at_barrier (settled (progress s) (File m) (noted did (file.is_dirty m.folder) (idle old)))) stage ∙ anew_next (file.is_dirty m.folder) did old clean h))
+    ∙ sym (ap at_barrier w.stands ∙ (ap (λ s. at_barrier (copy_after_progress (progress s) (File m) (noted_copy did (file.is_dirty m.folder) (idle old)))) stage ∙ anew_next (file.is_dirty m.folder) did old clean h))
 
 link_begins : (l : LinkCopying) (old new : Seen) (did : Did) (before after : Option CallLog) (t : Trouble) → LinkWorks l old new did before after → Says did t → l.stage ≡ link_stage.Make
     → is_around_dirty old.levels.around ≡ false → HasNext old → t.barrier ≡ at_barrier new
@@ -106,7 +106,7 @@ link_begins l old new did before after t w says begin clean h =
     let m = w.moved in
     let stage : m.stage ≡ link_stage.Make = ap (λ (x : LinkCopying). x.stage) same.1 ∙ begin in
     (same.0 ∙ ap link.at_barrier begin)
-    ∙ sym (ap at_barrier w.stands ∙ (ap (λ s. at_barrier (settled (link_progress s) (Link m) (noted did (link.is_dirty m.folder) (idle old)))) stage ∙ anew_next (link.is_dirty m.folder) did old clean h))
+    ∙ sym (ap at_barrier w.stands ∙ (ap (λ s. at_barrier (copy_after_progress (link_progress s) (Link m) (noted_copy did (link.is_dirty m.folder) (idle old)))) stage ∙ anew_next (link.is_dirty m.folder) did old clean h))
 
 -- a file or a link that is at work stays so
 file_on : (unclaimed : Route → Type 0) (f : Copying) (old new : Seen) (did : Did) (before after : Option CallLog) (t : Trouble) → FileWorks unclaimed f old new did before after → Says did t → progress f.stage ≡ UnderWay
@@ -115,14 +115,14 @@ file_on unclaimed f old new did before after t w says going =
     let same = file_same f w.moved did t w.tells says in
     let m = w.moved in
     let stage : m.stage ≡ f.stage = ap (λ (x : Copying). x.stage) same.1 in
-    (same.0 ∙ sym (ap file.at_barrier stage)) ∙ sym (ap at_barrier w.stands ∙ ap (λ p. at_barrier (settled p (File m) (noted did (file.is_dirty m.folder) (idle old)))) (ap progress stage ∙ going))
+    (same.0 ∙ sym (ap file.at_barrier stage)) ∙ sym (ap at_barrier w.stands ∙ ap (λ p. at_barrier (copy_after_progress p (File m) (noted_copy did (file.is_dirty m.folder) (idle old)))) (ap progress stage ∙ going))
 
 link_on : (l : LinkCopying) (old new : Seen) (did : Did) (before after : Option CallLog) (t : Trouble) → LinkWorks l old new did before after → Says did t → link_progress l.stage ≡ UnderWay → t.barrier ≡ at_barrier new
 link_on l old new did before after t w says going =
     let same = link_same l w.moved did t w.tells says in
     let m = w.moved in
     let stage : m.stage ≡ l.stage = ap (λ (x : LinkCopying). x.stage) same.1 in
-    (same.0 ∙ sym (ap link.at_barrier stage)) ∙ sym (ap at_barrier w.stands ∙ ap (λ p. at_barrier (settled p (Link m) (noted did (link.is_dirty m.folder) (idle old)))) (ap link_progress stage ∙ going))
+    (same.0 ∙ sym (ap link.at_barrier stage)) ∙ sym (ap at_barrier w.stands ∙ ap (λ p. at_barrier (copy_after_progress p (Link m) (noted_copy did (link.is_dirty m.folder) (idle old)))) (ap link_progress stage ∙ going))
 
 -- a trouble at a folder
 pub folder_same : (c m : FolderCopying) (report : FolderDid) (did : Did) (t : Trouble) → IsToldAs report did → folder.Tells c report m → Says did t → (t.barrier ≡ folder.at_barrier c.stage) × (m ≡ c)
@@ -139,7 +139,7 @@ makes_next : (pair : Pair) (names : List (List ℕ)) (mode : ℕ) (old new : See
 makes_next pair names mode old new did before after t w says free clean h =
     let same = folder_same (folder.copying pair.source pair.target (Make mode) marks.Synced) w.moved w.report did t w.says w.tells says in
     let stage : (let m = w.moved in m.stage) ≡ Make mode = ap (λ (x : FolderCopying). x.stage) same.1 in
-    let levels : new.levels ≡ old.levels = ap (λ (c : Seen). c.levels) w.stands ∙ ap (λ (s : Stage). made_levels s (opened pair.source names) w.moved old.levels) stage in
+    let levels : new.levels ≡ old.levels = ap (λ (c : Seen). c.levels) w.stands ∙ ap (λ (s : Stage). made_levels s (opened_folder pair.source names) w.moved old.levels) stage in
     let item : new.item ≡ Next = ap (λ (c : Seen). c.item) w.stands ∙ free in
     same.0 ∙ sym (unbarred new item (ap (λ (l : Levels). is_around_dirty l.around) levels ∙ clean) (h.0, h.1, ap (λ (l : Levels). l.inner.names.names) levels ∙ h.2))
 
@@ -167,7 +167,7 @@ ends_barred old new did before after t e says next owes free clean steady =
     let same = folder_same c e.moved e.report did t e.says e.tells says in
     let there : at_barrier new ≡ barrier_at_end (folder.closing old.levels.inner.copy.stage) =
     ap at_barrier e.stands
-    ∙ (ap (λ (i : Item). barrier_at i (let s : Levels = record old.levels { inner = record { names = old.levels.inner.names; copy = e.moved } } in s)) free
+    ∙ (ap (λ (i : ItemAtWork). barrier_at i (let s : Levels = record old.levels { inner = record { names = old.levels.inner.names; copy = e.moved } } in s)) free
     ∙ (ap (λ b. b || barrier_at_name old.levels.inner.names.names (let m = e.moved in m.stage)) clean
     ∙ (ap (λ names. barrier_at_name names (let m = e.moved in m.stage)) (no_name old.levels.inner.names.names old next) ∙ ap (λ (x : FolderCopying). barrier_at_end x.stage) same.1))) in
     (same.0 ∙ owed_barrier old.levels.inner.copy.stage (is_dirty old.levels.inner.copy.names) (inner_made old.levels.inner old.levels.around steady.made) owes) ∙ sym there
@@ -178,7 +178,7 @@ syncs_barred old new did before after t s says free =
     let dirty : is_dirty s.names ≡ true = ap (λ (x : FolderCopying). is_dirty x.names) same.1 in
     same.0
     ∙ sym (ap at_barrier s.stands
-    ∙ (ap (λ (i : Item). barrier_at i (let l : Levels = record old.levels { around = (let o : Level = record { names = s.outer.names; copy = record s.outer.copy { names = s.names } } in o) ∷ s.around } in l)) free ∙ ap (λ b. b || barrier_at_name old.levels.inner.names.names old.levels.inner.copy.stage) dirty))
+    ∙ (ap (λ (i : ItemAtWork). barrier_at i (let l : Levels = record old.levels { around = (let o : Level = record { names = s.outer.names; copy = record s.outer.copy { names = s.names } } in o) ∷ s.around } in l)) free ∙ ap (λ b. b || barrier_at_name old.levels.inner.names.names old.levels.inner.copy.stage) dirty))
 
 takes_barred : (unclaimed : Route → Type 0) (replies : Replies) (old new : Seen) (did : Did) (before after : Option CallLog) (t : Trouble) → TakesNext unclaimed replies old new did before after → Says did t → old.item ≡ Next
     → is_around_dirty old.levels.around ≡ false → IsSteady old → t.barrier ≡ at_barrier new
@@ -186,7 +186,7 @@ takes_barred unclaimed replies old new did before after t (inl s) says free clea
     let same : s.trouble ≡ t = (let e : Troubled s.trouble ≡ Troubled t = sym s.says ∙ says in cc) in
     (sym (ap (λ (x : Trouble). x.barrier) same) ∙ s.apart) ∙ sym (ap at_barrier s.stands ∙ unbarred old free clean (why_next unclaimed replies old s.trouble before s.why))
 takes_barred unclaimed replies old new did before after t (inr (inl w)) says free clean steady =
-    file_begins unclaimed (file.begun old.job w.pair.source w.pair.target) old new did None None t (file_taken unclaimed replies old new did before after w) says refl clean (next_at old.levels.inner.names.names old w.pair w.next)
+    file_begins unclaimed (file.begun_copy old.job w.pair.source w.pair.target) old new did None None t (file_taken unclaimed replies old new did before after w) says refl clean (next_at old.levels.inner.names.names old w.pair w.next)
 takes_barred unclaimed replies old new did before after t (inr (inr (inl w))) says free clean steady =
     link_begins (link_begun w.pair w.part) old new did before after t w.works says refl clean (next_at old.levels.inner.names.names old w.pair w.next)
 takes_barred unclaimed replies old new did before after t (inr (inr (inr (inl w)))) says free clean steady =
@@ -202,7 +202,7 @@ goes_barred : (unclaimed : Route → Type 0) (replies : Replies) (old new : Seen
 goes_barred unclaimed replies old new did before after t (inl s) says free steady = syncs_barred old new did before after t s says free
 goes_barred unclaimed replies old new did before after t (inr s) says free steady = takes_barred unclaimed replies old new did before after t s.1 says free s.0 steady
 
-works_barred : (unclaimed : Route → Type 0) (replies : Replies) (item : Item) (old new : Seen) (did : Did) (before after : Option CallLog) (t : Trouble) → WorksOn item unclaimed replies old new did before after → Says did t → old.item ≡ item → IsSteady old
+works_barred : (unclaimed : Route → Type 0) (replies : Replies) (item : ItemAtWork) (old new : Seen) (did : Did) (before after : Option CallLog) (t : Trouble) → WorksOn item unclaimed replies old new did before after → Says did t → old.item ≡ item → IsSteady old
     → IsWorkable item → t.barrier ≡ at_barrier new
 works_barred unclaimed replies Next old new did before after t w says is steady can = goes_barred unclaimed replies old new did before after t w says is steady
 works_barred unclaimed replies (File f) old new did before after t w says is steady can = file_on unclaimed f old new did before after t w says can.0
@@ -234,7 +234,7 @@ abbrev pub IsOpenAt : Seen → Type 0
 IsOpenAt c = (is_around_dirty c.levels.around ≡ false) × (barrier_at_name c.levels.inner.names.names c.levels.inner.copy.stage ≡ false)
 
 pub opens_at : (c : Seen) → c.item ≡ Next → at_barrier c ≡ false → IsOpenAt c
-opens_at c free open_at = or_parts _ _ (sym (ap (λ (i : Item). barrier_at i c.levels) free) ∙ open_at)
+opens_at c free open_at = or_parts _ _ (sym (ap (λ (i : ItemAtWork). barrier_at i c.levels) free) ∙ open_at)
 
 no_room : (cause : Cause) (old new : Seen) (did : Did) (t : Trouble) → machine.NoRoom old did new → did ≡ Troubled t → at_barrier old ≡ false → t.barrier ≡ at_barrier new
 no_room cause old new did t n says free =
@@ -275,7 +275,7 @@ file_left cause f old new did t s says going = go s.1
     go (inr k) =
         let same : out_of_memory_at (file.at_barrier f.stage) ≡ t = (let e : Troubled (out_of_memory_at (file.at_barrier f.stage)) ≡ Troubled t = sym k.0 ∙ says in cc) in
         sym (ap (λ (x : Trouble). x.barrier) same)
-        ∙ sym (ap at_barrier s.2 ∙ (ap (λ (x : Copying). at_barrier (settled (progress x.stage) (File x) old)) k.1 ∙ ap (λ p. at_barrier (settled p (File f) old)) going))
+        ∙ sym (ap at_barrier s.2 ∙ (ap (λ (x : Copying). at_barrier (copy_after_progress (progress x.stage) (File x) old)) k.1 ∙ ap (λ p. at_barrier (copy_after_progress p (File f) old)) going))
 
 link_left : (cause : Cause) (l : LinkCopying) (old new : Seen) (did : Did) (t : Trouble) → machine.SkipsLink cause l old did new → did ≡ Troubled t → link_progress l.stage ≡ UnderWay → t.barrier ≡ at_barrier new
 link_left cause l old new did t s says going = go s.1
@@ -285,9 +285,9 @@ link_left cause l old new did t s says going = go s.1
     go (inr k) =
         let same : out_of_memory_at (link.at_barrier l.stage) ≡ t = (let e : Troubled (out_of_memory_at (link.at_barrier l.stage)) ≡ Troubled t = sym k.0 ∙ says in cc) in
         sym (ap (λ (x : Trouble). x.barrier) same)
-        ∙ sym (ap at_barrier s.2 ∙ (ap (λ (x : LinkCopying). at_barrier (settled (link_progress x.stage) (Link x) old)) k.1 ∙ ap (λ p. at_barrier (settled p (Link l) old)) going))
+        ∙ sym (ap at_barrier s.2 ∙ (ap (λ (x : LinkCopying). at_barrier (copy_after_progress (link_progress x.stage) (Link x) old)) k.1 ∙ ap (λ p. at_barrier (copy_after_progress p (Link l) old)) going))
 
-skip_barred : (item : Item) (cause : Cause) (old new : Seen) (did : Did) (t : Trouble) → machine.SkipsAt item cause old did new → did ≡ Troubled t → old.item ≡ item → IsWorkable item → at_barrier old ≡ false → t.barrier ≡ at_barrier new
+skip_barred : (item : ItemAtWork) (cause : Cause) (old new : Seen) (did : Did) (t : Trouble) → machine.SkipsAt item cause old did new → did ≡ Troubled t → old.item ≡ item → IsWorkable item → at_barrier old ≡ false → t.barrier ≡ at_barrier new
 skip_barred Next cause old new did t s says is can open_at = named_barred old.levels.inner.names.names cause old new did t s says is open_at refl
 skip_barred (File f) cause old new did t s says is can open_at = file_left cause f (idle old) new did t s says can.0
 skip_barred (Link l) cause old new did t s says is can open_at = link_left cause l (idle old) new did t s says can.0

@@ -26,13 +26,13 @@ use Rattle.copy_folders.specs.FolderSteps as folder_steps
 use Rattle.copy_link.specs.LinkCopying as link
 use Rattle.copy_link.specs.LinkCopying.{LinkCopying}
 use Rattle.copy_link.specs.LinkSteps as link_steps
-use Rattle.copy_tree.specs.declared.item.Item.{Item}
-use Rattle.copy_tree.specs.declared.item.Item.TheVariants.{Next, File, Link, Stays}
+use Rattle.copy_tree.specs.declared.item.ItemAtWork.{ItemAtWork}
+use Rattle.copy_tree.specs.declared.item.ItemAtWork.TheVariants.{Next, File, Link, Stays}
 use Rattle.copy_tree.specs.Reports.{IsToldAs}
 use Rattle.copy_tree.specs.Parts.{IsPartPlace}
 use Rattle.copy_tree.specs.Skipping as machine
 use Rattle.copy_tree.specs.Standing.{Seen}
-use Rattle.copy_tree.specs.Steps.{FileWorks, LinkWorks, TakesNext, WorksOn}
+use Rattle.copy_tree.specs.TreeCopySteps.{FileWorks, LinkWorks, TakesNext, WorksOn}
 use Rattle.copy_job.specs.Counted.{CountLaw, MeetsFault, StepCounts}
 use Rattle.copy_job.specs.Passing.{OrPassedOver}
 use Rattle.copy_job.specs.SubtreeSteps.{ListSteps, step_result}
@@ -93,7 +93,7 @@ takes_keep unclaimed replies old new did before after (inr (inr (inr (inr (inr (
 takes_keep unclaimed replies old new did before after (inr (inr (inr (inr (inr (inr (inr (next, inl (debt, e))))))))) p = told_keeps e.report did e.says p
 takes_keep unclaimed replies old new did before after (inr (inr (inr (inr (inr (inr (inr (next, inr (debt, f, same))))))))) p = let e = sym f.says ∙ p.2 in let g : ⊥ = cc in g
 
-works_keep : (unclaimed : Route → Type 0) (replies : Replies) (item : Item) (old new : Seen) (did : Did) (before after : Option CallLog) → WorksOn item unclaimed replies old new did before after → Passes did → ⊥
+works_keep : (unclaimed : Route → Type 0) (replies : Replies) (item : ItemAtWork) (old new : Seen) (did : Did) (before after : Option CallLog) → WorksOn item unclaimed replies old new did before after → Passes did → ⊥
 works_keep unclaimed replies Next old new did before after (inl s) p = told_keeps s.report did s.says p
 works_keep unclaimed replies Next old new did before after (inr s) p = takes_keep unclaimed replies old new did before after s.1 p
 works_keep unclaimed replies (File f) old new did before after w p = file_keeps unclaimed f old new did before after w p
@@ -157,7 +157,7 @@ link_cause : (cause : Cause) (l m : LinkCopying) (did : Did) → link_steps.Skip
 link_cause cause l m did (inl k) = says_cause cause did _ k.0
 link_cause cause l m did (inr k) = says_room cause did _ k.0
 
-skip_cause : (item : Item) (cause : Cause) (old new : Seen) (did : Did) → machine.SkipsAt item cause old did new → TellsCause cause did
+skip_cause : (item : ItemAtWork) (cause : Cause) (old new : Seen) (did : Did) → machine.SkipsAt item cause old did new → TellsCause cause did
 skip_cause Next cause old new did s = named_cause old.levels.inner.names.names cause old new did s
 skip_cause (File f) cause old new did s = file_cause cause f s.0 did s.1
 skip_cause (Link l) cause old new did s = link_cause cause l s.0 did s.1

@@ -8,12 +8,12 @@ use Rattle.copy_folders.specs.FolderCopying.{is_dirty}
 use Rattle.tree_walk.specs.Places.{is_empty}
 use Rattle.job_answers.specs.declared.replies.Replies.{Replies}
 use Rattle.copy_folders.specs.Levels.{is_around_dirty}
-use Rattle.copy_tree.specs.declared.item.Item.{Item}
-use Rattle.copy_tree.specs.declared.item.Item.TheVariants.{Next, File, Link, Stays}
+use Rattle.copy_tree.specs.declared.item.ItemAtWork.{ItemAtWork}
+use Rattle.copy_tree.specs.declared.item.ItemAtWork.TheVariants.{Next, File, Link, Stays}
 use Rattle.job_reports.specs.declared.report.Did.{Did}
 use Rattle.copy_tree.specs.Parts.{IsPartPlace}
 use Rattle.copy_tree.specs.Standing.{Seen}
-use Rattle.copy_tree.specs.Steps.{CopySteps, GoesOn, TakesNext, WorksOn}
+use Rattle.copy_tree.specs.TreeCopySteps.{CopySteps, GoesOn, TakesNext, WorksOn}
 use Rattle.copy_job.specs.Leaving.{is_done, is_done_in, may_leave, owes_at_end}
 use Rattle.copy_job.specs.Marks.{brings_in, brings_made, is_left_dirty}
 use Rattle.copy_job.proofs.Barred.{HasNext, next_at, why_next}
@@ -48,7 +48,7 @@ goes_so : (unclaimed : Route → Type 0) (replies : Replies) (old new : Seen) (d
 goes_so unclaimed replies old new did before after (inl s) clean none owes = absurd (false≢true (sym clean ∙ s.dirty))
 goes_so unclaimed replies old new did before after (inr s) clean none owes = takes_so unclaimed replies old new did before after s.1 none owes
 
-works_so : (unclaimed : Route → Type 0) (replies : Replies) (item : Item) (old new : Seen) (did : Did) (before after : Option CallLog) → WorksOn item unclaimed replies old new did before after → brings_in item old.levels ≡ false
+works_so : (unclaimed : Route → Type 0) (replies : Replies) (item : ItemAtWork) (old new : Seen) (did : Did) (before after : Option CallLog) → WorksOn item unclaimed replies old new did before after → brings_in item old.levels ≡ false
     → is_done_in item old.levels ≡ true → StaysSo old new did
 works_so unclaimed replies Next old new did before after w clean done =
     let p = done_parts (is_empty old.levels.inner.names.names) (owes_at_end old.levels.inner.copy.stage (is_dirty old.levels.inner.copy.names)) done in

@@ -29,17 +29,17 @@ use Rattle.copy_link.specs.declared.stage.Next.{Next as LinkNext}
 use Rattle.copy_link.specs.declared.stage.Next.TheVariants as link_next
 use Rattle.copy_link.specs.declared.stage.Stage.{Stage as LinkStage}
 use Rattle.copy_link.specs.declared.stage.Stage.TheVariants as link_stage
-use Rattle.tree_walk.specs.Places.{OpenFolder, opened}
+use Rattle.tree_walk.specs.Places.{OpenFolder, opened_folder}
 use Rattle.tree_walk.proofs.Falling.{pass_falls}
-use Rattle.copy_folders.specs.Levels.{Levels, dirtied, is_around_dirty, made_levels, walked}
+use Rattle.copy_folders.specs.Levels.{Levels, dirtied_levels, is_around_dirty, made_levels, walked_place}
 use Rattle.copy_tree.specs.declared.due.Due.TheVariants.{Thing}
-use Rattle.copy_tree.specs.declared.item.Item.{Item}
-use Rattle.copy_tree.specs.declared.item.Item.TheVariants.{Next, File, Link, Stays}
+use Rattle.copy_tree.specs.declared.item.ItemAtWork.{ItemAtWork}
+use Rattle.copy_tree.specs.declared.item.ItemAtWork.TheVariants.{Next, File, Link, Stays}
 use Rattle.copy_tree.specs.Falling.{HasName, decides, things_left}
 use Rattle.copy_tree.specs.Progress.{link_progress, progress}
 use Rattle.copy_tree.specs.Reports.{IsToldAs}
 use Rattle.copy_tree.specs.Standing.{Seen, due_at}
-use Rattle.copy_tree.specs.Steps.{FileWorks, FolderEnds, FolderMakes, GoesOn, LinkWorks, SyncsAround, TakesNext, WorksOn, at_end, idle, link_begun, noted, settled}
+use Rattle.copy_tree.specs.TreeCopySteps.{FileWorks, FolderEnds, FolderMakes, GoesOn, LinkWorks, SyncsAround, TakesNext, WorksOn, at_end, idle, link_begun, noted_copy, copy_after_progress}
 use Rattle.copy_job.specs.Ranks.{anew, around_rank, dirt, file_rank, goes_on, item_rank, level_rank, levels_rank, link_rank, rank_by, stage_rank}
 use Rattle.copy_tree.proofs.PartsBegin.{file_taken}
 
@@ -59,7 +59,7 @@ pub dirt_few : (names : NamesState) → dirt names ≤ 1
 dirt_few Dirty = omega arith
 dirt_few Synced = omega arith
 
-marked : (changed : Bool) (l : Levels) → levels_rank (dirtied changed l) ≤ levels_rank l + 1
+marked : (changed : Bool) (l : Levels) → levels_rank (dirtied_levels changed l) ≤ levels_rank l + 1
 marked true l = omega arith
 marked false l = omega arith
 
@@ -86,31 +86,31 @@ same_things n = omega arith
 module _ (most x : ℕ) (did : Did) (changed : Bool) (old : Seen) (some : 1 ≤ length old.levels.inner.names.names) where
   -- the copy once the report is noted
   abbrev told : Seen
-  told = noted did changed (idle old)
+  told = noted_copy did changed (idle old)
 
-  passes : 1 < x → rank_by most (settled (progress file_stage.Decided) Next told) < things_left old * anew most + (x + levels_rank old.levels)
+  passes : 1 < x → rank_by most (copy_after_progress (progress file_stage.Decided) Next told) < things_left old * anew most + (x + levels_rank old.levels)
   passes less =
       let l = marked changed old.levels in
-      fewer_falls (anew most) (things_left old) _ (x + levels_rank old.levels) (anew most + levels_rank (dirtied changed old.levels)) (pass_falls false (walked (dirtied changed old.levels)) some) (omega (arith, l, less))
+      fewer_falls (anew most) (things_left old) _ (x + levels_rank old.levels) (anew most + levels_rank (dirtied_levels changed old.levels)) (pass_falls false (walked_place (dirtied_levels changed old.levels)) some) (omega (arith, l, less))
 
   begins_anew : anew most + 1 < x → rank_by most told < things_left old * anew most + (x + levels_rank old.levels)
   begins_anew less =
       let l = marked changed old.levels in
-      same_falls (anew most) (things_left old) (things_left old) (x + levels_rank old.levels) (anew most + levels_rank (dirtied changed old.levels)) (same_things (things_left old)) (omega (arith, l, less))
+      same_falls (anew most) (things_left old) (things_left old) (x + levels_rank old.levels) (anew most + levels_rank (dirtied_levels changed old.levels)) (same_things (things_left old)) (omega (arith, l, less))
 
-  goes : (item : Item) (y : ℕ) → item_rank most item ≡ y → y + 1 < x → rank_by most (record told { item = item }) < things_left old * anew most + (x + levels_rank old.levels)
+  goes : (item : ItemAtWork) (y : ℕ) → item_rank most item ≡ y → y + 1 < x → rank_by most (record told { item = item }) < things_left old * anew most + (x + levels_rank old.levels)
   goes item y is less =
       let l = marked changed old.levels in
-      same_falls (anew most) (things_left old) (things_left old) (x + levels_rank old.levels) (item_rank most item + levels_rank (dirtied changed old.levels)) (same_things (things_left old)) (omega (arith, l, less, is))
+      same_falls (anew most) (things_left old) (things_left old) (x + levels_rank old.levels) (item_rank most item + levels_rank (dirtied_levels changed old.levels)) (same_things (things_left old)) (omega (arith, l, less, is))
 
-  pub file_settles : (m : Copying) (stage : FileStage) → m.stage ≡ stage → FitsFile most x stage → rank_by most (settled (progress stage) (File m) told) < things_left old * anew most + (x + levels_rank old.levels)
+  pub file_settles : (m : Copying) (stage : FileStage) → m.stage ≡ stage → FitsFile most x stage → rank_by most (copy_after_progress (progress stage) (File m) told) < things_left old * anew most + (x + levels_rank old.levels)
   file_settles m (file_stage.Fill part facts done) is fits = goes (File m) (file_rank most (file_stage.Fill part facts done)) (ap (file_rank most) is) fits
   file_settles m (file_stage.Clean part follows) is fits = goes (File m) (file_rank most (file_stage.Clean part follows)) (ap (file_rank most) is) fits
   file_settles m (file_stage.Left part) is fits = goes (File m) (file_rank most (file_stage.Left part)) (ap (file_rank most) is) fits
   file_settles m file_stage.Decided is fits = passes fits
   file_settles m file_stage.Begin is fits = begins_anew fits
 
-  pub link_settles : (m : LinkCopying) (stage : LinkStage) → m.stage ≡ stage → FitsLink most x stage → rank_by most (settled (link_progress stage) (Link m) told) < things_left old * anew most + (x + levels_rank old.levels)
+  pub link_settles : (m : LinkCopying) (stage : LinkStage) → m.stage ≡ stage → FitsLink most x stage → rank_by most (copy_after_progress (link_progress stage) (Link m) told) < things_left old * anew most + (x + levels_rank old.levels)
   link_settles m link_stage.Place is fits = goes (Link m) (link_rank most link_stage.Place) (ap (link_rank most) is) fits
   link_settles m (link_stage.Clean follows) is fits = goes (Link m) (link_rank most (link_stage.Clean follows)) (ap (link_rank most) is) fits
   link_settles m link_stage.Left is fits = goes (Link m) (link_rank most link_stage.Left) (ap (link_rank most) is) fits
@@ -215,8 +215,8 @@ makes_falls most pair names mode old new did before after w free h fewer =
     let m = w.moved in
     let less = fewer (made_says (folder.copying pair.source pair.target (Make mode) Synced) m w.report did mode w.says w.tells refl h) in
     let item : item_rank most new.item ≡ anew most = ap (item_rank most) (ap (λ (c : Seen). c.item) w.stands ∙ free) in
-    let same : levels_rank new.levels ≡ levels_rank (made_levels m.stage (opened pair.source names) m old.levels) = ap (λ (c : Seen). levels_rank c.levels) w.stands in
-    let l = made_rank (opened pair.source names) m old.levels m.stage refl in
+    let same : levels_rank new.levels ≡ levels_rank (made_levels m.stage (opened_folder pair.source names) m old.levels) = ap (λ (c : Seen). levels_rank c.levels) w.stands in
+    let l = made_rank (opened_folder pair.source names) m old.levels m.stage refl in
     fewer_falls (anew most) (things_left old) (things_left new) (anew most + levels_rank old.levels) (item_rank most new.item + levels_rank new.levels) less (omega (arith, item, same, l))
 
 -- a folder at its end
@@ -294,17 +294,17 @@ takes_falls : (most : ℕ) → 2 ^ 64 ≤ most → (unclaimed : Route → Type 0
     → Things old new did → rank_by most new < Before most (anew most) old
 takes_falls most enough unclaimed replies old new did before after (inl s) free h fewer = absurd (false≢true (sym (ap goes_on s.says) ∙ h))
 takes_falls most enough unclaimed replies old new did before after (inr (inl t)) free h fewer =
-    file_falls most enough unclaimed (file.begun old.job t.pair.source t.pair.target) old new did None None (file_taken unclaimed replies old new did before after t) (some_name old.levels.inner.names.names old t.pair t.next) h
+    file_falls most enough unclaimed (file.begun_copy old.job t.pair.source t.pair.target) old new did None None (file_taken unclaimed replies old new did before after t) (some_name old.levels.inner.names.names old t.pair t.next) h
 takes_falls most enough unclaimed replies old new did before after (inr (inr (inl t))) free h fewer =
     link_falls most (link_begun t.pair t.part) old new did before after t.works (some_name old.levels.inner.names.names old t.pair t.next) h
 takes_falls most enough unclaimed replies old new did before after (inr (inr (inr (inl t)))) free h fewer = makes_falls most t.pair t.names t.mode old new did before after t.works free h fewer.1
 takes_falls most enough unclaimed replies old new did before after (inr (inr (inr (inr (inl t))))) free h fewer =
-    let less = subst (λ (c : Seen). things_left c < things_left old) (sym t.stands) (pass_falls false (walked old.levels) (some_name old.levels.inner.names.names old t.pair t.next)) in
+    let less = subst (λ (c : Seen). things_left c < things_left old) (sym t.stands) (pass_falls false (walked_place old.levels) (some_name old.levels.inner.names.names old t.pair t.next)) in
     let item : item_rank most new.item ≡ anew most = ap (item_rank most) (ap (λ (c : Seen). c.item) t.stands ∙ free) in
     let same : levels_rank new.levels ≡ levels_rank old.levels = ap (λ (c : Seen). levels_rank c.levels) t.stands in
     fewer_falls (anew most) (things_left old) (things_left new) (anew most + levels_rank old.levels) (item_rank most new.item + levels_rank new.levels) less (omega (arith, item, same))
 takes_falls most enough unclaimed replies old new did before after (inr (inr (inr (inr (inr (inl t)))))) free h fewer =
-    let less = subst (λ (c : Seen). things_left c < things_left old) (sym t.stands) (pass_falls false (walked old.levels) (some_name old.levels.inner.names.names old t.pair t.next)) in
+    let less = subst (λ (c : Seen). things_left c < things_left old) (sym t.stands) (pass_falls false (walked_place old.levels) (some_name old.levels.inner.names.names old t.pair t.next)) in
     let item : item_rank most new.item ≡ anew most = ap (item_rank most) (ap (λ (c : Seen). c.item) t.stands ∙ free) in
     let same : levels_rank new.levels ≡ levels_rank old.levels = ap (λ (c : Seen). levels_rank c.levels) t.stands in
     fewer_falls (anew most) (things_left old) (things_left new) (anew most + levels_rank old.levels) (item_rank most new.item + levels_rank new.levels) less (omega (arith, item, same))
@@ -318,7 +318,7 @@ goes_falls most enough unclaimed replies old new did before after (inl s) free h
 goes_falls most enough unclaimed replies old new did before after (inr s) free h fewer = takes_falls most enough unclaimed replies old new did before after s.1 free h fewer
 
 -- a step of the machine after which it goes on
-pub works_falls : (most : ℕ) → 2 ^ 64 ≤ most → (unclaimed : Route → Type 0) (replies : Replies) (item : Item) (old new : Seen) (did : Did) (before after : Option CallLog) → WorksOn item unclaimed replies old new did before after → old.item ≡ item
+pub works_falls : (most : ℕ) → 2 ^ 64 ≤ most → (unclaimed : Route → Type 0) (replies : Replies) (item : ItemAtWork) (old new : Seen) (did : Did) (before after : Option CallLog) → WorksOn item unclaimed replies old new did before after → old.item ≡ item
     → HasName item old.levels → goes_on did ≡ true → Things old new did → rank_by most new < Before most (item_rank most item) old
 works_falls most enough unclaimed replies Next old new did before after w is named h fewer = goes_falls most enough unclaimed replies old new did before after w is h fewer
 works_falls most enough unclaimed replies (File f) old new did before after w is named h fewer = file_falls most enough unclaimed f old new did before after w named h

@@ -25,9 +25,9 @@ use Rattle.copy_tree.specs.Progress.{progress}
 use Rattle.copy_tree.specs.Reports.{IsToldAs}
 use Rattle.copy_tree.specs.Skipping.{SkipsAt, SkipsNamed}
 use Rattle.copy_tree.specs.Standing.{Seen}
-use Rattle.copy_tree.specs.Steps.{FileWorks, TakesNext, WorksOn, after_file, idle, noted, settled}
-use Rattle.copy_tree.specs.declared.item.Item.{Item}
-use Rattle.copy_tree.specs.declared.item.Item.TheVariants.{Next, File, Link, Stays}
+use Rattle.copy_tree.specs.TreeCopySteps.{FileWorks, TakesNext, WorksOn, after_file, idle, noted_copy, copy_after_progress}
+use Rattle.copy_tree.specs.declared.item.ItemAtWork.{ItemAtWork}
+use Rattle.copy_tree.specs.declared.item.ItemAtWork.TheVariants.{Next, File, Link, Stays}
 use Rattle.job_unsynced.specs.Folders.{with_change}
 use Rattle.copy_job.specs.Marks.{brings_in, folder_worked, is_dirty_after, was_dirty}
 use Rattle.copy_job.specs.Passing.{OrPassedOver}
@@ -54,7 +54,7 @@ named_no_end (first ∷ names) cause old new part (inr (inl (long, inl s))) = ab
 named_no_end (first ∷ names) cause old new part (inr (inl (long, inr s))) = absurd (let e = s.0 in let f : ⊥ = cc in f)
 named_no_end (first ∷ names) cause old new part (inr (inr s)) = absurd (let e = s.0 in let f : ⊥ = cc in f)
 
-pub skips_no_end : {A : Type 0} (item : Item) (cause : Cause) (old new : Seen) (part : Option Route) → SkipsAt item cause old (Ended Finished part) new → A
+pub skips_no_end : {A : Type 0} (item : ItemAtWork) (cause : Cause) (old new : Seen) (part : Option Route) → SkipsAt item cause old (Ended Finished part) new → A
 skips_no_end Next cause old new part s = named_no_end old.levels.inner.names.names cause old new part s
 skips_no_end (File f) cause old new part (moved, inl s, stands) = absurd (let e = s.0 in let f : ⊥ = cc in f)
 skips_no_end (File f) cause old new part (moved, inr s, stands) = absurd (let e = s.0 in let f : ⊥ = cc in f)
@@ -63,7 +63,7 @@ skips_no_end (Link l) cause old new part (moved, inr s, stands) = absurd (let e 
 skips_no_end (Stays left) cause old new part s = absurd s
 
 -- nothing is called, the folder around was synced, and the one that is worked is as dirty as it was
-record StaysSo (item : Item) (old new : Seen) (before after : Option CallLog) : Type 0 where
+record StaysSo (item : ItemAtWork) (old new : Seen) (before after : Option CallLog) : Type 0 where
   pub around : brings_in item old.levels ≡ false
   pub names : is_dirty new.levels.inner.copy.names ≡ is_dirty old.levels.inner.copy.names
   pub log : (log : CallLog) → before ≡ Some log → after ≡ Some log
@@ -88,8 +88,8 @@ takes_stays unclaimed replies old new part before after (inr (inr (inr (inr (inr
 file_names : (did : Did) (moved : Copying) (old new : Seen) → new ≡ after_file did moved (idle old) → moved.stage ≡ at.Decided → moved.folder ≡ names_state.Synced → is_dirty new.levels.inner.copy.names ≡ is_dirty old.levels.inner.copy.names
 file_names did moved old new stands stage names =
     ap (λ (c : Seen). is_dirty c.levels.inner.copy.names) stands
-    ∙ (ap (λ s. let c : Seen = settled (progress s) (File moved) (noted did (file.is_dirty moved.folder) (idle old)) in is_dirty c.levels.inner.copy.names) stage
-    ∙ ap (λ n. let c : Seen = settled (progress at.Decided) (File moved) (noted did (file.is_dirty n) (idle old)) in is_dirty c.levels.inner.copy.names) names)
+    ∙ (ap (λ s. let c : Seen = copy_after_progress (progress s) (File moved) (noted_copy did (file.is_dirty moved.folder) (idle old)) in is_dirty c.levels.inner.copy.names) stage
+    ∙ ap (λ n. let c : Seen = copy_after_progress (progress at.Decided) (File moved) (noted_copy did (file.is_dirty n) (idle old)) in is_dirty c.levels.inner.copy.names) names)
 
 file_stays : (unclaimed : Route → Type 0) (f : Copying) (old new : Seen) (part : Option Route) (before after : Option CallLog) → FileWorks unclaimed f old new (Ended Finished part) before after → StaysSo (File f) old new before after
 file_stays unclaimed f old new part before after w =
@@ -101,7 +101,7 @@ file_stays unclaimed f old new part before after w =
       log = λ log known. w.called log known;
     }
 
-works_stays : (unclaimed : Route → Type 0) (replies : Replies) (item : Item) (old new : Seen) (part : Option Route) (before after : Option CallLog) → WorksOn item unclaimed replies old new (Ended Finished part) before after → StaysSo item old new before after
+works_stays : (unclaimed : Route → Type 0) (replies : Replies) (item : ItemAtWork) (old new : Seen) (part : Option Route) (before after : Option CallLog) → WorksOn item unclaimed replies old new (Ended Finished part) before after → StaysSo item old new before after
 works_stays unclaimed replies Next old new part before after (inl s) = told_no_end s.report part s.says
 works_stays unclaimed replies Next old new part before after (inr (clean, takes)) = takes_stays unclaimed replies old new part before after takes clean
 works_stays unclaimed replies (File f) old new part before after w = file_stays unclaimed f old new part before after w

@@ -12,14 +12,14 @@ use Rattle.job_reports.specs.declared.report.Ending.{Ending}
 use Rattle.job_reports.specs.declared.report.LastStepResult.{LastStepResult}
 use Rattle.job_reports.specs.declared.report.StepResult.{StepResult}
 use Rattle.copy_file.specs.Copying.{part_at}
-use Rattle.copy_tree.specs.declared.item.Item.{Item}
-use Rattle.copy_tree.specs.declared.item.Item.TheVariants.{Next, File, Link, Stays}
+use Rattle.copy_tree.specs.declared.item.ItemAtWork.{ItemAtWork}
+use Rattle.copy_tree.specs.declared.item.ItemAtWork.TheVariants.{Next, File, Link, Stays}
 use Rattle.copy_tree.specs.Ending.{EndsAll, FoldersWind, IsWindable, TriesFolder, WindsAt, stays_if}
 use Rattle.copy_tree.specs.InPlace.{IsInPlace}
-use Rattle.copy_tree.specs.Skipping.{retried}
+use Rattle.copy_tree.specs.Skipping.{retried_copy}
 use Rattle.copy_tree.specs.Skipping as machine
 use Rattle.copy_tree.specs.Standing.{Seen}
-use Rattle.copy_tree.specs.Steps.{IsWorkable, LeavesAll, idle}
+use Rattle.copy_tree.specs.TreeCopySteps.{IsWorkable, LeavesAll, idle}
 use Rattle.copy_tree.specs.WorkedFolder.{IsInWorked, ItemIn}
 use Rattle.copy_tree.proofs.InPlaces.{leaves_all, place_law}
 use Rattle.copy_tree.proofs.Staying.{staying_law}
@@ -32,7 +32,7 @@ use Rattle.copy_job.specs.SubtreeSteps.{ListSteps}
 
 -- nothing is at work
 free_in : (c : Seen) → c.item ≡ Next → IsInWorked c
-free_in c free = subst (λ (i : Item). ItemIn c.levels.inner.copy.target i) (sym free) tt
+free_in c free = subst (λ (i : ItemAtWork). ItemIn c.levels.inner.copy.target i) (sym free) tt
 
 left_in : (n : ℕ) (old new : Seen) → LeavesAll n old new → IsInWorked old → IsInWorked new
 left_in zero old new is here = subst IsInWorked (sym is) here
@@ -69,7 +69,7 @@ module _ (top : Pair) (folder : Route) where
   passed_held skips worked old new result (inl s) h w = subst (IsHeld top folder) (sym s.2) h
   passed_held skips worked old new result (inr s) h w = skipped_held s.0 old new result.did s.3 h w
 
-  pub retried_held : (old new : Seen) → new ≡ retried old → IsHeld top folder old → IsWorkable new.item → IsHeld top folder new
+  pub retried_held : (old new : Seen) → new ≡ retried_copy old → IsHeld top folder old → IsWorkable new.item → IsHeld top folder new
   retried_held old new is h w = record {
     holds = h.holds;
     in_place = subst (IsInPlace top) (sym is) (let law = staying_law in law.retry top old h.in_place);
@@ -83,7 +83,7 @@ stays_in folder (Some part) = tt
 stays_in folder None = tt
 
 kept_in : (c : Seen) (part : Option Route) → c.item ≡ stays_if part → IsInWorked c
-kept_in c part is = subst (λ (i : Item). ItemIn c.levels.inner.copy.target i) (sym is) (stays_in c.levels.inner.copy.target part)
+kept_in c part is = subst (λ (i : ItemAtWork). ItemIn c.levels.inner.copy.target i) (sym is) (stays_in c.levels.inner.copy.target part)
 
 folders_in : (ending : Ending) (part : Option Route) (old new : Seen) (last : LastStepResult) (before after : Option CallLog) (f0 f1 : ℕ) → FoldersWind ending part old new last before after f0 f1 → IsInWorked new
 folders_in ending part old new last before after f0 f1 w = go w.winds
@@ -92,7 +92,7 @@ folders_in ending part old new last before after f0 f1 w = go w.winds
     go (inl t) = kept_in new part (ap (λ (c : Seen). c.item) t.stands)
     go (inr e) = free_in new (ap (λ (c : Seen). c.item) e.stands)
 
-winds_in : (item : Item) (ending : Ending) (old new : Seen) (last : LastStepResult) (before after : Option CallLog) (f0 f1 : ℕ) → WindsAt item ending old new last before after f0 f1 → IsInWorked new
+winds_in : (item : ItemAtWork) (ending : Ending) (old new : Seen) (last : LastStepResult) (before after : Option CallLog) (f0 f1 : ℕ) → WindsAt item ending old new last before after f0 f1 → IsInWorked new
 winds_in Next ending old new last before after f0 f1 w = folders_in ending None old new last before after f0 f1 w
 winds_in (File f) ending old new last before after f0 f1 w = let m = w.moved in kept_in new (part_at m.stage) (ap (λ (c : Seen). c.item) w.stands)
 winds_in (Link l) ending old new last before after f0 f1 (inl c) = free_in new (ap (λ (s : Seen). s.item) c.stands)

@@ -13,11 +13,11 @@ use Rattle.job_reports.proofs.Tried.{counts_try, tries_few}
 use Rattle.copy_link.specs.LastTries.{RemovalTried, answer_in}
 use Rattle.copy_link.specs.LinkCopying.{LinkCopying}
 use Rattle.copy_link.specs.declared.removal.RemovalStep.{RemovalStep}
-use Rattle.copy_tree.specs.declared.item.Item.{Item}
-use Rattle.copy_tree.specs.declared.item.Item.TheVariants.{Next, File, Link, Stays}
+use Rattle.copy_tree.specs.declared.item.ItemAtWork.{ItemAtWork}
+use Rattle.copy_tree.specs.declared.item.ItemAtWork.TheVariants.{Next, File, Link, Stays}
 use Rattle.copy_tree.specs.Ending.{EndsAll, FoldersWind, TriesFolder, WindsAt}
 use Rattle.copy_tree.specs.Standing.{Seen}
-use Rattle.copy_tree.specs.Steps.{idle}
+use Rattle.copy_tree.specs.TreeCopySteps.{idle}
 use Rattle.copy_job.specs.Counted.{LastCountLaw, LastStepCounts}
 use Rattle.copy_job.proofs.Counts.{none_made}
 
@@ -70,7 +70,7 @@ both_count before (Some middle) after n m first second unknown log known now is 
     let b = second middle refl now is in
     omega (arith, a, b)
 
-winds_count : (item : Item) (ending : Ending) (old new : Seen) (last : LastStepResult) (before after : Option CallLog) (f0 f1 : ℕ) → WindsAt item ending old new last before after f0 f1 → LastStepCounts last before after f0 f1
+winds_count : (item : ItemAtWork) (ending : Ending) (old new : Seen) (last : LastStepResult) (before after : Option CallLog) (f0 f1 : ℕ) → WindsAt item ending old new last before after f0 f1 → LastStepCounts last before after f0 f1
 winds_count Next ending old new last before after f0 f1 w = (folders_count ending None old new last before after f0 f1 w).0
 winds_count (File f) ending old new last before after f0 f1 w =
     let on = w.winds in record { counted = on.counted; few = on.few; unknown = on.unknown; later = on.later; fault = on.fault }

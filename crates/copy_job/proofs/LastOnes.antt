@@ -11,12 +11,12 @@ use Rattle.copy_file.specs.Copying as file
 use Rattle.copy_file.specs.Copying.{part_at}
 use Rattle.copy_folders.specs.FolderCopying.{FolderCopying}
 use Rattle.copy_folders.specs.declared.stage.NamesState.TheVariants.{Synced}
-use Rattle.copy_folders.specs.Levels.{LeftAll, Levels, dirtied, with_copy}
-use Rattle.copy_tree.specs.declared.item.Item.{Item}
-use Rattle.copy_tree.specs.declared.item.Item.TheVariants.{Next, File, Link, Stays}
+use Rattle.copy_folders.specs.Levels.{LeftAll, Levels, dirtied_levels, with_copy}
+use Rattle.copy_tree.specs.declared.item.ItemAtWork.{ItemAtWork}
+use Rattle.copy_tree.specs.declared.item.ItemAtWork.TheVariants.{Next, File, Link, Stays}
 use Rattle.copy_tree.specs.Ending.{EndsAll, FoldersWind, TriesFolder, WindsAt, stays_if}
 use Rattle.copy_tree.specs.Standing.{Seen}
-use Rattle.copy_tree.specs.Steps.{idle}
+use Rattle.copy_tree.specs.TreeCopySteps.{idle}
 use Rattle.copy_job.specs.Ranks.{LastRankLaw, dirt, last_of, last_rank, marks, marks_around}
 use Rattle.copy_job.proofs.Fewer.{dirty_counts}
 
@@ -50,21 +50,21 @@ folders_fewer ending part old new last before after f0 f1 w h = go w.winds
     go (inr e) = absurd (true≢false (sym (ap (λ (r : LastStepResult). ends r.did) e.says) ∙ h))
 
 -- a file's part is removed, or its folder was tried
-file_marks : (changed : Bool) (old : Levels) → marks (dirtied changed (with_copy (record old.inner.copy { names = Synced }) old)) ≤ 1 + marks_around old.around
+file_marks : (changed : Bool) (old : Levels) → marks (dirtied_levels changed (with_copy (record old.inner.copy { names = Synced }) old)) ≤ 1 + marks_around old.around
 file_marks true old = omega arith
 file_marks false old = omega arith
 
-item_winds : (item : Item) (ending : Ending) (old new : Seen) (last : LastStepResult) (before after : Option CallLog) (f0 f1 : ℕ) → WindsAt item ending old new last before after f0 f1 → ends last.did ≡ false
+item_winds : (item : ItemAtWork) (ending : Ending) (old new : Seen) (last : LastStepResult) (before after : Option CallLog) (f0 f1 : ℕ) → WindsAt item ending old new last before after f0 f1 → ends last.did ≡ false
     → last_rank new < last_of item + marks old.levels
 item_winds Next ending old new last before after f0 f1 w h = let less = folders_fewer ending None old new last before after f0 f1 w h in omega (arith, less)
 item_winds (File f) ending old new last before after f0 f1 w h =
     let m = w.moved in
-    let now : last_rank new ≡ last_of (stays_if (part_at m.stage)) + marks (dirtied (file.is_dirty m.folder) (with_copy (record old.levels.inner.copy { names = Synced }) old.levels)) = ap last_rank w.stands in
+    let now : last_rank new ≡ last_of (stays_if (part_at m.stage)) + marks (dirtied_levels (file.is_dirty m.folder) (with_copy (record old.levels.inner.copy { names = Synced }) old.levels)) = ap last_rank w.stands in
     let none = none_at_work (part_at m.stage) in
     let few = file_marks (file.is_dirty m.folder) old.levels in
     omega (arith, now, none, few)
 item_winds (Link l) ending old new last before after f0 f1 (inl c) h =
-    let now : last_rank new ≡ last_of Next + marks (dirtied true old.levels) = ap last_rank c.stands in
+    let now : last_rank new ≡ last_of Next + marks (dirtied_levels true old.levels) = ap last_rank c.stands in
     omega (arith, now)
 item_winds (Link l) ending old new last before after f0 f1 (inr s) h =
     let later = s.winds in

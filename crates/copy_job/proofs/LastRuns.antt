@@ -20,14 +20,14 @@ use Rattle.copy_file.specs.LastSteps.{left_at}
 use Rattle.copy_folders.specs.FolderCopying.{FolderCopying}
 use Rattle.copy_folders.specs.declared.stage.NamesState.TheVariants.{Synced}
 use Rattle.copy_link.specs.LastTries.{answer_in}
-use Rattle.copy_folders.specs.Levels.{Levels, dirtied, with_copy}
-use Rattle.copy_tree.specs.declared.item.Item.{Item}
-use Rattle.copy_tree.specs.declared.item.Item.TheVariants.{Next, File, Link, Stays}
+use Rattle.copy_folders.specs.Levels.{Levels, dirtied_levels, with_copy}
+use Rattle.copy_tree.specs.declared.item.ItemAtWork.{ItemAtWork}
+use Rattle.copy_tree.specs.declared.item.ItemAtWork.TheVariants.{Next, File, Link, Stays}
 use Rattle.copy_tree.specs.declared.progress.Progress.TheVariants.{UnderWay}
 use Rattle.copy_tree.specs.Ending.{EndsAll, FoldersWind, IsWindable, TriesFolder, WindsAt}
 use Rattle.copy_tree.specs.Progress.{progress}
 use Rattle.copy_tree.specs.Standing.{Seen}
-use Rattle.copy_tree.specs.Steps.{idle}
+use Rattle.copy_tree.specs.TreeCopySteps.{idle}
 use Rattle.copy_tree.specs.WorkedFolder.{ItemIn}
 use Rattle.copy_job.specs.LastCalls.{LastCalls, LeavesPart, TellsTried}
 use Rattle.copy_job.specs.Standing.{part_of}
@@ -76,7 +76,7 @@ folders_told ending part stays old new last told log mid after f0 f1 w leaves di
         end_told part log mid ending stays told new.levels.inner.copy.target after leaves (did_is ∙ ap (λ (r : LastStepResult). r.did) e.says) (left_is ∙ ap (λ (r : LastStepResult). r.left) e.says) e.same
 
 -- the folder stays where it is
-dirtied_there : (b : Bool) (l : Levels) → (let d : Levels = dirtied b l in d.inner.copy.target) ≡ l.inner.copy.target
+dirtied_there : (b : Bool) (l : Levels) → (let d : Levels = dirtied_levels b l in d.inner.copy.target) ≡ l.inner.copy.target
 dirtied_there true l = refl
 dirtied_there false l = refl
 
@@ -114,7 +114,7 @@ gone_told log path after done =
     let now = performs_tells log (RemoveFile path) (Ok tt) after done in
     (now.0, subst (λ a. Performs {A = Unit {0}} log (RemoveFile path) (Ok tt) a) now.1 done, now.1)
 
-pub winds_told : (item : Item) (ending : Ending) (old new : Seen) (last : LastStepResult) (log : CallLog) (after : Option CallLog) (f0 f1 : ℕ) → WindsAt item ending old new last (Some log) after f0 f1 → IsWindable item
+pub winds_told : (item : ItemAtWork) (ending : Ending) (old new : Seen) (last : LastStepResult) (log : CallLog) (after : Option CallLog) (f0 f1 : ℕ) → WindsAt item ending old new last (Some log) after f0 f1 → IsWindable item
     → ItemIn old.levels.inner.copy.target item → IsTold (part_of item) last new.levels.inner.copy.target log after
 winds_told Next ending old new last log after f0 f1 w can there = folders_told ending None None old new last last log log after f0 f1 w (inl refl) refl refl
 winds_told (File f) ending old new last log after f0 f1 w can there =

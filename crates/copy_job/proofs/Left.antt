@@ -5,16 +5,16 @@ use Rattle.std.proofs.lemmas.Bool.{false≢true, true≢false}
 use Rattle.copy_folders.specs.FolderCopying.{is_dirty}
 use Rattle.tree_walk.specs.Places.{is_empty}
 use Rattle.copy_tree.specs.declared.due.Due.TheVariants.{End}
-use Rattle.copy_tree.specs.declared.item.Item.{Item}
-use Rattle.copy_tree.specs.declared.item.Item.TheVariants.{Next, File, Link, Stays}
+use Rattle.copy_tree.specs.declared.item.ItemAtWork.{ItemAtWork}
+use Rattle.copy_tree.specs.declared.item.ItemAtWork.TheVariants.{Next, File, Link, Stays}
 use Rattle.copy_folders.specs.declared.level.Level.{Level}
 use Rattle.copy_folders.specs.Levels.{Levels, is_around_dirty}
 use Rattle.copy_tree.specs.Standing.{Seen, due_at}
-use Rattle.copy_tree.specs.Steps.{Leaves, LeavesAll}
+use Rattle.copy_tree.specs.TreeCopySteps.{Leaves, LeavesAll}
 use Rattle.copy_job.specs.Leaving.{LeavesSettled, may_leave, may_leave_in, owes_at_end}
 
 -- nothing is at work where a folder may be left
-pub nothing_at_work : (item : Item) (l : Levels) → may_leave_in item l ≡ true → item ≡ Next
+pub nothing_at_work : (item : ItemAtWork) (l : Levels) → may_leave_in item l ≡ true → item ≡ Next
 nothing_at_work Next l may = refl
 nothing_at_work (File f) l may = absurd (false≢true may)
 nothing_at_work (Link k) l may = absurd (false≢true may)
@@ -40,7 +40,7 @@ left_may : (c new : Seen) → c.item ≡ Next → Leaves c new → may_leave c �
 left_may c new free l =
     let r = l.returns in
     let left = r.left in
-    ap (λ (i : Item). may_leave_in i c.levels) free
+    ap (λ (i : ItemAtWork). may_leave_in i c.levels) free
     ∙ may_so (is_empty c.levels.inner.names.names) (is_around_dirty c.levels.around) (is_empty c.levels.around) (owes_at_end c.levels.inner.copy.stage (is_dirty c.levels.inner.copy.names))
     (none_next c.levels.inner.names.names c l.next) l.synced (some_around c.levels.around new.levels.around new.levels.inner left.was) l.done
 

@@ -8,7 +8,7 @@ use Rattle.copy_folders.specs.FolderCopying.{is_dirty}
 use Rattle.job_reports.specs.declared.report.Did.{Did}
 use Rattle.copy_folders.specs.Levels.{is_around_dirty, target_around}
 use Rattle.copy_tree.specs.Standing.{Seen}
-use Rattle.job_unsynced.specs.Folders.{joined, with_change}
+use Rattle.job_unsynced.specs.Folders.{joined_folders, with_change}
 use Rattle.copy_job.specs.Marks.{brings_made, folder_worked, is_dirty_after, is_left_dirty, was_dirty}
 
 -- a folder that is dirty leaves the list where it was synced
@@ -22,7 +22,7 @@ unchanged true folder dirty = refl
 unchanged false folder dirty = refl
 
 -- a clean one joins it, and stays there where it was changed
-pub joins_list : (now new dropped : Bool) (folder : Route) (dirty more dirty_after : List Route) → more ≡ joined folder dirty → (if new then take (length more - 1) more else more) ≡ dirty → dropped ≡ (new && not now)
+pub joins_list : (now new dropped : Bool) (folder : Route) (dirty more dirty_after : List Route) → more ≡ joined_folders folder dirty → (if new then take (length more - 1) more else more) ≡ dirty → dropped ≡ (new && not now)
     → dirty_after ≡ (if dropped then take (length more - 1) more else more) → dirty_after ≡ with_change false now folder dirty
 joins_list true true dropped folder dirty more dirty_after is back off h = h ∙ (ap (λ b. if b then take (length more - 1) more else more) off ∙ is)
 joins_list true false dropped folder dirty more dirty_after is back off h = h ∙ (ap (λ b. if b then take (length more - 1) more else more) off ∙ is)

@@ -13,9 +13,9 @@ use Rattle.job_reports.specs.declared.report.Transfer.TheVariants.{ByCopy}
 use Rattle.copy_folders.specs.FolderCopying.{is_dirty}
 use Rattle.copy_folders.specs.Levels.{Levels, is_around_dirty}
 use Rattle.copy_tree.specs.Standing.{Seen}
-use Rattle.copy_tree.specs.Steps.{TakesMerged}
-use Rattle.copy_tree.specs.declared.item.Item.{Item}
-use Rattle.copy_tree.specs.declared.item.Item.TheVariants.{Next, File, Link, Stays}
+use Rattle.copy_tree.specs.TreeCopySteps.{TakesMerged}
+use Rattle.copy_tree.specs.declared.item.ItemAtWork.{ItemAtWork}
+use Rattle.copy_tree.specs.declared.item.ItemAtWork.TheVariants.{Next, File, Link, Stays}
 use Rattle.job_unsynced.specs.Folders.{with_change}
 use Rattle.copy_job.specs.Marks.{brings_in, brings_made, folder_worked, is_dirty_after, was_dirty}
 use Rattle.copy_job.specs.Passing.{OrPassedOver}
@@ -31,7 +31,7 @@ same_mark : (brings around inner : Bool) → (brings ≡ true → around ≡ tru
 same_mark true around inner h = h refl
 same_mark false around inner h = refl
 
-brings_dirty : (item : Item) (l : Levels) → brings_in item l ≡ true → is_around_dirty l.around ≡ true
+brings_dirty : (item : ItemAtWork) (l : Levels) → brings_in item l ≡ true → is_around_dirty l.around ≡ true
 brings_dirty Next l h = h
 brings_dirty (File f) l h = absurd (false≢true h)
 brings_dirty (Link k) l h = absurd (false≢true h)

@@ -20,15 +20,15 @@ use Rattle.tree_walk.specs.Places.{is_empty}
 use Rattle.copy_folders.specs.declared.level.Level.{Level}
 use Rattle.copy_folders.specs.Levels.{is_around_dirty, owed_at}
 use Rattle.copy_tree.specs.declared.due.Due.TheVariants.{Thing}
-use Rattle.copy_tree.specs.declared.item.Item.{Item}
-use Rattle.copy_tree.specs.declared.item.Item.TheVariants.{Next, File, Link, Stays}
+use Rattle.copy_tree.specs.declared.item.ItemAtWork.{ItemAtWork}
+use Rattle.copy_tree.specs.declared.item.ItemAtWork.TheVariants.{Next, File, Link, Stays}
 use Rattle.copy_tree.specs.InPlace.{AreMoved, HoldsTop, IsInPlace, NoneBeside}
 use Rattle.copy_tree.specs.Parts.{IsPartPlace}
 use Rattle.copy_tree.specs.Reports.{IsToldAs, changes}
 use Rattle.copy_tree.specs.Skipping as machine
 use Rattle.copy_tree.specs.Taking.{AreShort}
 use Rattle.copy_tree.specs.Standing.{Seen, due, due_at, is_fresh, pair_of}
-use Rattle.copy_tree.specs.Steps.{LeavesAll, TakesMerged, TakesNext, WorksOn, at_end, has_debt}
+use Rattle.copy_tree.specs.TreeCopySteps.{LeavesAll, TakesMerged, TakesNext, WorksOn, at_end, has_debt}
 use Rattle.copy_tree.proofs.InPlaces.{leaves_all}
 use Rattle.copy_job.specs.Leaving.{may_leave, owes_at_end}
 use Rattle.copy_job.specs.Merged.{AsksTop, IsOver, IsPassed, KeepsTop, MergedLaw, MergesTop}
@@ -77,7 +77,7 @@ takes_over unclaimed replies old new did before after (inr (inr (inr (inr (inr (
   ap changes f.says,
 )
 
-works_over : (unclaimed : Route → Type 0) (replies : Replies) (item : Item) (old new : Seen) (did : Did) (before after : Option CallLog) → old.item ≡ item → WorksOn item unclaimed replies old new did before after → IsOver old → IsStill new did
+works_over : (unclaimed : Route → Type 0) (replies : Replies) (item : ItemAtWork) (old new : Seen) (did : Did) (before after : Option CallLog) → old.item ≡ item → WorksOn item unclaimed replies old new did before after → IsOver old → IsStill new did
 works_over unclaimed replies Next old new did before after is (inl s) o = absurd (false≢true (sym (ap is_around_dirty o.around) ∙ s.dirty))
 works_over unclaimed replies Next old new did before after is (inr t) o = takes_over unclaimed replies old new did before after t.1 o
 works_over unclaimed replies (File f) old new did before after is w o = absurd (let e = sym o.none ∙ is in let g : ⊥ = cc in g)
@@ -107,7 +107,7 @@ skips_over cause old new did (moved, inr room, stands) o = (
 
 skip_over : (cause : Cause) (old new : Seen) (did : Did) → machine.Skips cause old did new → IsOver old → IsStill new did
 skip_over cause old new did s o =
-    let next : machine.SkipsNext cause old did new = subst (λ (i : Item). machine.SkipsAt i cause old did new) o.none s in
+    let next : machine.SkipsNext cause old did new = subst (λ (i : ItemAtWork). machine.SkipsAt i cause old did new) o.none s in
     skips_over cause old new did (subst (λ (names : List (List ℕ)). machine.SkipsNamed names cause old did new) o.names next) o
 
 pub step_over : (free : Route → Bool) (replies : Replies) (old new : SubtreeCopying) (did : Did) (calls : ℕ) (dirty dirty_after : List Route) (before after : Option CallLog) (f0 f1 : ℕ)
@@ -144,7 +144,7 @@ module _ (unclaimed : Route → Type 0) (replies : Replies) (old new : Seen) (pa
   takes_merged (inr (inr (inr (inr (inr (inr (inr (next, inl (debt, e))))))))) = absurd (folder_no_merge e.report pair names e.says)
   takes_merged (inr (inr (inr (inr (inr (inr (inr (next, inr (debt, f, same))))))))) = absurd (let e = f.says in let g : ⊥ = cc in g)
 
-  works_merged : (item : Item) → WorksOn item unclaimed replies old new (Merges ByCopy pair names) before after → Merged
+  works_merged : (item : ItemAtWork) → WorksOn item unclaimed replies old new (Merges ByCopy pair names) before after → Merged
   works_merged Next (inl s) = absurd (folder_no_merge s.report pair names s.says)
   works_merged Next (inr t) = takes_merged t.1
   works_merged (File f) w = absurd w.tells
@@ -167,7 +167,7 @@ named_no_merge (name ∷ names) cause old new pair met (inr (inl (long, inl s)))
 named_no_merge (name ∷ names) cause old new pair met (inr (inl (long, inr s))) = let e = s.0 in let g : ⊥ = cc in g
 named_no_merge (name ∷ names) cause old new pair met (inr (inr s)) = let e = s.0 in let g : ⊥ = cc in g
 
-pub skip_no_merge : (item : Item) (cause : Cause) (old new : Seen) (pair : Pair) (names : List (List ℕ)) → machine.SkipsAt item cause old (Merges ByCopy pair names) new → ⊥
+pub skip_no_merge : (item : ItemAtWork) (cause : Cause) (old new : Seen) (pair : Pair) (names : List (List ℕ)) → machine.SkipsAt item cause old (Merges ByCopy pair names) new → ⊥
 skip_no_merge Next cause old new pair names s = named_no_merge old.levels.inner.names.names cause old new pair names s
 skip_no_merge (File f) cause old new pair names (moved, inl s, stands) = let e = s.0 in let g : ⊥ = cc in g
 skip_no_merge (File f) cause old new pair names (moved, inr s, stands) = let e = s.0 in let g : ⊥ = cc in g
@@ -302,8 +302,8 @@ asks_top free replies old new question calls dirty dirty_after before after f0 f
     by (inl p) = asked (ap (λ (r : StepResult). r.did) (sym p.1)) p.2
     by (inr p) = (let m : Seen = s.moved in absurd (skip_no_ask m.item p.0 m new.at question p.3))
 
-retry_over : (c : Seen) → IsOver c → IsOver (machine.retried c)
-retry_over c o = subst (λ (i : Item). IsOver (machine.retried_at i c)) (sym o.none) o
+retry_over : (c : Seen) → IsOver c → IsOver (machine.retried_copy c)
+retry_over c o = subst (λ (i : ItemAtWork). IsOver (machine.retried_at i c)) (sym o.none) o
 
 pub merged_law : MergedLaw
 merged_law = record {

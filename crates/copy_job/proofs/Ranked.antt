@@ -29,19 +29,19 @@ use Rattle.copy_link.specs.LinkCopying.{LinkCopying}
 use Rattle.copy_link.specs.LinkSteps as link_steps
 use Rattle.copy_link.specs.declared.stage.Stage.{Stage as LinkStage}
 use Rattle.copy_link.specs.declared.stage.Stage.TheVariants as link_stage
-use Rattle.tree_walk.specs.Places.{opened}
+use Rattle.tree_walk.specs.Places.{opened_folder}
 use Rattle.tree_walk.specs.Ranks.{rank_around, weight}
 use Rattle.tree_walk.proofs.Falling.{pass_falls}
 use Rattle.copy_folders.specs.declared.level.Level.{Level}
-use Rattle.copy_folders.specs.Levels.{Levels, emptied, is_around_dirty, level, made_levels, passed, walked}
-use Rattle.copy_tree.specs.declared.item.Item.{Item}
-use Rattle.copy_tree.specs.declared.item.Item.TheVariants.{Next, File, Link, Stays}
+use Rattle.copy_folders.specs.Levels.{Levels, emptied_levels, is_around_dirty, level, made_levels, passed_levels, walked_place}
+use Rattle.copy_tree.specs.declared.item.ItemAtWork.{ItemAtWork}
+use Rattle.copy_tree.specs.declared.item.ItemAtWork.TheVariants.{Next, File, Link, Stays}
 use Rattle.copy_tree.specs.Falling.{HasName, IsSteady, things_left}
 use Rattle.copy_tree.specs.Parts.{IsPartPlace}
 use Rattle.copy_tree.specs.Progress.{link_progress, progress}
 use Rattle.copy_tree.specs.Skipping as machine
 use Rattle.copy_tree.specs.Standing.{Seen, after_report}
-use Rattle.copy_tree.specs.Steps.{FileWorks, FolderEnds, FolderMakes, GoesOn, IsWorkable, LeavesAll, LinkWorks, SyncsAround, TakesNext, WorksOn, at_end, idle, link_begun, settled}
+use Rattle.copy_tree.specs.TreeCopySteps.{FileWorks, FolderEnds, FolderMakes, GoesOn, IsWorkable, LeavesAll, LinkWorks, SyncsAround, TakesNext, WorksOn, at_end, idle, link_begun, copy_after_progress}
 use Rattle.copy_tree.proofs.Fallings.{all_leave, falling_law}
 use Rattle.copy_job.specs.Leaving.{may_leave}
 use Rattle.copy_job.specs.Passing.{OrPassedOver}
@@ -118,7 +118,7 @@ makes_troubled most pair names mode old new did before after t w says =
     let m = w.moved in
     let same = folder_same (folder.copying pair.source pair.target (Make mode) Synced) m w.report did t w.says w.tells says in
     no_more (rank_by most new) (rank_by most old) (ap (λ (c : Seen). rank_by most c) w.stands
-    ∙ ap (λ (s : Stage). rank_by most (record old { stage = after_report did old.stage; levels = made_levels s (opened pair.source names) m old.levels })) (ap (λ (x : FolderCopying). x.stage) same.1))
+    ∙ ap (λ (s : Stage). rank_by most (record old { stage = after_report did old.stage; levels = made_levels s (opened_folder pair.source names) m old.levels })) (ap (λ (x : FolderCopying). x.stage) same.1))
 
 ends_troubled : (most : ℕ) (old new : Seen) (did : Did) (before after : Option CallLog) (t : Trouble) → FolderEnds (at_end old) new did before after → Says did t → OneMore most old new
 ends_troubled most old new did before after t e says =
@@ -134,7 +134,7 @@ takes_troubled : (most : ℕ) (unclaimed : Route → Type 0) (replies : Replies)
 takes_troubled most unclaimed replies old new did before after t (inl s) says free = no_more _ _ (ap (λ (c : Seen). rank_by most c) s.stands)
 takes_troubled most unclaimed replies old new did before after t (inr (inl w)) says free =
     let free_rank : item_rank most old.item ≡ anew most = ap (item_rank most) free in
-    let l = file_troubled most unclaimed (file.begun old.job w.pair.source w.pair.target) old new did None None t (file_taken unclaimed replies old new did before after w) says (some_name old.levels.inner.names.names old w.pair w.next) in
+    let l = file_troubled most unclaimed (file.begun_copy old.job w.pair.source w.pair.target) old new did None None t (file_taken unclaimed replies old new did before after w) says (some_name old.levels.inner.names.names old w.pair w.next) in
     omega (arith, free_rank, l)
 takes_troubled most unclaimed replies old new did before after t (inr (inr (inl w))) says free =
     let free_rank : item_rank most old.item ≡ anew most = ap (item_rank most) free in
@@ -165,7 +165,7 @@ goes_troubled : (most : ℕ) (unclaimed : Route → Type 0) (replies : Replies) 
 goes_troubled most unclaimed replies old new did before after t (inl s) says free = syncs_troubled most old new did before after t s says
 goes_troubled most unclaimed replies old new did before after t (inr s) says free = takes_troubled most unclaimed replies old new did before after t s.1 says free
 
-works_troubled : (most : ℕ) (unclaimed : Route → Type 0) (replies : Replies) (item : Item) (old new : Seen) (did : Did) (before after : Option CallLog) (t : Trouble) → WorksOn item unclaimed replies old new did before after → Says did t
+works_troubled : (most : ℕ) (unclaimed : Route → Type 0) (replies : Replies) (item : ItemAtWork) (old new : Seen) (did : Did) (before after : Option CallLog) (t : Trouble) → WorksOn item unclaimed replies old new did before after → Says did t
     → old.item ≡ item → HasName item old.levels → OneMore most old new
 works_troubled most unclaimed replies Next old new did before after t w says is named = goes_troubled most unclaimed replies old new did before after t w says is
 works_troubled most unclaimed replies (File f) old new did before after t w says is named =
@@ -187,7 +187,7 @@ some_weight zero = omega arith
 some_weight (suc left) = omega arith
 
 emptied_falls : (names : List (List ℕ)) (name : List ℕ) (rest : List (List ℕ)) (l : Levels) → l.inner.names.names ≡ names → names ≡ name ∷ rest
-    → (1 + 0 * weight l.left) + rank_around (suc l.left) (let w = walked l in w.around) < (1 + length names * weight l.left) + rank_around (suc l.left) (let w = walked l in w.around)
+    → (1 + 0 * weight l.left) + rank_around (suc l.left) (let w = walked_place l in w.around) < (1 + length names * weight l.left) + rank_around (suc l.left) (let w = walked_place l in w.around)
 emptied_falls names name rest l at is =
     let n : length names ≡ suc (length rest) = ap (λ (xs : List (List ℕ)). length xs) is in
     let s = suc-mul (length rest) (weight l.left) in
@@ -207,7 +207,7 @@ rest_falls : (most : ℕ) (cause : Cause) (old new : Seen) (did : Did) (name : L
 rest_falls most cause old new did name rest (inl s) free is h =
     let item : item_rank most new.item ≡ anew most = ap (item_rank most) (ap (λ (c : Seen). c.item) s.1 ∙ free) in
     let fewer = emptied_falls old.levels.inner.names.names name rest old.levels refl is in
-    let now : things_left new ≡ things_left (record old { levels = emptied old.levels }) = ap things_left s.1 in
+    let now : things_left new ≡ things_left (record old { levels = emptied_levels old.levels }) = ap things_left s.1 in
     thing_fewer most old new free (subst (λ n. n < things_left old) (sym now) fewer) item (ap (λ (c : Seen). levels_rank c.levels) s.1)
 rest_falls most cause old new did name rest (inr n) free is h = absurd (false≢true (sym (ap goes_on n.0) ∙ h))
 
@@ -217,13 +217,13 @@ name_falls most cause old new did name rest (inl s) free is h =
     let item : item_rank most new.item ≡ anew most = ap (item_rank most) (ap (λ (c : Seen). c.item) s.1 ∙ free) in
     let n : length old.levels.inner.names.names ≡ suc (length rest) = ap (λ (xs : List (List ℕ)). length xs) is in
     let some : 1 ≤ length old.levels.inner.names.names = omega (arith, n) in
-    let fewer = pass_falls true (walked old.levels) some in
-    let now : things_left new ≡ things_left (record old { levels = passed true old.levels }) = ap things_left s.1 in
+    let fewer = pass_falls true (walked_place old.levels) some in
+    let now : things_left new ≡ things_left (record old { levels = passed_levels true old.levels }) = ap things_left s.1 in
     thing_fewer most old new free (subst (λ k. k < things_left old) (sym now) fewer) item (ap (λ (c : Seen). levels_rank c.levels) s.1)
 name_falls most cause old new did name rest (inr (inl s)) free is h = rest_falls most cause old new did name rest s.1 free is h
 name_falls most cause old new did name rest (inr (inr n)) free is h = absurd (false≢true (sym (ap goes_on n.0) ∙ h))
 
-left_rank_at : (stage : Stage) → barrier_at_end stage ≡ false → stage_rank (folder.skipped stage) + 1 ≤ stage_rank stage
+left_rank_at : (stage : Stage) → barrier_at_end stage ≡ false → stage_rank (folder.skipped_stage stage) + 1 ≤ stage_rank stage
 left_rank_at (Close (Some mode)) open_at = omega arith
 left_rank_at (Close None) open_at = absurd (true≢false open_at)
 left_rank_at (Fill owed) open_at = absurd (true≢false open_at)
@@ -236,7 +236,7 @@ end_skipped most cause old new did s none open_at h = go s.1
     go : folder_steps.Skips cause old.levels.inner.copy did s.0 → TwoFewer most old new
     go (inl k) =
         let less = left_rank_at old.levels.inner.copy.stage (sym (ap (λ names. barrier_at_name names old.levels.inner.copy.stage) none) ∙ open_at.1) in
-        let now : rank_by most new ≡ things_left old * anew most + (item_rank most old.item + (copy_rank (record old.levels.inner.copy { stage = folder.skipped old.levels.inner.copy.stage }) + around_rank old.levels.around)) =
+        let now : rank_by most new ≡ things_left old * anew most + (item_rank most old.item + (copy_rank (record old.levels.inner.copy { stage = folder.skipped_stage old.levels.inner.copy.stage }) + around_rank old.levels.around)) =
         ap (λ (c : Seen). rank_by most c) s.2 ∙ ap (λ (x : FolderCopying). things_left old * anew most + (item_rank most old.item + (copy_rank x + around_rank old.levels.around))) k.1 in
         omega (arith, less, now)
     go (inr k) = absurd (false≢true (sym (ap goes_on k.0) ∙ h))
@@ -247,19 +247,19 @@ named_falls most [] cause old new did s is free open_at h = end_skipped most cau
 named_falls most (name ∷ names) cause old new did s is free open_at h = name_falls most cause old new did name names s free is h
 
 -- a file or a link that is left
-passes_two : (most : ℕ) (old : Seen) (item : Item) → 1 ≤ length old.levels.inner.names.names → old.item ≡ item → 4 ≤ item_rank most item → TwoFewer most old (record (idle old) { levels = passed false old.levels })
+passes_two : (most : ℕ) (old : Seen) (item : ItemAtWork) → 1 ≤ length old.levels.inner.names.names → old.item ≡ item → 4 ≤ item_rank most item → TwoFewer most old (record (idle old) { levels = passed_levels false old.levels })
 passes_two most old item some is four =
     let same : item_rank most old.item ≡ item_rank most item = ap (item_rank most) is in
-    let fewer = fewer_falls (anew most) (things_left old) _ (item_rank most old.item + levels_rank old.levels) (anew most + levels_rank old.levels + 2) (pass_falls false (walked old.levels) some) (omega (arith, same, four)) in
+    let fewer = fewer_falls (anew most) (things_left old) _ (item_rank most old.item + levels_rank old.levels) (anew most + levels_rank old.levels + 2) (pass_falls false (walked_place old.levels) some) (omega (arith, same, four)) in
     omega (arith, fewer)
 
-stays_two : (most : ℕ) (old : Seen) (item new : Item) → old.item ≡ item → item_rank most new ≡ 4 → 8 ≤ item_rank most item → TwoFewer most old (record (idle old) { item = new })
+stays_two : (most : ℕ) (old : Seen) (item new : ItemAtWork) → old.item ≡ item → item_rank most new ≡ 4 → 8 ≤ item_rank most item → TwoFewer most old (record (idle old) { item = new })
 stays_two most old item new is now eight =
     let same : item_rank most old.item ≡ item_rank most item = ap (item_rank most) is in
     omega (arith, same, now, eight)
 
-file_skipped : (most : ℕ) (f m : Copying) (old : Seen) (stage : FileStage) → f.stage ≡ stage → m.stage ≡ file.skipped stage → file.at_barrier stage ≡ false → old.item ≡ File f → 1 ≤ length old.levels.inner.names.names
-    → TwoFewer most old (settled (progress (file.skipped stage)) (File m) (idle old))
+file_skipped : (most : ℕ) (f m : Copying) (old : Seen) (stage : FileStage) → f.stage ≡ stage → m.stage ≡ file.skipped_stage stage → file.at_barrier stage ≡ false → old.item ≡ File f → 1 ≤ length old.levels.inner.names.names
+    → TwoFewer most old (copy_after_progress (progress (file.skipped_stage stage)) (File m) (idle old))
 file_skipped most f m old file_stage.Begin at now open_at is some =
     let x : file_rank most f.stage ≡ anew most = ap (file_rank most) at in
     passes_two most old (File f) some is (omega (arith, x))
@@ -270,8 +270,8 @@ file_skipped most f m old (file_stage.Clean part follows) at now open_at is some
 file_skipped most f m old (file_stage.Left part) at now open_at is some = absurd (true≢false open_at)
 file_skipped most f m old file_stage.Decided at now open_at is some = absurd (true≢false open_at)
 
-link_skipped : (most : ℕ) (l m : LinkCopying) (old : Seen) (stage : LinkStage) → l.stage ≡ stage → m.stage ≡ link.skipped stage → link.at_barrier stage ≡ false → old.item ≡ Link l → 1 ≤ length old.levels.inner.names.names
-    → TwoFewer most old (settled (link_progress (link.skipped stage)) (Link m) (idle old))
+link_skipped : (most : ℕ) (l m : LinkCopying) (old : Seen) (stage : LinkStage) → l.stage ≡ stage → m.stage ≡ link.skipped_stage stage → link.at_barrier stage ≡ false → old.item ≡ Link l → 1 ≤ length old.levels.inner.names.names
+    → TwoFewer most old (copy_after_progress (link_progress (link.skipped_stage stage)) (Link m) (idle old))
 link_skipped most l m old link_stage.Make at now open_at is some =
     let x : link_rank most l.stage ≡ anew most = ap (link_rank most) at in
     passes_two most old (Link l) some is (omega (arith, x))
@@ -291,8 +291,8 @@ file_two most cause f old new did s is open_at some h = go s.1
   where
     go : file_steps.Skips cause f did s.0 → TwoFewer most old new
     go (inl k) =
-        let m : Copying = record f { stage = file.skipped f.stage } in
-        subst (λ (c : Seen). TwoFewer most old c) (sym (s.2 ∙ ap (λ (x : Copying). settled (progress x.stage) (File x) (idle old)) k.1)) (file_skipped most f m old f.stage refl refl open_at is some)
+        let m : Copying = record f { stage = file.skipped_stage f.stage } in
+        subst (λ (c : Seen). TwoFewer most old c) (sym (s.2 ∙ ap (λ (x : Copying). copy_after_progress (progress x.stage) (File x) (idle old)) k.1)) (file_skipped most f m old f.stage refl refl open_at is some)
     go (inr k) = absurd (false≢true (sym (ap goes_on k.0) ∙ h))
 
 link_two : (most : ℕ) (cause : Cause) (l : LinkCopying) (old new : Seen) (did : Did) → machine.SkipsLink cause l (idle old) did new → old.item ≡ Link l → link.at_barrier l.stage ≡ false → 1 ≤ length old.levels.inner.names.names → goes_on did ≡ true
@@ -301,14 +301,14 @@ link_two most cause l old new did s is open_at some h = go s.1
   where
     go : link_steps.Skips cause l did s.0 → TwoFewer most old new
     go (inl k) =
-        let m : LinkCopying = record l { stage = link.skipped l.stage } in
-        subst (λ (c : Seen). TwoFewer most old c) (sym (s.2 ∙ ap (λ (x : LinkCopying). settled (link_progress x.stage) (Link x) (idle old)) k.1)) (link_skipped most l m old l.stage refl refl open_at is some)
+        let m : LinkCopying = record l { stage = link.skipped_stage l.stage } in
+        subst (λ (c : Seen). TwoFewer most old c) (sym (s.2 ∙ ap (λ (x : LinkCopying). copy_after_progress (link_progress x.stage) (Link x) (idle old)) k.1)) (link_skipped most l m old l.stage refl refl open_at is some)
     go (inr k) = absurd (false≢true (sym (ap goes_on k.0) ∙ h))
 
-pub skip_falls : (most : ℕ) (item : Item) (cause : Cause) (old new : Seen) (did : Did) → machine.SkipsAt item cause old did new → old.item ≡ item → at_barrier old ≡ false → HasName item old.levels → goes_on did ≡ true → TwoFewer most old new
+pub skip_falls : (most : ℕ) (item : ItemAtWork) (cause : Cause) (old new : Seen) (did : Did) → machine.SkipsAt item cause old did new → old.item ≡ item → at_barrier old ≡ false → HasName item old.levels → goes_on did ≡ true → TwoFewer most old new
 skip_falls most Next cause old new did s is open_at named h = named_falls most old.levels.inner.names.names cause old new did s refl is (opens_at old is open_at) h
-skip_falls most (File f) cause old new did s is open_at named h = file_two most cause f old new did s is (sym (ap (λ (i : Item). barrier_at i old.levels) is) ∙ open_at) named h
-skip_falls most (Link l) cause old new did s is open_at named h = link_two most cause l old new did s is (sym (ap (λ (i : Item). barrier_at i old.levels) is) ∙ open_at) named h
+skip_falls most (File f) cause old new did s is open_at named h = file_two most cause f old new did s is (sym (ap (λ (i : ItemAtWork). barrier_at i old.levels) is) ∙ open_at) named h
+skip_falls most (Link l) cause old new did s is open_at named h = link_two most cause l old new did s is (sym (ap (λ (i : ItemAtWork). barrier_at i old.levels) is) ∙ open_at) named h
 skip_falls most (Stays part) cause old new did s is open_at named h = absurd s
 
 -- a step with the list, of a copy that is steady

@@ -32,8 +32,8 @@ use Rattle.copy_link.specs.declared.stage.Stage.{Stage as LinkStage}
 use Rattle.copy_link.specs.declared.stage.Stage.TheVariants as link_stage
 use Rattle.copy_folders.specs.declared.level.Level.{Level}
 use Rattle.copy_folders.specs.Levels.{is_around_dirty, target_around}
-use Rattle.copy_tree.specs.declared.item.Item.{Item}
-use Rattle.copy_tree.specs.declared.item.Item.TheVariants.{Next, File, Link, Stays}
+use Rattle.copy_tree.specs.declared.item.ItemAtWork.{ItemAtWork}
+use Rattle.copy_tree.specs.declared.item.ItemAtWork.TheVariants.{Next, File, Link, Stays}
 use Rattle.copy_tree.specs.declared.progress.Progress.TheVariants.{UnderWay}
 use Rattle.copy_tree.specs.Ending.{EndsAll, FoldersWind, IsWindable, TriesFolder, WindsAt, stays_if}
 use Rattle.copy_tree.specs.InPlace.{AreMoved, IsInPlace}
@@ -42,13 +42,13 @@ use Rattle.copy_tree.specs.Progress.{progress}
 use Rattle.copy_tree.specs.Reports.{IsToldAs}
 use Rattle.copy_tree.specs.Skipping as machine
 use Rattle.copy_tree.specs.Standing.{Seen}
-use Rattle.copy_tree.specs.Steps.{TakesNext, WorksOn, idle, link_begun}
+use Rattle.copy_tree.specs.TreeCopySteps.{TakesNext, WorksOn, idle, link_begun}
 use Rattle.copy_tree.proofs.InPlaces.{leaves_all}
 use Rattle.job_unsynced.specs.Folders.{is_of}
 use Rattle.copy_job.specs.Leaving.{may_leave}
 use Rattle.copy_job.specs.Marks.{brings_in, brings_made, folder_worked, is_dirty_after, was_dirty}
 use Rattle.copy_job.specs.Passing.{OrPassedOver}
-use Rattle.copy_job.specs.Reporting.{ChangesOwn, MayTell, MayWind, ReportingLaw, part_wound}
+use Rattle.copy_job.specs.Reporting.{ChangesOwn, MayTell, MayTellLast, ReportingLaw, part_after_last_step}
 use Rattle.copy_job.specs.Standing.{SubtreeCopying, part_of}
 use Rattle.copy_job.specs.SubtreeSteps.{ListSteps, step_result}
 use Rattle.copy_tree.proofs.PartsBegin.{file_taken}
@@ -106,7 +106,7 @@ folder_may (folder_did.Troubled trouble) did told = subst MayTell (sym told) tt
 module _ (unclaimed : Route → Type 0) (replies : Replies) (old new : Seen) (did : Did) (before after : Option CallLog) where
   takes_may : TakesNext unclaimed replies old new did before after → MayTell did
   takes_may (inl s) = subst MayTell (sym s.says) tt
-  takes_may (inr (inl t)) = (let w = file_taken unclaimed replies old new did before after t in file_may (file.begun old.job t.pair.source t.pair.target) w.moved did w.tells)
+  takes_may (inr (inl t)) = (let w = file_taken unclaimed replies old new did before after t in file_may (file.begun_copy old.job t.pair.source t.pair.target) w.moved did w.tells)
   takes_may (inr (inr (inl t))) = (let w = t.works in link_may (link_begun t.pair t.part) w.moved did w.tells)
   takes_may (inr (inr (inr (inl t)))) = (let w = t.works in folder_may w.report did w.says)
   takes_may (inr (inr (inr (inr (inl t))))) = subst MayTell (sym t.says) tt
@@ -115,7 +115,7 @@ module _ (unclaimed : Route → Type 0) (replies : Replies) (old new : Seen) (di
   takes_may (inr (inr (inr (inr (inr (inr (inr (next, inl (debt, e))))))))) = folder_may e.report did e.says
   takes_may (inr (inr (inr (inr (inr (inr (inr (next, inr (debt, f, same))))))))) = subst MayTell (sym f.says) refl
 
-  works_may : (item : Item) → WorksOn item unclaimed replies old new did before after → MayTell did
+  works_may : (item : ItemAtWork) → WorksOn item unclaimed replies old new did before after → MayTell did
   works_may Next (inl s) = folder_may s.report did s.says
   works_may Next (inr t) = takes_may t.1
   works_may (File f) w = file_may f w.moved did w.tells
@@ -130,7 +130,7 @@ named_may (name ∷ names) cause old new did (inr (inl (long, inl s))) = subst M
 named_may (name ∷ names) cause old new did (inr (inl (long, inr room))) = subst MayTell (sym room.0) tt
 named_may (name ∷ names) cause old new did (inr (inr room)) = subst MayTell (sym room.0) tt
 
-skip_may : (item : Item) (cause : Cause) (old new : Seen) (did : Did) → machine.SkipsAt item cause old did new → MayTell did
+skip_may : (item : ItemAtWork) (cause : Cause) (old new : Seen) (did : Did) → machine.SkipsAt item cause old did new → MayTell did
 skip_may Next cause old new did s = named_may old.levels.inner.names.names cause old new did s
 skip_may (File f) cause old new did (moved, inl s, stands) = subst MayTell (sym s.0) tt
 skip_may (File f) cause old new did (moved, inr room, stands) = subst MayTell (sym room.0) tt
@@ -201,7 +201,7 @@ folder_not (folder_did.Troubled trouble) did told = subst NotSkipped (sym told) 
 module _ (unclaimed : Route → Type 0) (replies : Replies) (old new : Seen) (did : Did) (before after : Option CallLog) where
   takes_not : TakesNext unclaimed replies old new did before after → NotSkipped did
   takes_not (inl s) = subst NotSkipped (sym s.says) tt
-  takes_not (inr (inl t)) = (let w = file_taken unclaimed replies old new did before after t in file_not (file.begun old.job t.pair.source t.pair.target) w.moved did w.tells)
+  takes_not (inr (inl t)) = (let w = file_taken unclaimed replies old new did before after t in file_not (file.begun_copy old.job t.pair.source t.pair.target) w.moved did w.tells)
   takes_not (inr (inr (inl t))) = (let w = t.works in link_not (link_begun t.pair t.part) w.moved did w.tells)
   takes_not (inr (inr (inr (inl t)))) = (let w = t.works in folder_not w.report did w.says)
   takes_not (inr (inr (inr (inr (inl t))))) = subst NotSkipped (sym t.says) tt
@@ -210,7 +210,7 @@ module _ (unclaimed : Route → Type 0) (replies : Replies) (old new : Seen) (di
   takes_not (inr (inr (inr (inr (inr (inr (inr (next, inl (debt, e))))))))) = folder_not e.report did e.says
   takes_not (inr (inr (inr (inr (inr (inr (inr (next, inr (debt, f, same))))))))) = subst NotSkipped (sym f.says) tt
 
-  works_not : (item : Item) → WorksOn item unclaimed replies old new did before after → NotSkipped did
+  works_not : (item : ItemAtWork) → WorksOn item unclaimed replies old new did before after → NotSkipped did
   works_not Next (inl s) = folder_not s.report did s.says
   works_not Next (inr t) = takes_not t.1
   works_not (File f) w = file_not f w.moved did w.tells
@@ -231,7 +231,7 @@ named_for (name ∷ names) cause old new did (inr (inl (long, inl s))) = subst (
 named_for (name ∷ names) cause old new did (inr (inl (long, inr room))) = subst (SkippedFor cause) (sym room.0) tt
 named_for (name ∷ names) cause old new did (inr (inr room)) = subst (SkippedFor cause) (sym room.0) tt
 
-skip_for : (item : Item) (cause : Cause) (old new : Seen) (did : Did) → machine.SkipsAt item cause old did new → SkippedFor cause did
+skip_for : (item : ItemAtWork) (cause : Cause) (old new : Seen) (did : Did) → machine.SkipsAt item cause old did new → SkippedFor cause did
 skip_for Next cause old new did s = named_for old.levels.inner.names.names cause old new did s
 skip_for (File f) cause old new did (moved, inl s, stands) = subst (SkippedFor cause) (sym s.0) refl
 skip_for (File f) cause old new did (moved, inr room, stands) = subst (SkippedFor cause) (sym room.0) tt
@@ -264,21 +264,21 @@ pub stays_part : (part : Option Route) → part_of (stays_if part) ≡ part
 stays_part (Some part) = refl
 stays_part None = refl
 
-pub record Wound (ending : Ending) (stands : Option Route) (old : Seen) (did : Did) (new : Seen) : Type 0 where
-  pub may : MayWind ending stands did
+pub record LastStepMade (ending : Ending) (stands : Option Route) (old : Seen) (did : Did) (new : Seen) : Type 0 where
+  pub may : MayTellLast ending stands did
   pub stage : new.stage ≡ old.stage
-  pub part : part_of new.item ≡ part_wound did stands
+  pub part : part_of new.item ≡ part_after_last_step did stands
 
-folders_wound : (ending : Ending) (part : Option Route) (old new : Seen) (last : LastStepResult) (before after : Option CallLog) (f0 f1 : ℕ) → FoldersWind ending part old new last before after f0 f1 → Wound ending part old last.did new
+folders_wound : (ending : Ending) (part : Option Route) (old new : Seen) (last : LastStepResult) (before after : Option CallLog) (f0 f1 : ℕ) → FoldersWind ending part old new last before after f0 f1 → LastStepMade ending part old last.did new
 folders_wound ending part old new last before after f0 f1 w = by w.winds
   where
-    by : TriesFolder part w.mid old new last before after f0 f1 ⊎ EndsAll ending part w.mid old new last before after f0 f1 → Wound ending part old last.did new
+    by : TriesFolder part w.mid old new last before after f0 f1 ⊎ EndsAll ending part w.mid old new last before after f0 f1 → LastStepMade ending part old last.did new
     by (inl t) =
         let tried = t.tried in
-        subst (λ d. Wound ending part old d new) (sym tried.did)
+        subst (λ d. LastStepMade ending part old d new) (sym tried.did)
         record { may = tt; stage = ap (λ (c : Seen). c.stage) t.stands; part = ap (λ (c : Seen). part_of c.item) t.stands ∙ stays_part part }
     by (inr e) =
-        subst (λ d. Wound ending part old d new) (sym (ap (λ (r : LastStepResult). r.did) e.says))
+        subst (λ d. LastStepMade ending part old d new) (sym (ap (λ (r : LastStepResult). r.did) e.says))
         record { may = (refl, refl); stage = ap (λ (c : Seen). c.stage) e.stands; part = ap (λ (c : Seen). part_of c.item) e.stands }
 
 -- where a file is at work its part stands
@@ -304,7 +304,7 @@ given_up_part file_stage.Begin = refl
 given_up_part file_stage.Decided = refl
 
 file_wound : (ending : Ending) (f m : Copying) (old new : Seen) (did : Did) → file_last.Winds ending f did m → (progress f.stage ≡ UnderWay) × (left_at f.stage ≡ None) → new.stage ≡ old.stage
-    → part_of new.item ≡ part_at m.stage → Wound ending (part_at f.stage) old did new
+    → part_of new.item ≡ part_at m.stage → LastStepMade ending (part_at f.stage) old did new
 file_wound ending f m old new (Cleaned part) w can stage now =
     record { may = sym (file_removable f.stage can.0 can.1) ∙ w.0; stage = stage; part = now ∙ ap (λ (c : Copying). part_at c.stage) w.1 }
 file_wound ending f m old new Barrier w can stage now = record { may = tt; stage = stage; part = now ∙ (ap (λ (c : Copying). part_at c.stage) w.1 ∙ given_up_part f.stage) }
@@ -330,8 +330,8 @@ removable_part link_stage.Make h = absurd (false≢true h)
 removable_part link_stage.Again h = absurd (false≢true h)
 removable_part link_stage.Decided h = absurd (false≢true h)
 
-pub winds_wound : (item : Item) (ending : Ending) (old new : Seen) (last : LastStepResult) (before after : Option CallLog) (f0 f1 : ℕ) → WindsAt item ending old new last before after f0 f1 → IsWindable item
-    → Wound ending (part_of item) old last.did new
+pub winds_wound : (item : ItemAtWork) (ending : Ending) (old new : Seen) (last : LastStepResult) (before after : Option CallLog) (f0 f1 : ℕ) → WindsAt item ending old new last before after f0 f1 → IsWindable item
+    → LastStepMade ending (part_of item) old last.did new
 winds_wound Next ending old new last before after f0 f1 w can = folders_wound ending None old new last before after f0 f1 w
 winds_wound (File f) ending old new last before after f0 f1 w can =
     let m = w.moved in
@@ -339,14 +339,14 @@ winds_wound (File f) ending old new last before after f0 f1 w can =
     file_wound ending f m old new last.did on.tells can (ap (λ (c : Seen). c.stage) w.stands) (ap (λ (c : Seen). part_of c.item) w.stands ∙ stays_part (part_at m.stage))
 winds_wound (Link l) ending old new last before after f0 f1 (inl c) can =
     let stands : part_of (Link l) ≡ Some l.part = ap (λ b. if b then Some l.part else None) (removable_part l.stage can) in
-    subst (λ d. Wound ending (part_of (Link l)) old d new) (sym (ap (λ (r : LastStepResult). r.did) c.says))
+    subst (λ d. LastStepMade ending (part_of (Link l)) old d new) (sym (ap (λ (r : LastStepResult). r.did) c.says))
     record { may = stands; stage = ap (λ (s : Seen). s.stage) c.stands; part = ap (λ (s : Seen). part_of s.item) c.stands }
 winds_wound (Link l) ending old new last before after f0 f1 (inr s) can =
     let stands : part_of (Link l) ≡ Some l.part = ap (λ b. if b then Some l.part else None) (removable_part l.stage can) in
     let later = s.winds in
     let next = folders_wound ending (Some l.part) (idle old) new later.next s.mid after s.since f1 later.winds in
-    subst (λ p. Wound ending p old last.did new) (sym stands)
-    (subst (λ d. Wound ending (Some l.part) old d new) (sym (ap (λ (r : LastStepResult). r.did) later.says)) record { may = next.may; stage = next.stage; part = next.part })
+    subst (λ p. LastStepMade ending p old last.did new) (sym stands)
+    (subst (λ d. LastStepMade ending (Some l.part) old d new) (sym (ap (λ (r : LastStepResult). r.did) later.says)) record { may = next.may; stage = next.stage; part = next.part })
 winds_wound (Stays part) ending old new last before after f0 f1 w can =
     let next = folders_wound ending (Some part) (idle old) new last before after f0 f1 w in record { may = next.may; stage = next.stage; part = next.part }
 
@@ -370,7 +370,7 @@ around_own : (top : Pair) (inner : Level) (around : List Level) → AreMoved top
 around_own top inner [] h marked = absurd (false≢true marked)
 around_own top inner (outer ∷ around) h marked = moved_own top outer around h.1
 
-brings_around : (item : Item) (c : Seen) → brings_in item c.levels ≡ true → is_around_dirty c.levels.around ≡ true
+brings_around : (item : ItemAtWork) (c : Seen) → brings_in item c.levels ≡ true → is_around_dirty c.levels.around ≡ true
 brings_around Next c h = h
 brings_around (File f) c h = absurd (false≢true h)
 brings_around (Link l) c h = absurd (false≢true h)

@@ -33,11 +33,11 @@ use Rattle.copy_link.specs.LinkSteps as link
 use Rattle.copy_link.specs.LinkSteps.{LinkCalls, LinkStops}
 use Rattle.copy_link.specs.declared.stage.Stage.{Stage as LinkStage}
 use Rattle.copy_link.specs.declared.stage.Stage.TheVariants as link_stage
-use Rattle.copy_tree.specs.declared.item.Item.{Item}
-use Rattle.copy_tree.specs.declared.item.Item.TheVariants.{Next, File, Link, Stays}
+use Rattle.copy_tree.specs.declared.item.ItemAtWork.{ItemAtWork}
+use Rattle.copy_tree.specs.declared.item.ItemAtWork.TheVariants.{Next, File, Link, Stays}
 use Rattle.copy_tree.specs.Parts.{IsPartPlace}
 use Rattle.copy_tree.specs.Standing.{Seen}
-use Rattle.copy_tree.specs.Steps.{FileWorks, LinkWorks, TakesNext, WorksOn, at_end}
+use Rattle.copy_tree.specs.TreeCopySteps.{FileWorks, LinkWorks, TakesNext, WorksOn, at_end}
 use Rattle.job_reports.specs.declared.report.StepResult.{StepResult}
 use Rattle.copy_job.specs.Known.{KnownLaw, StillTells}
 use Rattle.copy_job.specs.Leaving.{may_leave}
@@ -164,7 +164,7 @@ module _ (unclaimed : Route → Type 0) (replies : Replies) (old new : Seen) (di
 
   takes_tells : TakesNext unclaimed replies old new did (Some log) after → StillTells after
   takes_tells (inl s) = (log, s.same)
-  takes_tells (inr (inl t)) = (let w = t.works in part_tells unclaimed t.facts (file.begun old.job t.pair.source t.pair.target) did log after (w.called log refl))
+  takes_tells (inr (inl t)) = (let w = t.works in part_tells unclaimed t.facts (file.begun_copy old.job t.pair.source t.pair.target) did log after (w.called log refl))
   takes_tells (inr (inr (inl t))) = link_works _ t.works
   takes_tells (inr (inr (inr (inl t)))) = (let w = t.works in folder_tells (copying t.pair.source t.pair.target (Make t.mode) Synced) w.report log after (w.called log refl))
   takes_tells (inr (inr (inr (inr (inl t))))) = (log, t.same)
@@ -173,7 +173,7 @@ module _ (unclaimed : Route → Type 0) (replies : Replies) (old new : Seen) (di
   takes_tells (inr (inr (inr (inr (inr (inr (inr (next, inl (debt, e))))))))) = folder_tells (let c : Seen = at_end old in c.levels.inner.copy) e.report log after (e.called log refl)
   takes_tells (inr (inr (inr (inr (inr (inr (inr (next, inr (debt, f, same))))))))) = (log, same)
 
-  works_tells : (item : Item) → WorksOn item unclaimed replies old new did (Some log) after → StillTells after
+  works_tells : (item : ItemAtWork) → WorksOn item unclaimed replies old new did (Some log) after → StillTells after
   works_tells Next (inl s) = folder_tells (folder.at_sync s.outer.copy) s.report log after (s.called log refl)
   works_tells Next (inr t) = takes_tells t.1
   works_tells (File f) w = file_works f w

@@ -20,17 +20,17 @@ use Rattle.job_reports.specs.declared.job.Pair.{Pair}
 use Rattle.job_reports.specs.declared.report.Did.{Did}
 use Rattle.job_reports.specs.declared.report.Did.TheVariants.{Began, Chunk, Placed, Removed, Made, Set, Kept, Skipped, Cleaned, Barrier, Asked, Merges, Moved, Troubled, Ended}
 use Rattle.job_reports.specs.declared.report.StepResult.{StepResult}
-use Rattle.tree_walk.specs.Places.{opened}
+use Rattle.tree_walk.specs.Places.{opened_folder}
 use Rattle.copy_folders.specs.Levels.{Levels, is_around_dirty, made_levels}
-use Rattle.copy_tree.specs.declared.item.Item.{Item}
-use Rattle.copy_tree.specs.declared.item.Item.TheVariants.{Next, File, Link, Stays}
+use Rattle.copy_tree.specs.declared.item.ItemAtWork.{ItemAtWork}
+use Rattle.copy_tree.specs.declared.item.ItemAtWork.TheVariants.{Next, File, Link, Stays}
 use Rattle.copy_tree.specs.declared.progress.Progress.{Progress}
 use Rattle.copy_tree.specs.declared.progress.Progress.TheVariants.{UnderWay, Decided, Anew}
 use Rattle.copy_tree.specs.Parts.{IsPartPlace}
 use Rattle.copy_tree.specs.Progress.{link_progress, progress}
 use Rattle.copy_tree.specs.Reports.{IsToldAs}
 use Rattle.copy_tree.specs.Standing.{Seen}
-use Rattle.copy_tree.specs.Steps.{CopySteps, FileWorks, FolderEnds, FolderMakes, LinkWorks, SyncsAround, TakesNext, WorksOn, at_end, idle, noted, settled}
+use Rattle.copy_tree.specs.TreeCopySteps.{CopySteps, FileWorks, FolderEnds, FolderMakes, LinkWorks, SyncsAround, TakesNext, WorksOn, at_end, idle, noted_copy, copy_after_progress}
 use Rattle.copy_job.specs.Leaving.{may_leave}
 use Rattle.copy_job.specs.Marks.{brings_in, is_dirty_after, is_left_dirty, was_dirty}
 use Rattle.copy_job.specs.Passing.{OrPassedOver}
@@ -59,12 +59,12 @@ left_clean (Troubled trouble) c h = h
 left_clean (Ended ending part) c h = h
 
 -- a file or a link changes names in the folder that is worked, and syncs nothing
-settled_names : (p : Progress) (item : Item) (c : Seen) → inner_dirty (settled p item c) ≡ inner_dirty c
+settled_names : (p : Progress) (item : ItemAtWork) (c : Seen) → inner_dirty (copy_after_progress p item c) ≡ inner_dirty c
 settled_names UnderWay item c = refl
 settled_names Decided item c = refl
 settled_names Anew item c = refl
 
-noted_names : (changed : Bool) (did : Did) (c : Seen) → inner_dirty c ≡ true → inner_dirty (noted did changed c) ≡ true
+noted_names : (changed : Bool) (did : Did) (c : Seen) → inner_dirty c ≡ true → inner_dirty (noted_copy did changed c) ≡ true
 noted_names true did c was = refl
 noted_names false did c was = was
 
@@ -72,13 +72,13 @@ file_stays : (unclaimed : Route → Type 0) (f : Copying) (old new : Seen) (did 
 file_stays unclaimed f old new did before after w was =
     let m = w.moved in
     ap inner_dirty w.stands
-    ∙ (settled_names (progress m.stage) (File m) (noted did (file.is_dirty m.folder) (idle old)) ∙ noted_names (file.is_dirty m.folder) did (idle old) was)
+    ∙ (settled_names (progress m.stage) (File m) (noted_copy did (file.is_dirty m.folder) (idle old)) ∙ noted_names (file.is_dirty m.folder) did (idle old) was)
 
 link_stays : (l : LinkCopying) (old new : Seen) (did : Did) (before after : Option CallLog) → LinkWorks l old new did before after → inner_dirty old ≡ true → inner_dirty new ≡ true
 link_stays l old new did before after w was =
     let m = w.moved in
     ap inner_dirty w.stands
-    ∙ (settled_names (link_progress m.stage) (Link m) (noted did (link.is_dirty m.folder) (idle old)) ∙ noted_names (link.is_dirty m.folder) did (idle old) was)
+    ∙ (settled_names (link_progress m.stage) (Link m) (noted_copy did (link.is_dirty m.folder) (idle old)) ∙ noted_names (link.is_dirty m.folder) did (idle old) was)
 
 -- a step at a folder itself
 folder_syncs : (c new : FolderCopying) (report : FolderDid) (did : Did) → IsToldAs report did → folder.Tells c report new → is_dirty c.names ≡ true → is_dirty new.names ≡ false → did ≡ Barrier
@@ -96,7 +96,7 @@ makes_stay : (pair : Pair) (names : List (List ℕ)) (mode : ℕ) (old new : See
     → inner_dirty new ≡ inner_dirty old
 makes_stay pair names mode old new did before after w clean =
     let same = unmade pair mode w.moved w.report did new w.says w.tells clean in
-    ap inner_dirty w.stands ∙ ap (λ (s : Stage). (let l : Levels = made_levels s (opened pair.source names) w.moved old.levels in is_dirty l.inner.copy.names)) same
+    ap inner_dirty w.stands ∙ ap (λ (s : Stage). (let l : Levels = made_levels s (opened_folder pair.source names) w.moved old.levels in is_dirty l.inner.copy.names)) same
 
 ends_sync : (old new : Seen) (did : Did) (before after : Option CallLog) → FolderEnds (at_end old) new did before after → inner_dirty old ≡ true → is_left_dirty did new ≡ false → did ≡ Barrier
 ends_sync old new did before after e was now =
@@ -117,7 +117,7 @@ around_syncs : (old new : Seen) (did : Did) (before after : Option CallLog) → 
 around_syncs old new did before after s now =
     folder_syncs (at_sync s.outer.copy) (record (at_sync s.outer.copy) { names = s.names }) s.report did s.says s.tells refl (sym (ap (λ (c : Seen). is_around_dirty c.levels.around) s.stands) ∙ now)
 
-works_sync : (unclaimed : Route → Type 0) (replies : Replies) (item : Item) (old new : Seen) (did : Did) (before after : Option CallLog) → WorksOn item unclaimed replies old new did before after
+works_sync : (unclaimed : Route → Type 0) (replies : Replies) (item : ItemAtWork) (old new : Seen) (did : Did) (before after : Option CallLog) → WorksOn item unclaimed replies old new did before after
     → (if brings_in item old.levels then true else inner_dirty old) ≡ true → (if brings_in item old.levels then is_around_dirty new.levels.around else is_left_dirty did new) ≡ false → did ≡ Barrier
 works_sync unclaimed replies Next old new did before after (inl s) was now =
     around_syncs old new did before after s (sym (ap (λ b. if b then is_around_dirty new.levels.around else is_left_dirty did new) s.dirty) ∙ now)

@@ -16,9 +16,9 @@ use Rattle.copy_folders.specs.declared.stage.NamesState.TheVariants.{Synced}
 use Rattle.copy_folders.specs.declared.stage.Stage.{Stage}
 use Rattle.copy_folders.specs.declared.stage.Stage.TheVariants.{Make}
 use Rattle.job_reports.specs.declared.job.Pair.{Pair}
-use Rattle.tree_walk.specs.Places.{is_empty, opened}
-use Rattle.copy_tree.specs.declared.item.Item.{Item}
-use Rattle.copy_tree.specs.declared.item.Item.TheVariants.{Next, File, Link, Stays}
+use Rattle.tree_walk.specs.Places.{is_empty, opened_folder}
+use Rattle.copy_tree.specs.declared.item.ItemAtWork.{ItemAtWork}
+use Rattle.copy_tree.specs.declared.item.ItemAtWork.TheVariants.{Next, File, Link, Stays}
 use Rattle.copy_folders.specs.declared.level.Level.{Level}
 use Rattle.copy_tree.specs.declared.progress.Progress.{Progress}
 use Rattle.copy_tree.specs.declared.progress.Progress.TheVariants.{UnderWay, Decided, Anew}
@@ -28,7 +28,7 @@ use Rattle.copy_tree.specs.Parts.{IsPartPlace}
 use Rattle.copy_tree.specs.Progress.{link_progress, progress}
 use Rattle.copy_tree.specs.Reports.{IsToldAs}
 use Rattle.copy_tree.specs.Standing.{Seen}
-use Rattle.copy_tree.specs.Steps.{CopySteps, FileWorks, FolderEnds, FolderMakes, GoesOn, LinkWorks, TakesNext, WorksOn, at_end, idle, noted, settled}
+use Rattle.copy_tree.specs.TreeCopySteps.{CopySteps, FileWorks, FolderEnds, FolderMakes, GoesOn, LinkWorks, TakesNext, WorksOn, at_end, idle, noted_copy, copy_after_progress}
 use Rattle.copy_job.specs.Leaving.{may_leave}
 use Rattle.copy_job.specs.Marks.{brings_in, brings_made, is_left_dirty}
 use Rattle.copy_tree.proofs.PartsBegin.{file_taken}
@@ -37,12 +37,12 @@ use Rattle.copy_job.proofs.Left.{settled_stays}
 abbrev target_of : Seen → Route
 target_of c = c.levels.inner.copy.target
 
-settled_there : (p : Progress) (item : Item) (c : Seen) → target_of (settled p item c) ≡ target_of c
+settled_there : (p : Progress) (item : ItemAtWork) (c : Seen) → target_of (copy_after_progress p item c) ≡ target_of c
 settled_there UnderWay item c = refl
 settled_there Decided item c = refl
 settled_there Anew item c = refl
 
-noted_there : (changed : Bool) (did : Did) (c : Seen) → target_of (noted did changed c) ≡ target_of c
+noted_there : (changed : Bool) (did : Did) (c : Seen) → target_of (noted_copy did changed c) ≡ target_of c
 noted_there true did c = refl
 noted_there false did c = refl
 
@@ -50,13 +50,13 @@ file_there : (unclaimed : Route → Type 0) (f : Copying) (old new : Seen) (did 
 file_there unclaimed f old new did before after w =
     let m = w.moved in
     ap target_of w.stands
-    ∙ (settled_there (progress m.stage) (File m) (noted did (file.is_dirty m.folder) (idle old)) ∙ noted_there (file.is_dirty m.folder) did (idle old))
+    ∙ (settled_there (progress m.stage) (File m) (noted_copy did (file.is_dirty m.folder) (idle old)) ∙ noted_there (file.is_dirty m.folder) did (idle old))
 
 link_there : (l : LinkCopying) (old new : Seen) (did : Did) (before after : Option CallLog) → LinkWorks l old new did before after → target_of new ≡ target_of old
 link_there l old new did before after w =
     let m = w.moved in
     ap target_of w.stands
-    ∙ (settled_there (link_progress m.stage) (Link m) (noted did (link.is_dirty m.folder) (idle old)) ∙ noted_there (link.is_dirty m.folder) did (idle old))
+    ∙ (settled_there (link_progress m.stage) (Link m) (noted_copy did (link.is_dirty m.folder) (idle old)) ∙ noted_there (link.is_dirty m.folder) did (idle old))
 
 folder_there : (c new : FolderCopying) (report : FolderDid) → folder.Tells c report new → new.target ≡ c.target
 folder_there c new (folder_did.Made path) t = ap (λ (x : FolderCopying). x.target) t.3
@@ -78,7 +78,7 @@ makes_there : (pair : Pair) (names : List (List ℕ)) (mode : ℕ) (old new : Se
     → target_of new ≡ target_of old
 makes_there pair names mode old new did before after w clean =
     let same = unmade pair mode w.moved w.report did new w.says w.tells clean in
-    ap target_of w.stands ∙ ap (λ (s : Stage). (let l : Levels = made_levels s (opened pair.source names) w.moved old.levels in l.inner.copy.target)) same
+    ap target_of w.stands ∙ ap (λ (s : Stage). (let l : Levels = made_levels s (opened_folder pair.source names) w.moved old.levels in l.inner.copy.target)) same
 
 ends_there : (old new : Seen) (did : Did) (before after : Option CallLog) → FolderEnds (at_end old) new did before after → target_of new ≡ target_of old
 ends_there old new did before after e = ap target_of e.stands ∙ folder_there (let c = at_end old in c.levels.inner.copy) e.moved e.report e.tells
@@ -99,7 +99,7 @@ goes_there : (unclaimed : Route → Type 0) (replies : Replies) (old new : Seen)
 goes_there unclaimed replies old new did before after (inl s) inner clean = absurd (false≢true (sym inner ∙ s.dirty))
 goes_there unclaimed replies old new did before after (inr s) inner clean = takes_there unclaimed replies old new did before after s.1 clean
 
-works_there : (unclaimed : Route → Type 0) (replies : Replies) (item : Item) (old new : Seen) (did : Did) (before after : Option CallLog) → WorksOn item unclaimed replies old new did before after → brings_in item old.levels ≡ false
+works_there : (unclaimed : Route → Type 0) (replies : Replies) (item : ItemAtWork) (old new : Seen) (did : Did) (before after : Option CallLog) → WorksOn item unclaimed replies old new did before after → brings_in item old.levels ≡ false
     → is_left_dirty did new ≡ false → target_of new ≡ target_of old
 works_there unclaimed replies Next old new did before after w inner clean = goes_there unclaimed replies old new did before after w inner clean
 works_there unclaimed replies (File f) old new did before after w inner clean = file_there unclaimed f old new did before after w
@@ -127,7 +127,7 @@ goes_around unclaimed replies old new did before after (inl s) outer =
     (ap (λ (c : Seen). is_empty c.levels.around) s.stands, ap (λ (c : Seen). target_around c.levels.around) s.stands ∙ sym (ap (λ (xs : List Level). target_around xs) s.was))
 goes_around unclaimed replies old new did before after (inr s) outer = absurd (false≢true (sym s.0 ∙ outer))
 
-works_around : (unclaimed : Route → Type 0) (replies : Replies) (item : Item) (old new : Seen) (did : Did) (before after : Option CallLog) → WorksOn item unclaimed replies old new did before after → brings_in item old.levels ≡ true → StaysAround old new
+works_around : (unclaimed : Route → Type 0) (replies : Replies) (item : ItemAtWork) (old new : Seen) (did : Did) (before after : Option CallLog) → WorksOn item unclaimed replies old new did before after → brings_in item old.levels ≡ true → StaysAround old new
 works_around unclaimed replies Next old new did before after w outer = goes_around unclaimed replies old new did before after w outer
 works_around unclaimed replies (File f) old new did before after w outer = absurd (false≢true outer)
 works_around unclaimed replies (Link l) old new did before after w outer = absurd (false≢true outer)

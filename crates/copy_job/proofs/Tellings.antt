@@ -25,8 +25,8 @@ use Rattle.copy_link.specs.declared.stage.Next.TheVariants as link_next
 use Rattle.copy_link.specs.declared.stage.Stage.{Stage as LinkStage}
 use Rattle.copy_link.specs.declared.stage.Stage.TheVariants as link_stage
 use Rattle.copy_tree.specs.declared.copy.Stage.{Stage}
-use Rattle.copy_tree.specs.declared.item.Item.{Item}
-use Rattle.copy_tree.specs.declared.item.Item.TheVariants.{Next, File, Link, Stays}
+use Rattle.copy_tree.specs.declared.item.ItemAtWork.{ItemAtWork}
+use Rattle.copy_tree.specs.declared.item.ItemAtWork.TheVariants.{Next, File, Link, Stays}
 use Rattle.copy_tree.specs.declared.progress.Progress.{Progress}
 use Rattle.copy_tree.specs.declared.progress.Progress.TheVariants.{UnderWay, Decided, Anew}
 use Rattle.copy_tree.specs.Parts.{IsPartPlace}
@@ -34,7 +34,7 @@ use Rattle.copy_tree.specs.Progress.{link_progress, progress}
 use Rattle.copy_tree.specs.Reports.{IsToldAs}
 use Rattle.copy_tree.specs.Skipping as machine
 use Rattle.copy_tree.specs.Standing.{Seen, after_report}
-use Rattle.copy_tree.specs.Steps.{FileWorks, IsWorkable, LeavesAll, LinkWorks, TakesNext, WorksOn, idle, noted, settled}
+use Rattle.copy_tree.specs.TreeCopySteps.{FileWorks, IsWorkable, LeavesAll, LinkWorks, TakesNext, WorksOn, idle, noted_copy, copy_after_progress}
 use Rattle.copy_job.specs.Leaving.{may_leave}
 use Rattle.copy_job.specs.Passing.{OrPassedOver}
 use Rattle.copy_job.specs.Standing.{SubtreeCopying, part_of}
@@ -50,7 +50,7 @@ pub record Goes (did : Did) (old new : Seen) : Type 0 where
   pub stage : new.stage ≡ after_report did old.stage
 
 -- of a file: what is decided or to be begun has no part
-settled_file : (stage : FileStage) (moved : Copying) (c : Seen) → moved.stage ≡ stage → c.item ≡ Next → part_of (let s : Seen = settled (progress stage) (File moved) c in s.item) ≡ part_at stage
+settled_file : (stage : FileStage) (moved : Copying) (c : Seen) → moved.stage ≡ stage → c.item ≡ Next → part_of (let s : Seen = copy_after_progress (progress stage) (File moved) c in s.item) ≡ part_at stage
 settled_file (file_stage.Fill part facts done) moved c is none = ap part_at is
 settled_file (file_stage.Clean part next) moved c is none = ap part_at is
 settled_file (file_stage.Left part) moved c is none = ap part_at is
@@ -60,7 +60,7 @@ settled_file file_stage.Decided moved c is none = ap part_of none
 abbrev link_part : LinkStage → Route → Option Route
 link_part stage part = if has_part stage then Some part else None
 
-settled_link : (stage : LinkStage) (moved : LinkCopying) (c : Seen) → moved.stage ≡ stage → c.item ≡ Next → part_of (let s : Seen = settled (link_progress stage) (Link moved) c in s.item) ≡ link_part stage moved.part
+settled_link : (stage : LinkStage) (moved : LinkCopying) (c : Seen) → moved.stage ≡ stage → c.item ≡ Next → part_of (let s : Seen = copy_after_progress (link_progress stage) (Link moved) c in s.item) ≡ link_part stage moved.part
 settled_link link_stage.Place moved c is none = ap (λ s. link_part s moved.part) is
 settled_link (link_stage.Clean next) moved c is none = ap (λ s. link_part s moved.part) is
 settled_link link_stage.Left moved c is none = ap (λ s. link_part s moved.part) is
@@ -68,7 +68,7 @@ settled_link link_stage.Make moved c is none = ap part_of none
 settled_link link_stage.Again moved c is none = ap part_of none
 settled_link link_stage.Decided moved c is none = ap part_of none
 
-pub settled_stage : (p : Progress) (item : Item) (c : Seen) → (let s : Seen = settled p item c in s.stage) ≡ c.stage
+pub settled_stage : (p : Progress) (item : ItemAtWork) (c : Seen) → (let s : Seen = copy_after_progress p item c in s.stage) ≡ c.stage
 settled_stage UnderWay item c = refl
 settled_stage Decided item c = refl
 settled_stage Anew item c = refl
@@ -133,7 +133,7 @@ module _ (old new : Seen) (did : Did) (before after : Option CallLog) where
   file_goes : (unclaimed : Route → Type 0) (f : Copying) (log log_after : Option CallLog) → part_of old.item ≡ part_at f.stage → FileWorks unclaimed f old new did log log_after → Goes did old new
   file_goes unclaimed f log log_after was w =
       let m = w.moved in
-      let c = noted did (file.is_dirty m.folder) (idle old) in record {
+      let c = noted_copy did (file.is_dirty m.folder) (idle old) in record {
         part = ap (λ (s : Seen). part_of s.item) w.stands ∙ (settled_file m.stage m c refl refl ∙ (file_after f m did w.tells ∙ ap (part_after did) (sym was)));
         stage = ap (λ (s : Seen). s.stage) w.stands ∙ settled_stage (progress m.stage) (File m) c;
       }
@@ -141,14 +141,14 @@ module _ (old new : Seen) (did : Did) (before after : Option CallLog) where
   link_goes : (l : LinkCopying) → part_of old.item ≡ part_in l → LinkWorks l old new did before after → Goes did old new
   link_goes l was w =
       let m = w.moved in
-      let c = noted did (link.is_dirty m.folder) (idle old) in record {
+      let c = noted_copy did (link.is_dirty m.folder) (idle old) in record {
         part = ap (λ (s : Seen). part_of s.item) w.stands ∙ (settled_link m.stage m c refl refl ∙ (link_after l m did w.tells ∙ ap (part_after did) (sym was)));
         stage = ap (λ (s : Seen). s.stage) w.stands ∙ settled_stage (link_progress m.stage) (Link m) c;
       }
 
   -- where nothing is at work, and no part is begun
   none_goes : old.item ≡ Next → new.item ≡ old.item → part_after did None ≡ None → new.stage ≡ after_report did old.stage → Goes did old new
-  none_goes none same gone stage = record { part = ap part_of (same ∙ none) ∙ (sym gone ∙ ap (λ (i : Item). part_after did (part_of i)) (sym none)); stage = stage }
+  none_goes none same gone stage = record { part = ap part_of (same ∙ none) ∙ (sym gone ∙ ap (λ (i : ItemAtWork). part_after did (part_of i)) (sym none)); stage = stage }
 
   takes_goes : (unclaimed : Route → Type 0) (replies : Replies) → old.item ≡ Next → TakesNext unclaimed replies old new did before after → Goes did old new
   takes_goes unclaimed replies none (inl s) =
@@ -167,7 +167,7 @@ module _ (old new : Seen) (did : Did) (before after : Option CallLog) where
   takes_goes unclaimed replies none (inr (inr (inr (inr (inr (inr (inr (next, inr (debt, f, same))))))))) =
       none_goes none (ap (λ (c : Seen). c.item) f.stands) (ap (λ d. part_after d None) f.says) (ap (λ (c : Seen). c.stage) f.stands ∙ sym (ap (λ d. after_report d old.stage) f.says))
 
-  works_goes : (unclaimed : Route → Type 0) (replies : Replies) (item : Item) → old.item ≡ item → WorksOn item unclaimed replies old new did before after → Goes did old new
+  works_goes : (unclaimed : Route → Type 0) (replies : Replies) (item : ItemAtWork) → old.item ≡ item → WorksOn item unclaimed replies old new did before after → Goes did old new
   works_goes unclaimed replies Next is (inl s) = none_goes is (ap (λ (c : Seen). c.item) s.stands) (told_none s.report did s.says) (ap (λ (c : Seen). c.stage) s.stands)
   works_goes unclaimed replies Next is (inr t) = takes_goes unclaimed replies is t.1
   works_goes unclaimed replies (File f) is w = file_goes unclaimed f before after (ap part_of is) w
@@ -175,7 +175,7 @@ module _ (old new : Seen) (did : Did) (before after : Option CallLog) where
   works_goes unclaimed replies (Stays part) is w = absurd w
 
 -- A skip and a retry leave the part of what is at work where it stands.
-same_file : (stage : FileStage) → progress stage ≡ UnderWay → part_at (file.skipped stage) ≡ part_at stage
+same_file : (stage : FileStage) → progress stage ≡ UnderWay → part_at (file.skipped_stage stage) ≡ part_at stage
 same_file (file_stage.Fill part facts done) going = refl
 same_file (file_stage.Clean part next) going = refl
 same_file (file_stage.Left part) going = refl
@@ -189,7 +189,7 @@ anew_file (file_stage.Left part) = refl
 anew_file file_stage.Begin = refl
 anew_file file_stage.Decided = refl
 
-same_link : (stage : LinkStage) (part : Route) → link_part (link.skipped stage) part ≡ link_part stage part
+same_link : (stage : LinkStage) (part : Route) → link_part (link.skipped_stage stage) part ≡ link_part stage part
 same_link link_stage.Make part = refl
 same_link link_stage.Place part = refl
 same_link (link_stage.Clean next) part = refl
@@ -232,7 +232,7 @@ named_goes (name ∷ names) cause old new did (inl s) = stays did old new (quiet
 named_goes (name ∷ names) cause old new did (inr (inl s)) = rest_goes cause old new did s.1
 named_goes (name ∷ names) cause old new did (inr (inr room)) = same_goes did old new (quiet_trouble did _ room.0) room.1
 
-pub skips_goes : (item : Item) (cause : Cause) (old new : Seen) (did : Did) → old.item ≡ item → IsWorkable item → machine.SkipsAt item cause old did new → Goes did old new
+pub skips_goes : (item : ItemAtWork) (cause : Cause) (old new : Seen) (did : Did) → old.item ≡ item → IsWorkable item → machine.SkipsAt item cause old did new → Goes did old new
 skips_goes Next cause old new did is can s = named_goes old.levels.inner.names.names cause old new did s
 skips_goes (File f) cause old new did is can (moved, inl s, stands) =
     stays did old new (quiet_skip did _ cause s.0)
@@ -251,13 +251,13 @@ skips_goes (Link l) cause old new did is can (moved, inr room, stands) =
     (ap (λ (c : Seen). c.stage) stands ∙ settled_stage (link_progress moved.stage) (Link moved) (idle old))
 skips_goes (Stays part) cause old new did is can s = absurd can
 
-retry_part : (item : Item) (c : Seen) → c.item ≡ item → part_of (let r : Seen = machine.retried_at item c in r.item) ≡ part_of item
+retry_part : (item : ItemAtWork) (c : Seen) → c.item ≡ item → part_of (let r : Seen = machine.retried_at item c in r.item) ≡ part_of item
 retry_part Next c is = ap part_of is
 retry_part (File f) c is = settled_file _ (record f { stage = file.taken_anew f.stage }) (idle c) refl refl ∙ anew_file f.stage
 retry_part (Link l) c is = settled_link _ (record l { stage = link.taken_anew l.stage }) (idle c) refl refl ∙ anew_link l.stage l.part
 retry_part (Stays part) c is = ap part_of is
 
-retry_stage : (item : Item) (c : Seen) → (let r : Seen = machine.retried_at item c in r.stage) ≡ c.stage
+retry_stage : (item : ItemAtWork) (c : Seen) → (let r : Seen = machine.retried_at item c in r.stage) ≡ c.stage
 retry_stage Next c = refl
 retry_stage (File f) c = settled_stage (progress (file.taken_anew f.stage)) (File (record f { stage = file.taken_anew f.stage })) (idle c)
 retry_stage (Link l) c = settled_stage (link_progress (link.taken_anew l.stage)) (Link (record l { stage = link.taken_anew l.stage })) (idle c)
@@ -290,7 +290,7 @@ step_goes free replies old new did calls dirty dirty_after before after f0 f1 s 
     by : OrPassedOver replies.skips s.worked s.moved new.at (step_result did calls) → Goes did old.at new.at
     by (inl p) =
         let is : did ≡ s.worked.did = ap (λ (r : StepResult). r.did) p.1 in record {
-          part = ap (λ (c : Seen). part_of c.item) p.2 ∙ (worked.part ∙ (ap (λ (i : Item). part_after s.worked.did (part_of i)) same.0 ∙ ap (λ d. part_after d (part_of old.at.item)) (sym is)));
+          part = ap (λ (c : Seen). part_of c.item) p.2 ∙ (worked.part ∙ (ap (λ (i : ItemAtWork). part_after s.worked.did (part_of i)) same.0 ∙ ap (λ d. part_after d (part_of old.at.item)) (sym is)));
           stage = ap (λ (c : Seen). c.stage) p.2 ∙ (worked.stage ∙ (ap (λ st. after_report s.worked.did st) same.1 ∙ ap (λ d. after_report d old.at.stage) (sym is)));
         }
     by (inr p) =

@@ -27,18 +27,18 @@ use Rattle.copy_folders.specs.declared.stage.Stage.TheVariants.{Make, Fill, Clos
 use Rattle.copy_link.specs.LinkCopying as link
 use Rattle.copy_link.specs.LinkCopying.{LinkCopying, taken_anew as link_anew}
 use Rattle.copy_link.specs.declared.stage.Stage.TheVariants as link_stage
-use Rattle.tree_walk.specs.Places.{is_empty, opened}
+use Rattle.tree_walk.specs.Places.{is_empty, opened_folder}
 use Rattle.copy_folders.specs.Levels.{Levels, is_around_dirty, made_levels, owed_at}
 use Rattle.copy_tree.specs.declared.copy.Stage.TheVariants.{Going}
-use Rattle.copy_tree.specs.declared.item.Item.{Item}
-use Rattle.copy_tree.specs.declared.item.Item.TheVariants.{Next, File, Link, Stays}
+use Rattle.copy_tree.specs.declared.item.ItemAtWork.{ItemAtWork}
+use Rattle.copy_tree.specs.declared.item.ItemAtWork.TheVariants.{Next, File, Link, Stays}
 use Rattle.copy_tree.specs.Falling.{IsSteady}
 use Rattle.copy_tree.specs.Parts.{IsPartPlace}
 use Rattle.copy_tree.specs.Progress.{link_progress, progress}
 use Rattle.copy_tree.specs.Reports.{IsToldAs, changes}
 use Rattle.copy_tree.specs.Skipping as machine
 use Rattle.copy_tree.specs.Standing.{Seen, after_report, is_fresh}
-use Rattle.copy_tree.specs.Steps.{FileWorks, FolderMakes, IsWorkable, LeavesAll, LinkWorks, TakesNext, WorksOn, at_end, has_debt, idle, link_begun, noted, settled}
+use Rattle.copy_tree.specs.TreeCopySteps.{FileWorks, FolderMakes, IsWorkable, LeavesAll, LinkWorks, TakesNext, WorksOn, at_end, has_debt, idle, link_begun, noted_copy, copy_after_progress}
 use Rattle.copy_tree.proofs.Fallings.{all_leave}
 use Rattle.copy_job.specs.Leaving.{is_done, is_done_in, may_leave, owes_at_end}
 use Rattle.copy_job.specs.Passing.{OrPassedOver}
@@ -49,7 +49,7 @@ use Rattle.copy_tree.proofs.PartsBegin.{file_taken}
 use Rattle.copy_job.proofs.Barred.{HasNext, Says, file_same, folder_same, left_workable, link_same, list_barred, passed_trouble, unbarred}
 use Rattle.copy_job.proofs.Targets.{works_at_once}
 use Rattle.copy_job.proofs.Tellings.{leaves_item, list_goes, settled_stage, skips_goes}
-use Rattle.copy_job.proofs.Waits.{Comes, skip_comes}
+use Rattle.copy_job.proofs.Waits.{SkipsOrStops, skip_comes}
 
 -- where nothing was changed after a report, nothing was before, and the report is of no change
 fresh_before : (did : Did) (old new : Seen) → new.stage ≡ after_report did old.stage → is_fresh new.stage ≡ true → (changes did ≡ false) × (is_fresh old.stage ≡ true)
@@ -103,7 +103,7 @@ closes (Close None) h = refl
 closes (Close (Some mode)) h = absurd (true≢false h)
 closes Done h = refl
 
-pub skips_end : (stage : Stage) → owes_at_end stage false ≡ false → owes_at_end (folder.skipped stage) false ≡ false
+pub skips_end : (stage : Stage) → owes_at_end stage false ≡ false → owes_at_end (folder.skipped_stage stage) false ≡ false
 skips_end (Make mode) h = absurd (true≢false h)
 skips_end (Fill None) h = refl
 skips_end (Fill (Some mode)) h = absurd (true≢false h)
@@ -191,19 +191,19 @@ begins_folder pair mode m folder_did.Closed did told t = absurd told
 begins_folder pair mode m (folder_did.Troubled trouble) did told t = subst MayBegin (sym told) tt
 
 module _ (unclaimed : Route → Type 0) (replies : Replies) (old new : Seen) (did : Did) (before after : Option CallLog) (o : IsOutside old) where
-  file_outside : (pair : Pair) → FileWorks unclaimed (file.begun old.job pair.source pair.target) old new did None None → changes did ≡ false → IsOutside new
+  file_outside : (pair : Pair) → FileWorks unclaimed (file.begun_copy old.job pair.source pair.target) old new did None None → changes did ≡ false → IsOutside new
   file_outside pair w quiet =
-      let f = file.begun old.job pair.source pair.target in
+      let f = file.begun_copy old.job pair.source pair.target in
       let same = quiet_file f w.moved did refl w.tells quiet in
-      let is : new ≡ noted did false (idle old) = w.stands ∙ ap (λ (m : Copying). settled (progress m.stage) (File m) (noted did (file.is_dirty m.folder) (idle old))) same in
-      subst IsOutside (sym is) (same_levels old (noted did false (idle old)) refl refl o)
+      let is : new ≡ noted_copy did false (idle old) = w.stands ∙ ap (λ (m : Copying). copy_after_progress (progress m.stage) (File m) (noted_copy did (file.is_dirty m.folder) (idle old))) same in
+      subst IsOutside (sym is) (same_levels old (noted_copy did false (idle old)) refl refl o)
 
   link_outside : (pair : Pair) (part : Route) → LinkWorks (link_begun pair part) old new did before after → changes did ≡ false → IsOutside new
   link_outside pair part w quiet =
       let l = link_begun pair part in
       let same = quiet_link l w.moved did w.tells quiet in
-      let is : new ≡ noted did false (idle old) = w.stands ∙ ap (λ (m : LinkCopying). settled (link_progress m.stage) (Link m) (noted did (link.is_dirty m.folder) (idle old))) same in
-      subst IsOutside (sym is) (same_levels old (noted did false (idle old)) refl refl o)
+      let is : new ≡ noted_copy did false (idle old) = w.stands ∙ ap (λ (m : LinkCopying). copy_after_progress (link_progress m.stage) (Link m) (noted_copy did (link.is_dirty m.folder) (idle old))) same in
+      subst IsOutside (sym is) (same_levels old (noted_copy did false (idle old)) refl refl o)
 
   makes_outside : (pair : Pair) (names : List (List ℕ)) (mode : ℕ) → FolderMakes pair names mode old new did before after → changes did ≡ false → IsOutside new
   makes_outside pair names mode w quiet = by w.report w.says w.tells
@@ -215,7 +215,7 @@ module _ (unclaimed : Route → Type 0) (replies : Replies) (old new : Seen) (di
       by folder_did.Closed told t = absurd told
       by (folder_did.Troubled trouble) told t =
           same_levels old new (ap (λ (c : Seen). c.item) w.stands ∙ o.none)
-          (ap (λ (c : Seen). c.levels) w.stands ∙ ap (λ (s : Stage). made_levels s (opened pair.source names) w.moved old.levels) (ap (λ (c : FolderCopying). c.stage) t.1)) o
+          (ap (λ (c : Seen). c.levels) w.stands ∙ ap (λ (s : Stage). made_levels s (opened_folder pair.source names) w.moved old.levels) (ap (λ (c : FolderCopying). c.stage) t.1)) o
 
   no_debt : has_debt (at_end old) ≡ true → ⊥
   no_debt debt = false≢true (sym (ap (λ b. owed_at (closing old.levels.inner.copy.stage) b) o.clean ∙ o.owes) ∙ debt)
@@ -236,7 +236,7 @@ module _ (unclaimed : Route → Type 0) (replies : Replies) (old new : Seen) (di
   takes_outside (inr (inr (inr (inr (inr (inr (inr (next, inr (debt, f, same))))))))) quiet =
       subst IsOutside (sym f.stands) (like old (at_end old) o.none refl (as_many old (at_end old) refl) (closes old.levels.inner.copy.stage o.owes) refl o)
 
-  works_outside : (item : Item) → old.item ≡ item → WorksOn item unclaimed replies old new did before after → changes did ≡ false → IsOutside new
+  works_outside : (item : ItemAtWork) → old.item ≡ item → WorksOn item unclaimed replies old new did before after → changes did ≡ false → IsOutside new
   works_outside Next is (inl s) quiet = absurd (false≢true (sym (ap is_around_dirty o.around) ∙ s.dirty))
   works_outside Next is (inr t) quiet = takes_outside t.1 quiet
   works_outside (File f) is w quiet = absurd (let e = sym o.none ∙ is in let g : ⊥ = cc in g)
@@ -246,7 +246,7 @@ module _ (unclaimed : Route → Type 0) (replies : Replies) (old new : Seen) (di
   -- its troubles are at no barrier
   takes_apart : (u : Trouble) → TakesNext unclaimed replies old new did before after → Says did u → u.barrier ≡ false
   takes_apart u (inl s) says = (let same : s.trouble ≡ u = (let e : Troubled s.trouble ≡ Troubled u = sym s.says ∙ says in cc) in sym (ap (λ (t : Trouble). t.barrier) same) ∙ s.apart)
-  takes_apart u (inr (inl t)) says = (let w = file_taken unclaimed replies old new did before after t in (file_same (file.begun old.job t.pair.source t.pair.target) w.moved did u w.tells says).0)
+  takes_apart u (inr (inl t)) says = (let w = file_taken unclaimed replies old new did before after t in (file_same (file.begun_copy old.job t.pair.source t.pair.target) w.moved did u w.tells says).0)
   takes_apart u (inr (inr (inl t))) says = (let w = t.works in (link_same (link_begun t.pair t.part) w.moved did u w.tells says).0)
   takes_apart u (inr (inr (inr (inl t)))) says = (let w = t.works in (folder_same (folder.copying t.pair.source t.pair.target (Make t.mode) marks.Synced) w.moved w.report did u w.says w.tells says).0)
   takes_apart u (inr (inr (inr (inr (inl t))))) says = absurd (let e = sym t.says ∙ says in let g : ⊥ = cc in g)
@@ -255,7 +255,7 @@ module _ (unclaimed : Route → Type 0) (replies : Replies) (old new : Seen) (di
   takes_apart u (inr (inr (inr (inr (inr (inr (inr (next, inl (debt, e))))))))) says = absurd (no_debt debt)
   takes_apart u (inr (inr (inr (inr (inr (inr (inr (next, inr (debt, f, same))))))))) says = absurd (let e = sym f.says ∙ says in let g : ⊥ = cc in g)
 
-  works_apart : (item : Item) → old.item ≡ item → WorksOn item unclaimed replies old new did before after → (u : Trouble) → Says did u → u.barrier ≡ false
+  works_apart : (item : ItemAtWork) → old.item ≡ item → WorksOn item unclaimed replies old new did before after → (u : Trouble) → Says did u → u.barrier ≡ false
   works_apart Next is (inl s) u says = absurd (false≢true (sym (ap is_around_dirty o.around) ∙ s.dirty))
   works_apart Next is (inr t) u says = takes_apart u t.1 says
   works_apart (File f) is w u says = absurd (let e = sym o.none ∙ is in let g : ⊥ = cc in g)
@@ -265,7 +265,7 @@ module _ (unclaimed : Route → Type 0) (replies : Replies) (old new : Seen) (di
   -- and its first change begins a part or makes a folder
   takes_first : TakesNext unclaimed replies old new did before after → MayBegin did
   takes_first (inl s) = subst MayBegin (sym s.says) tt
-  takes_first (inr (inl t)) = (let w = file_taken unclaimed replies old new did before after t in begins_file (file.begun old.job t.pair.source t.pair.target) w.moved did refl w.tells)
+  takes_first (inr (inl t)) = (let w = file_taken unclaimed replies old new did before after t in begins_file (file.begun_copy old.job t.pair.source t.pair.target) w.moved did refl w.tells)
   takes_first (inr (inr (inl t))) = (let w = t.works in begins_link (link_begun t.pair t.part) w.moved did refl w.tells)
   takes_first (inr (inr (inr (inl t)))) = (let w = t.works in begins_folder t.pair t.mode w.moved w.report did w.says w.tells)
   takes_first (inr (inr (inr (inr (inl t))))) = subst MayBegin (sym t.says) tt
@@ -274,7 +274,7 @@ module _ (unclaimed : Route → Type 0) (replies : Replies) (old new : Seen) (di
   takes_first (inr (inr (inr (inr (inr (inr (inr (next, inl (debt, e))))))))) = absurd (no_debt debt)
   takes_first (inr (inr (inr (inr (inr (inr (inr (next, inr (debt, f, same))))))))) = subst MayBegin (sym f.says) tt
 
-  works_first : (item : Item) → old.item ≡ item → WorksOn item unclaimed replies old new did before after → MayBegin did
+  works_first : (item : ItemAtWork) → old.item ≡ item → WorksOn item unclaimed replies old new did before after → MayBegin did
   works_first Next is (inl s) = absurd (false≢true (sym (ap is_around_dirty o.around) ∙ s.dirty))
   works_first Next is (inr t) = takes_first t.1
   works_first (File f) is w = absurd (let e = sym o.none ∙ is in let g : ⊥ = cc in g)
@@ -310,7 +310,7 @@ named_outside (name ∷ names) cause old new did (inr (inl (long, inl s))) o =
 named_outside (name ∷ names) cause old new did (inr (inl (long, inr room))) o = same_seen old new room.1 o
 named_outside (name ∷ names) cause old new did (inr (inr room)) o = same_seen old new room.1 o
 
-skip_outside : (item : Item) (cause : Cause) (old new : Seen) (did : Did) → old.item ≡ item → machine.SkipsAt item cause old did new → IsOutside old → IsOutside new
+skip_outside : (item : ItemAtWork) (cause : Cause) (old new : Seen) (did : Did) → old.item ≡ item → machine.SkipsAt item cause old did new → IsOutside old → IsOutside new
 skip_outside Next cause old new did is s o = named_outside old.levels.inner.names.names cause old new did s o
 skip_outside (File f) cause old new did is s o = absurd (let e = sym o.none ∙ is in let g : ⊥ = cc in g)
 skip_outside (Link l) cause old new did is s o = absurd (let e = sym o.none ∙ is in let g : ⊥ = cc in g)
@@ -329,7 +329,7 @@ named_first (name ∷ names) cause old new did (inr (inl (long, inl s))) = subst
 named_first (name ∷ names) cause old new did (inr (inl (long, inr room))) = subst MayBegin (sym room.0) tt
 named_first (name ∷ names) cause old new did (inr (inr room)) = subst MayBegin (sym room.0) tt
 
-skip_first : (item : Item) (cause : Cause) (old new : Seen) (did : Did) → machine.SkipsAt item cause old did new → MayBegin did
+skip_first : (item : ItemAtWork) (cause : Cause) (old new : Seen) (did : Did) → machine.SkipsAt item cause old did new → MayBegin did
 skip_first Next cause old new did s = named_first old.levels.inner.names.names cause old new did s
 skip_first (File f) cause old new did (moved, inl s, stands) = subst MayBegin (sym s.0) tt
 skip_first (File f) cause old new did (moved, inr room, stands) = subst MayBegin (sym room.0) tt
@@ -342,7 +342,7 @@ next_left : (c : Seen) → IsOutside c → is_done c ≡ false → HasNext c
 next_left c o left = by c.levels.inner.names.names refl
   where
     done : is_done_in Next c.levels ≡ false
-    done = sym (ap (λ (i : Item). is_done_in i c.levels) o.none) ∙ left
+    done = sym (ap (λ (i : ItemAtWork). is_done_in i c.levels) o.none) ∙ left
 
     by : (names : List (List ℕ)) → c.levels.inner.names.names ≡ names → HasNext c
     by (name ∷ names) is = (name, names, is)
@@ -399,7 +399,7 @@ module _ (free : Route → Bool) (replies : Replies) (old new : SubtreeCopying) 
       by (inl p) = subst IsUnbegun (sym p.2) moved_unbegun
       by (inr p) = skips_unbegun p.0 s.moved new.at did p.3 s.going moved_unbegun
 
-comes_apart : (cause : Cause) (old new : Seen) (t : Trouble) → Comes false cause old (Troubled t) new → t.barrier ≡ false
+comes_apart : (cause : Cause) (old new : Seen) (t : Trouble) → SkipsOrStops false cause old (Troubled t) new → t.barrier ≡ false
 comes_apart cause old new t (inl s) = (let e = s.1 in let g : ⊥ = cc in absurd g)
 comes_apart cause old new t (inr room) = (let same : t ≡ out_of_memory_at false = (let e = room.0 in cc) in ap (λ (x : Trouble). x.barrier) same)
 
@@ -429,7 +429,7 @@ step_first free replies old new did calls dirty dirty_after before after f0 f1 s
     by (inl p) = subst MayBegin (sym (ap (λ (r : StepResult). r.did) p.1)) (list_first free replies s.mid s.moved s.worked dirty dirty_after before after f0 f1 s.works s.settled mid_outside)
     by (inr p) = skip_first s.moved.item p.0 s.moved new.at did p.3
 
-retry_unbegun : (item : Item) (c : Seen) → c.item ≡ item → IsUnbegun c → IsUnbegun (machine.retried_at item c)
+retry_unbegun : (item : ItemAtWork) (c : Seen) → c.item ≡ item → IsUnbegun c → IsUnbegun (machine.retried_at item c)
 retry_unbegun Next c is h = h
 retry_unbegun (File f) c is h =
     λ fresh. (let o = h (sym (ap is_fresh (settled_stage (progress (file_anew f.stage)) (File (record f { stage = file_anew f.stage })) (idle c))) ∙ fresh) in absurd (let e = sym o.none ∙ is in let g : ⊥ = cc in g))

@@ -19,15 +19,15 @@ use Rattle.copy_folders.specs.declared.stage.Stage.{Stage}
 use Rattle.copy_folders.specs.declared.stage.Stage.TheVariants.{Make, Fill, Close, Done}
 use Rattle.copy_link.specs.LinkCopying.{LinkCopying}
 use Rattle.copy_folders.specs.Levels.{is_around_dirty, with_copy}
-use Rattle.copy_tree.specs.declared.item.Item.{Item}
-use Rattle.copy_tree.specs.declared.item.Item.TheVariants.{Next, File, Link, Stays}
+use Rattle.copy_tree.specs.declared.item.ItemAtWork.{ItemAtWork}
+use Rattle.copy_tree.specs.declared.item.ItemAtWork.TheVariants.{Next, File, Link, Stays}
 use Rattle.copy_tree.specs.declared.progress.Progress.{Progress}
 use Rattle.copy_tree.specs.declared.progress.Progress.TheVariants.{UnderWay}
 use Rattle.copy_tree.specs.Falling.{IsSteady}
 use Rattle.copy_tree.specs.Progress.{link_progress, progress}
 use Rattle.copy_tree.specs.Skipping as machine
 use Rattle.copy_tree.specs.Standing.{Seen}
-use Rattle.copy_tree.specs.Steps.{IsWorkable, idle, settled}
+use Rattle.copy_tree.specs.TreeCopySteps.{IsWorkable, idle, copy_after_progress}
 use Rattle.copy_job.specs.Passing.{OrPassedOver}
 use Rattle.copy_job.specs.Ranks.{last_rank, rank}
 use Rattle.copy_job.specs.Standing.{IsGoing, SubtreeCopying, barrier_at, barrier_at_end, barrier_at_name}
@@ -40,14 +40,14 @@ use Rattle.copy_job.proofs.Fewer.{same_things}
 use Rattle.copy_job.proofs.Ranked.{left_lower, list_troubled}
 
 -- What a skip comes to: it tells a path, or there is no memory to tell it, and all stays.
-abbrev pub Comes : Bool → Cause → Seen → Did → Seen → Type 0
-Comes barrier cause old did new = ((path : Route) × (did ≡ Skipped path cause)) ⊎ ((did ≡ Troubled (out_of_memory_at barrier)) × (new ≡ old))
+abbrev pub SkipsOrStops : Bool → Cause → Seen → Did → Seen → Type 0
+SkipsOrStops barrier cause old did new = ((path : Route) × (did ≡ Skipped path cause)) ⊎ ((did ≡ Troubled (out_of_memory_at barrier)) × (new ≡ old))
 
-rest_comes : (cause : Cause) (old new : Seen) (did : Did) → machine.SkipsRest cause old did new → Comes false cause old did new
+rest_comes : (cause : Cause) (old new : Seen) (did : Did) → machine.SkipsRest cause old did new → SkipsOrStops false cause old did new
 rest_comes cause old new did (inl s) = inl (_, s.0)
 rest_comes cause old new did (inr room) = inr room
 
-named_comes : (names : List (List ℕ)) (cause : Cause) (old new : Seen) (did : Did) → machine.SkipsNamed names cause old did new → barrier_at_name names old.levels.inner.copy.stage ≡ false → Comes false cause old did new
+named_comes : (names : List (List ℕ)) (cause : Cause) (old new : Seen) (did : Did) → machine.SkipsNamed names cause old did new → barrier_at_name names old.levels.inner.copy.stage ≡ false → SkipsOrStops false cause old did new
 named_comes [] cause old new did (moved, inl s, stands) apart = inl (_, s.0)
 named_comes [] cause old new did (moved, inr room, stands) apart = inr (
   room.0 ∙ ap (λ b. Troubled (out_of_memory_at b)) (at_end old.levels.inner.copy.stage apart),
@@ -69,19 +69,19 @@ second_false true b is = absurd (true≢false is)
 second_false false b is = is
 
 -- a file or a link that is at work stays at work
-file_stays : (f moved : Copying) (old new : Seen) → old.item ≡ File f → progress f.stage ≡ UnderWay → moved ≡ f → new ≡ settled (progress moved.stage) (File moved) (idle old) → new ≡ old
+file_stays : (f moved : Copying) (old new : Seen) → old.item ≡ File f → progress f.stage ≡ UnderWay → moved ≡ f → new ≡ copy_after_progress (progress moved.stage) (File moved) (idle old) → new ≡ old
 file_stays f moved old new is under same stands =
     stands
-    ∙ (ap (λ (m : Copying). settled (progress m.stage) (File m) (idle old)) same
-    ∙ (ap (λ (p : Progress). settled p (File f) (idle old)) under ∙ ap (λ (i : Item). (let s : Seen = record old { item = i } in s)) (sym is)))
+    ∙ (ap (λ (m : Copying). copy_after_progress (progress m.stage) (File m) (idle old)) same
+    ∙ (ap (λ (p : Progress). copy_after_progress p (File f) (idle old)) under ∙ ap (λ (i : ItemAtWork). (let s : Seen = record old { item = i } in s)) (sym is)))
 
-link_stays : (l moved : LinkCopying) (old new : Seen) → old.item ≡ Link l → link_progress l.stage ≡ UnderWay → moved ≡ l → new ≡ settled (link_progress moved.stage) (Link moved) (idle old) → new ≡ old
+link_stays : (l moved : LinkCopying) (old new : Seen) → old.item ≡ Link l → link_progress l.stage ≡ UnderWay → moved ≡ l → new ≡ copy_after_progress (link_progress moved.stage) (Link moved) (idle old) → new ≡ old
 link_stays l moved old new is under same stands =
     stands
-    ∙ (ap (λ (m : LinkCopying). settled (link_progress m.stage) (Link m) (idle old)) same
-    ∙ (ap (λ (p : Progress). settled p (Link l) (idle old)) under ∙ ap (λ (i : Item). (let s : Seen = record old { item = i } in s)) (sym is)))
+    ∙ (ap (λ (m : LinkCopying). copy_after_progress (link_progress m.stage) (Link m) (idle old)) same
+    ∙ (ap (λ (p : Progress). copy_after_progress p (Link l) (idle old)) under ∙ ap (λ (i : ItemAtWork). (let s : Seen = record old { item = i } in s)) (sym is)))
 
-pub skip_comes : (item : Item) (cause : Cause) (old new : Seen) (did : Did) → old.item ≡ item → machine.SkipsAt item cause old did new → IsWorkable item → barrier_at item old.levels ≡ false → Comes false cause old did new
+pub skip_comes : (item : ItemAtWork) (cause : Cause) (old new : Seen) (did : Did) → old.item ≡ item → machine.SkipsAt item cause old did new → IsWorkable item → barrier_at item old.levels ≡ false → SkipsOrStops false cause old did new
 skip_comes Next cause old new did is s can apart =
     named_comes old.levels.inner.names.names cause old new did s (second_false (is_around_dirty old.levels.around) (barrier_at_name old.levels.inner.names.names old.levels.inner.copy.stage) apart)
 skip_comes (File f) cause old new did is (moved, inl s, stands) can apart = inl (_, s.0)
@@ -93,7 +93,7 @@ skip_comes (Link l) cause old new did is (moved, inr room, stands) can apart =
 skip_comes (Stays part) cause old new did is s can apart = absurd can
 
 -- A skip within a step that still ends in a trouble changed nothing.
-still : (barrier : Bool) (cause : Cause) (old new : Seen) (t : Trouble) → Comes barrier cause old (Troubled t) new → new ≡ old
+still : (barrier : Bool) (cause : Cause) (old new : Seen) (t : Trouble) → SkipsOrStops barrier cause old (Troubled t) new → new ≡ old
 still barrier cause old new t (inl (path, says)) = (let f : ⊥ = cc in absurd f)
 still barrier cause old new t (inr room) = room.1
 
@@ -155,6 +155,6 @@ trouble_law = record {
   skip = λ cause old new did s can apart. by cause old new did s.stands (skip_comes old.at.item cause old.at new.at did refl s.skips can apart);
 }
   where
-    by : (cause : Cause) (old new : SubtreeCopying) (did : Did) → new ≡ record old { at = new.at } → Comes false cause old.at did new.at → ((path : Route) × (did ≡ Skipped path cause)) ⊎ ((did ≡ Troubled (out_of_memory_at false)) × (new ≡ old))
+    by : (cause : Cause) (old new : SubtreeCopying) (did : Did) → new ≡ record old { at = new.at } → SkipsOrStops false cause old.at did new.at → ((path : Route) × (did ≡ Skipped path cause)) ⊎ ((did ≡ Troubled (out_of_memory_at false)) × (new ≡ old))
     by cause old new did stands (inl s) = inl s
     by cause old new did stands (inr room) = inr (room.0, stands ∙ ap (λ (c : Seen). (let x : SubtreeCopying = record old { at = c } in x)) room.1)

@@ -11,8 +11,8 @@ use Rattle.job_reports.specs.Stops.{out_of_memory_at}
 use Rattle.copy_folders.specs.FolderCopying.{is_dirty}
 use Rattle.copy_folders.specs.Levels.{is_around_dirty, target_around}
 use Rattle.copy_tree.specs.Standing.{Seen}
-use Rattle.copy_tree.specs.Steps.{CopySteps}
-use Rattle.job_unsynced.specs.Folders.{joined, with_change}
+use Rattle.copy_tree.specs.TreeCopySteps.{CopySteps}
+use Rattle.job_unsynced.specs.Folders.{joined_folders, with_change}
 use Rattle.copy_job.specs.Leaving.{is_done, may_leave}
 use Rattle.copy_job.specs.Marks.{brings_made, folder_worked, is_dirty_after, is_left_dirty, was_dirty}
 use Rattle.copy_job.specs.Standing.{at_barrier}
@@ -60,7 +60,7 @@ module _ (free : Route → Bool) (replies : Replies) (old new : Seen) (result : 
 
   -- the innermost was clean
   pub worked_in_clean : brings_made old ≡ false → is_dirty old.levels.inner.copy.names ≡ false → (now more dropped : Bool) (there : Route) (with_it : List Route) → now ≡ is_left_dirty result.did new → there ≡ old.levels.inner.copy.target
-      → with_it ≡ joined there dirty → (if more then take (length with_it - 1) with_it else with_it) ≡ dirty → dropped ≡ (more && not now)
+      → with_it ≡ joined_folders there dirty → (if more then take (length with_it - 1) with_it else with_it) ≡ dirty → dropped ≡ (more && not now)
       → dirty_after ≡ (if dropped then take (length with_it - 1) with_it else with_it) → ListSteps free replies old new result dirty dirty_after before after f0 f1
   worked_in_clean brings was now more dropped there with_it is at joins back off list =
       listed (joins_list now more dropped there dirty with_it dirty_after joins back off list

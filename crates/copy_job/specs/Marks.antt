@@ -4,13 +4,13 @@ use Rattle.mc_text.specs.Routes.{Route}
 use Rattle.job_reports.specs.declared.report.Did.{Did}
 use Rattle.job_reports.specs.declared.report.Did.TheVariants.{Made}
 use Rattle.copy_folders.specs.FolderCopying.{is_dirty}
-use Rattle.copy_tree.specs.declared.item.Item.{Item}
-use Rattle.copy_tree.specs.declared.item.Item.TheVariants.{Next, File, Link, Stays}
+use Rattle.copy_tree.specs.declared.item.ItemAtWork.{ItemAtWork}
+use Rattle.copy_tree.specs.declared.item.ItemAtWork.TheVariants.{Next, File, Link, Stays}
 use Rattle.copy_folders.specs.Levels.{Levels, is_around_dirty, target_around}
 use Rattle.copy_tree.specs.Standing.{Seen}
 
 -- the next call is the sync of the folder around, so that the one that is worked, which was made, is on the disk
-abbrev pub brings_in : Item → Levels → Bool
+abbrev pub brings_in : ItemAtWork → Levels → Bool
 brings_in Next l = is_around_dirty l.around
 brings_in (File f) l = false
 brings_in (Link k) l = false

@@ -11,7 +11,7 @@ use Rattle.job_reports.specs.declared.report.Did.{Did}
 use Rattle.job_reports.specs.declared.report.Did.TheVariants.{Asked, Kept, Merges}
 use Rattle.job_reports.specs.declared.report.Transfer.TheVariants.{ByCopy}
 use Rattle.copy_folders.specs.FolderCopying.{is_dirty}
-use Rattle.copy_tree.specs.declared.item.Item.TheVariants.{Next}
+use Rattle.copy_tree.specs.declared.item.ItemAtWork.TheVariants.{Next}
 use Rattle.copy_tree.specs.InPlace.{IsInPlace}
 use Rattle.copy_tree.specs.Reports.{changes}
 use Rattle.copy_tree.specs.Standing.{Seen, is_fresh}

@@ -22,11 +22,11 @@ use Rattle.copy_link.specs.declared.stage.Stage.{Stage as LinkStage}
 use Rattle.copy_link.specs.declared.stage.Stage.TheVariants as link
 use Rattle.copy_folders.specs.declared.level.Level.{Level}
 use Rattle.copy_folders.specs.Levels.{Levels}
-use Rattle.copy_tree.specs.declared.item.Item.{Item}
-use Rattle.copy_tree.specs.declared.item.Item.TheVariants.{Next, File, Link, Stays}
+use Rattle.copy_tree.specs.declared.item.ItemAtWork.{ItemAtWork}
+use Rattle.copy_tree.specs.declared.item.ItemAtWork.TheVariants.{Next, File, Link, Stays}
 use Rattle.copy_tree.specs.Falling.{IsSteady, things_left}
 use Rattle.copy_tree.specs.Standing.{Seen}
-use Rattle.copy_job.specs.Standing.{IsGoing, SubtreeCopying, at_barrier, retries, started}
+use Rattle.copy_job.specs.Standing.{IsGoing, SubtreeCopying, at_barrier, retries, begun_subtree_copy}
 use Rattle.copy_job.specs.SubtreeSteps.{LastSubtreeStep, SubtreeSkips, SubtreeSteps}
 
 -- a sync is owed
@@ -74,7 +74,7 @@ link_rank most link.Left = 4
 link_rank most link.Again = anew most
 link_rank most link.Decided = 4
 
-abbrev pub item_rank : ℕ → Item → ℕ
+abbrev pub item_rank : ℕ → ItemAtWork → ℕ
 item_rank most Next = anew most
 item_rank most (File f) = file_rank most f.stage
 item_rank most (Link l) = link_rank most l.stage
@@ -103,7 +103,7 @@ RankLaw =
 
 -- A copy that begins is steady, as this law wants it, and each step, skip and retry keeps it so.
 pub record SteadyLaw : Type 0 where
-  pub begins : (job : ℕ) (top : Pair) → (let copy : SubtreeCopying = started job top in IsSteady copy.at)
+  pub begins : (job : ℕ) (top : Pair) → (let copy : SubtreeCopying = begun_subtree_copy job top in IsSteady copy.at)
   pub step : (free : Route → Bool) (replies : Replies) (old new : SubtreeCopying) (did : Did) (calls : ℕ) (dirty dirty_after : List Route) (before after : Option CallLog) (faults faults_after : ℕ)
       → SubtreeSteps free replies old new did calls dirty dirty_after before after faults faults_after → IsSteady old.at → IsSteady new.at
   pub skip : (cause : Cause) (old new : SubtreeCopying) (did : Did) → SubtreeSkips cause old did new → IsSteady old.at → IsSteady new.at
@@ -123,7 +123,7 @@ marks_around (outer ∷ around) = dirt outer.copy.names + marks_around around
 abbrev pub marks : Levels → ℕ
 marks l = dirt l.inner.copy.names + marks_around l.around
 
-abbrev pub last_of : Item → ℕ
+abbrev pub last_of : ItemAtWork → ℕ
 last_of Next = 0
 last_of (File f) = 3
 last_of (Link l) = 3

@@ -40,33 +40,33 @@ MayTell Barrier = ⊤
 MayTell (Troubled trouble) = ⊤
 
 -- in last steps the part is removed, a folder's sync is tried, or all ends, which tells the part that stands
-abbrev pub MayWind : Ending → Option Route → Did → Type 0
-MayWind ending stands (Cleaned part) = stands ≡ Some part
-MayWind ending stands Barrier = ⊤
-MayWind ending stands (Ended how part) = (how ≡ ending) × (part ≡ stands)
-MayWind ending stands (Began part) = ⊥
-MayWind ending stands (Chunk count) = ⊥
-MayWind ending stands (Placed path) = ⊥
-MayWind ending stands (Removed path) = ⊥
-MayWind ending stands (Made path) = ⊥
-MayWind ending stands (Set path) = ⊥
-MayWind ending stands (Kept path) = ⊥
-MayWind ending stands (Asked question) = ⊥
-MayWind ending stands (Merges transfer pair names) = ⊥
-MayWind ending stands (Moved pair) = ⊥
-MayWind ending stands (Skipped path cause) = ⊥
-MayWind ending stands (Troubled trouble) = ⊥
+abbrev pub MayTellLast : Ending → Option Route → Did → Type 0
+MayTellLast ending stands (Cleaned part) = stands ≡ Some part
+MayTellLast ending stands Barrier = ⊤
+MayTellLast ending stands (Ended how part) = (how ≡ ending) × (part ≡ stands)
+MayTellLast ending stands (Began part) = ⊥
+MayTellLast ending stands (Chunk count) = ⊥
+MayTellLast ending stands (Placed path) = ⊥
+MayTellLast ending stands (Removed path) = ⊥
+MayTellLast ending stands (Made path) = ⊥
+MayTellLast ending stands (Set path) = ⊥
+MayTellLast ending stands (Kept path) = ⊥
+MayTellLast ending stands (Asked question) = ⊥
+MayTellLast ending stands (Merges transfer pair names) = ⊥
+MayTellLast ending stands (Moved pair) = ⊥
+MayTellLast ending stands (Skipped path cause) = ⊥
+MayTellLast ending stands (Troubled trouble) = ⊥
 
 -- the part that stands after a last step; one that could not be removed is told with each end
-abbrev pub part_wound : Did → Option Route → Option Route
-part_wound Barrier was = was
-part_wound did was = None
+abbrev pub part_after_last_step : Did → Option Route → Option Route
+part_after_last_step Barrier was = was
+part_after_last_step did was = None
 
-pub record IsWound (ending : Ending) (old : SubtreeCopying) (did : Did) (new : SubtreeCopying) : Type 0 where
-  pub may : MayWind ending (part_of old.at.item) did
+pub record IsAfterLastStep (ending : Ending) (old : SubtreeCopying) (did : Did) (new : SubtreeCopying) : Type 0 where
+  pub may : MayTellLast ending (part_of old.at.item) did
   pub top : new.top ≡ old.top
   pub stage : new.at.stage ≡ old.at.stage
-  pub part : part_of new.at.item ≡ part_wound did (part_of old.at.item)
+  pub part : part_of new.at.item ≡ part_after_last_step did (part_of old.at.item)
 
 -- a folder of the copy's own joined the list, or left it with the report of its sync, or the list is as it was
 pub record ChangesOwn (c : SubtreeCopying) (did : Did) (dirty dirty_after : List Route) : Type 0 where
@@ -81,7 +81,7 @@ pub record ReportingLaw : Type 0 where
   pub step : (free : Route → Bool) (replies : Replies) (old new : SubtreeCopying) (did : Did) (calls : ℕ) (dirty dirty_after : List Route) (before after : Option CallLog) (faults faults_after : ℕ)
       → SubtreeSteps free replies old new did calls dirty dirty_after before after faults faults_after → MayTell did
   pub last : (ending : Ending) (old new : SubtreeCopying) (last : LastStepResult) (dirty dirty_after : List Route) (before after : Option CallLog) (faults faults_after : ℕ)
-      → LastSubtreeStep ending old new last dirty dirty_after before after faults faults_after → IsWindable old.at.item → IsWound ending old last.did new
+      → LastSubtreeStep ending old new last dirty dirty_after before after faults faults_after → IsWindable old.at.item → IsAfterLastStep ending old last.did new
   pub list : (free : Route → Bool) (replies : Replies) (old new : SubtreeCopying) (did : Did) (calls : ℕ) (dirty dirty_after : List Route) (before after : Option CallLog) (faults faults_after : ℕ)
       → SubtreeSteps free replies old new did calls dirty dirty_after before after faults faults_after → IsInPlace old.top old.at → ChangesOwn old did dirty dirty_after
   -- what is passed over is in a trouble of a kind that is skipped

@@ -8,14 +8,14 @@ use Rattle.copy_folders.specs.declared.stage.Stage.{Stage}
 use Rattle.copy_folders.specs.declared.stage.Stage.TheVariants.{Make, Fill, Close, Done}
 use Rattle.copy_link.specs.LinkCopying as link
 use Rattle.copy_tree.specs.declared.copy.Named.{Named}
-use Rattle.copy_tree.specs.declared.item.Item.{Item}
-use Rattle.copy_tree.specs.declared.item.Item.TheVariants.{Next, File, Link, Stays}
+use Rattle.copy_tree.specs.declared.item.ItemAtWork.{ItemAtWork}
+use Rattle.copy_tree.specs.declared.item.ItemAtWork.TheVariants.{Next, File, Link, Stays}
 use Rattle.copy_tree.specs.Ending.{IsWindable}
 use Rattle.copy_tree.specs.InPlace.{IsInPlace}
 use Rattle.copy_folders.specs.Levels.{Levels, is_around_dirty}
-use Rattle.copy_tree.specs.Skipping.{retried}
-use Rattle.copy_tree.specs.Standing.{Seen, begun}
-use Rattle.copy_tree.specs.Steps.{IsWorkable}
+use Rattle.copy_tree.specs.Skipping.{retried_copy}
+use Rattle.copy_tree.specs.Standing.{Seen, begun_tree_copy}
+use Rattle.copy_tree.specs.TreeCopySteps.{IsWorkable}
 use Rattle.copy_tree.specs.WorkedFolder.{IsInWorked}
 use Rattle.job_unsynced.specs.Folders.{is_of}
 
@@ -30,8 +30,8 @@ named_of [] = record { folder = []; name = [] }
 named_of (name ∷ folder) = record { folder = folder; name = name }
 
 -- the copy just begun
-abbrev pub started : ℕ → Pair → SubtreeCopying
-started job top = record { top = top; at = begun job (named_of top.source) (named_of top.target) }
+abbrev pub begun_subtree_copy : ℕ → Pair → SubtreeCopying
+begun_subtree_copy job top = record { top = top; at = begun_tree_copy job (named_of top.source) (named_of top.target) }
 
 -- What holds of each copy, whatever it has come to: it keeps to its place; what is at work lies in the folder that is worked; and a last
 -- step can be made.
@@ -47,14 +47,14 @@ IsGoing c = IsWorkable c.at.item
 
 -- what was refused is taken anew
 abbrev pub retries : SubtreeCopying → SubtreeCopying
-retries c = record c { at = retried c.at }
+retries c = record c { at = retried_copy c.at }
 
 -- a folder in which it may change names
 abbrev pub is_own : SubtreeCopying → Route → Bool
 is_own c kept = is_of (folder_of c.top.target) c.top.target kept
 
 -- the part that stands
-abbrev pub part_of : Item → Option Route
+abbrev pub part_of : ItemAtWork → Option Route
 part_of Next = None
 part_of (File f) = file.part_at f.stage
 part_of (Link l) = if link.has_part l.stage then Some l.part else None
@@ -76,7 +76,7 @@ barrier_at_name (name ∷ names) stage = false
 abbrev pub barrier_in : Levels → Bool
 barrier_in l = is_around_dirty l.around || barrier_at_name l.inner.names.names l.inner.copy.stage
 
-abbrev pub barrier_at : Item → Levels → Bool
+abbrev pub barrier_at : ItemAtWork → Levels → Bool
 barrier_at Next l = barrier_in l
 barrier_at (File f) l = file.at_barrier f.stage
 barrier_at (Link k) l = link.at_barrier k.stage

@@ -13,7 +13,7 @@ use Rattle.job_reports.specs.Stops.{out_of_memory_at}
 use Rattle.copy_tree.specs.Ending.{WindsAt}
 use Rattle.copy_tree.specs.Skipping as machine
 use Rattle.copy_tree.specs.Standing.{Seen}
-use Rattle.copy_tree.specs.Steps.{CopySteps, IsWorkable}
+use Rattle.copy_tree.specs.TreeCopySteps.{CopySteps, IsWorkable}
 use Rattle.copy_job.specs.Leaving.{LeavesSettled, is_done, may_leave}
 use Rattle.copy_job.specs.Marks.{folder_worked, is_dirty_after, was_dirty}
 use Rattle.copy_job.specs.Passing.{OrPassedOver}

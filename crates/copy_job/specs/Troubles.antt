@@ -9,7 +9,7 @@ use Rattle.job_reports.specs.declared.report.Did.{Did}
 use Rattle.job_reports.specs.declared.report.Did.TheVariants.{Asked, Skipped, Troubled}
 use Rattle.job_reports.specs.declared.report.Trouble.{Trouble}
 use Rattle.job_reports.specs.Stops.{out_of_memory_at}
-use Rattle.copy_tree.specs.declared.item.Item.TheVariants.{Next}
+use Rattle.copy_tree.specs.declared.item.ItemAtWork.TheVariants.{Next}
 use Rattle.copy_tree.specs.Falling.{IsSteady}
 use Rattle.copy_job.specs.Ranks.{last_rank, rank}
 use Rattle.copy_job.specs.Standing.{IsGoing, SubtreeCopying, at_barrier}

@@ -9,11 +9,11 @@ use Rattle.job_reports.specs.declared.report.Did.{Did}
 use Rattle.job_reports.specs.declared.report.Did.TheVariants.{Began, Chunk, Placed, Removed, Made, Set, Kept, Skipped, Cleaned, Barrier, Asked, Merges, Moved, Troubled, Ended}
 use Rattle.job_reports.specs.declared.report.Trouble.{Trouble}
 use Rattle.copy_folders.specs.FolderCopying.{is_dirty}
-use Rattle.copy_tree.specs.declared.item.Item.TheVariants.{Next}
+use Rattle.copy_tree.specs.declared.item.ItemAtWork.TheVariants.{Next}
 use Rattle.copy_tree.specs.Falling.{IsSteady}
 use Rattle.copy_tree.specs.Standing.{Seen, is_fresh}
 use Rattle.copy_job.specs.Leaving.{owes_at_end}
-use Rattle.copy_job.specs.Standing.{IsGoing, SubtreeCopying, retries, started}
+use Rattle.copy_job.specs.Standing.{IsGoing, SubtreeCopying, retries, begun_subtree_copy}
 use Rattle.copy_job.specs.SubtreeSteps.{SubtreeSkips, SubtreeSteps}
 
 -- where it stands: in the folder of its source, which owes nothing, and has at most that one name to be met
@@ -47,7 +47,7 @@ MayBegin Barrier = ⊥
 
 -- So it is of a copy that begins, and each step, skip and retry keeps it. No trouble of such a copy is at a barrier.
 pub record UnbegunLaw : Type 0 where
-  pub begins : (job : ℕ) (top : Pair) → (let copy : SubtreeCopying = started job top in IsUnbegun copy.at)
+  pub begins : (job : ℕ) (top : Pair) → (let copy : SubtreeCopying = begun_subtree_copy job top in IsUnbegun copy.at)
   pub step : (free : Route → Bool) (replies : Replies) (old new : SubtreeCopying) (did : Did) (calls : ℕ) (dirty dirty_after : List Route) (before after : Option CallLog) (faults faults_after : ℕ)
       → SubtreeSteps free replies old new did calls dirty dirty_after before after faults faults_after → IsGoing old → IsUnbegun old.at → IsUnbegun new.at
   pub skip : (cause : Cause) (old new : SubtreeCopying) (did : Did) → SubtreeSkips cause old did new → IsGoing old → IsUnbegun old.at → IsUnbegun new.at

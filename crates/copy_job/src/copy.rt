@@ -6,8 +6,8 @@ ghost use Rattle.tree_trait.specs.Answers.{IfKnown};
 ghost use Rattle.copy_tree.specs.InPlace.{IsInPlace};
 ghost use Rattle.copy_tree.specs.Standing.{is_fresh};
 ghost use Rattle.copy_job.specs.LastCalls.{LastCalls, TellsTried};
-ghost use Rattle.copy_job.specs.Reporting.{ChangesOwn, IsWound};
-ghost use Rattle.copy_job.specs.Standing.{IsGoing, at_barrier, is_own, part_of, retries, started};
+ghost use Rattle.copy_job.specs.Reporting.{ChangesOwn, IsAfterLastStep};
+ghost use Rattle.copy_job.specs.Standing.{IsGoing, at_barrier, is_own, part_of, retries, begun_subtree_copy};
 ghost use Rattle.copy_job.specs.SubtreeSteps.{LastSubtreeStep, SubtreeSkips, SubtreeSteps};
 
 use crate::leaving::leave_settled;
@@ -32,14 +32,14 @@ pub struct SubtreeCopy {
 }
 
 impl Model for SubtreeCopy {
-    ghost use Rattle.copy_tree.specs.Standing.{seen};
+    ghost use Rattle.copy_tree.specs.Standing.{seen_copy};
     ghost use Rattle.copy_job.specs.Standing.{IsHeld, SubtreeCopying};
 
     ghost Value = { SubtreeCopying };
 
-    ghost view = { λ c. record { top = c.top; at = seen c.machine } };
+    ghost view = { λ c. record { top = c.top; at = seen_copy c.machine } };
 
-    ghost invariant = { λ c. IsHeld c.top c.folder (seen c.machine) };
+    ghost invariant = { λ c. IsHeld c.top c.folder (seen_copy c.machine) };
 }
 
 impl SubtreeCopy {
@@ -47,7 +47,7 @@ impl SubtreeCopy {
     pub fn begin(alloc: Global, job: u32, top: Pair) -> Result<SubtreeCopy, NoMemory>
         requires source { is_some (parent_of top.source) ≡ true }
         requires target { is_some (parent_of top.target) ≡ true }
-        ensures begun { IfOk result (λ copy. copy ≡ started job top) }
+        ensures begun { IfOk result (λ copy. copy ≡ begun_subtree_copy job top) }
         ensures going { IfOk result IsGoing }
     {
         let source = named(alloc, &top.source)?;
@@ -111,7 +111,7 @@ impl SubtreeCopy {
     ) -> LastStepResult
         ensures winds { LastSubtreeStep ending self.old self.new result dirty.old dirty.new
             (T.contents tree.old) (T.contents tree.new) (T.fault_count tree.old) (T.fault_count tree.new) }
-        ensures wound { IsWound ending self.old result.did self.new }
+        ensures wound { IsAfterLastStep ending self.old result.did self.new }
         ensures own { is_own self.old self.new.at.levels.inner.copy.target ≡ true }
         ensures called { IfKnown (T.contents tree.old) (λ log. LastCalls (part_of self.old.at.item) result.did log (T.contents tree.new)) }
         ensures told { IfKnown (T.contents tree.old) (λ log. TellsTried (part_of self.old.at.item) result.did result.left self.new.at.levels.inner.copy.target log (T.contents tree.new)) }

@@ -1,17 +1,17 @@
 //! Folders that owe nothing are left before a step, so that the folder that is worked then is the one that the step changes.
 ghost use Rattle.std.specs.Prelude.{◌≡◌, false, true};
-ghost use Rattle.copy_tree.specs.Standing.{seen};
-ghost use Rattle.copy_tree.specs.Steps.{IsWorkable, Leaves};
+ghost use Rattle.copy_tree.specs.Standing.{seen_copy};
+ghost use Rattle.copy_tree.specs.TreeCopySteps.{IsWorkable, Leaves};
 ghost use Rattle.copy_job.specs.Leaving.{LeavesSettled, is_done as has_ended, is_done_at as has_ended_at, may_leave as leaves_next, may_leave_at as leaves_next_at, owes_at_end as owes_then};
 
 use copy_folders::{Stack, Stage};
-use copy_tree::{Item, TreeCopy};
+use copy_tree::{ItemAtWork, TreeCopy};
 
 /// Leaves the folders that owe nothing, but for the outermost.
 pub(crate) fn leave_settled(machine: &mut TreeCopy)
     requires workable { IsWorkable machine.old.item }
-    ensures leaves { LeavesSettled (seen machine.old) (seen machine.new) }
-    ensures settled { leaves_next (seen machine.new) ≡ false }
+    ensures leaves { LeavesSettled (seen_copy machine.old) (seen_copy machine.new) }
+    ensures settled { leaves_next (seen_copy machine.new) ≡ false }
     ensures workable { IsWorkable machine.new.item }
 {
     while may_leave(machine) {
@@ -21,13 +21,13 @@ pub(crate) fn leave_settled(machine: &mut TreeCopy)
 
 /// Whether the folder that is worked is done with, and isn't the outermost.
 fn may_leave(machine: &TreeCopy) -> bool
-    ensures { result ≡ leaves_next (seen machine.now) }
+    ensures { result ≡ leaves_next (seen_copy machine.now) }
 {
     match &machine.item {
-        Item::Next => may_leave_at(&machine.stack),
-        Item::File(_) => false,
-        Item::Link(_) => false,
-        Item::Stays(_) => false,
+        ItemAtWork::Next => may_leave_at(&machine.stack),
+        ItemAtWork::File(_) => false,
+        ItemAtWork::Link(_) => false,
+        ItemAtWork::Stays(_) => false,
     }
 }
 
@@ -42,13 +42,13 @@ fn may_leave_at(stack: &Stack) -> bool
 
 /// Whether no name is left in the folder that is worked, and it owes nothing.
 pub(crate) fn is_done(machine: &TreeCopy) -> bool
-    ensures { result ≡ has_ended (seen machine.now) }
+    ensures { result ≡ has_ended (seen_copy machine.now) }
 {
     match &machine.item {
-        Item::Next => is_done_at(&machine.stack),
-        Item::File(_) => false,
-        Item::Link(_) => false,
-        Item::Stays(_) => false,
+        ItemAtWork::Next => is_done_at(&machine.stack),
+        ItemAtWork::File(_) => false,
+        ItemAtWork::Link(_) => false,
+        ItemAtWork::Stays(_) => false,
     }
 }
 
@@ -77,8 +77,8 @@ fn owes_at_end(stage: Stage, dirty: bool) -> bool
 
 /// The folder around is worked again.
 fn leave(machine: &mut TreeCopy)
-    requires may { leaves_next (seen machine.old) ≡ true }
-    ensures leaves { Leaves (seen machine.old) (seen machine.new) }
+    requires may { leaves_next (seen_copy machine.old) ≡ true }
+    ensures leaves { Leaves (seen_copy machine.old) (seen_copy machine.new) }
     ensures free { machine.new.item ≡ machine.old.item }
 {
     machine.stack.close();

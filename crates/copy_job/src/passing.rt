@@ -1,6 +1,6 @@
 //! Troubles that are passed over without a question.
-ghost use Rattle.copy_tree.specs.Standing.{seen};
-ghost use Rattle.copy_tree.specs.Steps.{IsWorkable};
+ghost use Rattle.copy_tree.specs.Standing.{seen_copy};
+ghost use Rattle.copy_tree.specs.TreeCopySteps.{IsWorkable};
 ghost use Rattle.copy_job.specs.Passing.{OrPassedOver};
 
 use copy_tree::TreeCopy;
@@ -16,7 +16,7 @@ pub(crate) fn or_passed_over(
     worked: StepResult,
 ) -> StepResult
     requires workable { IsWorkable machine.old.item }
-    ensures passes { OrPassedOver skips worked (seen machine.old) (seen machine.new) result }
+    ensures passes { OrPassedOver skips worked (seen_copy machine.old) (seen_copy machine.new) result }
     ensures workable { IsWorkable machine.new.item }
 {
     match skips.passed_cause(&worked.did) {

@@ -2,12 +2,12 @@
 ghost use Rattle.std.specs.Prelude.{◌≡◌, ◌∷◌, [], drop, None, Some, IfNone, IfOk, IfSome, is_some, option_map, true, if◌then◌else◌};
 ghost use Rattle.mc_text.specs.Routes.{parent_of};
 ghost use Rattle.copy_link.specs.LinkCopying.{has_part};
-ghost use Rattle.copy_tree.specs.Standing.{seen};
+ghost use Rattle.copy_tree.specs.Standing.{seen_copy};
 ghost use Rattle.copy_job.specs.Standing.{at_barrier, barrier_at_end, barrier_in, named_of, part_of};
 
 use copy_folders::{Stack, Stage};
 use copy_link::LinkCopy;
-use copy_tree::{Item, Named, TreeCopy};
+use copy_tree::{ItemAtWork, Named, TreeCopy};
 use mc_text::{Name, NoMemory, Path};
 use std::alloc::Global;
 
@@ -37,13 +37,13 @@ fn last_name(path: &Path) -> Option<&Name>
 
 /// Whether nothing can be skipped.
 pub(crate) fn is_at_barrier(machine: &TreeCopy) -> bool
-    ensures { result ≡ at_barrier (seen machine.now) }
+    ensures { result ≡ at_barrier (seen_copy machine.now) }
 {
     match &machine.item {
-        Item::Next => is_barred(&machine.stack),
-        Item::File(copy) => copy.is_at_barrier(),
-        Item::Link(copy) => copy.is_at_barrier(),
-        Item::Stays(_) => true,
+        ItemAtWork::Next => is_barred(&machine.stack),
+        ItemAtWork::File(copy) => copy.is_at_barrier(),
+        ItemAtWork::Link(copy) => copy.is_at_barrier(),
+        ItemAtWork::Stays(_) => true,
     }
 }
 
@@ -74,14 +74,14 @@ fn is_barred_at_end(stage: Stage) -> bool
 }
 
 /// The part that stands.
-pub(crate) fn part(item: &Item) -> Option<&Path>
+pub(crate) fn part(item: &ItemAtWork) -> Option<&Path>
     ensures { option_map (λ part. part.now) result ≡ part_of item.now }
 {
     match item {
-        Item::Next => None,
-        Item::File(copy) => copy.part(),
-        Item::Link(copy) => link_part(copy),
-        Item::Stays(part) => Some(part),
+        ItemAtWork::Next => None,
+        ItemAtWork::File(copy) => copy.part(),
+        ItemAtWork::Link(copy) => link_part(copy),
+        ItemAtWork::Stays(part) => Some(part),
     }
 }
 
@@ -107,10 +107,10 @@ pub(crate) fn into_part(machine: TreeCopy) -> Option<Path>
         stack: _,
     } = machine;
     match item {
-        Item::Next => None,
-        Item::File(copy) => copy.into_part(),
-        Item::Link(copy) => into_link_part(copy),
-        Item::Stays(part) => Some(part),
+        ItemAtWork::Next => None,
+        ItemAtWork::File(copy) => copy.into_part(),
+        ItemAtWork::Link(copy) => into_link_part(copy),
+        ItemAtWork::Stays(part) => Some(part),
     }
 }
 

@@ -3,8 +3,8 @@
 ghost use Rattle.std.specs.Prelude.{◌≡◌, List, false, true};
 ghost use Rattle.mc_text.specs.Routes.{Route};
 ghost use Rattle.copy_folders.specs.FolderCopying.{is_dirty};
-ghost use Rattle.copy_tree.specs.Standing.{seen};
-ghost use Rattle.copy_tree.specs.Steps.{IsWorkable};
+ghost use Rattle.copy_tree.specs.Standing.{seen_copy};
+ghost use Rattle.copy_tree.specs.TreeCopySteps.{IsWorkable};
 ghost use Rattle.job_reports.specs.Stops.{out_of_memory_at};
 ghost use Rattle.copy_job.specs.Leaving.{is_done as has_ended, may_leave};
 ghost use Rattle.copy_job.specs.Marks.{brings_made as brings};
@@ -30,8 +30,8 @@ pub(crate) fn work<T: Tree, P: PartTest>(
     dirty: &mut Dirty,
 ) -> StepResult
     requires workable { IsWorkable machine.old.item }
-    requires settled { may_leave (seen machine.old) ≡ false }
-    ensures works { ListSteps (P.is_free parts.now) replies (seen machine.old) (seen machine.new) result dirty.old dirty.new
+    requires settled { may_leave (seen_copy machine.old) ≡ false }
+    ensures works { ListSteps (P.is_free parts.now) replies (seen_copy machine.old) (seen_copy machine.new) result dirty.old dirty.new
         (T.contents tree.old) (T.contents tree.new) (T.fault_count tree.old) (T.fault_count tree.new) }
     ensures workable { IsWorkable machine.new.item }
 {
@@ -56,9 +56,9 @@ fn bring_made<T: Tree, P: PartTest>(
     dirty: &mut Dirty,
 ) -> StepResult
     requires workable { IsWorkable machine.old.item }
-    requires settled { may_leave (seen machine.old) ≡ false }
-    requires brings { brings (seen machine.old) ≡ true }
-    ensures works { ListSteps (P.is_free parts.now) replies (seen machine.old) (seen machine.new) result dirty.old dirty.new
+    requires settled { may_leave (seen_copy machine.old) ≡ false }
+    requires brings { brings (seen_copy machine.old) ≡ true }
+    ensures works { ListSteps (P.is_free parts.now) replies (seen_copy machine.old) (seen_copy machine.new) result dirty.old dirty.new
         (T.contents tree.old) (T.contents tree.new) (T.fault_count tree.old) (T.fault_count tree.new) }
     ensures workable { IsWorkable machine.new.item }
 {
@@ -77,10 +77,10 @@ fn finish<T: Tree, P: PartTest>(
     replies: Replies,
 ) -> StepResult
     requires workable { IsWorkable machine.old.item }
-    requires settled { may_leave (seen machine.old) ≡ false }
-    requires inner { brings (seen machine.old) ≡ false }
-    requires ended { has_ended (seen machine.old) ≡ true }
-    ensures works { (dirty : List Route) → ListSteps (P.is_free parts.now) replies (seen machine.old) (seen machine.new) result dirty dirty
+    requires settled { may_leave (seen_copy machine.old) ≡ false }
+    requires inner { brings (seen_copy machine.old) ≡ false }
+    requires ended { has_ended (seen_copy machine.old) ≡ true }
+    ensures works { (dirty : List Route) → ListSteps (P.is_free parts.now) replies (seen_copy machine.old) (seen_copy machine.new) result dirty dirty
         (T.contents tree.old) (T.contents tree.new) (T.fault_count tree.old) (T.fault_count tree.new) }
     ensures workable { IsWorkable machine.new.item }
 {
@@ -97,10 +97,10 @@ fn work_in_dirty<T: Tree, P: PartTest>(
     dirty: &mut Dirty,
 ) -> StepResult
     requires workable { IsWorkable machine.old.item }
-    requires settled { may_leave (seen machine.old) ≡ false }
-    requires inner { brings (seen machine.old) ≡ false }
+    requires settled { may_leave (seen_copy machine.old) ≡ false }
+    requires inner { brings (seen_copy machine.old) ≡ false }
     requires marked { is_dirty machine.old.stack.levels.inner.copy.names ≡ true }
-    ensures works { ListSteps (P.is_free parts.now) replies (seen machine.old) (seen machine.new) result dirty.old dirty.new
+    ensures works { ListSteps (P.is_free parts.now) replies (seen_copy machine.old) (seen_copy machine.new) result dirty.old dirty.new
         (T.contents tree.old) (T.contents tree.new) (T.fault_count tree.old) (T.fault_count tree.new) }
     ensures workable { IsWorkable machine.new.item }
 {
@@ -120,11 +120,11 @@ fn work_in_clean<T: Tree, P: PartTest>(
     dirty: &mut Dirty,
 ) -> StepResult
     requires workable { IsWorkable machine.old.item }
-    requires settled { may_leave (seen machine.old) ≡ false }
-    requires inner { brings (seen machine.old) ≡ false }
-    requires left { has_ended (seen machine.old) ≡ false }
+    requires settled { may_leave (seen_copy machine.old) ≡ false }
+    requires inner { brings (seen_copy machine.old) ≡ false }
+    requires left { has_ended (seen_copy machine.old) ≡ false }
     requires clean { is_dirty machine.old.stack.levels.inner.copy.names ≡ false }
-    ensures works { ListSteps (P.is_free parts.now) replies (seen machine.old) (seen machine.new) result dirty.old dirty.new
+    ensures works { ListSteps (P.is_free parts.now) replies (seen_copy machine.old) (seen_copy machine.new) result dirty.old dirty.new
         (T.contents tree.old) (T.contents tree.new) (T.fault_count tree.old) (T.fault_count tree.new) }
     ensures workable { IsWorkable machine.new.item }
 {

@@ -97,13 +97,13 @@ Tells c (Skipped path cause) new = ⊥
 Tells c (Ended ending part) new = ⊥
 
 -- a link that is skipped is not copied; a part that stands is to be removed
-abbrev pub skipped : Stage → Stage
-skipped Make = Decided
-skipped Place = Clean next.Decided
-skipped (Clean follows) = Clean next.Decided
-skipped Left = Left
-skipped Again = Decided
-skipped Decided = Decided
+abbrev pub skipped_stage : Stage → Stage
+skipped_stage Make = Decided
+skipped_stage Place = Clean next.Decided
+skipped_stage (Clean follows) = Clean next.Decided
+skipped_stage Left = Left
+skipped_stage Again = Decided
+skipped_stage Decided = Decided
 
 -- a link that isn't placed is taken up anew, when its part was removed; what was placed or skipped stays so
 abbrev pub taken_anew : Stage → Stage

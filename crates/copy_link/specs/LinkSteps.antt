@@ -5,7 +5,7 @@ use Rattle.tree_trait.specs.declared.file_system.FileSystem.{FileSystem}
 use Rattle.tree_trait.specs.declared.calls.TreeError.TheVariants as refused
 use Rattle.tree_trait.specs.Calls.{Call, ReadLink, MakeLink, Rename, RemoveFile, SyncFolder}
 use Rattle.tree_trait.specs.FileSystem.{node}
-use Rattle.tree_trait.specs.Change.{CallLog, current, found}
+use Rattle.tree_trait.specs.Change.{CallLog, current, found_node}
 use Rattle.tree_trait.specs.Refusals.{refusal_of}
 use Rattle.tree_trait.specs.Answers.{IfKnown, HasRisen}
 use Rattle.job_reports.specs.declared.report.Cause.{Cause}
@@ -22,11 +22,11 @@ use Rattle.copy_file.specs.declared.stage.FolderState.{FolderState}
 use Rattle.copy_link.specs.declared.stage.Stage.{Stage}
 use Rattle.copy_link.specs.declared.stage.Stage.TheVariants.{Make, Place, Clean, Left, Again, Decided}
 use Rattle.copy_link.specs.declared.work.AfterStep.{AfterStep}
-use Rattle.copy_link.specs.LinkCopying.{LinkCopying, LinkPlaces, Tells, at_barrier, skipped, steps_left}
+use Rattle.copy_link.specs.LinkCopying.{LinkCopying, LinkPlaces, Tells, at_barrier, skipped_stage, steps_left}
 
 -- the text of the link at a path
 abbrev pub link_text : FileSystem → Route → List ℕ
-link_text s path = (node s (found s path)).bytes
+link_text s path = (node s (found_node s path)).bytes
 
 -- the changing call that comes next where the copy stands, if there is one
 abbrev pub next_call : FileSystem → LinkCopying → Stage → List Call
@@ -116,7 +116,7 @@ moved_by stop stage folder = record { did = Troubled stop.trouble; calls = stop.
 -- a skip reports the source as skipped, or that there is no memory for the report, and then it changes nothing
 abbrev pub Skips : Cause → LinkCopying → Did → LinkCopying → Type 0
 Skips cause old did new =
-    ((did ≡ Skipped old.source cause) × (new ≡ record old { stage = skipped old.stage }))
+    ((did ≡ Skipped old.source cause) × (new ≡ record old { stage = skipped_stage old.stage }))
     ⊎ ((did ≡ Troubled (out_of_memory_at (at_barrier old.stage))) × (new ≡ old))
 
 -- the link was read and the part made, or the trouble is one that may come before

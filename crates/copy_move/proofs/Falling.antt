@@ -89,7 +89,7 @@ last_making_falls ending old new (Cleaned part) w h = absurd w
 last_making_falls ending old new (Troubled trouble) w h = absurd w
 
 -- so has the making of a folder that is not made
-pub unmade_falls : (stage : MakingStage) → making_rank (makings.skipped stage) < 10
+pub unmade_falls : (stage : MakingStage) → making_rank (makings.skipped_stage stage) < 10
 unmade_falls making.Make = omega arith
 unmade_falls making.Sync = omega arith
 unmade_falls making.Finish = omega arith

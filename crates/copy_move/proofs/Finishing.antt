@@ -22,8 +22,8 @@ use Rattle.copy_move.specs.declared.work.Work.{Work}
 use Rattle.copy_move.specs.declared.work.Work.TheVariants.{Copy, Delete, Make, Move, SetMode, RemoveEmptied}
 use Rattle.copy_move.specs.Jobs.{CallsOn, Running, TellsOn, WorkCalls, WorkTells, WorkWinds, first_work, part_of}
 use Rattle.copy_move.specs.Settling.{WorkLeaves}
-use Rattle.copy_move.specs.Steps.{LeavesDirty, RunStep, SyncsOwed, Walks, WalksOn, step_made}
-use Rattle.copy_move.specs.Told.{running, told, turned, work_told}
+use Rattle.copy_move.specs.JobStepReports.{LeavesDirty, RunStep, SyncsOwed, Walks, WalksOn, step_made}
+use Rattle.copy_move.specs.Told.{running, told_job, turned_job, work_told}
 use Rattle.copy_move.proofs.MovingWorks.{no_moves}
 use Rattle.copy_move.proofs.Telling.{began_told}
 
@@ -130,18 +130,18 @@ next_job id replies work = record { id = id; work = work; course = GoesOn; repli
 abbrev turns : ℕ → Replies → Option Work → Option Running
 turns id replies work = option_map (next_job id replies) work
 
-turns_told : (id : ℕ) (replies : Replies) (work : Option Work) → option_map told (option_map (running id) work) ≡ option_map (running id) work → option_map told (turns id replies work) ≡ turns id replies work
+turns_told : (id : ℕ) (replies : Replies) (work : Option Work) → option_map told_job (option_map (running id) work) ≡ option_map (running id) work → option_map told_job (turns id replies work) ≡ turns id replies work
 turns_told id replies None h = refl
 turns_told id replies (Some w) h =
-    let same : Some (told (running id w)) ≡ Some (running id w) = h in
-    let told_so : work_told id w ≡ w = (let e : told (running id w) ≡ running id w = cc in ap (λ (r : Running). r.work) e) in
+    let same : Some (told_job (running id w)) ≡ Some (running id w) = h in
+    let told_so : work_told id w ≡ w = (let e : told_job (running id w) ≡ running id w = cc in ap (λ (r : Running). r.work) e) in
     ap (λ k. Some (next_job id replies k)) told_so
 
 -- What a history tells of a job that goes on with its next source.
-pub turned_told : (next : Job) (job : Running) → option_map told (turned next job) ≡ turned next (told job)
+pub turned_told : (next : Job) (job : Running) → option_map told_job (turned_job next job) ≡ turned_job next (told_job job)
 turned_told next job = turns_told job.id job.replies (first_work job.id next) (began_told job.id next)
 
 -- A job goes on with its next source as it stood before the step that finished the one before.
-pub turned_alike : (next : Job) (job new : Running) → new.id ≡ job.id → new.replies ≡ job.replies → turned next new ≡ turned next job
+pub turned_alike : (next : Job) (job new : Running) → new.id ≡ job.id → new.replies ≡ job.replies → turned_job next new ≡ turned_job next job
 turned_alike next job new number replies =
     ap (λ id. turns id new.replies (first_work id next)) number ∙ ap (λ said. turns job.id said (first_work job.id next)) replies

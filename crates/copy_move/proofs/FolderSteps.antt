@@ -16,7 +16,7 @@ use Rattle.job_reports.specs.CallRuns.{HasMore}
 use Rattle.job_reports.specs.Reports.{ends}
 use Rattle.job_reports.specs.Paths.{folder_of, without}
 use Rattle.job_reports.specs.Stops.{out_of_memory_at}
-use Rattle.job_unsynced.specs.Folders.{is_one_of, joined}
+use Rattle.job_unsynced.specs.Folders.{is_one_of, joined_folders}
 use Rattle.delete_job.specs.Standing.{at_barrier as deletion_barrier}
 use Rattle.copy_move.specs.declared.work.Work.{Work}
 use Rattle.copy_move.specs.declared.work.Work.TheVariants.{Copy, Delete, Make, Move, SetMode, RemoveEmptied}
@@ -28,7 +28,7 @@ use Rattle.delete_job.specs.DeletionSteps.{DeletionSkips, DeletionStep, LastDele
 use Rattle.copy_move.specs.Jobs.{Running, CallsOn, PassesOver, TellsOn, course_after, is_fresh}
 use Rattle.copy_move.specs.Ranks.{rank_at, rank_on, tries_left}
 use Rattle.copy_move.specs.Settling.{NoneForFolder, NoneOwed, with_change}
-use Rattle.copy_move.specs.Steps.{LeavesDirty, OwnStep, OwedSyncStep, SkipSteps, SkipWalks, Walks, WalksOn, WindingStep, WorkSkips, WorkSteps, WorkWindsUp, step_made}
+use Rattle.copy_move.specs.JobStepReports.{LeavesDirty, OwnStep, OwedSyncStep, SkipSteps, SkipWalks, Walks, WalksOn, WindingStep, WorkSkips, WorkSteps, WorkWindsUp, step_made}
 use Rattle.job_reports.proofs.Runs.{risen_before}
 use Rattle.copy_move.specs.Faults.{MeetsFault}
 use Rattle.delete_job.proofs.DeletionRuns.{fewer, one_fewer}
@@ -36,7 +36,7 @@ use Rattle.copy_move.proofs.RunSteps.{fault_told, run_ends, run_goes}
 use Rattle.make_job.proofs.MakingRuns.{same_log}
 
 -- a change adds a folder at most
-pub joined_more : (folder : Route) (dirty : List Route) → length (joined folder dirty) ≤ length dirty + 1
+pub joined_more : (folder : Route) (dirty : List Route) → length (joined_folders folder dirty) ≤ length dirty + 1
 joined_more folder dirty = go (is_one_of folder dirty)
   where
     go : (b : Bool) → length (if b then dirty else dirty ++ folder ∷ []) ≤ length dirty + 1
@@ -90,8 +90,8 @@ tried_more (Ended ending part) left folder dirty = omega arith
 
 -- the step of a deletion
 module _ (unclaimed : Route → Type 0) (replies : Replies) (d new : Deleting) (did : Did) (calls : ℕ) (dirty dirty_after : List Route) (before after : Option CallLog) (f0 f1 : ℕ) where
-  removal_more : (path : Route) → length (without path (joined (folder_of path) dirty)) ≤ length dirty + 1
-  removal_more path = let less = fewer path (joined (folder_of path) dirty) in let more = joined_more (folder_of path) dirty in omega (arith, less, more)
+  removal_more : (path : Route) → length (without path (joined_folders (folder_of path) dirty)) ≤ length dirty + 1
+  removal_more path = let less = fewer path (joined_folders (folder_of path) dirty) in let more = joined_more (folder_of path) dirty in omega (arith, less, more)
 
   falls_by : (x : Did) → deletions.Tells replies d x new → deletions.DeletionLeaves d x dirty dirty_after before after → (is_decided x ≡ true → left_in new < left_in d) → ends x ≡ false
       → rank_at dirty_after (course_after x) (Delete new) < rank_at dirty GoesOn (Delete d)

@@ -19,7 +19,7 @@ use Rattle.make_job.specs.MakingSteps.{LastMakingStep, MakingSkips, MakingStep}
 use Rattle.copy_move.specs.Jobs.{course_after, unreported_skip}
 use Rattle.copy_move.specs.Ranks.{making_rank, rank_on, tries_left}
 use Rattle.copy_move.specs.Settling.{with_change}
-use Rattle.copy_move.specs.Steps.{WorkSkips, WorkSteps, WorkWindsUp}
+use Rattle.copy_move.specs.JobStepReports.{WorkSkips, WorkSteps, WorkWindsUp}
 use Rattle.copy_move.proofs.Falling.{last_making_falls, making_falls, unmade_falls, waiting_falls}
 use Rattle.copy_move.proofs.FolderSteps.{one_more, tried_more, tries_after, weighs_less}
 use Rattle.copy_move.proofs.RunSteps.{met_by}

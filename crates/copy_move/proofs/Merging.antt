@@ -21,7 +21,7 @@ use Rattle.copy_move.specs.declared.work.Work.{Work}
 use Rattle.copy_move.specs.declared.work.Work.TheVariants.{Copy, Delete, Make, Move, SetMode, RemoveEmptied}
 use Rattle.copy_move.specs.Jobs.{CallsOn, Running, TellsOn, WorkCalls, WorkTells, WorkWinds, part_of}
 use Rattle.copy_move.specs.Settling.{WorkLeaves}
-use Rattle.copy_move.specs.Steps.{LeavesDirty, RunStep, SyncsOwed, Walks, WalksOn, step_made}
+use Rattle.copy_move.specs.JobStepReports.{LeavesDirty, RunStep, SyncsOwed, Walks, WalksOn, step_made}
 use Rattle.copy_move.specs.TreeCopies as trees
 use Rattle.copy_move.proofs.Finishing.{Finishes}
 

@@ -14,7 +14,7 @@ use Rattle.job_reports.specs.Stops.{out_of_memory_at}
 use Rattle.job_reports.proofs.Runs.{no_more}
 use Rattle.mode_job.specs.declared.setting.Stage.{Stage}
 use Rattle.mode_job.specs.declared.setting.Stage.TheVariants.{Give, Sync, Done}
-use Rattle.mode_job.specs.Settings.{Setting, Tells, at_barrier, is_dirty, skipped}
+use Rattle.mode_job.specs.Settings.{Setting, Tells, at_barrier, is_dirty, skipped_stage}
 use Rattle.mode_job.specs.SettingSteps.{SettingSkips, StepsOn, SyncTried, TellsFault, Winds}
 use Rattle.job_answers.specs.declared.replies.Replies.{Replies}
 use Rattle.copy_move.specs.declared.work.Work.TheVariants.{SetMode}
@@ -26,7 +26,7 @@ use Rattle.mode_job.specs.ModeSettings.{LastSettingCalls, SettingLeaves}
 use Rattle.mode_job.specs.ModeSettings as modes
 use Rattle.copy_move.specs.Ranks.{last_rank, last_setting_steps, rank_on, setting_rank, tries_left, work_rank}
 use Rattle.copy_move.specs.Settling.{with_change}
-use Rattle.copy_move.specs.Steps.{WorkSkips, WorkSteps, WorkWindsUp}
+use Rattle.copy_move.specs.JobStepReports.{WorkSkips, WorkSteps, WorkWindsUp}
 use Rattle.copy_move.proofs.Falling.{setting_tried_low, waiting_falls}
 use Rattle.copy_move.proofs.FolderSteps.{one_more, tried_more, tries_after, weighs_less}
 
@@ -58,7 +58,7 @@ setting_falls replies old new (Skipped path cause) (at, path_is, passes, is) h =
 setting_falls replies old new (Cleaned part) t h = absurd t
 
 -- so does one that keeps its mode
-unset_falls : (stage : Stage) → setting_rank (skipped stage) < 10
+unset_falls : (stage : Stage) → setting_rank (skipped_stage stage) < 10
 unset_falls Give = omega arith
 unset_falls Sync = omega arith
 unset_falls Done = omega arith

@@ -11,7 +11,7 @@ use Rattle.job_reports.specs.Paths.{folder_of}
 use Rattle.job_reports.specs.Reports.{ends}
 use Rattle.move_job.specs.declared.moving.MovingStage.{MovingStage}
 use Rattle.move_job.specs.declared.moving.MovingStage.TheVariants.{Take, SyncTarget, SyncSource, Finish, PassedOver}
-use Rattle.move_job.specs.Movings.{Moving, Winds, after_sync, is_dirty, skipped}
+use Rattle.move_job.specs.Movings.{Moving, Winds, after_sync, is_dirty, skipped_stage}
 use Rattle.copy_move.specs.Ranks.{last_moving_steps, moving_rank}
 
 -- a move in trouble has fewer steps left than one that goes on
@@ -31,7 +31,7 @@ moving_low Finish = omega arith
 moving_low PassedOver = omega arith
 
 -- so are the steps of one whose thing stays
-pub unmoved_falls : (stage : MovingStage) → moving_rank (skipped stage) < 10
+pub unmoved_falls : (stage : MovingStage) → moving_rank (skipped_stage stage) < 10
 unmoved_falls Take = omega arith
 unmoved_falls SyncTarget = omega arith
 unmoved_falls SyncSource = omega arith

@@ -17,7 +17,7 @@ use Rattle.copy_move.specs.declared.run.Course.{Course}
 use Rattle.copy_move.specs.declared.run.Course.TheVariants.{GoesOn, InTrouble, OwedSyncFailed, Ends}
 use Rattle.copy_move.specs.declared.work.Work.TheVariants.{Move}
 use Rattle.copy_move.specs.Jobs.{Running, course_after, halt_of}
-use Rattle.copy_move.specs.Told.{after_step, course_told, synced, told}
+use Rattle.copy_move.specs.Told.{after_step, course_told, synced_work, told_job}
 
 -- the job with this number that moves something
 abbrev moves_on : ℕ → Replies → Moving → Course → Running
@@ -36,12 +36,12 @@ moving_in_trouble m trouble h = ap (λ b. if b then OwedSyncFailed trouble.cause
 
 -- a move that goes on
 pub moving_told : (id : ℕ) (replies : Replies) (old new : Moving) (did : Did) → Tells replies old did new → ends did ≡ false
-    → after_step did (told (moves_on id replies old GoesOn)) ≡ Some (told (moves_on id replies new (course_after did)))
+    → after_step did (told_job (moves_on id replies old GoesOn)) ≡ Some (told_job (moves_on id replies new (course_after did)))
 moving_told id replies old new (Moved pair) (at, pair_is, is) h = rw is refl
 moving_told id replies old new (Kept path) (at, path_is, is) h = rw is refl
 moving_told id replies old new (Merges transfer pair names) (at, merges, is) h = rw is refl
 moving_told id replies old new (Skipped path cause) (at, path_is, passes, is) h =
-    rw is (ap (λ stage. Some (moves_on id replies (record old { stage = movings.skipped stage }) GoesOn)) at)
+    rw is (ap (λ stage. Some (moves_on id replies (record old { stage = movings.skipped_stage stage }) GoesOn)) at)
 moving_told id replies old new Barrier (dirty, is) h = rw is refl
 moving_told id replies old new (Asked question) (at, is) h = rw is refl
 moving_told id replies old new (Troubled trouble) (barrier, undone, cause, is) h = rw is (ap (λ course. Some (moves_on id replies old course)) (moving_in_trouble old trouble barrier))
@@ -59,7 +59,7 @@ moving_told id replies old new (Cleaned part) t h = absurd t
 
 -- its last steps
 pub moving_winds : (id : ℕ) (replies : Replies) (ending : Ending) (old new : Moving) (did : Did) → Winds ending old did new → ends did ≡ false
-    → after_step did (told (moves_on id replies old (Ends ending))) ≡ Some (told (moves_on id replies new (Ends ending)))
+    → after_step did (told_job (moves_on id replies old (Ends ending))) ≡ Some (told_job (moves_on id replies new (Ends ending)))
 moving_winds id replies ending old new Barrier (dirty, is) h = rw is refl
 moving_winds id replies ending old new (Ended how part) t h = absurd cc
 moving_winds id replies ending old new (Began part) t h = absurd t
@@ -77,7 +77,7 @@ moving_winds id replies ending old new (Cleaned part) t h = absurd t
 moving_winds id replies ending old new (Troubled trouble) t h = absurd t
 
 -- the sync of what an ended job left dirty comes before the renaming, and leaves the move as it is
-pub synced_moving : (m : Moving) (stage : MovingStage) → is_fresh stage ≡ true → synced (Move (record m { stage = stage })) ≡ Move (record m { stage = stage })
+pub synced_moving : (m : Moving) (stage : MovingStage) → is_fresh stage ≡ true → synced_work (Move (record m { stage = stage })) ≡ Move (record m { stage = stage })
 synced_moving m Take h = refl
 synced_moving m SyncTarget h = absurd (false≢true h)
 synced_moving m SyncSource h = absurd (false≢true h)

@@ -28,7 +28,7 @@ use Rattle.copy_move.specs.Faults.{MeetsFault}
 use Rattle.copy_move.specs.Jobs.{course_after, unreported_skip}
 use Rattle.copy_move.specs.Ranks.{last_moving_steps, moving_rank, rank_on, tries_left}
 use Rattle.copy_move.specs.Settling.{is_own, with_change}
-use Rattle.copy_move.specs.Steps.{WorkSkips, WorkSteps, WorkWindsUp}
+use Rattle.copy_move.specs.JobStepReports.{WorkSkips, WorkSteps, WorkWindsUp}
 use Rattle.delete_job.proofs.DeletionRuns.{fewer}
 use Rattle.copy_move.proofs.Falling.{waiting_falls}
 use Rattle.copy_move.proofs.FolderSteps.{one_more, tried_more, tries_after}

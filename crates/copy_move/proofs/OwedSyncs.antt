@@ -16,7 +16,7 @@ use Rattle.job_reports.proofs.Runs.{no_more}
 use Rattle.mode_job.specs.SettingSteps.{SyncRan, sync_of}
 use Rattle.copy_move.specs.declared.run.Course.TheVariants.{GoesOn, OwedSyncFailed}
 use Rattle.copy_move.specs.Jobs.{IsGoing, Running, is_fresh}
-use Rattle.copy_move.specs.Steps.{OwedSyncStep, SyncsOwed, step_made}
+use Rattle.copy_move.specs.JobStepReports.{OwedSyncStep, SyncsOwed, step_made}
 use Rattle.copy_job.proofs.StillTelling.{performs_tells}
 use Rattle.copy_move.proofs.Falling.{trouble_falls}
 use Rattle.copy_move.proofs.StillTelling.{StillTells, sync_stop_tells}

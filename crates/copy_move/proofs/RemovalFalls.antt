@@ -8,7 +8,7 @@ use Rattle.job_reports.specs.Reports.{ends}
 use Rattle.job_answers.specs.declared.replies.Replies.{Replies}
 use Rattle.emptied_job.specs.declared.removal.RemovalStage.{RemovalStage}
 use Rattle.emptied_job.specs.declared.removal.RemovalStage.TheVariants.{Remove, Sync, Finish, PassedOver}
-use Rattle.emptied_job.specs.Removals.{Removing, Tells, Winds, skipped}
+use Rattle.emptied_job.specs.Removals.{Removing, Tells, Winds, skipped_stage}
 use Rattle.copy_move.specs.declared.work.Work.TheVariants.{RemoveEmptied}
 use Rattle.copy_move.specs.Jobs.{course_after}
 use Rattle.copy_move.specs.Ranks.{last_removal_steps, rank_on, removal_rank}
@@ -28,7 +28,7 @@ removal_low Finish = omega arith
 removal_low PassedOver = omega arith
 
 -- so are the steps of one whose folder stays
-pub unremoved_falls : (stage : RemovalStage) → removal_rank (skipped stage) < 10
+pub unremoved_falls : (stage : RemovalStage) → removal_rank (skipped_stage stage) < 10
 unremoved_falls Remove = omega arith
 unremoved_falls Sync = omega arith
 unremoved_falls Finish = omega arith

@@ -16,7 +16,7 @@ use Rattle.copy_move.specs.declared.run.Course.{Course}
 use Rattle.copy_move.specs.declared.run.Course.TheVariants.{GoesOn, InTrouble, OwedSyncFailed, Ends}
 use Rattle.copy_move.specs.declared.work.Work.TheVariants.{RemoveEmptied}
 use Rattle.copy_move.specs.Jobs.{Running, course_after, halt_of}
-use Rattle.copy_move.specs.Told.{after_step, course_told, synced, told}
+use Rattle.copy_move.specs.Told.{after_step, course_told, synced_work, told_job}
 
 -- the job with this number that removes an emptied folder
 abbrev removes_on : ℕ → Replies → Removing → Course → Running
@@ -34,11 +34,11 @@ removal_in_trouble r trouble h = ap (λ b. if b then OwedSyncFailed trouble.caus
 
 -- a removal that goes on
 pub removal_told : (id : ℕ) (replies : Replies) (old new : Removing) (did : Did) → Tells replies old did new → ends did ≡ false
-    → after_step did (told (removes_on id replies old GoesOn)) ≡ Some (told (removes_on id replies new (course_after did)))
+    → after_step did (told_job (removes_on id replies old GoesOn)) ≡ Some (told_job (removes_on id replies new (course_after did)))
 removal_told id replies old new (Removed path) (at, path_is, is) h = rw is refl
 removal_told id replies old new (Kept path) (at, path_is, is) h = rw is refl
 removal_told id replies old new (Skipped path cause) (at, path_is, passes, is) h =
-    rw is (ap (λ stage. Some (removes_on id replies (record old { stage = removals.skipped stage }) GoesOn)) at)
+    rw is (ap (λ stage. Some (removes_on id replies (record old { stage = removals.skipped_stage stage }) GoesOn)) at)
 removal_told id replies old new Barrier (at, is) h = rw is (ap (λ stage. Some (removes_on id replies (record old { stage = removals.after_sync stage }) GoesOn)) at)
 removal_told id replies old new (Troubled trouble) (barrier, undone, cause, is) h = rw is (ap (λ course. Some (removes_on id replies old course)) (removal_in_trouble old trouble barrier))
 removal_told id replies old new (Ended ending part) t h = absurd (true≢false h)
@@ -46,13 +46,13 @@ removal_told id replies old new did t h = absurd t
 
 -- its last steps
 pub removal_winds : (id : ℕ) (replies : Replies) (ending : Ending) (old new : Removing) (did : Did) → Winds ending old did new → ends did ≡ false
-    → after_step did (told (removes_on id replies old (Ends ending))) ≡ Some (told (removes_on id replies new (Ends ending)))
+    → after_step did (told_job (removes_on id replies old (Ends ending))) ≡ Some (told_job (removes_on id replies new (Ends ending)))
 removal_winds id replies ending old new Barrier (at, is) h = rw is (ap (λ stage. Some (removes_on id replies (record old { stage = removals.after_sync stage }) (Ends ending))) at)
 removal_winds id replies ending old new (Ended how part) t h = absurd (true≢false h)
 removal_winds id replies ending old new did t h = absurd t
 
 -- the sync of what an ended job left dirty comes before the removal, and leaves it as it is
-pub synced_removal : (r : Removing) (stage : RemovalStage) → is_fresh stage ≡ true → synced (RemoveEmptied (record r { stage = stage })) ≡ RemoveEmptied (record r { stage = stage })
+pub synced_removal : (r : Removing) (stage : RemovalStage) → is_fresh stage ≡ true → synced_work (RemoveEmptied (record r { stage = stage })) ≡ RemoveEmptied (record r { stage = stage })
 synced_removal r Remove h = refl
 synced_removal r Sync h = absurd (false≢true h)
 synced_removal r Finish h = absurd (false≢true h)

@@ -20,7 +20,7 @@ use Rattle.copy_move.specs.Faults.{MeetsFault}
 use Rattle.copy_move.specs.Jobs.{course_after, unreported_skip}
 use Rattle.copy_move.specs.Ranks.{rank_on, removal_rank, tries_left}
 use Rattle.copy_move.specs.Settling.{with_change}
-use Rattle.copy_move.specs.Steps.{WorkSkips, WorkSteps, WorkWindsUp}
+use Rattle.copy_move.specs.JobStepReports.{WorkSkips, WorkSteps, WorkWindsUp}
 use Rattle.copy_move.proofs.Falling.{waiting_falls}
 use Rattle.copy_move.proofs.FolderSteps.{one_more, tried_more, tries_after, weighs_less}
 use Rattle.copy_move.proofs.RemovalFalls.{last_removal_falls, removal_falls, unremoved_falls}

@@ -14,7 +14,7 @@ use Rattle.copy_move.specs.declared.run.Course.{Course}
 use Rattle.copy_move.specs.declared.run.Course.TheVariants.{GoesOn, Ends}
 use Rattle.copy_move.specs.Jobs.{Running, TellsOn, CallsOn, WorkWinds, course_after}
 use Rattle.copy_move.specs.Faults.{MeetsFault}
-use Rattle.copy_move.specs.Steps.{StepsOn, WorkSteps, WorkWindsUp}
+use Rattle.copy_move.specs.JobStepReports.{StepsOn, WorkSteps, WorkWindsUp}
 
 -- a report that isn't a skip tells of a fault where it is one
 pub met_by : (course : Course) (P : Did → Type 0) (did : Did) → ((path : Route) (cause : Cause) → P (Skipped path cause) → ⊥) → P did → MeetsFault course did → IsFault did

@@ -18,7 +18,7 @@ use Rattle.copy_move.specs.declared.work.Work.{Work}
 use Rattle.copy_move.specs.declared.work.Work.TheVariants.{Copy, Delete, Make, Move, SetMode, RemoveEmptied}
 use Rattle.copy_move.specs.declared.run.Course.{Course}
 use Rattle.copy_move.specs.declared.run.Course.TheVariants.{GoesOn, Asking, InTrouble, OwedSyncFailed, Skips, Ends}
-use Rattle.tree_walk.specs.Places.{unopened}
+use Rattle.tree_walk.specs.Places.{unopened_walk}
 use Rattle.delete_job.specs.declared.deletion.Depth.TheVariants.{Top}
 use Rattle.delete_job.specs.declared.deletion.Stage.{Stage as DeletionStage}
 use Rattle.delete_job.specs.declared.deletion.Stage.TheVariants as deletion
@@ -37,20 +37,20 @@ use Rattle.mode_job.specs.declared.setting.Stage.{Stage as SettingStage}
 use Rattle.mode_job.specs.declared.setting.Stage.TheVariants as setting
 use Rattle.mode_job.specs.Settings.{Setting}
 use Rattle.mode_job.specs.Settings as settings
-use Rattle.copy_move.specs.Jobs.{Running, JobTells, TellsOn, WorkTells, WorkWinds, answered, answered_on, copies, course_after, deletes, first_work, halt_of, is_fresh, makes, moves, removes_emptied, sets, PassesOver, taken_anew, unreported_skip}
+use Rattle.copy_move.specs.Jobs.{Running, JobTells, TellsOn, WorkTells, WorkWinds, answered_job, answered_on, copies, course_after, deletes, first_work, halt_of, is_fresh, makes, moves, removes_emptied, sets, PassesOver, taken_anew, unreported_skip}
 use Rattle.job_reports.specs.Reports.{ends}
 use Rattle.job_answers.specs.declared.replies.Replies.{Replies}
 use Rattle.job_reports.specs.declared.job.Pair.{Pair}
 use Rattle.copy_tree.specs.declared.copy.Stage.{Stage as TreeStage}
 use Rattle.copy_tree.specs.declared.copy.Stage.TheVariants as tree_stage
 use Rattle.copy_tree.specs.Standing.{after_report, is_fresh as is_tree_fresh}
-use Rattle.copy_job.specs.Reporting.{IsWound}
+use Rattle.copy_job.specs.Reporting.{IsAfterLastStep}
 use Rattle.copy_job.specs.Standing as tree
 use Rattle.copy_job.specs.Standing.{SubtreeCopying}
 use Rattle.copy_job.specs.Told.{IsAfter, part_after}
 use Rattle.copy_job.proofs.Tellings.{told_law}
 use Rattle.copy_move.specs.TreeCopies as trees
-use Rattle.copy_move.specs.Told.{after_step, course_told, if_closed, running, skipped, synced, told, work_told}
+use Rattle.copy_move.specs.Told.{after_step, course_told, if_closed, running, skipped_work, synced_work, told_job, work_told}
 use Rattle.copy_move.proofs.MovingTold.{moving_told, moving_winds, synced_moving}
 use Rattle.copy_move.proofs.RemovalTold.{removal_told, removal_winds, synced_removal}
 
@@ -60,10 +60,10 @@ job_of id replies work course = record { id = id; work = work; course = course; 
 
 -- a deletion at this stage is told so, wherever its walk stands
 abbrev told_at : Deleting → DeletionStage → Work
-told_at d stage = Delete (record { path = d.path; stage = stage; depth = Top; place = unopened; tried = 0 })
+told_at d stage = Delete (record { path = d.path; stage = stage; depth = Top; place = unopened_walk; tried = 0 })
 
 told_same : (id : ℕ) (d new : Deleting) → new.path ≡ d.path → told_at d new.stage ≡ work_told id (Delete new)
-told_same id d new path_is = ap (λ p. Delete (record { path = p; stage = new.stage; depth = Top; place = unopened; tried = 0 })) (sym path_is)
+told_same id d new path_is = ap (λ p. Delete (record { path = p; stage = new.stage; depth = Top; place = unopened_walk; tried = 0 })) (sym path_is)
 
 stage_is_told : (id : ℕ) (d new : Deleting) (stage : DeletionStage) → IsAtStage d stage new → told_at d stage ≡ work_told id (Delete new)
 stage_is_told id d new stage at = ap (told_at d) (sym at.stage_is) ∙ told_same id d new at.path_is
@@ -80,7 +80,7 @@ told_is id c new stage part top_is stage_is part_is =
 told_so : (id : ℕ) (c new : SubtreeCopying) (did : Did) → IsAfter did c new → part_after did (tree.part_of c.at.item) ≡ tree.part_of c.at.item → after_report did c.at.stage ≡ c.at.stage → work_told id (Copy c) ≡ work_told id (Copy new)
 told_so id c new did a part stage = told_is id c new c.at.stage (tree.part_of c.at.item) a.top (a.stage ∙ stage) (a.part ∙ part)
 
-skipped_told : (id : ℕ) (work new : Work) (path : Route) → PassesOver work path new → skipped path (work_told id work) ≡ work_told id new
+skipped_told : (id : ℕ) (work new : Work) (path : Route) → PassesOver work path new → skipped_work path (work_told id work) ≡ work_told id new
 skipped_told id (Copy c) (Copy new) path (cause, a) = told_so id c new (Skipped path cause) a refl refl
 skipped_told id (Delete d) (Delete new) path at = stage_is_told id d new (after_item d.path path d.stage) at
 skipped_told id (Make m) (Make new) path (path_is, new_is) = ap Make (sym new_is)
@@ -154,7 +154,7 @@ skip_in_trouble id work = in_trouble id work (out_of_memory_at false) (and_none 
 
 -- a deletion that goes on
 deletion_told : (id : ℕ) (replies : Replies) (old new : Deleting) (did : Did) → deletions.Tells replies old did new → ends did ≡ false
-    → after_step did (told (job_of id replies (Delete old) GoesOn)) ≡ Some (told (job_of id replies (Delete new) (course_after did)))
+    → after_step did (told_job (job_of id replies (Delete old) GoesOn)) ≡ Some (told_job (job_of id replies (Delete new) (course_after did)))
 deletion_told id replies old new (Removed path) (going, within, at) h = ap (λ w. Some (job_of id replies w GoesOn)) (stage_is_told id old new (after_item old.path path deletion.Going) at)
 deletion_told id replies old new (Kept path) (going, at) h = ap (λ w. Some (job_of id replies w GoesOn)) (stage_is_told id old new (after_item old.path path old.stage) at)
 deletion_told id replies old new Barrier (from, at) h = ap (λ w. Some (job_of id replies w GoesOn)) (stage_is_told id old new old.stage at)
@@ -178,7 +178,7 @@ deletion_told id replies old new (Cleaned part) t h = absurd t
 
 -- a making that goes on
 making_told : (id : ℕ) (replies : Replies) (old new : Making) (did : Did) → makings.Tells old did new → ends did ≡ false
-    → after_step did (told (job_of id replies (Make old) GoesOn)) ≡ Some (told (job_of id replies (Make new) (course_after did)))
+    → after_step did (told_job (job_of id replies (Make old) GoesOn)) ≡ Some (told_job (job_of id replies (Make new) (course_after did)))
 making_told id replies old new (Made path) (from, path_is, is) h = rw is refl
 making_told id replies old new Barrier (from, is) h = rw is (ap (λ stage. Some (job_of id replies (Make (record old { stage = makings.after_sync stage })) GoesOn)) from)
 making_told id replies old new (Troubled trouble) (where_is, is) h = rw is (ap (λ course. Some (job_of id replies (Make old) course)) (making_in_trouble old trouble where_is))
@@ -200,7 +200,7 @@ making_told id replies old new (Cleaned part) t h = absurd t
 
 -- a setting that goes on
 setting_told : (id : ℕ) (replies : Replies) (old new : Setting) (did : Did) → settings.Tells replies old did new → ends did ≡ false
-    → after_step did (told (job_of id replies (SetMode old) GoesOn)) ≡ Some (told (job_of id replies (SetMode new) (course_after did)))
+    → after_step did (told_job (job_of id replies (SetMode old) GoesOn)) ≡ Some (told_job (job_of id replies (SetMode new) (course_after did)))
 setting_told id replies old new (Set path) (from, path_is, is) h = rw is refl
 setting_told id replies old new Barrier (from, is) h = rw is (ap (λ stage. Some (job_of id replies (SetMode (record old { stage = modes.after_sync stage })) GoesOn)) from)
 setting_told id replies old new (Troubled trouble) (barrier, cause, is) h =
@@ -216,7 +216,7 @@ setting_told id replies old new (Removed path) t h = absurd t
 setting_told id replies old new (Made path) t h = absurd t
 setting_told id replies old new (Kept path) t h = absurd t
 setting_told id replies old new (Skipped path cause) (from, path_is, passes, is) h =
-    rw is (ap (λ stage. Some (job_of id replies (SetMode (record old { stage = settings.skipped stage })) GoesOn)) from)
+    rw is (ap (λ stage. Some (job_of id replies (SetMode (record old { stage = settings.skipped_stage stage })) GoesOn)) from)
 setting_told id replies old new (Cleaned part) t h = absurd t
 
 -- a copy that goes on
@@ -229,7 +229,7 @@ begun_before tree_stage.Begin h = absurd (h refl)
 begun_before tree_stage.Going h = refl
 
 tree_told : (id : ℕ) (replies : Replies) (old new : SubtreeCopying) (did : Did) → trees.Tells replies old did new → ends did ≡ false
-    → after_step did (told (job_of id replies (Copy old) GoesOn)) ≡ Some (told (job_of id replies (Copy new) (course_after did)))
+    → after_step did (told_job (job_of id replies (Copy old) GoesOn)) ≡ Some (told_job (job_of id replies (Copy new) (course_after did)))
 tree_told id replies old new (Began part) t h = (let a = t.after in ap (λ w. Some (job_of id replies w GoesOn)) (told_is id old new tree_stage.Going (Some part) a.top a.stage a.part))
 tree_told id replies old new (Placed path) t h = (let a = t.after in ap (λ w. Some (job_of id replies w GoesOn)) (told_is id old new tree_stage.Going None a.top a.stage a.part))
 tree_told id replies old new (Cleaned part) t h = (let a = t.after in ap (λ w. Some (job_of id replies w GoesOn)) (told_is id old new tree_stage.Going None a.top a.stage a.part))
@@ -248,8 +248,8 @@ tree_told id replies old new (Removed path) t h = absurd t.may
 tree_told id replies old new (Kept path) t h = ap (λ w. Some (job_of id replies w GoesOn)) (told_so id old new (Kept path) t.after refl refl)
 tree_told id replies old new (Ended ending part) t h = absurd cc
 
-tree_winds : (id : ℕ) (replies : Replies) (ending : Ending) (old new : SubtreeCopying) (did : Did) → IsWound ending old did new → ends did ≡ false
-    → after_step did (told (job_of id replies (Copy old) (Ends ending))) ≡ Some (told (job_of id replies (Copy new) (Ends ending)))
+tree_winds : (id : ℕ) (replies : Replies) (ending : Ending) (old new : SubtreeCopying) (did : Did) → IsAfterLastStep ending old did new → ends did ≡ false
+    → after_step did (told_job (job_of id replies (Copy old) (Ends ending))) ≡ Some (told_job (job_of id replies (Copy new) (Ends ending)))
 tree_winds id replies ending old new (Cleaned part) w h = ap (λ x. Some (job_of id replies x (Ends ending))) (told_is id old new old.at.stage None w.top w.stage w.part)
 tree_winds id replies ending old new Barrier w h = ap (λ x. Some (job_of id replies x (Ends ending))) (told_is id old new old.at.stage (tree.part_of old.at.item) w.top w.stage w.part)
 tree_winds id replies ending old new (Ended how part) w h = absurd cc
@@ -268,7 +268,7 @@ tree_winds id replies ending old new (Troubled trouble) w h = absurd w.may
 
 -- the last steps
 deletion_winds : (id : ℕ) (replies : Replies) (ending : Ending) (old new : Deleting) (did : Did) → deletions.Winds ending old did new → ends did ≡ false
-    → after_step did (told (job_of id replies (Delete old) (Ends ending))) ≡ Some (told (job_of id replies (Delete new) (Ends ending)))
+    → after_step did (told_job (job_of id replies (Delete old) (Ends ending))) ≡ Some (told_job (job_of id replies (Delete new) (Ends ending)))
 deletion_winds id replies ending old new Barrier (path_is, stage_is) h = ap (λ w. Some (job_of id replies w (Ends ending))) (ap (told_at old) (sym stage_is) ∙ told_same id old new path_is)
 deletion_winds id replies ending old new (Ended how part) t h = absurd cc
 deletion_winds id replies ending old new (Began part) t h = absurd t
@@ -286,7 +286,7 @@ deletion_winds id replies ending old new (Cleaned part) t h = absurd t
 deletion_winds id replies ending old new (Troubled trouble) t h = absurd t
 
 making_winds : (id : ℕ) (replies : Replies) (ending : Ending) (old new : Making) (did : Did) → makings.Winds ending old did new → ends did ≡ false
-    → after_step did (told (job_of id replies (Make old) (Ends ending))) ≡ Some (told (job_of id replies (Make new) (Ends ending)))
+    → after_step did (told_job (job_of id replies (Make old) (Ends ending))) ≡ Some (told_job (job_of id replies (Make new) (Ends ending)))
 making_winds id replies ending old new Barrier (from, is) h = rw is (ap (λ stage. Some (job_of id replies (Make (record old { stage = makings.after_sync stage })) (Ends ending))) from)
 making_winds id replies ending old new (Ended how part) t h = absurd cc
 making_winds id replies ending old new (Began part) t h = absurd t
@@ -304,7 +304,7 @@ making_winds id replies ending old new (Cleaned part) t h = absurd t
 making_winds id replies ending old new (Troubled trouble) t h = absurd t
 
 setting_winds : (id : ℕ) (replies : Replies) (ending : Ending) (old new : Setting) (did : Did) → modes.Winds ending old did new → ends did ≡ false
-    → after_step did (told (job_of id replies (SetMode old) (Ends ending))) ≡ Some (told (job_of id replies (SetMode new) (Ends ending)))
+    → after_step did (told_job (job_of id replies (SetMode old) (Ends ending))) ≡ Some (told_job (job_of id replies (SetMode new) (Ends ending)))
 setting_winds id replies ending old new Barrier (from, is) h = rw is (ap (λ stage. Some (job_of id replies (SetMode (record old { stage = modes.after_sync stage })) (Ends ending))) from)
 setting_winds id replies ending old new (Ended how part) t h = absurd cc
 setting_winds id replies ending old new (Began part) t h = absurd t
@@ -322,7 +322,7 @@ setting_winds id replies ending old new (Cleaned part) t h = absurd t
 setting_winds id replies ending old new (Troubled trouble) t h = absurd t
 
 goes_told : (id : ℕ) (replies : Replies) (old new : Work) (did : Did) → WorkTells replies old did new → ends did ≡ false
-    → after_step did (told (job_of id replies old GoesOn)) ≡ Some (told (job_of id replies new (course_after did)))
+    → after_step did (told_job (job_of id replies old GoesOn)) ≡ Some (told_job (job_of id replies new (course_after did)))
 goes_told id replies (Copy c) (Copy new) did t h = tree_told id replies c new did t h
 goes_told id replies (Delete d) (Delete new) did t h = deletion_told id replies d new did t h
 goes_told id replies (Make m) (Make new) did t h = making_told id replies m new did t h
@@ -332,7 +332,7 @@ goes_told id replies (RemoveEmptied r) (RemoveEmptied new) did t h = removal_tol
 goes_told id replies old new did t h = absurd t
 
 winds_told : (id : ℕ) (replies : Replies) (ending : Ending) (old new : Work) (did : Did) → WorkWinds ending old did new → ends did ≡ false
-    → after_step did (told (job_of id replies old (Ends ending))) ≡ Some (told (job_of id replies new (Ends ending)))
+    → after_step did (told_job (job_of id replies old (Ends ending))) ≡ Some (told_job (job_of id replies new (Ends ending)))
 winds_told id replies ending (Copy c) (Copy new) did t h = tree_winds id replies ending c new did t h
 winds_told id replies ending (Delete d) (Delete new) did t h = deletion_winds id replies ending d new did t h
 winds_told id replies ending (Make m) (Make new) did t h = making_winds id replies ending m new did t h
@@ -342,7 +342,7 @@ winds_told id replies ending (RemoveEmptied r) (RemoveEmptied new) did t h = rem
 winds_told id replies ending old new did t h = absurd t
 
 told_on : (course : Course) (id : ℕ) (replies : Replies) (work : Work) (new : Running) (did : Did) → TellsOn course (job_of id replies work course) did new → ends did ≡ false
-    → after_step did (told (job_of id replies work course)) ≡ Some (told new)
+    → after_step did (told_job (job_of id replies work course)) ≡ Some (told_job new)
 told_on GoesOn id replies work new did (after, tells, is) h = rw is (goes_told id replies work after did tells h)
 told_on (InTrouble halt) id replies work new did t h = absurd t
 told_on (OwedSyncFailed cause) id replies work new did t h = absurd t
@@ -352,11 +352,11 @@ told_on (Skips cause) id replies work new did (inr (apart, did_is, new_is)) h = 
 told_on (Ends ending) id replies work new did (after, tells, is) h = rw is (winds_told id replies ending work after did tells h)
 
 -- what a history tells of a job follows its steps
-pub told_follows : (job new : Running) (did : Did) → JobTells job did new → ends did ≡ false → after_step did (told job) ≡ Some (told new)
+pub told_follows : (job new : Running) (did : Did) → JobTells job did new → ends did ≡ false → after_step did (told_job job) ≡ Some (told_job new)
 told_follows job new did t h = told_on job.course job.id job.replies job.work new did t h
 
 -- after an end there is none
-pub step_told : (job new : Running) (did : Did) → JobTells job did new → option_map told (if ends did then None else Some new) ≡ after_step did (told job)
+pub step_told : (job new : Running) (did : Did) → JobTells job did new → option_map told_job (if ends did then None else Some new) ≡ after_step did (told_job job)
 step_told job new (Began part) t = sym (told_follows job new (Began part) t refl)
 step_told job new (Chunk count) t = sym (told_follows job new (Chunk count) t refl)
 step_told job new (Asked question) t = sym (told_follows job new (Asked question) t refl)
@@ -374,10 +374,10 @@ step_told job new (Troubled trouble) t = sym (told_follows job new (Troubled tro
 step_told job new (Ended ending part) t = refl
 
 -- an answer, and the beginning of a job, are told whole
-pub answered_told : (answer : Answer) (job : Running) → told (answered answer job) ≡ answered answer (told job)
+pub answered_told : (answer : Answer) (job : Running) → told_job (answered_job answer job) ≡ answered_job answer (told_job job)
 answered_told answer job = answers job.course answer
   where
-    answers : (course : Course) (answer : Answer) → told (answered_on course answer (job_of job.id job.replies job.work course)) ≡ answered_on course answer (told (job_of job.id job.replies job.work course))
+    answers : (course : Course) (answer : Answer) → told_job (answered_on course answer (job_of job.id job.replies job.work course)) ≡ answered_on course answer (told_job (job_of job.id job.replies job.work course))
     answers (InTrouble halt) Retry = ap (λ w. job_of job.id job.replies w GoesOn) (sym (anew_told job.id job.work))
     answers (InTrouble halt) Skip = refl
     answers (InTrouble halt) SkipAll = refl
@@ -412,11 +412,11 @@ answered_told answer job = answers job.course answer
     answers (Skips cause) answer = refl
     answers (Ends ending) answer = refl
 
-began_if : (id : ℕ) (b : Bool) (work : Work) → work_told id work ≡ work → option_map told (option_map (running id) (if b then Some work else None)) ≡ option_map (running id) (if b then Some work else None)
+began_if : (id : ℕ) (b : Bool) (work : Work) → work_told id work ≡ work → option_map told_job (option_map (running id) (if b then Some work else None)) ≡ option_map (running id) (if b then Some work else None)
 began_if id true work same = ap (λ w. Some (running id w)) same
 began_if id false work same = refl
 
-pub began_told : (id : ℕ) (plan : Job) → option_map told (option_map (running id) (first_work id plan)) ≡ option_map (running id) (first_work id plan)
+pub began_told : (id : ℕ) (plan : Job) → option_map told_job (option_map (running id) (first_work id plan)) ≡ option_map (running id) (first_work id plan)
 began_told id (plan.Delete []) = refl
 began_told id (plan.Delete (path ∷ [])) = began_if id (is_some (parent_of path)) (deletes path) refl
 began_told id (plan.Delete (path ∷ more ∷ paths)) = refl
@@ -434,18 +434,18 @@ began_told id (plan.SetMode (path ∷ more ∷ paths) mode) = refl
 began_told id (plan.RemoveEmptied path) = began_if id (is_some (parent_of path)) (removes_emptied path) refl
 
 -- the sync of what an ended job left dirty comes before the first change, and leaves the work as it is
-synced_making : (m : Making) (stage : MakingStage) → makings.is_fresh stage ≡ true → synced (Make (record m { stage = stage })) ≡ Make (record m { stage = stage })
+synced_making : (m : Making) (stage : MakingStage) → makings.is_fresh stage ≡ true → synced_work (Make (record m { stage = stage })) ≡ Make (record m { stage = stage })
 synced_making m making.Make h = refl
 synced_making m making.Sync h = absurd (false≢true h)
 synced_making m making.Finish h = absurd (false≢true h)
 synced_making m making.PassedOver h = absurd (false≢true h)
 
-synced_setting : (s : Setting) (stage : SettingStage) → settings.is_fresh stage ≡ true → synced (SetMode (record s { stage = stage })) ≡ SetMode (record s { stage = stage })
+synced_setting : (s : Setting) (stage : SettingStage) → settings.is_fresh stage ≡ true → synced_work (SetMode (record s { stage = stage })) ≡ SetMode (record s { stage = stage })
 synced_setting s setting.Give h = refl
 synced_setting s setting.Sync h = absurd (false≢true h)
 synced_setting s setting.Done h = absurd (false≢true h)
 
-fresh_synced : (id : ℕ) (work : Work) → is_fresh work ≡ true → synced (work_told id work) ≡ work_told id work
+fresh_synced : (id : ℕ) (work : Work) → is_fresh work ≡ true → synced_work (work_told id work) ≡ work_told id work
 fresh_synced id (Copy c) h = refl
 fresh_synced id (Delete d) h = refl
 fresh_synced id (Make m) h = synced_making m m.stage h
@@ -461,12 +461,12 @@ fresh_unsettled id work trouble fresh barrier =
 -- what is told of a job follows the sync of what an ended job left dirty, or its trouble
 pub sync_told : (job : Running) (did : Did) (after : Option Running) → is_fresh job.work ≡ true
     → ((did ≡ Barrier) × (after ≡ Some job)) ⊎ ((trouble : Trouble) × (did ≡ Troubled trouble) × (trouble.barrier ≡ true) × (after ≡ Some (record job { course = OwedSyncFailed trouble.cause })))
-    → option_map told after ≡ after_step did (told job)
+    → option_map told_job after ≡ after_step did (told_job job)
 sync_told job did after fresh (inl h) = rw (h.0, h.1) (ap (λ w. Some (job_of job.id job.replies w job.course)) (sym (fresh_synced job.id job.work fresh)))
 sync_told job did after fresh (inr (trouble, did_is, barred, after_is)) =
     rw (did_is, after_is) (ap (λ course. Some (job_of job.id job.replies (work_told job.id job.work) course)) (sym (fresh_unsettled job.id job.work trouble fresh barred)))
 
-pub closed_told : (closed : Bool) (job : Option Running) → option_map told (if_closed closed job) ≡ if_closed closed (option_map told job)
+pub closed_told : (closed : Bool) (job : Option Running) → option_map told_job (if_closed closed job) ≡ if_closed closed (option_map told_job job)
 closed_told true None = refl
 closed_told true (Some job) = refl
 closed_told false job = refl

@@ -19,8 +19,8 @@ use Rattle.copy_tree.specs.Standing.{is_fresh}
 use Rattle.copy_job.specs.Counted as tree
 use Rattle.copy_job.specs.LastCalls.{LastCalls, TellsTried}
 use Rattle.copy_job.specs.Ranks.{last_rank, rank}
-use Rattle.copy_job.specs.Reporting.{ChangesOwn, IsWound}
-use Rattle.copy_job.specs.Standing.{SubtreeCopying, at_barrier, is_own, part_of, retries, started}
+use Rattle.copy_job.specs.Reporting.{ChangesOwn, IsAfterLastStep}
+use Rattle.copy_job.specs.Standing.{SubtreeCopying, at_barrier, is_own, part_of, retries, begun_subtree_copy}
 use Rattle.copy_job.specs.Standing as standing
 use Rattle.copy_job.specs.SubtreeSteps.{LastSubtreeStep, SubtreeSkips, SubtreeSteps}
 use Rattle.copy_job.specs.Told.{IsAfter}
@@ -40,7 +40,7 @@ use Rattle.copy_move.specs.declared.run.Course.TheVariants.{GoesOn}
 use Rattle.copy_move.specs.Faults.{MeetsFault}
 use Rattle.copy_move.specs.Jobs.{course_after}
 use Rattle.copy_move.specs.Ranks.{rank_on, tries_left, work_rank}
-use Rattle.copy_move.specs.Steps.{WorkSkips, WorkSteps, WorkWindsUp}
+use Rattle.copy_move.specs.JobStepReports.{WorkSkips, WorkSteps, WorkWindsUp}
 use Rattle.copy_move.specs.TreeCopies.{AllowsOnly, Goes, IsGoing, Tells}
 use Rattle.copy_move.proofs.FolderSteps.{one_more, tried_more, tries_after, weighs_less}
 
@@ -84,7 +84,7 @@ trouble_stays c new did trouble is a fresh =
     ap is_fresh told.stage ∙ fresh
 
 -- a copy that begins goes on
-pub tree_begins : (job : ℕ) (top : Pair) → standing.IsGoing (started job top) → IsGoing (started job top)
+pub tree_begins : (job : ℕ) (top : Pair) → standing.IsGoing (begun_subtree_copy job top) → IsGoing (begun_subtree_copy job top)
 tree_begins job top can = record { can = can; steady = (let law = steady_law in law.begins job top); unbegun = (let law = unbegun_law in law.begins job top) }
 
 pub tree_retried : (c : SubtreeCopying) → IsGoing c → standing.IsGoing (retries c) → IsGoing (retries c)
@@ -161,7 +161,7 @@ module _ (free : Route → Bool) (replies : Replies) (c new : SubtreeCopying) (d
 
 -- a last step
 pub tree_winds_up : (ending : Ending) (c new : SubtreeCopying) (last : LastStepResult) (dirty dirty_after : List Route) (before after : Option CallLog) (f0 f1 : ℕ) → LastSubtreeStep ending c new last dirty dirty_after before after f0 f1
-    → IsWound ending c last.did new → is_own c new.at.levels.inner.copy.target ≡ true → IfKnown before (λ log. LastCalls (part_of c.at.item) last.did log after)
+    → IsAfterLastStep ending c last.did new → is_own c new.at.levels.inner.copy.target ≡ true → IfKnown before (λ log. LastCalls (part_of c.at.item) last.did log after)
     → IfKnown before (λ log. TellsTried (part_of c.at.item) last.did last.left new.at.levels.inner.copy.target log after)
     → WorkWindsUp ending (Copy c) (Copy new) last.did last.calls last.left dirty dirty_after before after f0 f1
 tree_winds_up ending c new last dirty dirty_after before after f0 f1 w wound own called told =

@@ -32,7 +32,7 @@ use Rattle.copy_move.specs.declared.run.Course.{Course}
 use Rattle.copy_move.specs.declared.run.Course.TheVariants.{GoesOn, Asking, InTrouble, OwedSyncFailed, Skips, Ends}
 use Rattle.delete_job.specs.Standing.{after_item}
 use Rattle.delete_job.specs.Standing as standing
-use Rattle.delete_job.specs.Deletions.{DeletionCalls, IsAtStage, LastCalls, started}
+use Rattle.delete_job.specs.Deletions.{DeletionCalls, IsAtStage, LastCalls, begun_deletion}
 use Rattle.delete_job.specs.Deletions as deletions
 use Rattle.make_job.specs.Makings.{LastMakingCalls, MakingCalls}
 use Rattle.make_job.specs.Makings as makings
@@ -46,8 +46,8 @@ use Rattle.mode_job.specs.ModeSettings as modes
 use Rattle.copy_move.specs.TreeCopies as trees
 use Rattle.job_reports.specs.declared.job.Pair.{Pair}
 use Rattle.copy_job.specs.LastCalls.{LastCalls as LastTreeCalls}
-use Rattle.copy_job.specs.Reporting.{IsWound}
-use Rattle.copy_job.specs.Standing.{retries, started as tree_started}
+use Rattle.copy_job.specs.Reporting.{IsAfterLastStep}
+use Rattle.copy_job.specs.Standing.{retries, begun_subtree_copy as tree_started}
 use Rattle.copy_job.specs.Standing as tree
 use Rattle.copy_tree.specs.Standing as copy_tree
 use Rattle.mode_job.specs.declared.setting.Stage.TheVariants.{Give}
@@ -68,11 +68,11 @@ copies id pair = Copy (tree_started id pair)
 
 -- the move of a thing, just begun
 abbrev pub moves : Pair → Work
-moves pair = Move (movings.started pair)
+moves pair = Move (movings.begun_move pair)
 
 -- the deletion of a thing with all that lies in it, just begun
 abbrev pub deletes : Route → Work
-deletes path = Delete (started path)
+deletes path = Delete (begun_deletion path)
 
 -- the making of a thing, just begun
 abbrev pub makes : NewThing → Route → Work
@@ -80,7 +80,7 @@ makes new path = Make (record { path = path; thing = new; stage = making.Make })
 
 -- the removal of a folder that a merge has emptied, just begun
 abbrev pub removes_emptied : Route → Work
-removes_emptied path = RemoveEmptied (removals.started path)
+removes_emptied path = RemoveEmptied (removals.begun_removal path)
 
 -- the setting of a thing's mode, just begun
 abbrev pub sets : Route → ℕ → Work
@@ -151,10 +151,10 @@ is_fresh (RemoveEmptied r) = removals.is_fresh r.stage
 abbrev pub PassesOver : Work → Route → Work → Type 0
 PassesOver (Copy c) path (Copy new) = trees.Passes c path new
 PassesOver (Delete d) path (Delete new) = IsAtStage d (after_item d.path path d.stage) new
-PassesOver (Make m) path (Make new) = (path ≡ m.path) × (new ≡ record m { stage = makings.skipped m.stage })
-PassesOver (Move m) path (Move new) = (path ≡ m.pair.source) × (new ≡ record m { stage = movings.skipped m.stage })
-PassesOver (SetMode s) path (SetMode new) = (path ≡ s.path) × (new ≡ record s { stage = settings.skipped s.stage })
-PassesOver (RemoveEmptied r) path (RemoveEmptied new) = (path ≡ r.path) × (new ≡ record r { stage = removals.skipped r.stage })
+PassesOver (Make m) path (Make new) = (path ≡ m.path) × (new ≡ record m { stage = makings.skipped_stage m.stage })
+PassesOver (Move m) path (Move new) = (path ≡ m.pair.source) × (new ≡ record m { stage = movings.skipped_stage m.stage })
+PassesOver (SetMode s) path (SetMode new) = (path ≡ s.path) × (new ≡ record s { stage = settings.skipped_stage s.stage })
+PassesOver (RemoveEmptied r) path (RemoveEmptied new) = (path ≡ r.path) × (new ≡ record r { stage = removals.skipped_stage r.stage })
 PassesOver old path new = ⊥
 
 -- the work taken up once more after a trouble; all but a copy try their call again
@@ -218,7 +218,7 @@ WorkTells replies old did new = ⊥
 
 -- the same of a last step
 abbrev pub WorkWinds : Ending → Work → Did → Work → Type 0
-WorkWinds ending (Copy c) did (Copy new) = IsWound ending c did new
+WorkWinds ending (Copy c) did (Copy new) = IsAfterLastStep ending c did new
 WorkWinds ending (Delete d) did (Delete new) = deletions.Winds ending d did new
 WorkWinds ending (Make m) did (Make new) = makings.Winds ending m did new
 WorkWinds ending (Move m) did (Move new) = movings.Winds ending m did new
@@ -303,17 +303,17 @@ abbrev pub JobCalls : (Route → Type 0) → Running → Did → Running → Cal
 JobCalls unclaimed job did new log after = CallsOn unclaimed job.course job did new log after
 
 -- what is answered to a question, as it makes a job go on
-abbrev pub replied : Answer → Running → Running
-replied answer job = record job { replies = with_reply answer job.replies; course = GoesOn }
+abbrev pub replied_job : Answer → Running → Running
+replied_job answer job = record job { replies = with_reply answer job.replies; course = GoesOn }
 
 -- an answer to a question or a trouble, as it makes a job go on
 abbrev pub answered_on : Course → Answer → Running → Running
-answered_on Asking Yes job = replied Yes job
-answered_on Asking No job = replied No job
-answered_on Asking All job = replied All job
-answered_on Asking Update job = replied Update job
-answered_on Asking Nothing job = replied Nothing job
-answered_on Asking SizeDiffers job = replied SizeDiffers job
+answered_on Asking Yes job = replied_job Yes job
+answered_on Asking No job = replied_job No job
+answered_on Asking All job = replied_job All job
+answered_on Asking Update job = replied_job Update job
+answered_on Asking Nothing job = replied_job Nothing job
+answered_on Asking SizeDiffers job = replied_job SizeDiffers job
 answered_on Asking Abort job = record job { course = Ends Aborted }
 answered_on Asking Retry job = job
 answered_on Asking Skip job = job
@@ -342,8 +342,8 @@ answered_on GoesOn answer job = job
 answered_on (Skips cause) answer job = job
 answered_on (Ends ending) answer job = job
 
-abbrev pub answered : Answer → Running → Running
-answered answer job = answered_on job.course answer job
+abbrev pub answered_job : Answer → Running → Running
+answered_job answer job = answered_on job.course answer job
 
 -- a job waits for an answer
 abbrev pub waits_on : Course → Bool
@@ -376,7 +376,7 @@ waiting_on (Ends ending) = None
 -- of the job.
 pub record MayAnswer (job : Running) (answer : Answer) : Type 0 where
   pub waits : waits_on job.course ≡ true
-  pub fits : IsOk (answers.answered (waiting_on job.course) answer)
+  pub fits : IsOk (answers.answer_result (waiting_on job.course) answer)
 
 -- a job is ordered to end so; one that makes its last steps already ends as it was ordered first
 abbrev pub ended_course : Ending → Course → Course

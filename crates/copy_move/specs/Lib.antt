@@ -2,6 +2,6 @@ pub mod Faults
 pub mod Jobs
 pub mod Ranks
 pub mod Settling
-pub mod Steps
+pub mod JobStepReports
 pub mod Told
 pub mod TreeCopies

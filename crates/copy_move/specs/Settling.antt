@@ -8,7 +8,7 @@ use Rattle.tree_trait.specs.declared.calls.TreeError.{TreeError}
 use Rattle.tree_trait.specs.declared.calls.TreeError.TheVariants.{Missing}
 use Rattle.tree_trait.specs.Calls.{Stat}
 use Rattle.tree_trait.specs.FileSystem.{node}
-use Rattle.tree_trait.specs.Change.{CallLog, found}
+use Rattle.tree_trait.specs.Change.{CallLog, found_node}
 use Rattle.tree_trait.specs.Answers.{mount_number}
 use Rattle.tree_trait.specs.Refusals.{is_folder, refusal_of, mount_of}
 use Rattle.tree_trait.specs.CrashImages.{Among}
@@ -79,7 +79,7 @@ moved_thing (RemoveEmptied r) = None
 
 -- it is a folder (where nothing stands there this says so, too, and then nothing is moved)
 abbrev pub moves_folder : FileSystem → Work → Bool
-moves_folder s work = option_map_or (λ source. is_folder (node s (found s source))) (moved_thing work) false
+moves_folder s work = option_map_or (λ source. is_folder (node s (found_node s source))) (moved_thing work) false
 
 -- the folder of a new thing, or a thing that is given a mode, joins the dirty ones with its first change, and leaves them with its sync
 abbrev pub with_change : Bool → Bool → Route → List Route → List Route

@@ -14,12 +14,12 @@ use Rattle.job_reports.specs.declared.report.Did.TheVariants.{Asked, Kept, Merge
 use Rattle.job_reports.specs.declared.report.Trouble.{Trouble}
 use Rattle.copy_tree.specs.declared.copy.Stage.{Stage}
 use Rattle.copy_tree.specs.declared.copy.Stage.TheVariants.{Going}
-use Rattle.copy_tree.specs.declared.item.Item.{Item}
-use Rattle.copy_tree.specs.declared.item.Item.TheVariants.{Next}
+use Rattle.copy_tree.specs.declared.item.ItemAtWork.{ItemAtWork}
+use Rattle.copy_tree.specs.declared.item.ItemAtWork.TheVariants.{Next}
 use Rattle.copy_tree.specs.Ending.{stays_if}
 use Rattle.copy_tree.specs.Falling.{IsSteady}
 use Rattle.copy_tree.specs.Reports.{changes}
-use Rattle.copy_tree.specs.Standing.{Seen, begun, is_fresh}
+use Rattle.copy_tree.specs.Standing.{Seen, begun_tree_copy, is_fresh}
 use Rattle.copy_job.specs.Merged.{AsksTop, IsOver, KeepsTop, MergesTop}
 use Rattle.copy_job.specs.Reporting.{MayTell}
 use Rattle.copy_job.specs.Standing.{SubtreeCopying, at_barrier, named_of, part_of}
@@ -79,23 +79,23 @@ pub record Calls (unclaimed : Route → Type 0) (replies : Replies) (c : Subtree
 abbrev pub told_at : ℕ → Pair → Stage → Option Route → SubtreeCopying
 told_at id top stage part = record {
   top = top;
-  at = (let c : Seen = begun id (named_of top.source) (named_of top.target) in record c { stage = stage; item = stays_if part });
+  at = (let c : Seen = begun_tree_copy id (named_of top.source) (named_of top.target) in record c { stage = stage; item = stays_if part });
 }
 
 abbrev pub as_told : ℕ → SubtreeCopying → SubtreeCopying
 as_told id c = told_at id c.top c.at.stage (part_of c.at.item)
 
 -- the copy with this item at work
-abbrev pub with_item : Item → SubtreeCopying → SubtreeCopying
+abbrev pub with_item : ItemAtWork → SubtreeCopying → SubtreeCopying
 with_item item c = record c { at = (let s : Seen = c.at in record s { item = item }) }
 
 -- something was changed
-abbrev pub changed : SubtreeCopying → SubtreeCopying
-changed c = record c { at = (let s : Seen = c.at in record s { stage = Going }) }
+abbrev pub changed_copy : SubtreeCopying → SubtreeCopying
+changed_copy c = record c { at = (let s : Seen = c.at in record s { stage = Going }) }
 
 -- what a report makes of a copy as it is told: this part stands, and something was changed
 abbrev pub with_part : Option Route → SubtreeCopying → SubtreeCopying
-with_part part c = with_item (stays_if part) (changed c)
+with_part part c = with_item (stays_if part) (changed_copy c)
 
 -- in last steps the part was removed
 abbrev pub without_part : SubtreeCopying → SubtreeCopying

@@ -3,7 +3,7 @@ ghost use Rattle.std.specs.Prelude.{◌≡◌, ◌≤◌, ◌==◌, true, IfSome
 ghost use Rattle.std.specs.Option.{option_map_or};
 ghost use Rattle.mc_text.specs.Routes.{Route};
 ghost use Rattle.tree_trait.specs.FileSystem.{node};
-ghost use Rattle.tree_trait.specs.Change.{current, found};
+ghost use Rattle.tree_trait.specs.Change.{current, found_node};
 ghost use Rattle.tree_trait.specs.Answers.{IfKnown};
 ghost use Rattle.tree_trait.specs.Refusals.{is_folder};
 ghost use Rattle.tree_trait.specs.CrashImages.{Among};
@@ -119,7 +119,7 @@ fn may_move_folder<T: Tree>(alloc: Global, tree: &mut T, work: &Work) -> bool
 
 /// Whether a folder may stand there.
 fn may_be_folder<T: Tree>(alloc: Global, tree: &mut T, path: &Path) -> bool
-    ensures not { result ≡ false → IfKnown (T.contents tree.old) (λ log. is_folder (node (current log) (found (current log) path.now)) ≡ false) }
+    ensures not { result ≡ false → IfKnown (T.contents tree.old) (λ log. is_folder (node (current log) (found_node (current log) path.now)) ≡ false) }
     ensures same { T.contents tree.new ≡ T.contents tree.old }
     ensures later { T.fault_count tree.old ≤ T.fault_count tree.new }
 {

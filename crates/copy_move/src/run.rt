@@ -3,8 +3,8 @@
 ghost use Rattle.std.specs.Prelude.{◌≡◌, IfOk, Some, false, option_map, true};
 ghost use Rattle.job_reports.specs.Jobs.{is_workable};
 ghost use Rattle.copy_move.specs.Jobs.{asks_on, first_work, kind_of, part_of, path_of, waits_on};
-ghost use Rattle.copy_move.specs.Steps.{RunStep};
-ghost use Rattle.copy_move.specs.Told.{running, turned};
+ghost use Rattle.copy_move.specs.JobStepReports.{RunStep};
+ghost use Rattle.copy_move.specs.Told.{running, turned_job};
 
 mod answering;
 mod stepping;
@@ -96,7 +96,7 @@ impl Run {
     /// troubles of a kind, goes on to hold.
     pub fn turn(&self, alloc: Global, next: &Job) -> Result<Run, NoMemory>
         requires sound { is_workable next.now ≡ true }
-        ensures turned { IfOk result (λ run. turned next.now self.now ≡ Some run) }
+        ensures turned { IfOk result (λ run. turned_job next.now self.now ≡ Some run) }
     {
         let work = begun_work(alloc, next, self.id)?;
         Ok(Run {

@@ -25,9 +25,9 @@ use Rattle.copy_link.specs.LastTries.{answer_in}
 use Rattle.copy_link.specs.LinkSteps as link_steps
 use Rattle.copy_link.specs.LinkCopying.{LinkCopying}
 use Rattle.copy_tree.specs.declared.due.Due.TheVariants.{Thing}
-use Rattle.copy_tree.specs.declared.item.Item.{Item}
+use Rattle.copy_tree.specs.declared.item.ItemAtWork.{ItemAtWork}
 use Rattle.copy_folders.specs.declared.level.Level.{Level}
-use Rattle.copy_tree.specs.declared.item.Item.TheVariants.{Next, File, Link, Stays}
+use Rattle.copy_tree.specs.declared.item.ItemAtWork.TheVariants.{Next, File, Link, Stays}
 use Rattle.copy_tree.specs.declared.progress.Progress.{Progress}
 use Rattle.copy_tree.specs.declared.progress.Progress.TheVariants.{UnderWay, Decided, Anew}
 use Rattle.copy_tree.specs.Ending.{EndsAll, FileWinds, FoldersWind, LinkCleaned, LinkStays, LinkWinds, TriesFolder, WindsAfter, WindsAt, stays_if}
@@ -38,14 +38,14 @@ use Rattle.copy_tree.specs.Parts.{IsPartPlace}
 use Rattle.copy_tree.specs.Progress.{link_progress, progress}
 use Rattle.copy_tree.specs.Skipping.{SkipsAt, SkipsFile, SkipsLink, SkipsName, SkipsNamed, SkipsRest, retried_at}
 use Rattle.copy_tree.specs.Standing.{Seen}
-use Rattle.copy_tree.specs.Steps.{FileBegins, FileWorks, GoesOn, Leaves, LeavesAll, LinkWorks, SyncsAround, TakesNext, WorksOn, at_end, idle, link_begun, noted, settled}
+use Rattle.copy_tree.specs.TreeCopySteps.{FileBegins, FileWorks, GoesOn, Leaves, LeavesAll, LinkWorks, SyncsAround, TakesNext, WorksOn, at_end, idle, link_begun, noted_copy, copy_after_progress}
 use Rattle.copy_tree.proofs.Callings.{followed, none, one, told_after}
 use Rattle.copy_tree.proofs.CallsMade.{KeepsFile, file_makes, file_winds, folder_sync, level_makes, link_makes, make_makes, part_makes, part_of}
 use Rattle.copy_tree.proofs.InPlaces.{closed_in_place, leaves_all, levels_keep, pair_moved}
 use Rattle.copy_tree.proofs.Staying.{left_moved}
 
 -- what goes on keeps its part
-settled_part : (job : ℕ) (p : Progress) (item : Item) (c : Seen) → ItemBeside job item → HasPart job c → HasPart job (settled p item c)
+settled_part : (job : ℕ) (p : Progress) (item : ItemAtWork) (c : Seen) → ItemBeside job item → HasPart job c → HasPart job (copy_after_progress p item c)
 settled_part job UnderWay item c is h = record { by = h.by; beside = is }
 settled_part job Decided item c is h = record { by = h.by; beside = h.beside }
 settled_part job Anew item c is h = h
@@ -53,7 +53,7 @@ settled_part job Anew item c is h = h
 idle_part : (job : ℕ) (c : Seen) → HasPart job c → HasPart job (idle c)
 idle_part job c h = record { by = h.by; beside = tt }
 
-noted_part : (job : ℕ) (did : Did) (changed : Bool) (c : Seen) → HasPart job c → HasPart job (noted did changed c)
+noted_part : (job : ℕ) (did : Did) (changed : Bool) (c : Seen) → HasPart job c → HasPart job (noted_copy did changed c)
 noted_part job did changed c h = record { by = h.by; beside = h.beside }
 
 leaves_part : (job : ℕ) (old new : Seen) → Leaves old new → HasPart job old → HasPart job new
@@ -77,7 +77,7 @@ module _ (top : Pair) (job : ℕ) where
       let k : KeepsFile top job f w.moved = makes.0 in
       kept new log after
       (subst (HasPart job) (sym w.stands)
-      (settled_part job (progress w.moved.stage) (File w.moved) (noted did (file.is_dirty w.moved.folder) (idle old)) (k.0 ∙ by, k.2) (noted_part job did (file.is_dirty w.moved.folder) (idle old) (idle_part job old h))))
+      (settled_part job (progress w.moved.stage) (File w.moved) (noted_copy did (file.is_dirty w.moved.folder) (idle old)) (k.0 ∙ by, k.2) (noted_part job did (file.is_dirty w.moved.folder) (idle old) (idle_part job old h))))
       makes.1
 
   -- the part of a file is made
@@ -88,7 +88,7 @@ module _ (top : Pair) (job : ℕ) where
       let k : KeepsFile top job f w.moved = makes.0 in
       kept new log after
       (subst (HasPart job) (sym w.stands)
-      (settled_part job (progress w.moved.stage) (File w.moved) (noted did (file.is_dirty w.moved.folder) (idle old)) (k.0 ∙ by, k.2) (noted_part job did (file.is_dirty w.moved.folder) (idle old) (idle_part job old h))))
+      (settled_part job (progress w.moved.stage) (File w.moved) (noted_copy did (file.is_dirty w.moved.folder) (idle old)) (k.0 ∙ by, k.2) (noted_part job did (file.is_dirty w.moved.folder) (idle old) (idle_part job old h))))
       makes.1
 
   link_step : (l : LinkCopying) (old new : Seen) (did : Did) (before after : Option CallLog) → LinkWorks l old new did before after → IsMoved top l.source l.target
@@ -97,7 +97,7 @@ module _ (top : Pair) (job : ℕ) where
       let makes = link_makes top job l w.moved did log after (l.source, m) (beside log known) w.tells (w.called log known) in
       kept new log after
       (subst (HasPart job) (sym w.stands)
-      (settled_part job (link_progress w.moved.stage) (Link w.moved) (noted did (link.is_dirty w.moved.folder) (idle old)) makes.0 (noted_part job did (link.is_dirty w.moved.folder) (idle old) (idle_part job old h))))
+      (settled_part job (link_progress w.moved.stage) (Link w.moved) (noted_copy did (link.is_dirty w.moved.folder) (idle old)) makes.0 (noted_part job did (link.is_dirty w.moved.folder) (idle old) (idle_part job old h))))
       makes.1
 
   no_call : (old new : Seen) (before after : Option CallLog) → after ≡ before → new ≡ old → HasPart job old → Makes before after new
@@ -106,7 +106,7 @@ module _ (top : Pair) (job : ℕ) where
   takes : (unclaimed : Route → Type 0) (replies : Replies) (old new : Seen) (did : Did) (before after : Option CallLog) → TakesNext unclaimed replies old new did before after → IsInPlace top old → HasPart job old → Makes before after new
   takes unclaimed replies old new did before after (inl s) p h = no_call old new before after s.same s.stands h
   takes unclaimed replies old new did before after (inr (inl t)) p h =
-      file_begins unclaimed t.facts (file.begun old.job t.pair.source t.pair.target) old new did before after t.works (pair_moved top old.levels.inner.names.names old t.pair refl t.next p) h.by tt h
+      file_begins unclaimed t.facts (file.begun_copy old.job t.pair.source t.pair.target) old new did before after t.works (pair_moved top old.levels.inner.names.names old t.pair refl t.next p) h.by tt h
   takes unclaimed replies old new did before after (inr (inr (inl t))) p h =
       link_step (link_begun t.pair t.part) old new did before after t.works (pair_moved top old.levels.inner.names.names old t.pair refl t.next p)
       (λ log known. let chosen = t.chosen log known in subst (λ n. IsPartFor n t.pair.target t.part) h.by (chosen.0, chosen.1)) h
@@ -139,7 +139,7 @@ module _ (top : Pair) (job : ℕ) where
   goes unclaimed replies old new did before after (inl s) p h = syncs old new did before after s p h
   goes unclaimed replies old new did before after (inr s) p h = takes unclaimed replies old new did before after s.1 p h
 
-  works : (unclaimed : Route → Type 0) (replies : Replies) (item : Item) (old new : Seen) (did : Did) (before after : Option CallLog) → WorksOn item unclaimed replies old new did before after → ItemMoved top item → ItemBeside job item
+  works : (unclaimed : Route → Type 0) (replies : Replies) (item : ItemAtWork) (old new : Seen) (did : Did) (before after : Option CallLog) → WorksOn item unclaimed replies old new did before after → ItemMoved top item → ItemBeside job item
       → IsInPlace top old → HasPart job old → Makes before after new
   works unclaimed replies Next old new did before after w m b p h = goes unclaimed replies old new did before after w p h
   works unclaimed replies (File f) old new did before after w m b p h = file_step unclaimed f old new did before after w m b.0 b.1 h
@@ -195,7 +195,7 @@ module _ (top : Pair) (job : ℕ) where
             (subst (λ (x : Option CallLog). Performs {A = Unit {0}} log (RemoveFile l.part) (answer_in s.tried.removal) x) mid.1 called) (ends.1 mid.0 mid.1),
       )
 
-  winds : (item : Item) (ending : Ending) (old new : Seen) (last : LastStepResult) (before after : Option CallLog) (faults faults_after : ℕ)
+  winds : (item : ItemAtWork) (ending : Ending) (old new : Seen) (last : LastStepResult) (before after : Option CallLog) (faults faults_after : ℕ)
       → WindsAt item ending old new last before after faults faults_after → ItemMoved top item → ItemBeside job item → IsInPlace top old → HasPart job old → Ends new before after
   winds Next ending old new last before after faults faults_after w m b p h = folders_wind ending None old new last before after faults faults_after w p.levels h
   winds (File f) ending old new last before after faults faults_after w m b p h = file_ends ending f (idle old) new last before after faults faults_after w m b.1 (idle_part job old h)
@@ -203,7 +203,7 @@ module _ (top : Pair) (job : ℕ) where
   winds (Stays part) ending old new last before after faults faults_after w m b p h = folders_wind ending (Some part) (idle old) new last before after faults faults_after w p.levels (idle_part job old h)
 
 -- skips and retries
-skipped_beside : (job : ℕ) (target : Route) (stage : FileStage) → IsBeside job target (part_at stage) → IsBeside job target (part_at (file.skipped stage))
+skipped_beside : (job : ℕ) (target : Route) (stage : FileStage) → IsBeside job target (part_at stage) → IsBeside job target (part_at (file.skipped_stage stage))
 skipped_beside job target file_stage.Begin h = tt
 skipped_beside job target (file_stage.Fill part facts done) h = h
 skipped_beside job target (file_stage.Clean part follows) h = h
@@ -246,13 +246,13 @@ link_skipped job cause l old new did s beside h =
     same (inl k) = subst (λ (x : LinkCopying). ItemBeside job (Link x)) (sym k.1) beside
     same (inr k) = subst (λ (x : LinkCopying). ItemBeside job (Link x)) (sym k.1) beside
 
-skips_at : (job : ℕ) (item : Item) (cause : Cause) (old new : Seen) (did : Did) → SkipsAt item cause old did new → ItemBeside job item → HasPart job old → HasPart job new
+skips_at : (job : ℕ) (item : ItemAtWork) (cause : Cause) (old new : Seen) (did : Did) → SkipsAt item cause old did new → ItemBeside job item → HasPart job old → HasPart job new
 skips_at job Next cause old new did s b h = named_part job old.levels.inner.names.names cause old new did s h
 skips_at job (File f) cause old new did s b h = file_skipped job cause f (idle old) new did s b.0 b.1 (idle_part job old h)
 skips_at job (Link l) cause old new did s b h = link_skipped job cause l (idle old) new did s b (idle_part job old h)
 skips_at job (Stays part) cause old new did s b h = absurd s
 
-retries_at : (job : ℕ) (item : Item) (c : Seen) → ItemBeside job item → HasPart job c → HasPart job (retried_at item c)
+retries_at : (job : ℕ) (item : ItemAtWork) (c : Seen) → ItemBeside job item → HasPart job c → HasPart job (retried_at item c)
 retries_at job Next c b h = h
 retries_at job (File f) c b h = settled_part job (progress (file.taken_anew f.stage)) (File (record f { stage = file.taken_anew f.stage })) (idle c) (b.0, anew_beside job f.target f.stage b.1) (idle_part job c h)
 retries_at job (Link l) c b h = settled_part job (link_progress (link.taken_anew l.stage)) (Link (record l { stage = link.taken_anew l.stage })) (idle c) b (idle_part job c h)

@@ -8,7 +8,7 @@ use Rattle.copy_file.specs.Copying.{Copying}
 use Rattle.copy_file.specs.CopySteps as file
 use Rattle.copy_link.specs.LinkCopying.{LinkCopying}
 use Rattle.copy_link.specs.LinkSteps as link
-use Rattle.copy_tree.specs.Steps.{Counts}
+use Rattle.copy_tree.specs.TreeCopySteps.{Counts}
 
 -- a step that comes after looks, which may have failed
 pub counts_later : (did : Did) (calls : ℕ) (before mid after : Option CallLog) (f0 f1 f2 : ℕ) → mid ≡ before → f0 ≤ f1 → Counts did calls mid after f1 f2 → Counts did calls before after f0 f2

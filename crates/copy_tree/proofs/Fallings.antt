@@ -20,22 +20,22 @@ use Rattle.copy_folders.specs.declared.stage.FolderDid.TheVariants as folder_did
 use Rattle.copy_folders.specs.declared.stage.Stage.{Stage}
 use Rattle.copy_folders.specs.declared.stage.Stage.TheVariants.{Make, Fill, Close, Done}
 use Rattle.copy_folders.specs.declared.stage.NamesState.TheVariants.{Synced}
-use Rattle.tree_walk.specs.Places.{IsLeft as PlaceLeft, OpenFolder, opened}
+use Rattle.tree_walk.specs.Places.{IsLeft as PlaceLeft, OpenFolder, opened_folder}
 use Rattle.tree_walk.specs.Ranks.{rank}
 use Rattle.tree_walk.proofs.Falling.{enter_falls, leave_falls, pass_falls}
 use Rattle.copy_tree.specs.declared.due.Due.TheVariants.{Thing}
-use Rattle.copy_tree.specs.declared.item.Item.{Item}
-use Rattle.copy_tree.specs.declared.item.Item.TheVariants.{Next, File, Link, Stays}
+use Rattle.copy_tree.specs.declared.item.ItemAtWork.{ItemAtWork}
+use Rattle.copy_tree.specs.declared.item.ItemAtWork.TheVariants.{Next, File, Link, Stays}
 use Rattle.copy_folders.specs.declared.level.Level.{Level}
 use Rattle.copy_tree.specs.declared.progress.Progress.{Progress}
 use Rattle.copy_tree.specs.declared.progress.Progress.TheVariants.{UnderWay, Decided, Anew}
 use Rattle.copy_tree.specs.Falling.{AllMade, FallingLaw, HasName, IsSteady, decides, is_made, things_left}
-use Rattle.copy_folders.specs.Levels.{IsLeft, Levels, level, made_levels, passed, walked, with_copy}
+use Rattle.copy_folders.specs.Levels.{IsLeft, Levels, level, made_levels, passed_levels, walked_place, with_copy}
 use Rattle.copy_tree.specs.Parts.{IsPartPlace}
 use Rattle.copy_tree.specs.Progress.{link_progress, progress}
 use Rattle.copy_tree.specs.Reports.{IsToldAs}
 use Rattle.copy_tree.specs.Standing.{Seen, after_report, due_at}
-use Rattle.copy_tree.specs.Steps.{FileWorks, FolderEnds, FolderMakes, GoesOn, Leaves, LeavesAll, LinkWorks, SyncsAround, TakesNext, WorksOn, at_end, idle, noted, settled}
+use Rattle.copy_tree.specs.TreeCopySteps.{FileWorks, FolderEnds, FolderMakes, GoesOn, Leaves, LeavesAll, LinkWorks, SyncsAround, TakesNext, WorksOn, at_end, idle, noted_copy, copy_after_progress}
 use Rattle.copy_tree.proofs.PartsBegin.{file_taken}
 
 or_false : (b : Bool) → (b || false) ≡ b
@@ -56,7 +56,7 @@ closing_made (Fill owed) h = refl
 closing_made (Close owed) h = refl
 closing_made Done h = refl
 
-dirty_made : (changed : Bool) (c : Seen) (did : Did) → AllMade c.levels.inner c.levels.around → (let n = noted did changed c in AllMade n.levels.inner n.levels.around)
+dirty_made : (changed : Bool) (c : Seen) (did : Did) → AllMade c.levels.inner c.levels.around → (let n = noted_copy did changed c in AllMade n.levels.inner n.levels.around)
 dirty_made true c did h = made_inner c.levels.inner _ c.levels.around (inner_made c.levels.inner c.levels.around h) h
 dirty_made false c did h = made_inner c.levels.inner _ c.levels.around (inner_made c.levels.inner c.levels.around h) h
 
@@ -64,10 +64,10 @@ dirty_made false c did h = made_inner c.levels.inner _ c.levels.around (inner_ma
 abbrev Leaving : Seen → Seen → Type 0 → Type 0
 Leaving old new Decides = IsSteady new × (things_left new ≤ things_left old) × (Decides → things_left new < things_left old)
 
-settles : (p : Progress) (item : Item) (c : Seen) → HasName item c.levels → 1 ≤ length c.levels.inner.names.names → AllMade c.levels.inner c.levels.around → Leaving c (settled p item (idle c)) (p ≡ Decided)
+settles : (p : Progress) (item : ItemAtWork) (c : Seen) → HasName item c.levels → 1 ≤ length c.levels.inner.names.names → AllMade c.levels.inner c.levels.around → Leaving c (copy_after_progress p item (idle c)) (p ≡ Decided)
 settles UnderWay item c has some made = (record { named = has; made = made }, (let n : ℕ = things_left c in let e : n ≤ n = omega arith in e), λ h. absurd cc)
 settles Decided item c has some made =
-    let less = pass_falls false (walked c.levels) some in
+    let less = pass_falls false (walked_place c.levels) some in
     (record { named = tt; made = made_inner c.levels.inner _ c.levels.around (inner_made c.levels.inner c.levels.around made) made }, omega (arith, less), λ h. less)
 settles Anew item c has some made = (record { named = tt; made = made }, (let n : ℕ = things_left c in let e : n ≤ n = omega arith in e), λ h. absurd cc)
 
@@ -108,8 +108,8 @@ link_decided l new (Ended ending part) t h = absurd (false≢true h)
 file_leaves : (unclaimed : Route → Type 0) (f : Copying) (old new : Seen) (did : Did) (before after : Option CallLog) → FileWorks unclaimed f old new did before after
     → 1 ≤ length old.levels.inner.names.names → AllMade old.levels.inner old.levels.around → Leaving old new (decides did ≡ true)
 file_leaves unclaimed f old new did before after w some made =
-    let c : Seen = noted did (file.is_dirty w.moved.folder) old in
-    let l : Leaving c (settled (progress w.moved.stage) (File w.moved) (idle c)) (progress w.moved.stage ≡ Decided) =
+    let c : Seen = noted_copy did (file.is_dirty w.moved.folder) old in
+    let l : Leaving c (copy_after_progress (progress w.moved.stage) (File w.moved) (idle c)) (progress w.moved.stage ≡ Decided) =
     settles (progress w.moved.stage) (File w.moved) c some some (dirty_made (file.is_dirty w.moved.folder) old did made) in
     subst (λ (s : Seen). Leaving old s (decides did ≡ true)) (sym w.stands)
     (l.0, l.1, λ h. l.2 (file_decided f w.moved did w.tells h))
@@ -117,8 +117,8 @@ file_leaves unclaimed f old new did before after w some made =
 link_leaves : (k : LinkCopying) (old new : Seen) (did : Did) (before after : Option CallLog) → LinkWorks k old new did before after
     → 1 ≤ length old.levels.inner.names.names → AllMade old.levels.inner old.levels.around → Leaving old new (decides did ≡ true)
 link_leaves k old new did before after w some made =
-    let c : Seen = noted did (link.is_dirty w.moved.folder) old in
-    let l : Leaving c (settled (link_progress w.moved.stage) (Link w.moved) (idle c)) (link_progress w.moved.stage ≡ Decided) =
+    let c : Seen = noted_copy did (link.is_dirty w.moved.folder) old in
+    let l : Leaving c (copy_after_progress (link_progress w.moved.stage) (Link w.moved) (idle c)) (link_progress w.moved.stage ≡ Decided) =
     settles (link_progress w.moved.stage) (Link w.moved) c some some (dirty_made (link.is_dirty w.moved.folder) old did made) in
     subst (λ (s : Seen). Leaving old s (decides did ≡ true)) (sym w.stands)
     (l.0, l.1, λ h. l.2 (link_decided k w.moved did w.tells h))
@@ -133,22 +133,22 @@ same_many n = omega arith
 -- a folder is made, and gone into
 makes : (pair : Pair) (names : List (List ℕ)) (moved : FolderCopying) (c : Seen) (to : Did) (stage : Stage) → moved.stage ≡ stage → length names ≤ 2 ^ 64 → 1 ≤ c.levels.left
     → 1 ≤ length c.levels.inner.names.names → c.item ≡ Next → AllMade c.levels.inner c.levels.around
-    → Leaving c (record c { stage = after_report to c.stage; levels = made_levels stage (opened pair.source names) moved c.levels }) (IsFilled stage)
+    → Leaving c (record c { stage = after_report to c.stage; levels = made_levels stage (opened_folder pair.source names) moved c.levels }) (IsFilled stage)
 makes pair names moved c to (Fill owed) is few deeper some free made =
-    let less = enter_falls pair.source names (walked c.levels) some deeper few in (
+    let less = enter_falls pair.source names (walked_place c.levels) some deeper few in (
       record {
-        named = subst (λ (i : Item). HasName i (made_levels (Fill owed) (opened pair.source names) moved c.levels)) (sym free) tt;
+        named = subst (λ (i : ItemAtWork). HasName i (made_levels (Fill owed) (opened_folder pair.source names) moved c.levels)) (sym free) tt;
         made = (ap is_made is, made_inner c.levels.inner _ c.levels.around (inner_made c.levels.inner c.levels.around made) made);
       },
       omega (arith, less),
       λ h. less,
     )
 makes pair names moved c to (Make mode) is few deeper some free made =
-    (record { named = subst (λ (i : Item). HasName i c.levels) (sym free) tt; made = made }, same_many (things_left c), λ h. absurd (let e = h.1 in let f : ⊥ = cc in f))
+    (record { named = subst (λ (i : ItemAtWork). HasName i c.levels) (sym free) tt; made = made }, same_many (things_left c), λ h. absurd (let e = h.1 in let f : ⊥ = cc in f))
 makes pair names moved c to (Close owed) is few deeper some free made =
-    (record { named = subst (λ (i : Item). HasName i c.levels) (sym free) tt; made = made }, same_many (things_left c), λ h. absurd (let e = h.1 in let f : ⊥ = cc in f))
+    (record { named = subst (λ (i : ItemAtWork). HasName i c.levels) (sym free) tt; made = made }, same_many (things_left c), λ h. absurd (let e = h.1 in let f : ⊥ = cc in f))
 makes pair names moved c to Done is few deeper some free made =
-    (record { named = subst (λ (i : Item). HasName i c.levels) (sym free) tt; made = made }, same_many (things_left c), λ h. absurd (let e = h.1 in let f : ⊥ = cc in f))
+    (record { named = subst (λ (i : ItemAtWork). HasName i c.levels) (sym free) tt; made = made }, same_many (things_left c), λ h. absurd (let e = h.1 in let f : ⊥ = cc in f))
 
 -- a report that a folder was made says that it can be filled
 made_filled : (c new : FolderCopying) (report : FolderDid) (did : Did) → IsToldAs report did → folder.Tells c report new → decides did ≡ true → IsFilled new.stage
@@ -188,7 +188,7 @@ end_leaves c new did before after w free made =
     let stands = inner_made c.levels.inner c.levels.around made in
     subst (λ (s : Seen). Leaving c s (decides did ≡ true)) (sym w.stands) (
       record {
-        named = subst (λ (i : Item). HasName i (with_copy w.moved c.levels)) (sym free) tt;
+        named = subst (λ (i : ItemAtWork). HasName i (with_copy w.moved c.levels)) (sym free) tt;
         made = made_inner c.levels.inner _ c.levels.around (end_made c.levels.inner.copy w.moved w.report w.tells stands) made;
       },
       same_many (things_left c),
@@ -199,7 +199,7 @@ end_leaves c new did before after w free made =
 outer_made : (inner outer : Level) (was around : List Level) → was ≡ outer ∷ around → AllMade inner was → AllMade outer around
 outer_made inner outer was around is h = let k = subst (λ (xs : List Level). AllMade inner xs) is h in k.1
 
-left_place : (old new : Levels) → IsLeft old new → PlaceLeft false (walked old) (walked new)
+left_place : (old new : Levels) → IsLeft old new → PlaceLeft false (walked_place old) (walked_place new)
 left_place old new l = record {
   outer = new.inner.names;
   was = ap (λ (xs : List Level). map (λ (o : Level). o.names) xs) l.was;
@@ -210,9 +210,9 @@ left_place old new l = record {
 returns_leave : (old new : Seen) → Leaves old new → old.item ≡ Next → IsSteady old → IsSteady new × (things_left new ≤ things_left old) × (new.item ≡ Next)
 returns_leave old new l free h =
     let r = l.returns in
-    let less = leave_falls false (walked old.levels) (walked new.levels) (let p = left_place (let c = at_end old in c.levels) new.levels r.left in p) in (
+    let less = leave_falls false (walked_place old.levels) (walked_place new.levels) (let p = left_place (let c = at_end old in c.levels) new.levels r.left in p) in (
       record {
-        named = subst (λ (i : Item). HasName i new.levels) (sym (ap (λ (s : Seen). s.item) r.stands ∙ free)) tt;
+        named = subst (λ (i : ItemAtWork). HasName i new.levels) (sym (ap (λ (s : Seen). s.item) r.stands ∙ free)) tt;
         made = outer_made (let c = at_end old in c.levels.inner) new.levels.inner old.levels.around new.levels.around (let x = r.left in x.was) (closed_made old h.made);
       },
       omega (arith, less),
@@ -239,25 +239,25 @@ takes_leave : (unclaimed : Route → Type 0) (replies : Replies) (old new : Seen
     → Leaving old new (decides did ≡ true)
 takes_leave unclaimed replies old new did before after (inl s) free h = stays_so old new did s.stands (ap decides s.says) h
 takes_leave unclaimed replies old new did before after (inr (inl t)) free h =
-    file_leaves unclaimed (file.begun old.job t.pair.source t.pair.target) old new did None None (file_taken unclaimed replies old new did before after t) (named_at old.levels.inner.names.names old t.pair t.next) h.made
+    file_leaves unclaimed (file.begun_copy old.job t.pair.source t.pair.target) old new did None None (file_taken unclaimed replies old new did before after t) (named_at old.levels.inner.names.names old t.pair t.next) h.made
 takes_leave unclaimed replies old new did before after (inr (inr (inl t))) free h = link_leaves _ old new did before after t.works (named_at old.levels.inner.names.names old t.pair t.next) h.made
 takes_leave unclaimed replies old new did before after (inr (inr (inr (inl t)))) free h =
     folder_leaves t.pair t.names t.mode old new did before after t.works (let r = t.reach in r.0) (named_at old.levels.inner.names.names old t.pair t.next) free h.made
 takes_leave unclaimed replies old new did before after (inr (inr (inr (inr (inl t))))) free h =
-    let less = pass_falls false (walked old.levels) (named_at old.levels.inner.names.names old t.pair t.next) in
+    let less = pass_falls false (walked_place old.levels) (named_at old.levels.inner.names.names old t.pair t.next) in
     subst (λ (s : Seen). Leaving old s (decides did ≡ true)) (sym t.stands) (
       record {
-        named = subst (λ (i : Item). HasName i (passed false old.levels)) (sym free) tt;
+        named = subst (λ (i : ItemAtWork). HasName i (passed_levels false old.levels)) (sym free) tt;
         made = made_inner old.levels.inner _ old.levels.around (inner_made old.levels.inner old.levels.around h.made) h.made;
       },
       omega (arith, less),
       λ yes. less,
     )
 takes_leave unclaimed replies old new did before after (inr (inr (inr (inr (inr (inl t)))))) free h =
-    let less = pass_falls false (walked old.levels) (named_at old.levels.inner.names.names old t.pair t.next) in
+    let less = pass_falls false (walked_place old.levels) (named_at old.levels.inner.names.names old t.pair t.next) in
     subst (λ (s : Seen). Leaving old s (decides did ≡ true)) (sym t.stands) (
       record {
-        named = subst (λ (i : Item). HasName i (passed false old.levels)) (sym free) tt;
+        named = subst (λ (i : ItemAtWork). HasName i (passed_levels false old.levels)) (sym free) tt;
         made = made_inner old.levels.inner _ old.levels.around (inner_made old.levels.inner old.levels.around h.made) h.made;
       },
       omega (arith, less),
@@ -266,7 +266,7 @@ takes_leave unclaimed replies old new did before after (inr (inr (inr (inr (inr 
 takes_leave unclaimed replies old new did before after (inr (inr (inr (inr (inr (inr (inl t))))))) free h = stays_so old new did t.stands (ap decides t.says) h
 takes_leave unclaimed replies old new did before after (inr (inr (inr (inr (inr (inr (inr (next, inl (debt, e))))))))) free h = end_leaves (at_end old) new did before after e free (closed_made old h.made)
 takes_leave unclaimed replies old new did before after (inr (inr (inr (inr (inr (inr (inr (next, inr (debt, f, same))))))))) free h =
-    stays_so (at_end old) new did f.stands (ap decides f.says) (record { named = subst (λ (i : Item). HasName i (let c = at_end old in c.levels)) (sym free) tt; made = closed_made old h.made })
+    stays_so (at_end old) new did f.stands (ap decides f.says) (record { named = subst (λ (i : ItemAtWork). HasName i (let c = at_end old in c.levels)) (sym free) tt; made = closed_made old h.made })
 
 -- the folder around is synced
 around_made : (inner outer : Level) (new : FolderCopying) (was around : List Level) → was ≡ outer ∷ around → new.stage ≡ outer.copy.stage → AllMade inner was → AllMade inner (level outer.names new ∷ around)
@@ -280,7 +280,7 @@ syncs_leave old new did before after s free h =
     let names = ap (λ (xs : List Level). map (λ (o : Level). o.names) xs) s.was in
     let same : things_left new ≡ things_left old = ap things_left s.stands ∙ ap (λ (xs : List OpenFolder). rank (record { inner = old.levels.inner.names; around = xs; left = old.levels.left })) (sym names) in (
       subst IsSteady (sym s.stands) record {
-        named = subst (λ (i : Item). HasName i (record old.levels { around = level s.outer.names synced ∷ s.around })) (sym free) tt;
+        named = subst (λ (i : ItemAtWork). HasName i (record old.levels { around = level s.outer.names synced ∷ s.around })) (sym free) tt;
         made = around_made old.levels.inner s.outer synced old.levels.around s.around s.was refl h.made;
       },
       omega (arith, same),
@@ -292,13 +292,13 @@ goes_leave : (unclaimed : Route → Type 0) (replies : Replies) (old new : Seen)
 goes_leave unclaimed replies old new did before after (inl s) free h = syncs_leave old new did before after s free h
 goes_leave unclaimed replies old new did before after (inr s) free h = takes_leave unclaimed replies old new did before after s.1 free h
 
-works_leave : (unclaimed : Route → Type 0) (replies : Replies) (item : Item) (old new : Seen) (did : Did) (before after : Option CallLog) → old.item ≡ item → WorksOn item unclaimed replies old new did before after → IsSteady old
+works_leave : (unclaimed : Route → Type 0) (replies : Replies) (item : ItemAtWork) (old new : Seen) (did : Did) (before after : Option CallLog) → old.item ≡ item → WorksOn item unclaimed replies old new did before after → IsSteady old
     → Leaving old new (decides did ≡ true)
 works_leave unclaimed replies Next old new did before after is w h = goes_leave unclaimed replies old new did before after w is h
 works_leave unclaimed replies (File f) old new did before after is w h =
-    file_leaves unclaimed f old new did before after w (let n = subst (λ (i : Item). HasName i old.levels) is h.named in n) h.made
+    file_leaves unclaimed f old new did before after w (let n = subst (λ (i : ItemAtWork). HasName i old.levels) is h.named in n) h.made
 works_leave unclaimed replies (Link l) old new did before after is w h =
-    link_leaves l old new did before after w (let n = subst (λ (i : Item). HasName i old.levels) is h.named in n) h.made
+    link_leaves l old new did before after w (let n = subst (λ (i : ItemAtWork). HasName i old.levels) is h.named in n) h.made
 works_leave unclaimed replies (Stays part) old new did before after is w h = absurd w
 
 pub falling_law : FallingLaw

@@ -22,20 +22,20 @@ use Rattle.copy_folders.specs.declared.stage.Stage.{Stage}
 use Rattle.copy_folders.specs.declared.stage.Stage.TheVariants.{Make, Fill, Close, Done}
 use Rattle.copy_folders.specs.declared.stage.NamesState.{NamesState}
 use Rattle.copy_folders.specs.declared.stage.NamesState.TheVariants.{Synced, Dirty}
-use Rattle.tree_walk.specs.Places.{OpenFolder, is_empty, opened, without_next}
+use Rattle.tree_walk.specs.Places.{OpenFolder, is_empty, opened_folder, without_next}
 use Rattle.copy_tree.specs.declared.due.Due.TheVariants.{Thing}
-use Rattle.copy_tree.specs.declared.item.Item.{Item}
-use Rattle.copy_tree.specs.declared.item.Item.TheVariants.{Next, File, Link, Stays}
+use Rattle.copy_tree.specs.declared.item.ItemAtWork.{ItemAtWork}
+use Rattle.copy_tree.specs.declared.item.ItemAtWork.TheVariants.{Next, File, Link, Stays}
 use Rattle.copy_folders.specs.declared.level.Level.{Level}
 use Rattle.copy_tree.specs.declared.progress.Progress.{Progress}
 use Rattle.copy_tree.specs.declared.progress.Progress.TheVariants.{UnderWay, Decided, Anew}
 use Rattle.copy_tree.specs.InPlace.{AreMoved, IsInPlace, IsMoved, IsTargetOf, ItemMoved, NamesTarget, NoneBeside, PlaceLaw, owed_of}
-use Rattle.copy_folders.specs.Levels.{closed, dirtied, level, made_levels, passed, with_copy}
+use Rattle.copy_folders.specs.Levels.{levels_closed, dirtied_levels, level, made_levels, passed_levels, with_copy}
 use Rattle.copy_tree.specs.Parts.{IsPartPlace}
 use Rattle.copy_tree.specs.Progress.{link_progress, progress}
 use Rattle.copy_tree.specs.Reports.{IsToldAs}
 use Rattle.copy_tree.specs.Standing.{Seen, after_report, due_at, pair_of}
-use Rattle.copy_tree.specs.Steps.{FileWorks, FolderEnds, FolderMakes, GoesOn, Leaves, LeavesAll, LinkWorks, SyncsAround, TakesNext, WorksOn, at_end, idle, noted as noted_seen, settled}
+use Rattle.copy_tree.specs.TreeCopySteps.{FileWorks, FolderEnds, FolderMakes, GoesOn, Leaves, LeavesAll, LinkWorks, SyncsAround, TakesNext, WorksOn, at_end, idle, noted_copy as noted_seen, copy_after_progress}
 use Rattle.copy_tree.proofs.PartsBegin.{file_taken}
 
 -- the paths of a copy stay
@@ -135,7 +135,7 @@ owes_none c new folder_did.Closed t h = ap (λ (x : FolderCopying). owed_of x.st
 owes_none c new (folder_did.Troubled trouble) t h = ap (λ (x : FolderCopying). owed_of x.stage) t.1 ∙ h
 
 pub dirty_keeps : (changed : Bool) (top : Pair) (inner : Level) (around : List Level) → AreMoved top inner around
-    → AreMoved top (let l = dirtied changed (record { inner = inner; around = around; left = 0 }) in l.inner) around
+    → AreMoved top (let l = dirtied_levels changed (record { inner = inner; around = around; left = 0 }) in l.inner) around
 dirty_keeps true top inner around h = levels_keep top inner (record inner { copy = record inner.copy { names = Dirty } }) around refl refl (λ o. o) (λ name is. is) (omega arith) h
 dirty_keeps false top inner around h = levels_keep top inner (record inner { copy = inner.copy }) around refl refl (λ o. o) (λ name is. is) (omega arith) h
 
@@ -146,11 +146,11 @@ module _ (top : Pair) where
   noted_in_place : (did : Did) (changed : Bool) (c : Seen) → IsInPlace top c → IsInPlace top (noted_seen did changed c)
   noted_in_place did changed c h = record { name = h.name; levels = dirty_keeps changed top c.levels.inner c.levels.around h.levels; alone = h.alone; item = h.item }
 
-  pub settled_in_place : (p : Progress) (item : Item) (c : Seen) → ItemMoved top item → IsInPlace top c → IsInPlace top (settled p item c)
+  pub settled_in_place : (p : Progress) (item : ItemAtWork) (c : Seen) → ItemMoved top item → IsInPlace top c → IsInPlace top (copy_after_progress p item c)
   settled_in_place UnderWay item c moved h = record { name = h.name; levels = h.levels; alone = h.alone; item = moved }
   settled_in_place Decided item c moved h = record {
     name = h.name;
-    levels = levels_keep top c.levels.inner (let l = passed false c.levels in l.inner) c.levels.around refl refl (λ o. o) (λ name is. fewer c.levels.inner.names.names name is) (fewer_many c.levels.inner.names.names) h.levels;
+    levels = levels_keep top c.levels.inner (let l = passed_levels false c.levels in l.inner) c.levels.around refl refl (λ o. o) (λ name is. fewer c.levels.inner.names.names name is) (fewer_many c.levels.inner.names.names) h.levels;
     alone = h.alone;
     item = h.item;
   }
@@ -238,10 +238,10 @@ module _ (top : Pair) where
     name = h.name;
     levels = (
       m,
-      levels_keep top c.levels.inner (let l = dirtied true c.levels in record { names = without_next c.levels.inner.names; copy = l.inner.copy }) c.levels.around refl refl (λ o. o)
+      levels_keep top c.levels.inner (let l = dirtied_levels true c.levels in record { names = without_next c.levels.inner.names; copy = l.inner.copy }) c.levels.around refl refl (λ o. o)
           (λ name is. fewer c.levels.inner.names.names name is) (fewer_many c.levels.inner.names.names) h.levels,
     );
-    alone = gone_into top c.levels.inner c.levels.around (let l = dirtied true c.levels in record { names = without_next c.levels.inner.names; copy = l.inner.copy }) refl h.levels h.alone;
+    alone = gone_into top c.levels.inner c.levels.around (let l = dirtied_levels true c.levels in record { names = without_next c.levels.inner.names; copy = l.inner.copy }) refl h.levels h.alone;
     item = h.item;
   }
   made_in_place (Make mode) names moved c to m h = record { name = h.name; levels = h.levels; alone = h.alone; item = h.item }
@@ -260,7 +260,7 @@ module _ (top : Pair) where
   folder_keeps pair names mode old new did before after w m h =
       let same = folder_paths (folder.copying pair.source pair.target (Make mode) Synced) w.moved w.report w.tells in (
         subst (IsInPlace top) (sym w.stands)
-            (made_in_place w.moved.stage (opened pair.source names) w.moved old did (moved_to top pair.source pair.target w.moved.source w.moved.target same.0 same.1 m) h),
+            (made_in_place w.moved.stage (opened_folder pair.source names) w.moved old did (moved_to top pair.source pair.target w.moved.source w.moved.target same.0 same.1 m) h),
         names_made (folder.copying pair.source pair.target (Make mode) Synced) w.moved mode w.report did refl w.says w.tells m,
       )
 
@@ -268,7 +268,7 @@ module _ (top : Pair) where
   pub closed_in_place : (c : Seen) → IsInPlace top c → IsInPlace top (at_end c)
   closed_in_place c h = record {
     name = h.name;
-    levels = levels_keep top c.levels.inner (let l = closed c.levels in l.inner) c.levels.around refl refl (closing_owed c.levels.inner.copy.stage) (λ name is. is) (omega arith) h.levels;
+    levels = levels_keep top c.levels.inner (let l = levels_closed c.levels in l.inner) c.levels.around refl refl (closing_owed c.levels.inner.copy.stage) (λ name is. is) (omega arith) h.levels;
     alone = h.alone;
     item = h.item;
   }
@@ -322,14 +322,14 @@ module _ (top : Pair) where
   takes_keep : (unclaimed : Route → Type 0) (replies : Replies) (old new : Seen) (did : Did) (before after : Option CallLog) → TakesNext unclaimed replies old new did before after → IsInPlace top old → IsInPlace top new × NamesTarget top did
   takes_keep unclaimed replies old new did before after (inl s) h = (subst (IsInPlace top) (sym s.stands) h, subst (NamesTarget top) (sym s.says) tt)
   takes_keep unclaimed replies old new did before after (inr (inl t)) h =
-      file_keeps unclaimed (file.begun old.job t.pair.source t.pair.target) old new did None None (file_taken unclaimed replies old new did before after t) (pair_moved old.levels.inner.names.names old t.pair refl t.next h) h
+      file_keeps unclaimed (file.begun_copy old.job t.pair.source t.pair.target) old new did None None (file_taken unclaimed replies old new did before after t) (pair_moved old.levels.inner.names.names old t.pair refl t.next h) h
   takes_keep unclaimed replies old new did before after (inr (inr (inl t))) h = link_keeps _ old new did before after t.works (pair_moved old.levels.inner.names.names old t.pair refl t.next h) h
   takes_keep unclaimed replies old new did before after (inr (inr (inr (inl t)))) h =
       folder_keeps t.pair t.names t.mode old new did before after t.works (pair_moved old.levels.inner.names.names old t.pair refl t.next h) h
   takes_keep unclaimed replies old new did before after (inr (inr (inr (inr (inl t))))) h = (
     subst (IsInPlace top) (sym t.stands) record {
       name = h.name;
-      levels = levels_keep top old.levels.inner (let l = passed false old.levels in l.inner) old.levels.around refl refl (λ o. o) (λ name is. fewer old.levels.inner.names.names name is) (fewer_many old.levels.inner.names.names) h.levels;
+      levels = levels_keep top old.levels.inner (let l = passed_levels false old.levels in l.inner) old.levels.around refl refl (λ o. o) (λ name is. fewer old.levels.inner.names.names name is) (fewer_many old.levels.inner.names.names) h.levels;
       alone = h.alone;
       item = h.item;
     },
@@ -338,7 +338,7 @@ module _ (top : Pair) where
   takes_keep unclaimed replies old new did before after (inr (inr (inr (inr (inr (inl t)))))) h = (
     subst (IsInPlace top) (sym t.stands) record {
       name = h.name;
-      levels = levels_keep top old.levels.inner (let l = passed false old.levels in l.inner) old.levels.around refl refl (λ o. o) (λ name is. fewer old.levels.inner.names.names name is) (fewer_many old.levels.inner.names.names) h.levels;
+      levels = levels_keep top old.levels.inner (let l = passed_levels false old.levels in l.inner) old.levels.around refl refl (λ o. o) (λ name is. fewer old.levels.inner.names.names name is) (fewer_many old.levels.inner.names.names) h.levels;
       alone = h.alone;
       item = h.item;
     },
@@ -372,7 +372,7 @@ module _ (top : Pair) where
   goes_keep unclaimed replies old new did before after (inl s) h = syncs_keep old new did before after s h
   goes_keep unclaimed replies old new did before after (inr s) h = takes_keep unclaimed replies old new did before after s.1 h
 
-  works_keep : (unclaimed : Route → Type 0) (replies : Replies) (item : Item) (old new : Seen) (did : Did) (before after : Option CallLog) → WorksOn item unclaimed replies old new did before after → ItemMoved top item
+  works_keep : (unclaimed : Route → Type 0) (replies : Replies) (item : ItemAtWork) (old new : Seen) (did : Did) (before after : Option CallLog) → WorksOn item unclaimed replies old new did before after → ItemMoved top item
       → IsInPlace top old → IsInPlace top new × NamesTarget top did
   works_keep unclaimed replies Next old new did before after w m h = goes_keep unclaimed replies old new did before after w h
   works_keep unclaimed replies (File f) old new did before after w m h = file_keeps unclaimed f old new did before after w m h

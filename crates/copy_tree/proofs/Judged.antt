@@ -12,7 +12,7 @@ use Rattle.tree_trait.specs.Refusals.{refusal_of}
 use Rattle.job_answers.specs.declared.replies.Decision.{Decision}
 use Rattle.job_answers.specs.declared.replies.Decision.TheVariants.{Ask, Keep, Replace}
 use Rattle.job_answers.specs.declared.replies.Replies.{Replies}
-use Rattle.job_answers.specs.Decisions.{decided}
+use Rattle.job_answers.specs.Decisions.{decision_on}
 use Rattle.job_reports.specs.declared.job.Pair.{Pair}
 use Rattle.job_reports.specs.declared.question.Question.{Question}
 use Rattle.job_reports.specs.declared.report.Cause.TheVariants.{TargetKind}
@@ -75,11 +75,11 @@ module _ (s : FileSystem) (stage : Stage) (top : Bool) (replies : Replies) (pair
       abbrev both : AreBothSingle s pair
       both = record { source = source; target = target; there = stands; of_source = is; stands = there.0; of_target = there.1; replacing = replacing; replaceable = replaceable }
 
-      is_decided : (decision : Decision) → decided replies asked ≡ decision → IsDecided s pair replies asked decision
+      is_decided : (decision : Decision) → decision_on replies asked ≡ decision → IsDecided s pair replies asked decision
       is_decided decision e = record { both = both; asks = refl; decides = e }
 
       -- by the answers that stand
-      by_decision : (decision : Decision) (result : Result Taken Trouble) → decided replies asked ≡ decision → TakesDecided decision asked pair source result → Looks s stage top replies pair result
+      by_decision : (decision : Decision) (result : Result Taken Trouble) → decision_on replies asked ≡ decision → TakesDecided decision asked pair source result → Looks s stage top replies pair result
       by_decision Replace (Ok what) e h = single_taken what (inr (at_top, (asked, is_decided Replace e))) h
       by_decision Replace (Err t) e h = absurd (h.0 replacing)
       by_decision Keep result e h = subst (Looks s stage top replies pair) (sym h) (asked, is_decided Keep e)
@@ -87,7 +87,7 @@ module _ (s : FileSystem) (stage : Stage) (top : Bool) (replies : Replies) (pair
 
       by_answer : (result : Result Taken Trouble) → ByAnswer replies pair source target result → Looks s stage top replies pair result
       by_answer result (inl e) = subst (Looks s stage top replies pair) (sym e) (inl refl)
-      by_answer result (inr h) = by_decision (decided replies asked) result refl h
+      by_answer result (inr h) = by_decision (decision_on replies asked) result refl h
 
   pub judged : (target : Option Meta) (result : Result Taken Trouble) → IsNoFolder source.kind → IsThere s pair.target target → Judges top replies pair source target result
       → Looks s stage top replies pair result
@@ -116,7 +116,7 @@ module _ (top : Bool) (replies : Replies) (pair : Pair) (source : Meta) (range :
 
   answer_sound : (target : Meta) (result : Result Taken Trouble) → ByAnswer replies pair source target result → Sound result
   answer_sound target result (inl e) = subst Sound (sym e) tt
-  answer_sound target result (inr h) = decided_sound (decided replies (question_on pair.source source pair.target target)) (question_on pair.source source pair.target target) result h
+  answer_sound target result (inr h) = decided_sound (decision_on replies (question_on pair.source source pair.target target)) (question_on pair.source source pair.target target) result h
 
   pub judged_sound : (target : Option Meta) (result : Result Taken Trouble) → Judges top replies pair source target result → Sound result
   judged_sound None (Ok what) h = single_sound what h

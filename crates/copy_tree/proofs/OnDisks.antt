@@ -21,9 +21,9 @@ use Rattle.copy_folders.specs.declared.stage.Stage.{Stage}
 use Rattle.copy_folders.specs.declared.stage.Stage.TheVariants.{Make, Fill, Close, Done}
 use Rattle.copy_link.specs.LinkCopying as link
 use Rattle.copy_link.specs.LinkCopying.{LinkCopying}
-use Rattle.tree_walk.specs.Places.{OpenFolder, opened}
-use Rattle.copy_tree.specs.declared.item.Item.{Item}
-use Rattle.copy_tree.specs.declared.item.Item.TheVariants.{Next, File, Link, Stays}
+use Rattle.tree_walk.specs.Places.{OpenFolder, opened_folder}
+use Rattle.copy_tree.specs.declared.item.ItemAtWork.{ItemAtWork}
+use Rattle.copy_tree.specs.declared.item.ItemAtWork.TheVariants.{Next, File, Link, Stays}
 use Rattle.copy_folders.specs.declared.level.Level.{Level}
 use Rattle.copy_tree.specs.declared.progress.Progress.{Progress}
 use Rattle.copy_tree.specs.declared.progress.Progress.TheVariants.{UnderWay, Decided, Anew}
@@ -34,11 +34,11 @@ use Rattle.copy_tree.specs.Parts.{IsPartPlace}
 use Rattle.copy_tree.specs.Progress.{link_progress, progress}
 use Rattle.copy_tree.specs.Skipping.{SkipsAt, SkipsName, SkipsNamed, SkipsRest, retried_at}
 use Rattle.copy_tree.specs.Standing.{Seen, after_report}
-use Rattle.copy_tree.specs.Steps.{FileWorks, GoesOn, LeavesAll, LinkWorks, SyncsAround, TakesNext, WorksOn, idle, settled}
+use Rattle.copy_tree.specs.TreeCopySteps.{FileWorks, GoesOn, LeavesAll, LinkWorks, SyncsAround, TakesNext, WorksOn, idle, copy_after_progress}
 use Rattle.copy_tree.proofs.PartsBegin.{file_taken}
 
 -- where none of the folders around is dirty, all may go on
-from_all : (item : Item) (inner : Level) (around : List Level) → AllSynced around → AroundSynced item inner around
+from_all : (item : ItemAtWork) (inner : Level) (around : List Level) → AllSynced around → AroundSynced item inner around
 from_all item inner [] h = tt
 from_all item inner (outer ∷ around) h = (λ dirty. absurd (false≢true (sym h.0 ∙ dirty)), h.1)
 
@@ -50,11 +50,11 @@ clean_if : (b dirty : Bool) → dirty ≡ b → (dirty ≡ true → ⊥) → dir
 clean_if true dirty is not = absurd (not is)
 clean_if false dirty is not = is
 
-synced_if : (item : Item) (inner : Level) (around : List Level) → (IsUntouched item inner → ⊥) → AroundSynced item inner around → AllSynced around
+synced_if : (item : ItemAtWork) (inner : Level) (around : List Level) → (IsUntouched item inner → ⊥) → AroundSynced item inner around → AllSynced around
 synced_if item inner [] not h = tt
 synced_if item inner (outer ∷ around) not h = (clean_if (is_dirty outer.copy.names) (is_dirty outer.copy.names) refl (λ dirty. not (h.0 dirty)), h.1)
 
-quiet : (item : Item) (inner : Level) (around : List Level) → is_around_dirty around ≡ false → AroundSynced item inner around → AllSynced around
+quiet : (item : ItemAtWork) (inner : Level) (around : List Level) → is_around_dirty around ≡ false → AroundSynced item inner around → AllSynced around
 quiet item inner [] is h = tt
 quiet item inner (outer ∷ around) is h = (is, h.1)
 
@@ -64,15 +64,15 @@ file_busy f inner around h = synced_if (File f) inner around (λ u. let e = u.fr
 link_busy : (l : LinkCopying) (inner : Level) (around : List Level) → AroundSynced (Link l) inner around → AllSynced around
 link_busy l inner around h = synced_if (Link l) inner around (λ u. let e = u.free in let no : ⊥ = cc in no) h
 
-dirty_busy : (item : Item) (inner : Level) (around : List Level) → is_dirty inner.copy.names ≡ true → AroundSynced item inner around → AllSynced around
+dirty_busy : (item : ItemAtWork) (inner : Level) (around : List Level) → is_dirty inner.copy.names ≡ true → AroundSynced item inner around → AllSynced around
 dirty_busy item inner around dirty h = synced_if item inner around (λ u. false≢true (sym u.clean ∙ dirty)) h
 
 -- the mark of the innermost folder stays
-inner_same : (item : Item) (inner new : Level) (around : List Level) → new.copy.names ≡ inner.copy.names → AroundSynced item inner around → AroundSynced item new around
+inner_same : (item : ItemAtWork) (inner new : Level) (around : List Level) → new.copy.names ≡ inner.copy.names → AroundSynced item inner around → AroundSynced item new around
 inner_same item inner new [] is h = tt
 inner_same item inner new (outer ∷ around) is h = (λ dirty. let u = h.0 dirty in record { free = u.free; clean = ap is_dirty is ∙ u.clean }, h.1)
 
-settled_around : (p : Progress) (item : Item) (c : Seen) → (let s = settled p item c in s.levels.around) ≡ c.levels.around
+settled_around : (p : Progress) (item : ItemAtWork) (c : Seen) → (let s = copy_after_progress p item c in s.levels.around) ≡ c.levels.around
 settled_around UnderWay item c = refl
 settled_around Decided item c = refl
 settled_around Anew item c = refl
@@ -104,14 +104,14 @@ takes unclaimed replies old new did before after (inr (inl t)) free h = kept old
 takes unclaimed replies old new did before after (inr (inr (inl t))) free h = kept old.levels.around new (link_around _ old new did before after t.works) h
 takes unclaimed replies old new did before after (inr (inr (inr (inl t)))) free h =
     let w = t.works in
-    subst IsOnDisk (sym w.stands) (made_on_disk w.moved.stage (opened t.pair.source t.names) w.moved old did (made_clean t.pair.source t.pair.target t.mode w.moved w.report w.tells) free h)
+    subst IsOnDisk (sym w.stands) (made_on_disk w.moved.stage (opened_folder t.pair.source t.names) w.moved old did (made_clean t.pair.source t.pair.target t.mode w.moved w.report w.tells) free h)
 takes unclaimed replies old new did before after (inr (inr (inr (inr (inl t))))) free h = kept old.levels.around new (ap (λ (c : Seen). c.levels.around) t.stands) h
 takes unclaimed replies old new did before after (inr (inr (inr (inr (inr (inl t)))))) free h = kept old.levels.around new (ap (λ (c : Seen). c.levels.around) t.stands) h
 takes unclaimed replies old new did before after (inr (inr (inr (inr (inr (inr (inl t))))))) free h = kept old.levels.around new (ap (λ (c : Seen). c.levels.around) t.stands) h
 takes unclaimed replies old new did before after (inr (inr (inr (inr (inr (inr (inr (next, inl (debt, e))))))))) free h = kept old.levels.around new (ap (λ (c : Seen). c.levels.around) e.stands) h
 takes unclaimed replies old new did before after (inr (inr (inr (inr (inr (inr (inr (next, inr (debt, f, same))))))))) free h = kept old.levels.around new (ap (λ (c : Seen). c.levels.around) f.stands) h
 
-nearest : (item : Item) (inner outer : Level) (was around : List Level) → was ≡ outer ∷ around → AroundSynced item inner was → AroundSynced item inner (outer ∷ around)
+nearest : (item : ItemAtWork) (inner outer : Level) (was around : List Level) → was ≡ outer ∷ around → AroundSynced item inner was → AroundSynced item inner (outer ∷ around)
 nearest item inner outer was around is h = subst (AroundSynced item inner) is h
 
 syncs : (old new : Seen) (did : Did) (before after : Option CallLog) → SyncsAround old new did before after → IsOnDisk old → IsOnDisk new
@@ -124,9 +124,9 @@ goes : (unclaimed : Route → Type 0) (replies : Replies) (old new : Seen) (did 
 goes unclaimed replies old new did before after (inl s) free h = syncs old new did before after s h
 goes unclaimed replies old new did before after (inr s) free h = takes unclaimed replies old new did before after s.1 free (quiet old.item old.levels.inner old.levels.around s.0 h)
 
-works : (unclaimed : Route → Type 0) (replies : Replies) (item : Item) (old new : Seen) (did : Did) (before after : Option CallLog) → WorksOn item unclaimed replies old new did before after → old.item ≡ item
+works : (unclaimed : Route → Type 0) (replies : Replies) (item : ItemAtWork) (old new : Seen) (did : Did) (before after : Option CallLog) → WorksOn item unclaimed replies old new did before after → old.item ≡ item
     → AroundSynced item old.levels.inner old.levels.around → IsOnDisk new
-works unclaimed replies Next old new did before after w is h = goes unclaimed replies old new did before after w is (subst (λ (i : Item). AroundSynced i old.levels.inner old.levels.around) (sym is) h)
+works unclaimed replies Next old new did before after w is h = goes unclaimed replies old new did before after w is (subst (λ (i : ItemAtWork). AroundSynced i old.levels.inner old.levels.around) (sym is) h)
 works unclaimed replies (File f) old new did before after w is h = kept old.levels.around new (file_around unclaimed f old new did before after w) (file_busy f old.levels.inner old.levels.around h)
 works unclaimed replies (Link l) old new did before after w is h = kept old.levels.around new (link_around l old new did before after w) (link_busy l old.levels.inner old.levels.around h)
 works unclaimed replies (Stays part) old new did before after w is h = absurd w
@@ -159,36 +159,36 @@ named_stays : (names : List (List ℕ)) (cause : Cause) (old new : Seen) (did : 
 named_stays [] cause old new did s h = subst IsOnDisk (sym s.2) (inner_same old.item old.levels.inner _ old.levels.around (skipped_same cause old.levels.inner.copy s.0 did s.1) h)
 named_stays (name ∷ names) cause old new did s h = name_stays name cause old new did s h
 
-skips_stay : (item : Item) (cause : Cause) (old new : Seen) (did : Did) → SkipsAt item cause old did new → old.item ≡ item → AroundSynced item old.levels.inner old.levels.around → IsOnDisk new
-skips_stay Next cause old new did s is h = named_stays old.levels.inner.names.names cause old new did s (subst (λ (i : Item). AroundSynced i old.levels.inner old.levels.around) (sym is) h)
+skips_stay : (item : ItemAtWork) (cause : Cause) (old new : Seen) (did : Did) → SkipsAt item cause old did new → old.item ≡ item → AroundSynced item old.levels.inner old.levels.around → IsOnDisk new
+skips_stay Next cause old new did s is h = named_stays old.levels.inner.names.names cause old new did s (subst (λ (i : ItemAtWork). AroundSynced i old.levels.inner old.levels.around) (sym is) h)
 skips_stay (File f) cause old new did s is h =
     kept old.levels.around new (ap (λ (c : Seen). c.levels.around) s.2 ∙ settled_around (progress s.0.stage) (File s.0) (idle old)) (file_busy f old.levels.inner old.levels.around h)
 skips_stay (Link l) cause old new did s is h =
     kept old.levels.around new (ap (λ (c : Seen). c.levels.around) s.2 ∙ settled_around (link_progress s.0.stage) (Link s.0) (idle old)) (link_busy l old.levels.inner old.levels.around h)
 skips_stay (Stays part) cause old new did s is h = absurd s
 
-retries_stay : (item : Item) (c : Seen) → c.item ≡ item → AroundSynced item c.levels.inner c.levels.around → IsOnDisk (retried_at item c)
-retries_stay Next c is h = subst (λ (i : Item). AroundSynced i c.levels.inner c.levels.around) (sym is) h
+retries_stay : (item : ItemAtWork) (c : Seen) → c.item ≡ item → AroundSynced item c.levels.inner c.levels.around → IsOnDisk (retried_at item c)
+retries_stay Next c is h = subst (λ (i : ItemAtWork). AroundSynced i c.levels.inner c.levels.around) (sym is) h
 retries_stay (File f) c is h =
     kept c.levels.around (retried_at (File f) c) (settled_around (progress (file.taken_anew f.stage)) (File (record f { stage = file.taken_anew f.stage })) (idle c)) (file_busy f c.levels.inner c.levels.around h)
 retries_stay (Link l) c is h =
     kept c.levels.around (retried_at (Link l) c) (settled_around (link_progress (link.taken_anew l.stage)) (Link (record l { stage = link.taken_anew l.stage })) (idle c)) (link_busy l c.levels.inner c.levels.around h)
-retries_stay (Stays part) c is h = subst (λ (i : Item). AroundSynced i c.levels.inner c.levels.around) (sym is) h
+retries_stay (Stays part) c is h = subst (λ (i : ItemAtWork). AroundSynced i c.levels.inner c.levels.around) (sym is) h
 
 -- last steps
-left_stays : (item : Item) (n : ℕ) (old new : Levels) → LeftAll n old new → AroundSynced item old.inner old.around → AroundSynced item new.inner new.around
+left_stays : (item : ItemAtWork) (n : ℕ) (old new : Levels) → LeftAll n old new → AroundSynced item old.inner old.around → AroundSynced item new.inner new.around
 left_stays item zero old new is h = subst (λ (l : Levels). AroundSynced item l.inner l.around) (sym is) h
 left_stays item (suc n) old new l h =
     let left = l.3 in
     let k = nearest item l.0.inner new.inner l.0.around new.around left.was (left_stays item n old l.0 l.1 h) in
     from_all item new.inner new.around k.1
 
-winds : (item : Item) (ending : Ending) (part : Option Route) (mid : Levels) (old new : Seen) (last : LastStepResult) (before after : Option CallLog) (f0 f1 : ℕ)
+winds : (item : ItemAtWork) (ending : Ending) (part : Option Route) (mid : Levels) (old new : Seen) (last : LastStepResult) (before after : Option CallLog) (f0 f1 : ℕ)
     → TriesFolder part mid old new last before after f0 f1 ⊎ EndsAll ending part mid old new last before after f0 f1 → AroundSynced item mid.inner mid.around → IsOnDisk new
 winds item ending part mid old new last before after f0 f1 (inl t) h = kept mid.around new (ap (λ (c : Seen). c.levels.around) t.stands) (dirty_busy item mid.inner mid.around t.dirty h)
 winds item ending part mid old new last before after f0 f1 (inr e) h = kept [] new (ap (λ (c : Seen). c.levels.around) e.stands ∙ e.outermost) tt
 
-folders_stay : (item : Item) (ending : Ending) (part : Option Route) (old new : Seen) (last : LastStepResult) (before after : Option CallLog) (f0 f1 : ℕ) → FoldersWind ending part old new last before after f0 f1
+folders_stay : (item : ItemAtWork) (ending : Ending) (part : Option Route) (old new : Seen) (last : LastStepResult) (before after : Option CallLog) (f0 f1 : ℕ) → FoldersWind ending part old new last before after f0 f1
     → AroundSynced item old.levels.inner old.levels.around → IsOnDisk new
 folders_stay item ending part old new last before after f0 f1 w h = winds item ending part w.mid old new last before after f0 f1 w.winds (left_stays item w.count old.levels w.mid w.left h)
 
@@ -199,7 +199,7 @@ link_stays ending l old new last before after f0 f1 (inr s) h =
     let later = s.winds in
     folders_stay Next ending (Some l.part) old new later.next s.mid after s.since f1 later.winds (from_all Next old.levels.inner old.levels.around h)
 
-winds_stay : (item : Item) (ending : Ending) (old new : Seen) (last : LastStepResult) (before after : Option CallLog) (f0 f1 : ℕ) → WindsAt item ending old new last before after f0 f1
+winds_stay : (item : ItemAtWork) (ending : Ending) (old new : Seen) (last : LastStepResult) (before after : Option CallLog) (f0 f1 : ℕ) → WindsAt item ending old new last before after f0 f1
     → AroundSynced item old.levels.inner old.levels.around → IsOnDisk new
 winds_stay Next ending old new last before after f0 f1 w h = folders_stay Next ending None old new last before after f0 f1 w h
 winds_stay (File f) ending old new last before after f0 f1 w h = kept old.levels.around new (ap (λ (c : Seen). c.levels.around) w.stands) (file_busy f old.levels.inner old.levels.around h)

@@ -12,7 +12,7 @@ use Rattle.copy_file.specs.PartSteps.{TellsMade}
 use Rattle.copy_file.specs.declared.stage.SourceFacts.{SourceFacts}
 use Rattle.copy_file.specs.declared.stage.Stage.TheVariants.{Begin}
 use Rattle.copy_tree.specs.Standing.{Seen}
-use Rattle.copy_tree.specs.Steps.{FileWorks, TakesFile}
+use Rattle.copy_tree.specs.TreeCopySteps.{FileWorks, TakesFile}
 
 pub tells_part : (facts : SourceFacts) (f moved : Copying) (did : Did) → f.stage ≡ Begin → TellsMade facts f did moved → file.Tells f did moved
 tells_part facts f moved (Began part) begin t = (begin, (facts, t))
@@ -49,10 +49,10 @@ falls_part facts f moved (Moved pair) t = absurd t
 falls_part facts f moved (Ended ending part) t = absurd t
 
 pub file_taken : (unclaimed : Route → Type 0) (replies : Replies) (old new : Seen) (did : Did) (before after : Option CallLog) → (t : TakesFile unclaimed replies old new did before after)
-    → FileWorks unclaimed (file.begun old.job t.pair.source t.pair.target) old new did None None
+    → FileWorks unclaimed (file.begun_copy old.job t.pair.source t.pair.target) old new did None None
 file_taken unclaimed replies old new did before after t =
     let w = t.works in
-    let f = file.begun old.job t.pair.source t.pair.target in
+    let f = file.begun_copy old.job t.pair.source t.pair.target in
     record {
       moved = w.moved;
       tells = tells_part t.facts f w.moved did refl w.tells;

@@ -11,26 +11,26 @@ use Rattle.copy_link.specs.declared.stage.Next.TheVariants as follows
 use Rattle.copy_file.specs.declared.stage.FolderState.{FolderState}
 use Rattle.job_reports.specs.declared.report.Did.{Did}
 use Rattle.job_reports.specs.declared.report.Did.TheVariants.{Began, Chunk, Placed, Removed, Made, Set, Kept, Skipped, Cleaned, Barrier, Asked, Merges, Moved, Troubled, Ended}
-use Rattle.copy_tree.specs.declared.item.Item.{Item}
-use Rattle.copy_tree.specs.declared.item.Item.TheVariants.{Next, File, Link}
+use Rattle.copy_tree.specs.declared.item.ItemAtWork.{ItemAtWork}
+use Rattle.copy_tree.specs.declared.item.ItemAtWork.TheVariants.{Next, File, Link}
 use Rattle.copy_tree.specs.declared.progress.Progress.TheVariants.{UnderWay}
 use Rattle.copy_tree.specs.Progress.{link_progress, progress}
 use Rattle.copy_tree.specs.Standing.{Seen}
-use Rattle.copy_tree.specs.Steps.{after_file, after_link, idle, noted, settled, stays_ready}
+use Rattle.copy_tree.specs.TreeCopySteps.{after_file, after_link, idle, noted_copy, copy_after_progress, stays_ready}
 
 -- nothing is at work
 pub idle_same : (c : Seen) → c.item ≡ Next → idle c ≡ c
-idle_same c free = ap (λ (i : Item). record c { item = i }) (sym free)
+idle_same c free = ap (λ (i : ItemAtWork). record c { item = i }) (sym free)
 
-pub file_stands : (m : Copying) (did : Did) (changed : Bool) (old mid new : Seen) → old.item ≡ Next → changed ≡ file.is_dirty m.folder → mid ≡ noted did changed old → new ≡ settled (progress m.stage) (File m) mid
+pub file_stands : (m : Copying) (did : Did) (changed : Bool) (old mid new : Seen) → old.item ≡ Next → changed ≡ file.is_dirty m.folder → mid ≡ noted_copy did changed old → new ≡ copy_after_progress (progress m.stage) (File m) mid
     → new ≡ after_file did m (idle old)
 file_stands m did changed old mid new free dirty was is =
-    is ∙ ap (λ (s : Seen). settled (progress m.stage) (File m) s) (was ∙ (ap (λ b. noted did b old) dirty ∙ ap (λ (s : Seen). noted did (file.is_dirty m.folder) s) (sym (idle_same old free))))
+    is ∙ ap (λ (s : Seen). copy_after_progress (progress m.stage) (File m) s) (was ∙ (ap (λ b. noted_copy did b old) dirty ∙ ap (λ (s : Seen). noted_copy did (file.is_dirty m.folder) s) (sym (idle_same old free))))
 
-pub link_stands : (m : LinkCopying) (did : Did) (changed : Bool) (old mid new : Seen) → old.item ≡ Next → changed ≡ link.is_dirty m.folder → mid ≡ noted did changed old → new ≡ settled (link_progress m.stage) (Link m) mid
+pub link_stands : (m : LinkCopying) (did : Did) (changed : Bool) (old mid new : Seen) → old.item ≡ Next → changed ≡ link.is_dirty m.folder → mid ≡ noted_copy did changed old → new ≡ copy_after_progress (link_progress m.stage) (Link m) mid
     → new ≡ after_link did m (idle old)
 link_stands m did changed old mid new free dirty was is =
-    is ∙ ap (λ (s : Seen). settled (link_progress m.stage) (Link m) s) (was ∙ (ap (λ b. noted did b old) dirty ∙ ap (λ (s : Seen). noted did (link.is_dirty m.folder) s) (sym (idle_same old free))))
+    is ∙ ap (λ (s : Seen). copy_after_progress (link_progress m.stage) (Link m) s) (was ∙ (ap (λ b. noted_copy did b old) dirty ∙ ap (λ (s : Seen). noted_copy did (link.is_dirty m.folder) s) (sym (idle_same old free))))
 
 -- a link's copy that steps has no part that was tried in vain
 ready_stays : (stage : Stage) (folder : FolderState) → is_ready stage folder ≡ true → stays_ready stage ≡ true

@@ -21,20 +21,20 @@ use Rattle.copy_folders.specs.declared.stage.Stage.TheVariants.{Make, Fill, Clos
 use Rattle.copy_link.specs.LinkCopying as link
 use Rattle.copy_link.specs.LinkCopying.{LinkCopying}
 use Rattle.copy_link.specs.LinkSteps as link_steps
-use Rattle.copy_tree.specs.declared.item.Item.{Item}
-use Rattle.copy_tree.specs.declared.item.Item.TheVariants.{Next, File, Link, Stays}
+use Rattle.copy_tree.specs.declared.item.ItemAtWork.{ItemAtWork}
+use Rattle.copy_tree.specs.declared.item.ItemAtWork.TheVariants.{Next, File, Link, Stays}
 use Rattle.copy_folders.specs.declared.level.Level.{Level}
 use Rattle.copy_tree.specs.Ending.{EndsAll, FileWinds, FoldersWind, LinkWinds, TriesFolder, WindsAt, stays_if}
 use Rattle.copy_tree.specs.InPlace.{AreMoved, IsInPlace, IsMoved, ItemMoved, NoneBeside, owed_of}
-use Rattle.copy_folders.specs.Levels.{LeftAll, Levels, dirtied, emptied, level, passed, with_copy}
+use Rattle.copy_folders.specs.Levels.{LeftAll, Levels, dirtied_levels, emptied_levels, level, passed_levels, with_copy}
 use Rattle.copy_tree.specs.MadeCalls.{StayingLaw}
 use Rattle.copy_tree.specs.Progress.{link_progress, progress}
 use Rattle.copy_tree.specs.Skipping.{SkipsAt, SkipsFile, SkipsLink, SkipsName, SkipsNamed, SkipsRest, retried_at}
 use Rattle.copy_tree.specs.Standing.{Seen}
-use Rattle.copy_tree.specs.Steps.{idle}
+use Rattle.copy_tree.specs.TreeCopySteps.{idle}
 use Rattle.copy_tree.proofs.InPlaces.{dirty_keeps, fewer, fewer_many, idle_in_place, left_beside, levels_keep, moved_to, settled_in_place}
 
-skipped_owed : (stage : Stage) → owed_of stage ≡ None → owed_of (folder.skipped stage) ≡ None
+skipped_owed : (stage : Stage) → owed_of stage ≡ None → owed_of (folder.skipped_stage stage) ≡ None
 skipped_owed (Make mode) h = refl
 skipped_owed (Fill owed) h = h
 skipped_owed (Close owed) h = refl
@@ -58,7 +58,7 @@ module _ (top : Pair) where
   rest_stays : (cause : Cause) (old new : Seen) (did : Did) → SkipsRest cause old did new → IsInPlace top old → IsInPlace top new
   rest_stays cause old new did (inl s) h = subst (IsInPlace top) (sym s.1) record {
     name = h.name;
-    levels = levels_keep top old.levels.inner (let l = emptied old.levels in l.inner) old.levels.around refl refl (λ o. o) (λ name is. absurd is) (omega arith) h.levels;
+    levels = levels_keep top old.levels.inner (let l = emptied_levels old.levels in l.inner) old.levels.around refl refl (λ o. o) (λ name is. absurd is) (omega arith) h.levels;
     alone = h.alone;
     item = h.item;
   }
@@ -67,7 +67,7 @@ module _ (top : Pair) where
   name_stays : (name : List ℕ) (cause : Cause) (old new : Seen) (did : Did) → SkipsName name cause old did new → IsInPlace top old → IsInPlace top new
   name_stays name cause old new did (inl s) h = subst (IsInPlace top) (sym s.1) record {
     name = h.name;
-    levels = levels_keep top old.levels.inner (let l = passed true old.levels in l.inner) old.levels.around refl refl (λ o. o) (λ n is. fewer old.levels.inner.names.names n is) (fewer_many old.levels.inner.names.names) h.levels;
+    levels = levels_keep top old.levels.inner (let l = passed_levels true old.levels in l.inner) old.levels.around refl refl (λ o. o) (λ n is. fewer old.levels.inner.names.names n is) (fewer_many old.levels.inner.names.names) h.levels;
     alone = h.alone;
     item = h.item;
   }
@@ -91,7 +91,7 @@ module _ (top : Pair) where
   link_moved cause l new did (inl s) m = moved_to top l.source l.target new.source new.target (ap (λ (x : LinkCopying). x.source) s.1) (ap (λ (x : LinkCopying). x.target) s.1) m
   link_moved cause l new did (inr s) m = moved_to top l.source l.target new.source new.target (ap (λ (x : LinkCopying). x.source) s.1) (ap (λ (x : LinkCopying). x.target) s.1) m
 
-  skips_stay : (item : Item) (cause : Cause) (old new : Seen) (did : Did) → SkipsAt item cause old did new → ItemMoved top item → IsInPlace top old → IsInPlace top new
+  skips_stay : (item : ItemAtWork) (cause : Cause) (old new : Seen) (did : Did) → SkipsAt item cause old did new → ItemMoved top item → IsInPlace top old → IsInPlace top new
   skips_stay Next cause old new did s m h = named_stays old.levels.inner.names.names cause old new did s h
   skips_stay (File f) cause old new did s m h =
       subst (IsInPlace top) (sym s.2) (settled_in_place top (progress s.0.stage) (File s.0) (idle old) (file_moved cause f s.0 did s.1 m) (idle_in_place top old h))
@@ -99,7 +99,7 @@ module _ (top : Pair) where
       subst (IsInPlace top) (sym s.2) (settled_in_place top (link_progress s.0.stage) (Link s.0) (idle old) (link_moved cause l s.0 did s.1 m) (idle_in_place top old h))
   skips_stay (Stays part) cause old new did s m h = absurd s
 
-  retries_stay : (item : Item) (c : Seen) → ItemMoved top item → IsInPlace top c → IsInPlace top (retried_at item c)
+  retries_stay : (item : ItemAtWork) (c : Seen) → ItemMoved top item → IsInPlace top c → IsInPlace top (retried_at item c)
   retries_stay Next c m h = h
   retries_stay (File f) c m h = settled_in_place top (progress (file.taken_anew f.stage)) (File (record f { stage = file.taken_anew f.stage })) (idle c) m (idle_in_place top c h)
   retries_stay (Link l) c m h = settled_in_place top (link_progress (link.taken_anew l.stage)) (Link (record l { stage = link.taken_anew l.stage })) (idle c) m (idle_in_place top c h)
@@ -151,7 +151,7 @@ module _ (top : Pair) where
   link_stays ending l old new last before after f0 f1 (inr s) h =
       let later = s.winds in folders_stay ending (Some l.part) old new later.next s.mid after s.since f1 later.winds h
 
-  winds_stay : (item : Item) (ending : Ending) (old new : Seen) (last : LastStepResult) (before after : Option CallLog) (f0 f1 : ℕ) → WindsAt item ending old new last before after f0 f1
+  winds_stay : (item : ItemAtWork) (ending : Ending) (old new : Seen) (last : LastStepResult) (before after : Option CallLog) (f0 f1 : ℕ) → WindsAt item ending old new last before after f0 f1
       → IsInPlace top old → IsInPlace top new
   winds_stay Next ending old new last before after f0 f1 w h = folders_stay ending None old new last before after f0 f1 w h
   winds_stay (File f) ending old new last before after f0 f1 w h = file_stays ending f (idle old) new last before after f0 f1 w (idle_in_place top old h)

@@ -14,18 +14,18 @@ use Rattle.copy_file.specs.Copying as file
 use Rattle.copy_file.specs.Looking.{HasRange}
 use Rattle.copy_file.specs.PartNames.{IsChosen}
 use Rattle.copy_file.specs.declared.stage.SourceFacts.{SourceFacts}
-use Rattle.copy_folders.specs.Levels.{passed}
+use Rattle.copy_folders.specs.Levels.{passed_levels}
 use Rattle.copy_tree.specs.declared.copy.Stage.TheVariants.{Begin}
 use Rattle.copy_tree.specs.declared.due.Due.TheVariants.{Thing}
 use Rattle.copy_tree.specs.declared.looking.Taken.TheVariants as taken
-use Rattle.copy_tree.specs.declared.item.Item.{Item}
-use Rattle.copy_tree.specs.declared.item.Item.TheVariants.{Next}
+use Rattle.copy_tree.specs.declared.item.ItemAtWork.{ItemAtWork}
+use Rattle.copy_tree.specs.declared.item.ItemAtWork.TheVariants.{Next}
 use Rattle.job_reports.specs.declared.report.Did.{Did}
 use Rattle.job_reports.specs.declared.report.StepResult.{StepResult}
 use Rattle.job_reports.specs.declared.report.Transfer.TheVariants.{ByCopy}
 use Rattle.copy_tree.specs.Parts.{IsPartPlace}
 use Rattle.copy_tree.specs.Standing.{Seen, due}
-use Rattle.copy_tree.specs.Steps.{Advances, AdvancesNext, FileBegins, FolderMakes, GoesOn, Leaves, LinkWorks, RunsOut, TakesNext, WhyStopped, WorksOn, is_top, link_begun}
+use Rattle.copy_tree.specs.TreeCopySteps.{Advances, AdvancesNext, FileBegins, FolderMakes, GoesOn, Leaves, LinkWorks, RunsOut, TakesNext, WhyStopped, WorksOn, is_top, link_begun}
 use Rattle.copy_tree.specs.Taking.{AreShort, IsInReach, IsShort, IsTaken}
 
 module _ (unclaimed : Route → Type 0) (replies : Replies) (old new : Seen) (did : Did) (before mid after : Option CallLog) (same : mid ≡ before) where
@@ -38,7 +38,7 @@ module _ (unclaimed : Route → Type 0) (replies : Replies) (old new : Seen) (di
     ran_out out = inl record { trouble = out_of_memory_at false; says = out.0; why = inr (inr (inr (pair, next, refl))); apart = refl; same = out.2 ∙ same; stands = out.1 }
 
     pub took_file : (facts : SourceFacts) → IfKnown before (λ log. IsTaken (current log) (is_top old) replies pair (taken.File facts)) → HasRange facts
-        → RunsOut old new did mid after ⊎ FileBegins unclaimed facts (file.begun old.job pair.source pair.target) old new did mid after → TakesNext unclaimed replies old new did before after
+        → RunsOut old new did mid after ⊎ FileBegins unclaimed facts (file.begun_copy old.job pair.source pair.target) old new did mid after → TakesNext unclaimed replies old new did before after
     took_file facts is range (inl out) = ran_out out
     took_file facts is range (inr works) = inr (inl record {
       pair = pair;
@@ -47,7 +47,7 @@ module _ (unclaimed : Route → Type 0) (replies : Replies) (old new : Seen) (di
       reach = reach;
       is = is;
       range = range;
-      works = subst (λ (x : Option CallLog). FileBegins unclaimed facts (file.begun old.job pair.source pair.target) old new did x after) same works;
+      works = subst (λ (x : Option CallLog). FileBegins unclaimed facts (file.begun_copy old.job pair.source pair.target) old new did x after) same works;
     })
 
     pub took_folder : (names : List (List ℕ)) (mode : ℕ) → IfKnown before (λ log. IsTaken (current log) (is_top old) replies pair (taken.Folder names mode)) → IsAscending names
@@ -65,7 +65,7 @@ module _ (unclaimed : Route → Type 0) (replies : Replies) (old new : Seen) (di
     })))
 
     pub took_merged : (names : List (List ℕ)) → old.stage ≡ Begin → IfKnown before (λ log. IsTaken (current log) (is_top old) replies pair (taken.Merged names)) → AreShort pair names → IsAscending names → length names ≤ 2 ^ 64
-        → new ≡ record old { levels = passed false old.levels } → did ≡ common.Merges ByCopy pair names → after ≡ mid → TakesNext unclaimed replies old new did before after
+        → new ≡ record old { levels = passed_levels false old.levels } → did ≡ common.Merges ByCopy pair names → after ≡ mid → TakesNext unclaimed replies old new did before after
     took_merged names fresh is short order few stands says made = inr (inr (inr (inr (inl record {
       pair = pair;
       names = names;
@@ -82,7 +82,7 @@ module _ (unclaimed : Route → Type 0) (replies : Replies) (old new : Seen) (di
     }))))
 
     pub took_kept : is_top old ≡ true → IfKnown before (λ log. IsTaken (current log) (is_top old) replies pair taken.Kept)
-        → new ≡ record old { levels = passed false old.levels } → did ≡ common.Kept pair.target → after ≡ mid → TakesNext unclaimed replies old new did before after
+        → new ≡ record old { levels = passed_levels false old.levels } → did ≡ common.Kept pair.target → after ≡ mid → TakesNext unclaimed replies old new did before after
     took_kept top is stands says made =
         inr (inr (inr (inr (inr (inl record { pair = pair; next = next; reach = reach; top = top; is = is; says = says; same = made ∙ same; stands = stands })))))
 
@@ -107,11 +107,11 @@ module _ (unclaimed : Route → Type 0) (replies : Replies) (old new : Seen) (di
     }))
 
 -- where nothing is at work, a piece of a step is one of any
-pub next_advances : (free : Route → Bool) (replies : Replies) (old new : Seen) (i : Item) (r : Option StepResult) (before after : Option CallLog) (f0 f1 : ℕ) → old.item ≡ Next → i ≡ Next
+pub next_advances : (free : Route → Bool) (replies : Replies) (old new : Seen) (i : ItemAtWork) (r : Option StepResult) (before after : Option CallLog) (f0 f1 : ℕ) → old.item ≡ Next → i ≡ Next
     → AdvancesNext (IsPartPlace free old) replies (record old { item = i }) new r before after f0 f1 → Advances free replies old new r before after f0 f1
-next_advances free replies old new i None before after f0 f1 idle is a = (idle, subst (λ (j : Item). Leaves (record old { item = j }) new) (is ∙ sym idle) a.0, a.1, a.2)
+next_advances free replies old new i None before after f0 f1 idle is a = (idle, subst (λ (j : ItemAtWork). Leaves (record old { item = j }) new) (is ∙ sym idle) a.0, a.1, a.2)
 next_advances free replies old new i (Some stepped) before after f0 f1 idle is a = (
-  subst (λ (j : Item). WorksOn j (IsPartPlace free old) replies old new stepped.did before after) (sym idle)
-      (subst (λ (j : Item). GoesOn (IsPartPlace free old) replies (record old { item = j }) new stepped.did before after) (is ∙ sym idle) a.0),
+  subst (λ (j : ItemAtWork). WorksOn j (IsPartPlace free old) replies old new stepped.did before after) (sym idle)
+      (subst (λ (j : ItemAtWork). GoesOn (IsPartPlace free old) replies (record old { item = j }) new stepped.did before after) (is ∙ sym idle) a.0),
   a.1,
 )

@@ -15,7 +15,7 @@ use Rattle.job_reports.specs.Questions.{question_on}
 use Rattle.job_answers.specs.declared.replies.Decision.{Decision}
 use Rattle.job_answers.specs.declared.replies.Decision.TheVariants.{Replace}
 use Rattle.job_answers.specs.declared.replies.Replies.{Replies}
-use Rattle.job_answers.specs.Decisions.{decided}
+use Rattle.job_answers.specs.Decisions.{decision_on}
 
 -- a thing of this kind may be replaced by a file or a link, where an answer says so, and replace one
 abbrev pub IsReplaceable : Kind → Type 0
@@ -43,7 +43,7 @@ pub record AreBothSingle (s : FileSystem) (pair : Pair) : Type 0 where
 pub record IsDecided (s : FileSystem) (pair : Pair) (replies : Replies) (question : Question) (decision : Decision) : Type 0 where
   pub both : AreBothSingle s pair
   pub asks : question ≡ question_on pair.source both.source pair.target both.target
-  pub decides : decided replies question ≡ decision
+  pub decides : decision_on replies question ≡ decision
 
 -- Nothing stands at the target; or what is copied is the top itself, and what stands there is replaced by an answer that stands.
 abbrev pub IsOpen : FileSystem → Bool → Replies → Pair → Type 0

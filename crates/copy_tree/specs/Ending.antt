@@ -20,14 +20,14 @@ use Rattle.copy_link.specs.declared.removal.Removal.TheVariants as removal
 use Rattle.copy_link.specs.declared.removal.RemovalStep.{RemovalStep}
 use Rattle.copy_tree.specs.declared.progress.Progress.TheVariants.{UnderWay}
 use Rattle.copy_tree.specs.Progress.{progress}
-use Rattle.copy_tree.specs.Steps.{idle}
-use Rattle.copy_tree.specs.declared.item.Item.{Item}
-use Rattle.copy_tree.specs.declared.item.Item.TheVariants.{Next, File, Link, Stays}
-use Rattle.copy_folders.specs.Levels.{LeftAll, Levels, dirtied, with_copy}
+use Rattle.copy_tree.specs.TreeCopySteps.{idle}
+use Rattle.copy_tree.specs.declared.item.ItemAtWork.{ItemAtWork}
+use Rattle.copy_tree.specs.declared.item.ItemAtWork.TheVariants.{Next, File, Link, Stays}
+use Rattle.copy_folders.specs.Levels.{LeftAll, Levels, dirtied_levels, with_copy}
 use Rattle.copy_tree.specs.Standing.{Seen}
 
 -- a part that stays is remembered
-abbrev pub stays_if : Option Route → Item
+abbrev pub stays_if : Option Route → ItemAtWork
 stays_if (Some part) = Stays part
 stays_if None = Next
 
@@ -56,7 +56,7 @@ pub record FoldersWind (ending : Ending) (part : Option Route) (old new : Seen) 
 
 -- where the copy stands after a last step of a file's copy: a part that stays is remembered, and the folder is dirty or was tried
 abbrev pub after_file_wind : Copying → Seen → Seen
-after_file_wind f c = record c { item = stays_if (part_at f.stage); levels = dirtied (file.is_dirty f.folder) (with_copy (record c.levels.inner.copy { names = Synced }) c.levels) }
+after_file_wind f c = record c { item = stays_if (part_at f.stage); levels = dirtied_levels (file.is_dirty f.folder) (with_copy (record c.levels.inner.copy { names = Synced }) c.levels) }
 
 -- a last step of a file's copy
 pub record FileWinds (ending : Ending) (f : Copying) (old new : Seen) (last : LastStepResult) (before after : Option CallLog) (faults faults_after : ℕ) : Type 0 where
@@ -71,7 +71,7 @@ pub record LinkCleaned (l : LinkCopying) (old new : Seen) (last : LastStepResult
   pub removed : RemovalTried l tried moved before after faults faults_after
   pub gone : tried.removal ≡ removal.Cleaned
   pub says : last ≡ record { did = Cleaned l.part; calls = tried.calls; left = None }
-  pub stands : new ≡ record old { levels = dirtied true old.levels }
+  pub stands : new ≡ record old { levels = dirtied_levels true old.levels }
 
 -- a part stays after so many calls, and the next folder is tried, or all ends
 pub record WindsAfter (calls : ℕ) (ending : Ending) (part : Route) (old new : Seen) (last : LastStepResult) (before after : Option CallLog) (faults faults_after : ℕ) : Type 0 where
@@ -93,14 +93,14 @@ LinkWinds ending l old new last before after faults faults_after =
     LinkCleaned l old new last before after faults faults_after ⊎ LinkStays ending l old new last before after faults faults_after
 
 -- A last step, by what is at work.
-abbrev pub WindsAt : Item → Ending → Seen → Seen → LastStepResult → Option CallLog → Option CallLog → ℕ → ℕ → Type 0
+abbrev pub WindsAt : ItemAtWork → Ending → Seen → Seen → LastStepResult → Option CallLog → Option CallLog → ℕ → ℕ → Type 0
 WindsAt Next ending old new last before after faults faults_after = FoldersWind ending None old new last before after faults faults_after
 WindsAt (File f) ending old new last before after faults faults_after = FileWinds ending f (idle old) new last before after faults faults_after
 WindsAt (Link l) ending old new last before after faults faults_after = LinkWinds ending l (idle old) new last before after faults faults_after
 WindsAt (Stays part) ending old new last before after faults faults_after = FoldersWind ending (Some part) (idle old) new last before after faults faults_after
 
 -- a part that is to be removed stands, or none does
-abbrev pub IsWindable : Item → Type 0
+abbrev pub IsWindable : ItemAtWork → Type 0
 IsWindable Next = ⊤
 IsWindable (File f) = (progress f.stage ≡ UnderWay) × (left_at f.stage ≡ None)
 IsWindable (Link l) = is_removable l.stage ≡ true

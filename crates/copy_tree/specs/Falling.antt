@@ -7,16 +7,16 @@ use Rattle.job_reports.specs.declared.report.Did.TheVariants as common
 use Rattle.copy_folders.specs.declared.stage.Stage.{Stage}
 use Rattle.copy_folders.specs.declared.stage.Stage.TheVariants.{Make, Fill, Close, Done}
 use Rattle.tree_walk.specs.Ranks.{rank}
-use Rattle.copy_tree.specs.declared.item.Item.{Item}
-use Rattle.copy_tree.specs.declared.item.Item.TheVariants.{Next, File, Link, Stays}
+use Rattle.copy_tree.specs.declared.item.ItemAtWork.{ItemAtWork}
+use Rattle.copy_tree.specs.declared.item.ItemAtWork.TheVariants.{Next, File, Link, Stays}
 use Rattle.copy_folders.specs.declared.level.Level.{Level}
 use Rattle.job_reports.specs.declared.report.Did.{Did}
-use Rattle.copy_folders.specs.Levels.{Levels, walked}
+use Rattle.copy_folders.specs.Levels.{Levels, walked_place}
 use Rattle.copy_tree.specs.Standing.{Seen}
-use Rattle.copy_tree.specs.Steps.{CopySteps}
+use Rattle.copy_tree.specs.TreeCopySteps.{CopySteps}
 
 -- a file or a link at work has the next name
-abbrev pub HasName : Item → Levels → Type 0
+abbrev pub HasName : ItemAtWork → Levels → Type 0
 HasName Next l = ⊤
 HasName (File f) l = 1 ≤ length l.inner.names.names
 HasName (Link k) l = 1 ≤ length l.inner.names.names
@@ -40,7 +40,7 @@ pub record IsSteady (c : Seen) : Type 0 where
 
 -- how many steps the walk has left at most, whatever the tree lists
 abbrev pub things_left : Seen → ℕ
-things_left c = rank (walked c.levels)
+things_left c = rank (walked_place c.levels)
 
 -- a thing was placed, or a folder made
 abbrev pub decides : Did → Bool

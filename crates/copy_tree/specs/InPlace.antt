@@ -9,12 +9,12 @@ use Rattle.job_reports.specs.declared.job.Pair.{Pair}
 use Rattle.job_reports.specs.Paths.{folder_of}
 use Rattle.copy_folders.specs.declared.stage.Stage.{Stage}
 use Rattle.copy_folders.specs.declared.stage.Stage.TheVariants.{Make, Fill, Close, Done}
-use Rattle.copy_tree.specs.declared.item.Item.{Item}
-use Rattle.copy_tree.specs.declared.item.Item.TheVariants.{Next, File, Link, Stays}
+use Rattle.copy_tree.specs.declared.item.ItemAtWork.{ItemAtWork}
+use Rattle.copy_tree.specs.declared.item.ItemAtWork.TheVariants.{Next, File, Link, Stays}
 use Rattle.copy_folders.specs.declared.level.Level.{Level}
 use Rattle.job_reports.specs.declared.report.Did.{Did}
 use Rattle.copy_tree.specs.Standing.{Seen}
-use Rattle.copy_tree.specs.Steps.{CopySteps}
+use Rattle.copy_tree.specs.TreeCopySteps.{CopySteps}
 
 -- as many folders below the source that is copied as below its target
 pub record IsMoved (top : Pair) (source target : Route) : Type 0 where
@@ -43,7 +43,7 @@ AreMoved top inner [] = HoldsTop top inner
 AreMoved top inner (outer ∷ around) = IsMoved top inner.copy.source inner.copy.target × AreMoved top outer around
 
 -- so does the thing that is at work
-abbrev pub ItemMoved : Pair → Item → Type 0
+abbrev pub ItemMoved : Pair → ItemAtWork → Type 0
 ItemMoved top Next = ⊤
 ItemMoved top (File f) = IsMoved top f.source f.target
 ItemMoved top (Link l) = IsMoved top l.source l.target

@@ -6,7 +6,7 @@ use Rattle.tree_trait.specs.declared.calls.Meta.{Meta}
 use Rattle.job_answers.specs.declared.replies.Decision.{Decision}
 use Rattle.job_answers.specs.declared.replies.Decision.TheVariants.{Ask, Keep, Replace}
 use Rattle.job_answers.specs.declared.replies.Replies.{Replies}
-use Rattle.job_answers.specs.Decisions.{decided}
+use Rattle.job_answers.specs.Decisions.{decision_on}
 use Rattle.job_reports.specs.declared.job.Pair.{Pair}
 use Rattle.job_reports.specs.declared.report.Cause.TheVariants.{SpecialSource, TargetKind}
 use Rattle.job_reports.specs.declared.report.Trouble.{Trouble}
@@ -39,7 +39,7 @@ TakesDecided Ask question pair source result = result ≡ Ok (taken.Asked questi
 abbrev pub ByAnswer : Replies → Pair → Meta → Meta → Result Taken Trouble → Type 0
 ByAnswer replies pair source target result =
     (result ≡ Err (out_of_memory_at false))
-    ⊎ (let question : Question = question_on pair.source source pair.target target in TakesDecided (decided replies question) question pair source result)
+    ⊎ (let question : Question = question_on pair.source source pair.target target in TakesDecided (decision_on replies question) question pair source result)
 
 -- What stands at the target is in the way; or it is a file or a link, and then a special file can't be copied, and a file or a link that is copied itself is as was answered.
 abbrev pub JudgesOnto : Bool → Replies → Pair → Meta → Meta → Result Taken Trouble → Type 0

@@ -5,7 +5,7 @@ pub mod Parts
 pub mod Progress
 pub mod Reports
 pub mod Standing
-pub mod Steps
+pub mod TreeCopySteps
 pub mod Taking
 pub mod Skipping
 pub mod Asking

@@ -15,13 +15,13 @@ use Rattle.job_reports.specs.declared.report.LastStepResult.{LastStepResult}
 use Rattle.job_reports.specs.Paths.{folder_of}
 use Rattle.copy_file.specs.Copying.{part_at}
 use Rattle.copy_file.specs.PartNames.{part_name}
-use Rattle.copy_tree.specs.declared.item.Item.{Item}
-use Rattle.copy_tree.specs.declared.item.Item.TheVariants.{Next, File, Link, Stays}
+use Rattle.copy_tree.specs.declared.item.ItemAtWork.{ItemAtWork}
+use Rattle.copy_tree.specs.declared.item.ItemAtWork.TheVariants.{Next, File, Link, Stays}
 use Rattle.copy_tree.specs.Ending.{WindsAt}
 use Rattle.copy_tree.specs.InPlace.{IsInPlace, IsTargetOf}
-use Rattle.copy_tree.specs.Skipping.{Skips, retried}
+use Rattle.copy_tree.specs.Skipping.{Skips, retried_copy}
 use Rattle.copy_tree.specs.Standing.{Seen}
-use Rattle.copy_tree.specs.Steps.{CopySteps}
+use Rattle.copy_tree.specs.TreeCopySteps.{CopySteps}
 
 -- a part beside this target, named by this job
 abbrev pub IsPartFor : ℕ → Route → Route → Type 0
@@ -66,7 +66,7 @@ IsBeside job target None = ⊤
 IsBeside job target (Some part) = IsPartFor job target part
 
 -- so is the part at work
-abbrev pub ItemBeside : ℕ → Item → Type 0
+abbrev pub ItemBeside : ℕ → ItemAtWork → Type 0
 ItemBeside job Next = ⊤
 ItemBeside job (File f) = (f.job ≡ job) × IsBeside job f.target (part_at f.stage)
 ItemBeside job (Link l) = IsPartFor job l.target l.part
@@ -86,11 +86,11 @@ pub record CallLaw : Type 0 where
       → WindsAt old.item ending old new last before after faults faults_after → IsInPlace top old → HasPart job old
       → HasPart job new × IfKnown before (λ log. MakesOnly (MayCall top job) log after)
   pub skip : (job : ℕ) (cause : Cause) (old new : Seen) (did : Did) → Skips cause old did new → HasPart job old → HasPart job new
-  pub retry : (job : ℕ) (old : Seen) → HasPart job old → HasPart job (retried old)
+  pub retry : (job : ℕ) (old : Seen) → HasPart job old → HasPart job (retried_copy old)
 
 -- A skip, a retry and a last step keep a copy in its place, as a step does.
 pub record StayingLaw : Type 0 where
   pub skip : (top : Pair) (cause : Cause) (old new : Seen) (did : Did) → Skips cause old did new → IsInPlace top old → IsInPlace top new
-  pub retry : (top : Pair) (old : Seen) → IsInPlace top old → IsInPlace top (retried old)
+  pub retry : (top : Pair) (old : Seen) → IsInPlace top old → IsInPlace top (retried_copy old)
   pub last_step : (top : Pair) (ending : Ending) (old new : Seen) (last : LastStepResult) (before after : Option CallLog) (faults faults_after : ℕ)
       → WindsAt old.item ending old new last before after faults faults_after → IsInPlace top old → IsInPlace top new

@@ -4,7 +4,7 @@ use Rattle.mc_text.specs.declared.kind.Kind.{Kind}
 use Rattle.mc_text.specs.declared.kind.Kind.TheVariants as kind
 use Rattle.tree_trait.specs.declared.file_system.FileSystem.{FileSystem}
 use Rattle.tree_trait.specs.Calls.{Stat}
-use Rattle.tree_trait.specs.Change.{found}
+use Rattle.tree_trait.specs.Change.{found_node}
 use Rattle.tree_trait.specs.CrashImages.{Among}
 use Rattle.tree_trait.specs.FileSystem.{node}
 use Rattle.tree_trait.specs.Refusals.{refusal_of}
@@ -42,8 +42,8 @@ IsFreshOnto stage onto.Folder = stage ≡ Begin
 abbrev pub OntoStops : FileSystem → Stage → Pair → Trouble → Type 0
 OntoStops s stage pair t =
     TargetStops s pair.target t.cause t.path
-    ⊎ ((refusal_of s (Stat pair.target) ≡ None) × IsTroubleWithPath (TargetKind (node s (found s pair.target)).kind) pair.target t
-    × (joins_folders stage (node s (found s pair.target)).kind ≡ false))
+    ⊎ ((refusal_of s (Stat pair.target) ≡ None) × IsTroubleWithPath (TargetKind (node s (found_node s pair.target)).kind) pair.target t
+    × (joins_folders stage (node s (found_node s pair.target)).kind ≡ false))
 
 -- something of this kind stands there
 abbrev pub IsOntoKind : Stage → Pair → Kind → Result Onto Trouble → Type 0

@@ -6,13 +6,13 @@ use Rattle.copy_folders.specs.FolderCopying as folder
 use Rattle.copy_link.specs.LinkCopying as link
 use Rattle.copy_folders.specs.declared.stage.Stage.TheVariants as folder_stage
 use Rattle.copy_folders.specs.declared.stage.NamesState.TheVariants as folder_names
-use Rattle.tree_walk.specs.Places.{is_empty, opened}
+use Rattle.tree_walk.specs.Places.{is_empty, opened_folder}
 use Rattle.copy_tree.specs.declared.copy.Stage.{Stage}
 use Rattle.copy_tree.specs.declared.copy.Stage.TheVariants.{Begin, Going}
 use Rattle.copy_tree.specs.declared.copy.Named.{Named}
 use Rattle.copy_tree.specs.declared.copy.TreeCopy.{TreeCopy}
-use Rattle.copy_tree.specs.declared.item.Item.{Item}
-use Rattle.copy_tree.specs.declared.item.Item.TheVariants.{Next, File, Link, Stays}
+use Rattle.copy_tree.specs.declared.item.ItemAtWork.{ItemAtWork}
+use Rattle.copy_tree.specs.declared.item.ItemAtWork.TheVariants.{Next, File, Link, Stays}
 use Rattle.copy_tree.specs.declared.due.Due.{Due}
 use Rattle.copy_tree.specs.declared.due.Due.TheVariants.{End, Thing}
 use Rattle.job_reports.specs.declared.report.Did.{Did}
@@ -24,20 +24,20 @@ pub record Seen : Type 0 where
   pub job : ℕ
   pub name : List ℕ
   pub stage : Stage
-  pub item : Item
+  pub item : ItemAtWork
   pub levels : Levels
 
-abbrev pub seen : TreeCopy → Seen
-seen c = record { job = c.job; name = c.name; stage = c.stage; item = c.item; levels = c.stack.levels }
+abbrev pub seen_copy : TreeCopy → Seen
+seen_copy c = record { job = c.job; name = c.name; stage = c.stage; item = c.item; levels = c.stack.levels }
 
 -- The copy just begun. The folder that holds the source counts as open, with that one name in it, and its copy as one that stands.
-abbrev pub begun : ℕ → Named → Named → Seen
-begun job source target = record {
+abbrev pub begun_tree_copy : ℕ → Named → Named → Seen
+begun_tree_copy job source target = record {
   job = job;
   name = target.name;
   stage = Begin;
   item = Next;
-  levels = outermost (opened source.folder (source.name ∷ [])) (folder.copying source.folder target.folder (folder_stage.Fill None) folder_names.Synced);
+  levels = outermost (opened_folder source.folder (source.name ∷ [])) (folder.copying source.folder target.folder (folder_stage.Fill None) folder_names.Synced);
 }
 
 abbrev pub is_fresh : Stage → Bool
@@ -45,7 +45,7 @@ is_fresh Begin = true
 is_fresh Going = false
 
 -- the next call is at a barrier: the removal of a part, or the sync of a folder
-abbrev pub barrier_at : Item → Levels → Bool
+abbrev pub barrier_at : ItemAtWork → Levels → Bool
 barrier_at Next l = is_sync_next l
 barrier_at (File f) l = file.at_barrier f.stage
 barrier_at (Link k) l = link.at_barrier k.stage

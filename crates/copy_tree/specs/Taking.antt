@@ -1,13 +1,13 @@
 -- What a copy takes up next, and what stops it before anything is changed.
 use Rattle.std.specs.Prelude.{◌≡◌, ◌⊎◌, ◌<◌, ◌≤◌, ℕ, ⊤, Bool, true, false, List, ◌∷◌, length, Option, Some, None, Result, Ok, Err}
-use Rattle.mc_text.specs.Routes.{Route, spelled}
+use Rattle.mc_text.specs.Routes.{Route, spelled_route}
 use Rattle.mc_text.specs.declared.kind.Kind.{Kind}
 use Rattle.mc_text.specs.declared.kind.Kind.TheVariants as kind
 use Rattle.tree_trait.specs.declared.file_system.FileSystem.{FileSystem}
 use Rattle.tree_trait.specs.declared.calls.Children.{Children}
 use Rattle.tree_trait.specs.Calls.{Stat, ListFolder}
 use Rattle.tree_trait.specs.FileSystem.{node}
-use Rattle.tree_trait.specs.Change.{found}
+use Rattle.tree_trait.specs.Change.{found_node}
 use Rattle.tree_trait.specs.CrashImages.{Among}
 use Rattle.tree_trait.specs.Refusals.{refusal_of}
 use Rattle.tree_trait.specs.Answers.{IsAscending, IsListing}
@@ -34,7 +34,7 @@ use Rattle.copy_tree.specs.Standing.{Seen, due, pair_of}
 
 -- a path has at most so many bytes (PATH_MAX of 4,096)
 abbrev pub IsShort : Route → Type 0
-IsShort path = length (spelled path) ≤ 4096
+IsShort path = length (spelled_route path) ≤ 4096
 
 -- a thing is taken up where the copy may go down a level more, and both paths can be told
 abbrev pub IsInReach : ℕ → Due → Type 0
@@ -45,9 +45,9 @@ IsInReach left (Thing pair) = (1 ≤ left) × IsShort pair.source × IsShort pai
 -- too long can't be named, so its folder is.
 abbrev pub ReachStops : Pair → ℕ → Trouble → Type 0
 ReachStops pair left t =
-    (IsTroubleWithPath TooLong (folder_of pair.source) t × (4096 < length (spelled pair.source)))
+    (IsTroubleWithPath TooLong (folder_of pair.source) t × (4096 < length (spelled_route pair.source)))
     ⊎ (IsTroubleWithPath TooDeep pair.source t × (left ≡ 0) × IsShort pair.source)
-    ⊎ (IsTroubleWithPath TooLong pair.source t × (1 ≤ left) × IsShort pair.source × (4096 < length (spelled pair.target)))
+    ⊎ (IsTroubleWithPath TooLong pair.source t × (1 ≤ left) × IsShort pair.source × (4096 < length (spelled_route pair.target)))
     ⊎ (t ≡ out_of_memory_at false)
 
 -- the same of the next name
@@ -62,11 +62,11 @@ Dues c (Err t) = DueStops c t
 -- the path of a name in a folder is too long, and another path is named; or there is no memory
 abbrev pub Joins : Route → Route → Result Route Trouble → Type 0
 Joins path named (Ok joined) = (joined ≡ path) × IsShort path
-Joins path named (Err t) = (IsTroubleWithPath TooLong named t × (4096 < length (spelled path))) ⊎ (t ≡ out_of_memory_at false)
+Joins path named (Err t) = (IsTroubleWithPath TooLong named t × (4096 < length (spelled_route path))) ⊎ (t ≡ out_of_memory_at false)
 
 -- a thing of this kind stands at the source
 abbrev pub SourceIs : FileSystem → Pair → Kind → Type 0
-SourceIs s pair k = (refusal_of s (Stat pair.source) ≡ None) × ((node s (found s pair.source)).kind ≡ k)
+SourceIs s pair k = (refusal_of s (Stat pair.source) ≡ None) × ((node s (found_node s pair.source)).kind ≡ k)
 
 -- the listing of a folder is refused
 abbrev pub ListStops : FileSystem → Route → Cause → Option Route → Type 0
@@ -84,15 +84,15 @@ ListStops s folder (Changed said got) named = ⊥
 abbrev pub FolderStops : FileSystem → Route → Trouble → Type 0
 FolderStops s folder t =
     ListStops s folder t.cause t.path
-    ⊎ ((count : ℕ) × (0 < count) × ((node s (found s folder)).unnamed ≡ count) × IsTroubleWithPath (Unnamed count) folder t)
+    ⊎ ((count : ℕ) × (0 < count) × ((node s (found_node s folder)).unnamed ≡ count) × IsTroubleWithPath (Unnamed count) folder t)
 
 -- all names of a folder, each of which can be shown
 abbrev pub Lists : FileSystem → Route → List (List ℕ) → Type 0
-Lists s folder names = (refusal_of s (ListFolder folder) ≡ None) × IsListing s (found s folder) (record { names = names; unnamed = 0 })
+Lists s folder names = (refusal_of s (ListFolder folder) ≡ None) × IsListing s (found_node s folder) (record { names = names; unnamed = 0 })
 
 -- a folder stands at the target
 abbrev pub IsOnFolder : FileSystem → Pair → Type 0
-IsOnFolder s pair = (refusal_of s (Stat pair.target) ≡ None) × ((node s (found s pair.target)).kind ≡ kind.Folder)
+IsOnFolder s pair = (refusal_of s (Stat pair.target) ≡ None) × ((node s (found_node s pair.target)).kind ≡ kind.Folder)
 
 -- A folder that is to be copied onto a folder is merged with it, where the copy has changed nothing yet.
 abbrev pub CanMerge : FileSystem → Stage → Pair → Type 0
@@ -104,20 +104,20 @@ CanReplace s top pair = (top ≡ true) × AreBothSingle s pair
 
 -- what can't be copied at all stands at the source, and what could be replaced at the target
 abbrev pub IsSpecialOnSingle : FileSystem → Pair → Type 0
-IsSpecialOnSingle s pair = SourceIs s pair kind.Other × (refusal_of s (Stat pair.target) ≡ None) × IsReplaceable (node s (found s pair.target)).kind
+IsSpecialOnSingle s pair = SourceIs s pair kind.Other × (refusal_of s (Stat pair.target) ≡ None) × IsReplaceable (node s (found_node s pair.target)).kind
 
 -- The trouble of what stands at a target: the look there is refused; or something stands there that is neither merged nor replaced, and goes before the trouble of a special source.
 abbrev pub TargetHinders : FileSystem → Stage → Bool → Pair → Trouble → Type 0
 TargetHinders s stage top pair t =
     TargetStops s pair.target t.cause t.path
-    ⊎ ((refusal_of s (Stat pair.target) ≡ None) × IsTroubleWithPath (TargetKind (node s (found s pair.target)).kind) pair.target t
+    ⊎ ((refusal_of s (Stat pair.target) ≡ None) × IsTroubleWithPath (TargetKind (node s (found_node s pair.target)).kind) pair.target t
     × (CanMerge s stage pair → ⊥) × (CanReplace s top pair → ⊥) × (IsSpecialOnSingle s pair → ⊥))
 
 -- The trouble of a thing with this name in a folder that is merged: its path, or that of its target, would be too long.
 abbrev pub ChildStops : Pair → List ℕ → Trouble → Type 0
 ChildStops pair name t =
-    (IsTroubleWithPath TooLong pair.source t × (4096 < length (spelled (name ∷ pair.source))))
-    ⊎ (IsTroubleWithPath TooLong (name ∷ pair.source) t × (4096 < length (spelled (name ∷ pair.target))))
+    (IsTroubleWithPath TooLong pair.source t × (4096 < length (spelled_route (name ∷ pair.source))))
+    ⊎ (IsTroubleWithPath TooLong (name ∷ pair.source) t × (4096 < length (spelled_route (name ∷ pair.target))))
 
 -- the paths of all that lies in a folder that is merged can be told, and those of their targets
 abbrev pub AreShort : Pair → List (List ℕ) → Type 0
@@ -139,7 +139,7 @@ abbrev pub IsTaken : FileSystem → Bool → Replies → Pair → Taken → Type
 IsTaken s top replies pair (taken.File facts) = SourceIs s pair kind.File × AreFactsOf s pair.source facts × IsOpen s top replies pair
 IsTaken s top replies pair taken.Link = SourceIs s pair kind.Link × IsOpen s top replies pair
 IsTaken s top replies pair (taken.Folder names mode) =
-    SourceIs s pair kind.Folder × IsFree s pair × Lists s pair.source names × (mode ≡ (node s (found s pair.source)).mode)
+    SourceIs s pair kind.Folder × IsFree s pair × Lists s pair.source names × (mode ≡ (node s (found_node s pair.source)).mode)
 IsTaken s top replies pair (taken.Merged names) = SourceIs s pair kind.Folder × IsOnFolder s pair × Lists s pair.source names
 IsTaken s top replies pair taken.Kept = (question : Question) × IsDecided s pair replies question Keep
 IsTaken s top replies pair (taken.Asked question) = IsDecided s pair replies question Ask

@@ -1,9 +1,9 @@
 //! The copy of a tree as it stands.
 ghost use Rattle.std.specs.Prelude.{◌≡◌, false, true, IfOk};
 ghost use Rattle.copy_folders.specs.FolderCopying.{is_dirty as is_dirty_state};
-ghost use Rattle.copy_tree.specs.Standing.{at_barrier, begun, is_fresh, seen};
+ghost use Rattle.copy_tree.specs.Standing.{at_barrier, begun_tree_copy, is_fresh, seen_copy};
 
-use crate::item::Item;
+use crate::item::ItemAtWork;
 use copy_folders::{FolderCopy, Stack};
 use mc_text::{Name, Names, NoMemory, Path};
 use std::alloc::Global;
@@ -30,14 +30,14 @@ pub struct TreeCopy {
     /// The name of the copy, which may be another than that of the source.
     pub name: Name,
     pub stage: Stage,
-    pub item: Item,
+    pub item: ItemAtWork,
     pub stack: Stack,
 }
 
 impl TreeCopy {
     /// A copy of the thing at `source` to `target`, at which nothing stands.
     pub fn new(alloc: Global, job: u32, source: Named, target: Named) -> Result<TreeCopy, NoMemory>
-        ensures { IfOk result (λ copy. seen copy ≡ begun job source target) }
+        ensures { IfOk result (λ copy. seen_copy copy ≡ begun_tree_copy job source target) }
     {
         let folder = source.folder.copy(alloc)?;
         let mut names = Vec::new(alloc);
@@ -46,7 +46,7 @@ impl TreeCopy {
             job,
             name: target.name,
             stage: Stage::Begin,
-            item: Item::Next,
+            item: ItemAtWork::Next,
             stack: Stack::new(
                 alloc,
                 Opened::new(folder, Names(names)),
@@ -81,13 +81,13 @@ impl TreeCopy {
 
     /// Whether the next call is at a barrier, where nothing can be skipped.
     pub fn is_at_barrier(&self) -> bool
-        ensures { result ≡ at_barrier (seen self.now) }
+        ensures { result ≡ at_barrier (seen_copy self.now) }
     {
         match &self.item {
-            Item::Next => self.stack.is_at_barrier(),
-            Item::File(copy) => copy.is_at_barrier(),
-            Item::Link(copy) => copy.is_at_barrier(),
-            Item::Stays(_) => true,
+            ItemAtWork::Next => self.stack.is_at_barrier(),
+            ItemAtWork::File(copy) => copy.is_at_barrier(),
+            ItemAtWork::Link(copy) => copy.is_at_barrier(),
+            ItemAtWork::Stays(_) => true,
         }
     }
 }

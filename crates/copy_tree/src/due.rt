@@ -1,6 +1,6 @@
 //! What the copy of a tree takes up next.
 ghost use Rattle.std.specs.Prelude.{◌≡◌, ◌∷◌, drop, IfErr, false};
-ghost use Rattle.copy_tree.specs.Standing.{seen, target_name as name_at_target};
+ghost use Rattle.copy_tree.specs.Standing.{seen_copy, target_name as name_at_target};
 ghost use Rattle.copy_tree.specs.Taking.{Dues, IsShort, Joins};
 
 use crate::copy::TreeCopy;
@@ -20,7 +20,7 @@ pub enum Due {
 impl TreeCopy {
     /// What is taken up next, unless it lies too deep, or its path or its target's would be too long.
     pub(crate) fn due(&self, alloc: Global) -> Result<Due, Trouble>
-        ensures due { Dues (seen self.now) result }
+        ensures due { Dues (seen_copy self.now) result }
         ensures apart { IfErr result (λ trouble. trouble.barrier ≡ false) }
     {
         let Some(name) = self.stack.next_name() else {
@@ -37,7 +37,7 @@ impl TreeCopy {
         requires next { self.now.stack.levels.inner.names.names ≡ name.now ∷ drop 1 self.now.stack.levels.inner.names.names }
         requires source { source ≡ name.now ∷ self.now.stack.levels.inner.copy.source }
         requires short { IsShort source }
-        ensures due { Dues (seen self.now) result }
+        ensures due { Dues (seen_copy self.now) result }
         ensures apart { IfErr result (λ trouble. trouble.barrier ≡ false) }
     {
         if self.stack.is_deepest() {
@@ -51,7 +51,7 @@ impl TreeCopy {
 
     /// The name at its target of the thing that has this name.
     fn target_name<'a>(&'a self, name: &'a Name) -> &'a Name
-        ensures { result.now ≡ name_at_target (seen self.now) name.now }
+        ensures { result.now ≡ name_at_target (seen_copy self.now) name.now }
     {
         if self.stack.is_outermost() {
             &self.name

@@ -2,11 +2,11 @@
 ghost use Rattle.std.specs.Prelude.{◌≡◌, ◌≤◌, None, Some, true};
 ghost use Rattle.copy_link.specs.LinkCopying.{is_removable};
 ghost use Rattle.copy_tree.specs.Ending.{FileWinds, FoldersWind, IsWindable, LinkWinds, WindsAfter, WindsAt, stays_if};
-ghost use Rattle.copy_folders.specs.Levels.{dirtied};
-ghost use Rattle.copy_tree.specs.Standing.{seen};
+ghost use Rattle.copy_folders.specs.Levels.{dirtied_levels};
+ghost use Rattle.copy_tree.specs.Standing.{seen_copy};
 
 use crate::copy::TreeCopy;
-use crate::item::Item;
+use crate::item::ItemAtWork;
 use copy_file::FileCopy;
 use copy_link::{LinkCopy, Removal};
 use job_reports::{Did, Ending, LastStepResult};
@@ -25,15 +25,15 @@ impl TreeCopy {
         ending: Ending,
     ) -> LastStepResult
         requires windable { IsWindable self.old.item }
-        ensures winds { WindsAt self.old.item ending (seen self.old) (seen self.new) result
+        ensures winds { WindsAt self.old.item ending (seen_copy self.old) (seen_copy self.new) result
             (T.contents tree.old) (T.contents tree.new) (T.fault_count tree.old) (T.fault_count tree.new) }
         ensures windable { IsWindable self.new.item }
     {
-        match mem::replace(&mut self.item, Item::Next) {
-            Item::Next => self.wind_folders(alloc, tree, ending, None),
-            Item::File(copy) => self.wind_file(alloc, tree, ending, copy),
-            Item::Link(copy) => self.wind_link(alloc, tree, ending, copy),
-            Item::Stays(part) => self.wind_folders(alloc, tree, ending, Some(part)),
+        match mem::replace(&mut self.item, ItemAtWork::Next) {
+            ItemAtWork::Next => self.wind_folders(alloc, tree, ending, None),
+            ItemAtWork::File(copy) => self.wind_file(alloc, tree, ending, copy),
+            ItemAtWork::Link(copy) => self.wind_link(alloc, tree, ending, copy),
+            ItemAtWork::Stays(part) => self.wind_folders(alloc, tree, ending, Some(part)),
         }
     }
 
@@ -45,7 +45,7 @@ impl TreeCopy {
         ending: Ending,
         copy: FileCopy,
     ) -> LastStepResult
-        ensures winds { FileWinds ending copy (seen self.old) (seen self.new) result
+        ensures winds { FileWinds ending copy (seen_copy self.old) (seen_copy self.new) result
             (T.contents tree.old) (T.contents tree.new) (T.fault_count tree.old) (T.fault_count tree.new) }
         ensures windable { IsWindable self.new.item }
     {
@@ -59,12 +59,12 @@ impl TreeCopy {
 
     /// A part that stays is remembered.
     fn keep_part(&mut self, part: Option<Path>)
-        ensures kept { seen self.new ≡ record (seen self.old) { item = stays_if part } }
+        ensures kept { seen_copy self.new ≡ record (seen_copy self.old) { item = stays_if part } }
         ensures windable { IsWindable self.new.item }
     {
         match part {
-            Some(part) => self.item = Item::Stays(part),
-            None => self.item = Item::Next,
+            Some(part) => self.item = ItemAtWork::Stays(part),
+            None => self.item = ItemAtWork::Next,
         }
     }
     /// A link's part is removed; or it stays, and the next folder is tried, or all ends.
@@ -75,9 +75,9 @@ impl TreeCopy {
         ending: Ending,
         copy: LinkCopy,
     ) -> LastStepResult
-        requires free { self.old.item ≡ Item.Next }
+        requires free { self.old.item ≡ ItemAtWork.Next }
         requires removable { is_removable copy.stage ≡ true }
-        ensures winds { LinkWinds ending copy (seen self.old) (seen self.new) result
+        ensures winds { LinkWinds ending copy (seen_copy self.old) (seen_copy self.new) result
             (T.contents tree.old) (T.contents tree.new) (T.fault_count tree.old) (T.fault_count tree.new) }
         ensures windable { IsWindable self.new.item }
     {
@@ -92,9 +92,9 @@ impl TreeCopy {
 
     /// The part is gone.
     fn tell_cleaned(&mut self, part: Path, calls: u64) -> LastStepResult
-        requires free { self.old.item ≡ Item.Next }
+        requires free { self.old.item ≡ ItemAtWork.Next }
         ensures said { result ≡ record { did = Did.Cleaned part; calls = calls; left = None } }
-        ensures stands { seen self.new ≡ record (seen self.old) { levels = dirtied true self.old.stack.levels } }
+        ensures stands { seen_copy self.new ≡ record (seen_copy self.old) { levels = dirtied_levels true self.old.stack.levels } }
         ensures windable { IsWindable self.new.item }
     {
         self.stack.mark_dirty_if(true);
@@ -115,7 +115,7 @@ impl TreeCopy {
         calls: u64,
     ) -> LastStepResult
         requires few { calls ≤ 1 }
-        ensures winds { WindsAfter calls ending part (seen self.old) (seen self.new) result
+        ensures winds { WindsAfter calls ending part (seen_copy self.old) (seen_copy self.new) result
             (T.contents tree.old) (T.contents tree.new) (T.fault_count tree.old) (T.fault_count tree.new) }
         ensures windable { IsWindable self.new.item }
     {
@@ -135,7 +135,7 @@ impl TreeCopy {
         ending: Ending,
         part: Option<Path>,
     ) -> LastStepResult
-        ensures winds { FoldersWind ending part (seen self.old) (seen self.new) result
+        ensures winds { FoldersWind ending part (seen_copy self.old) (seen_copy self.new) result
             (T.contents tree.old) (T.contents tree.new) (T.fault_count tree.old) (T.fault_count tree.new) }
         ensures few { result.calls ≤ 1 }
         ensures windable { IsWindable self.new.item }
@@ -144,7 +144,7 @@ impl TreeCopy {
             self.keep_part(part);
             return self.stack.try_folder(alloc, tree);
         }
-        self.item = Item::Next;
+        self.item = ItemAtWork::Next;
         LastStepResult {
             did: Did::Ended { ending, part },
             calls: 0,

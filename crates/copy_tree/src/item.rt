@@ -5,7 +5,7 @@ use mc_text::Path;
 
 /// What is at work: a file or a link whose part stands; else the next name, or the end of a folder.
 #[derive(Debug, Drop)]
-pub enum Item {
+pub enum ItemAtWork {
     Next,
     File(FileCopy),
     Link(LinkCopy),

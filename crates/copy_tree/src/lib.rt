@@ -18,7 +18,7 @@ mod working;
 
 pub use copy::{Named, Stage, TreeCopy};
 pub use due::Due;
-pub use item::Item;
+pub use item::ItemAtWork;
 pub use laws::{
     a_copy_begins_in_its_place, a_copy_changes_targets_and_their_parts_alone,
     a_copy_keeps_to_its_place, a_made_folder_is_on_the_disk_before_it_is_filled,

@@ -6,7 +6,7 @@ ghost use Rattle.tree_trait.specs.Change.{current};
 ghost use Rattle.tree_trait.specs.Refusals.{refusal_of};
 ghost use Rattle.tree_trait.specs.Answers.{IfKnown, IsAscending, IsInRange, IsMeta};
 ghost use Rattle.tree_trait.specs.FileSystem.{node};
-ghost use Rattle.tree_trait.specs.Change.{found};
+ghost use Rattle.tree_trait.specs.Change.{found_node};
 ghost use Rattle.job_reports.specs.Reading.{Peeks};
 ghost use Rattle.copy_tree.specs.Judging.{IsNoFolder};
 ghost use Rattle.copy_tree.specs.Taking.{AreShort, FolderStops, IsShort, IsShown, IsSound, Lists, Looks, MayTake, SourceIs};
@@ -112,7 +112,7 @@ fn look_at_folder<T: Tree>(
     asks: Asks,
     mode: u16,
 ) -> Result<Taken, Trouble>
-    requires known { IfKnown (T.contents tree.old) (λ log. SourceIs (current log) pair.now kind.Folder × (mode ≡ (node (current log) (found (current log) pair.now.source)).mode)) }
+    requires known { IfKnown (T.contents tree.old) (λ log. SourceIs (current log) pair.now kind.Folder × (mode ≡ (node (current log) (found_node (current log) pair.now.source)).mode)) }
     requires mode { mode ≤ 0o7777 }
     ensures known { IfKnown (T.contents tree.old) (λ log. Looks (current log) stage asks.top asks.replies pair.now result) }
     ensures sound { IfOk result IsSound }
@@ -185,7 +185,7 @@ fn list_folder<T: Tree>(
     mode: u16,
     onto: Onto,
 ) -> Result<Taken, Trouble>
-    requires known { IfKnown (T.contents tree.old) (λ log. SourceIs (current log) pair.now kind.Folder × (mode ≡ (node (current log) (found (current log) pair.now.source)).mode)) }
+    requires known { IfKnown (T.contents tree.old) (λ log. SourceIs (current log) pair.now kind.Folder × (mode ≡ (node (current log) (found_node (current log) pair.now.source)).mode)) }
     requires mode { mode ≤ 0o7777 }
     requires onto { IfKnown (T.contents tree.old) (λ log. IsOnto (current log) pair.now onto) }
     requires fresh { IsFreshOnto stage onto }

@@ -1,13 +1,13 @@
 //! The beginning and the end of a folder.
 ghost use Rattle.std.specs.Prelude.{◌≡◌, ◌⊎◌, ◌≤◌, false, true};
 ghost use Rattle.copy_folders.specs.Levels.{is_around_dirty};
-ghost use Rattle.copy_tree.specs.Standing.{due, seen};
-ghost use Rattle.copy_tree.specs.Steps.{AdvancesEnd, Counts, FolderEnds, FolderMakes, IsWorkable, LeavesOrFinishes, RunsOut, SyncsAround, has_debt};
+ghost use Rattle.copy_tree.specs.Standing.{due, seen_copy};
+ghost use Rattle.copy_tree.specs.TreeCopySteps.{AdvancesEnd, Counts, FolderEnds, FolderMakes, IsWorkable, LeavesOrFinishes, RunsOut, SyncsAround, has_debt};
 ghost use Rattle.copy_tree.specs.Taking.{IsInReach};
 
 use crate::copy::TreeCopy;
 use crate::due::Due;
-use crate::item::Item;
+use crate::item::ItemAtWork;
 use crate::report::{stage_after, stopped, told};
 use copy_folders::FolderCopy;
 use job_reports::{Did, Ending, Pair, StepResult, out_of_memory};
@@ -26,11 +26,11 @@ impl TreeCopy {
         names: Names,
         mode: u16,
     ) -> StepResult
-        requires free { self.old.item ≡ Item.Next }
+        requires free { self.old.item ≡ ItemAtWork.Next }
         requires reach { IsInReach self.old.stack.levels.left (Due.Thing pair) }
         requires mode { mode ≤ 0o7777 }
-        ensures works { RunsOut (seen self.old) (seen self.new) result.did (T.contents tree.old) (T.contents tree.new)
-            ⊎ FolderMakes pair names mode (seen self.old) (seen self.new) result.did (T.contents tree.old) (T.contents tree.new) }
+        ensures works { RunsOut (seen_copy self.old) (seen_copy self.new) result.did (T.contents tree.old) (T.contents tree.new)
+            ⊎ FolderMakes pair names mode (seen_copy self.old) (seen_copy self.new) result.did (T.contents tree.old) (T.contents tree.new) }
         ensures counts { Counts result.did result.calls (T.contents tree.old) (T.contents tree.new) (T.fault_count tree.old) (T.fault_count tree.new) }
         ensures workable { IsWorkable self.new.item }
     {
@@ -53,9 +53,9 @@ impl TreeCopy {
 
     /// The folder around is synced, so that the one that is worked, which was made, is on the disk.
     pub(crate) fn sync_around<T: Tree>(&mut self, alloc: Global, tree: &mut T) -> StepResult
-        requires free { self.old.item ≡ Item.Next }
+        requires free { self.old.item ≡ ItemAtWork.Next }
         requires dirty { is_around_dirty self.old.stack.levels.around ≡ true }
-        ensures works { SyncsAround (seen self.old) (seen self.new) result.did (T.contents tree.old) (T.contents tree.new) }
+        ensures works { SyncsAround (seen_copy self.old) (seen_copy self.new) result.did (T.contents tree.old) (T.contents tree.new) }
         ensures counts { Counts result.did result.calls (T.contents tree.old) (T.contents tree.new) (T.fault_count tree.old) (T.fault_count tree.new) }
         ensures workable { IsWorkable self.new.item }
     {
@@ -70,10 +70,10 @@ impl TreeCopy {
 
     /// The folder's children are decided: what it owes comes next, or it is left.
     pub(crate) fn end_folder<T: Tree>(&mut self, alloc: Global, tree: &mut T) -> Option<StepResult>
-        requires free { self.old.item ≡ Item.Next }
-        requires next { due (seen self.old) ≡ Due.End }
+        requires free { self.old.item ≡ ItemAtWork.Next }
+        requires next { due (seen_copy self.old) ≡ Due.End }
         requires synced { is_around_dirty self.old.stack.levels.around ≡ false }
-        ensures advances { AdvancesEnd (seen self.old) (seen self.new) result
+        ensures advances { AdvancesEnd (seen_copy self.old) (seen_copy self.new) result
             (T.contents tree.old) (T.contents tree.new) (T.fault_count tree.old) (T.fault_count tree.new) }
         ensures workable { IsWorkable self.new.item }
     {
@@ -87,9 +87,9 @@ impl TreeCopy {
 
     /// The mode or the sync that a folder owes.
     fn finish_folder<T: Tree>(&mut self, alloc: Global, tree: &mut T) -> StepResult
-        requires free { self.old.item ≡ Item.Next }
-        requires owes { has_debt (seen self.old) ≡ true }
-        ensures works { FolderEnds (seen self.old) (seen self.new) result.did (T.contents tree.old) (T.contents tree.new) }
+        requires free { self.old.item ≡ ItemAtWork.Next }
+        requires owes { has_debt (seen_copy self.old) ≡ true }
+        ensures works { FolderEnds (seen_copy self.old) (seen_copy self.new) result.did (T.contents tree.old) (T.contents tree.new) }
         ensures counts { Counts result.did result.calls (T.contents tree.old) (T.contents tree.new) (T.fault_count tree.old) (T.fault_count tree.new) }
         ensures workable { IsWorkable self.new.item }
     {
@@ -104,8 +104,8 @@ impl TreeCopy {
 
     /// The folder around is worked again; the outermost is the last.
     fn leave_folder(&mut self) -> Option<StepResult>
-        requires free { self.old.item ≡ Item.Next }
-        ensures left { LeavesOrFinishes (seen self.old) (seen self.new) result }
+        requires free { self.old.item ≡ ItemAtWork.Next }
+        ensures left { LeavesOrFinishes (seen_copy self.old) (seen_copy self.new) result }
         ensures workable { IsWorkable self.new.item }
     {
         if self.stack.leave() {

@@ -1,12 +1,12 @@
 //! What is left as it is, and what is tried again.
 ghost use Rattle.std.specs.Prelude.{◌≡◌, None, true};
 ghost use Rattle.copy_file.specs.LastSteps.{left_at};
-ghost use Rattle.copy_tree.specs.Skipping.{Skips, SkipsFile, SkipsLink, SkipsNext, SkipsRest, retried, retried_file, retried_link};
-ghost use Rattle.copy_tree.specs.Standing.{seen};
-ghost use Rattle.copy_tree.specs.Steps.{IsWorkable, stays_ready};
+ghost use Rattle.copy_tree.specs.Skipping.{Skips, SkipsFile, SkipsLink, SkipsNext, SkipsRest, retried_copy, retried_file, retried_link};
+ghost use Rattle.copy_tree.specs.Standing.{seen_copy};
+ghost use Rattle.copy_tree.specs.TreeCopySteps.{IsWorkable, stays_ready};
 
 use crate::copy::TreeCopy;
-use crate::item::Item;
+use crate::item::ItemAtWork;
 use copy_file::FileCopy;
 use copy_link::LinkCopy;
 use job_reports::{Cause, Did, out_of_memory};
@@ -18,21 +18,21 @@ impl TreeCopy {
     /// What is in trouble is left as it is, with all below it. A part that stands is to be removed.
     pub fn skip(&mut self, alloc: Global, cause: Cause) -> Did
         requires workable { IsWorkable self.old.item }
-        ensures skips { Skips cause (seen self.old) result (seen self.new) }
+        ensures skips { Skips cause (seen_copy self.old) result (seen_copy self.new) }
         ensures workable { IsWorkable self.new.item }
     {
-        match mem::replace(&mut self.item, Item::Next) {
-            Item::Next => self.skip_next(alloc, cause),
-            Item::File(copy) => self.skip_file(alloc, cause, copy),
-            Item::Link(copy) => self.skip_link(alloc, cause, copy),
-            Item::Stays(_) => unreachable!(),
+        match mem::replace(&mut self.item, ItemAtWork::Next) {
+            ItemAtWork::Next => self.skip_next(alloc, cause),
+            ItemAtWork::File(copy) => self.skip_file(alloc, cause, copy),
+            ItemAtWork::Link(copy) => self.skip_link(alloc, cause, copy),
+            ItemAtWork::Stays(_) => unreachable!(),
         }
     }
 
     fn skip_file(&mut self, alloc: Global, cause: Cause, copy: FileCopy) -> Did
-        requires free { self.old.item ≡ Item.Next }
+        requires free { self.old.item ≡ ItemAtWork.Next }
         requires ready { left_at copy.stage ≡ None }
-        ensures skips { SkipsFile cause copy (seen self.old) result (seen self.new) }
+        ensures skips { SkipsFile cause copy (seen_copy self.old) result (seen_copy self.new) }
         ensures workable { IsWorkable self.new.item }
     {
         let mut copy = copy;
@@ -42,9 +42,9 @@ impl TreeCopy {
     }
 
     fn skip_link(&mut self, alloc: Global, cause: Cause, copy: LinkCopy) -> Did
-        requires free { self.old.item ≡ Item.Next }
+        requires free { self.old.item ≡ ItemAtWork.Next }
         requires ready { stays_ready copy.stage ≡ true }
-        ensures skips { SkipsLink cause copy (seen self.old) result (seen self.new) }
+        ensures skips { SkipsLink cause copy (seen_copy self.old) result (seen_copy self.new) }
         ensures workable { IsWorkable self.new.item }
     {
         let mut copy = copy;
@@ -55,8 +55,8 @@ impl TreeCopy {
 
     /// The next name is passed, or the end of a folder leaves the mode that it was made with.
     fn skip_next(&mut self, alloc: Global, cause: Cause) -> Did
-        requires free { self.old.item ≡ Item.Next }
-        ensures skips { SkipsNext cause (seen self.old) result (seen self.new) }
+        requires free { self.old.item ≡ ItemAtWork.Next }
+        ensures skips { SkipsNext cause (seen_copy self.old) result (seen_copy self.new) }
         ensures workable { IsWorkable self.new.item }
     {
         let Some(name) = self.stack.next_name() else {
@@ -74,8 +74,8 @@ impl TreeCopy {
 
     /// All that is left in the folder that is worked is passed over.
     fn skip_rest(&mut self, alloc: Global, cause: Cause) -> Did
-        requires free { self.old.item ≡ Item.Next }
-        ensures skips { SkipsRest cause (seen self.old) result (seen self.new) }
+        requires free { self.old.item ≡ ItemAtWork.Next }
+        ensures skips { SkipsRest cause (seen_copy self.old) result (seen_copy self.new) }
         ensures workable { IsWorkable self.new.item }
     {
         let Ok(folder) = self.stack.source().copy(alloc) else {
@@ -92,21 +92,21 @@ impl TreeCopy {
     /// What was refused is tried again. A file or a link whose part stands is copied anew, once that was removed.
     pub fn retry(&mut self)
         requires workable { IsWorkable self.old.item }
-        ensures retried { seen self.new ≡ retried (seen self.old) }
+        ensures retried { seen_copy self.new ≡ retried_copy (seen_copy self.old) }
         ensures workable { IsWorkable self.new.item }
     {
-        match mem::replace(&mut self.item, Item::Next) {
-            Item::Next => {}
-            Item::File(copy) => self.retry_file(copy),
-            Item::Link(copy) => self.retry_link(copy),
-            Item::Stays(_) => unreachable!(),
+        match mem::replace(&mut self.item, ItemAtWork::Next) {
+            ItemAtWork::Next => {}
+            ItemAtWork::File(copy) => self.retry_file(copy),
+            ItemAtWork::Link(copy) => self.retry_link(copy),
+            ItemAtWork::Stays(_) => unreachable!(),
         }
     }
 
     fn retry_file(&mut self, copy: FileCopy)
-        requires free { self.old.item ≡ Item.Next }
+        requires free { self.old.item ≡ ItemAtWork.Next }
         requires ready { left_at copy.stage ≡ None }
-        ensures retried { seen self.new ≡ retried_file copy (seen self.old) }
+        ensures retried { seen_copy self.new ≡ retried_file copy (seen_copy self.old) }
         ensures workable { IsWorkable self.new.item }
     {
         let mut copy = copy;
@@ -115,9 +115,9 @@ impl TreeCopy {
     }
 
     fn retry_link(&mut self, copy: LinkCopy)
-        requires free { self.old.item ≡ Item.Next }
+        requires free { self.old.item ≡ ItemAtWork.Next }
         requires ready { stays_ready copy.stage ≡ true }
-        ensures retried { seen self.new ≡ retried_link copy (seen self.old) }
+        ensures retried { seen_copy self.new ≡ retried_link copy (seen_copy self.old) }
         ensures workable { IsWorkable self.new.item }
     {
         let mut copy = copy;

@@ -2,23 +2,23 @@
 ghost use Rattle.std.specs.Prelude.{◌≡◌, ◌≤◌, ◌⊎◌, ◌^◌, false, true, length, IfOk};
 ghost use Rattle.tree_trait.specs.Change.{current};
 ghost use Rattle.tree_trait.specs.Answers.{IfKnown};
-ghost use Rattle.copy_file.specs.Copying.{begun as file_begun, places};
+ghost use Rattle.copy_file.specs.Copying.{begun_copy as file_begun, places};
 ghost use Rattle.copy_file.specs.Looking.{HasRange};
 ghost use Rattle.copy_file.specs.declared.stage.Stage.TheVariants as FileStage;
-ghost use Rattle.copy_folders.specs.Levels.{is_around_dirty, passed};
+ghost use Rattle.copy_folders.specs.Levels.{is_around_dirty, passed_levels};
 ghost use Rattle.copy_tree.specs.Parts.{IsPartPlace};
-ghost use Rattle.copy_tree.specs.Standing.{due, seen};
-ghost use Rattle.copy_tree.specs.Steps.{AdvancesIn, AdvancesNext, Counts, FileBegins, IsWorkable, LinkWorks, RunsOut, TakesNext, is_top, link_begun};
+ghost use Rattle.copy_tree.specs.Standing.{due, seen_copy};
+ghost use Rattle.copy_tree.specs.TreeCopySteps.{AdvancesIn, AdvancesNext, Counts, FileBegins, IsWorkable, LinkWorks, RunsOut, TakesNext, is_top, link_begun};
 ghost use Rattle.copy_tree.specs.Taking.{IsInReach, IsSound, IsTaken, MayTake};
 
 use crate::asking::Asks;
 use crate::copy::TreeCopy;
 use crate::due::Due;
-use crate::item::Item;
+use crate::item::ItemAtWork;
 use crate::looking::{Taken, look_at_pair};
 use crate::parts::{PartPlaces, see_part, see_path};
 use crate::report::stopped;
-use copy_file::{FileCopy, Item as Places, SourceFacts, choose_part};
+use copy_file::{CopyPaths as Places, FileCopy, SourceFacts, choose_part};
 use copy_link::LinkCopy;
 use job_answers::Replies;
 use job_reports::{Did, Pair, PartTest, Question, StepResult, Transfer, out_of_memory};
@@ -35,8 +35,8 @@ impl TreeCopy {
         parts: &P,
         replies: Replies,
     ) -> Option<StepResult>
-        requires free { self.old.item ≡ Item.Next }
-        ensures advances { AdvancesNext (IsPartPlace (P.is_free parts.now) (seen self.old)) replies (seen self.old) (seen self.new) result
+        requires free { self.old.item ≡ ItemAtWork.Next }
+        ensures advances { AdvancesNext (IsPartPlace (P.is_free parts.now) (seen_copy self.old)) replies (seen_copy self.old) (seen_copy self.new) result
             (T.contents tree.old) (T.contents tree.new) (T.fault_count tree.old) (T.fault_count tree.new) }
         ensures workable { IsWorkable self.new.item }
     {
@@ -55,9 +55,9 @@ impl TreeCopy {
         parts: &P,
         replies: Replies,
     ) -> Option<StepResult>
-        requires free { self.old.item ≡ Item.Next }
+        requires free { self.old.item ≡ ItemAtWork.Next }
         requires synced { is_around_dirty self.old.stack.levels.around ≡ false }
-        ensures advances { AdvancesIn (IsPartPlace (P.is_free parts.now) (seen self.old)) replies (seen self.old) (seen self.new) result
+        ensures advances { AdvancesIn (IsPartPlace (P.is_free parts.now) (seen_copy self.old)) replies (seen_copy self.old) (seen_copy self.new) result
             (T.contents tree.old) (T.contents tree.new) (T.fault_count tree.old) (T.fault_count tree.new) }
         ensures workable { IsWorkable self.new.item }
     {
@@ -75,11 +75,11 @@ impl TreeCopy {
         replies: Replies,
         next: Due,
     ) -> Option<StepResult>
-        requires free { self.old.item ≡ Item.Next }
+        requires free { self.old.item ≡ ItemAtWork.Next }
         requires synced { is_around_dirty self.old.stack.levels.around ≡ false }
-        requires next { next ≡ due (seen self.old) }
+        requires next { next ≡ due (seen_copy self.old) }
         requires reach { IsInReach self.old.stack.levels.left next }
-        ensures advances { AdvancesIn (IsPartPlace (P.is_free parts.now) (seen self.old)) replies (seen self.old) (seen self.new) result
+        ensures advances { AdvancesIn (IsPartPlace (P.is_free parts.now) (seen_copy self.old)) replies (seen_copy self.old) (seen_copy self.new) result
             (T.contents tree.old) (T.contents tree.new) (T.fault_count tree.old) (T.fault_count tree.new) }
         ensures workable { IsWorkable self.new.item }
     {
@@ -98,10 +98,10 @@ impl TreeCopy {
         replies: Replies,
         pair: Pair,
     ) -> StepResult
-        requires free { self.old.item ≡ Item.Next }
-        requires next { due (seen self.old) ≡ Due.Thing pair }
+        requires free { self.old.item ≡ ItemAtWork.Next }
+        requires next { due (seen_copy self.old) ≡ Due.Thing pair }
         requires reach { IsInReach self.old.stack.levels.left (Due.Thing pair) }
-        ensures works { TakesNext (IsPartPlace (P.is_free parts.now) (seen self.old)) replies (seen self.old) (seen self.new) result.did (T.contents tree.old) (T.contents tree.new) }
+        ensures works { TakesNext (IsPartPlace (P.is_free parts.now) (seen_copy self.old)) replies (seen_copy self.old) (seen_copy self.new) result.did (T.contents tree.old) (T.contents tree.new) }
         ensures counts { Counts result.did result.calls (T.contents tree.old) (T.contents tree.new) (T.fault_count tree.old) (T.fault_count tree.new) }
         ensures workable { IsWorkable self.new.item }
     {
@@ -125,13 +125,13 @@ impl TreeCopy {
         pair: Pair,
         taken: Taken,
     ) -> StepResult
-        requires free { self.old.item ≡ Item.Next }
-        requires next { due (seen self.old) ≡ Due.Thing pair }
+        requires free { self.old.item ≡ ItemAtWork.Next }
+        requires next { due (seen_copy self.old) ≡ Due.Thing pair }
         requires reach { IsInReach self.old.stack.levels.left (Due.Thing pair) }
-        requires known { IfKnown (T.contents tree.old) (λ log. IsTaken (current log) (is_top (seen self.old)) replies pair taken) }
+        requires known { IfKnown (T.contents tree.old) (λ log. IsTaken (current log) (is_top (seen_copy self.old)) replies pair taken) }
         requires sound { IsSound taken }
-        requires may { MayTake self.old.stage (is_top (seen self.old)) pair taken }
-        ensures works { TakesNext (IsPartPlace (P.is_free parts.now) (seen self.old)) replies (seen self.old) (seen self.new) result.did (T.contents tree.old) (T.contents tree.new) }
+        requires may { MayTake self.old.stage (is_top (seen_copy self.old)) pair taken }
+        ensures works { TakesNext (IsPartPlace (P.is_free parts.now) (seen_copy self.old)) replies (seen_copy self.old) (seen_copy self.new) result.did (T.contents tree.old) (T.contents tree.new) }
         ensures counts { Counts result.did result.calls (T.contents tree.old) (T.contents tree.new) (T.fault_count tree.old) (T.fault_count tree.new) }
         ensures workable { IsWorkable self.new.item }
     {
@@ -147,8 +147,8 @@ impl TreeCopy {
 
     /// The two folders are merged: what lies in the source is copied by others, so the copy is done with it.
     fn merge(&mut self, pair: Pair, names: Names) -> StepResult
-        requires next { due (seen self.old) ≡ Due.Thing pair }
-        ensures passed { seen self.new ≡ record (seen self.old) { levels = passed false self.old.stack.levels } }
+        requires next { due (seen_copy self.old) ≡ Due.Thing pair }
+        ensures passed { seen_copy self.new ≡ record (seen_copy self.old) { levels = passed_levels false self.old.stack.levels } }
         ensures told { result ≡ record { did = Did.Merges Transfer.ByCopy pair names; calls = 0 } }
         ensures few { length names ≤ 2 ^ 64 }
     {
@@ -162,8 +162,8 @@ impl TreeCopy {
 
     /// What stands at the target stays, so the copy is done with it.
     fn keep(&mut self, pair: Pair) -> StepResult
-        requires next { due (seen self.old) ≡ Due.Thing pair }
-        ensures passed { seen self.new ≡ record (seen self.old) { levels = passed false self.old.stack.levels } }
+        requires next { due (seen_copy self.old) ≡ Due.Thing pair }
+        ensures passed { seen_copy self.new ≡ record (seen_copy self.old) { levels = passed_levels false self.old.stack.levels } }
         ensures told { result ≡ record { did = Did.Kept pair.target; calls = 0 } }
     {
         self.stack.pass(false);
@@ -182,11 +182,11 @@ impl TreeCopy {
         pair: Pair,
         facts: SourceFacts,
     ) -> StepResult
-        requires free { self.old.item ≡ Item.Next }
-        requires next { due (seen self.old) ≡ Due.Thing pair }
+        requires free { self.old.item ≡ ItemAtWork.Next }
+        requires next { due (seen_copy self.old) ≡ Due.Thing pair }
         requires range { HasRange facts }
-        ensures works { RunsOut (seen self.old) (seen self.new) result.did (T.contents tree.old) (T.contents tree.new)
-            ⊎ FileBegins (IsPartPlace (P.is_free parts.now) (seen self.old)) facts (file_begun self.old.job pair.source pair.target) (seen self.old) (seen self.new) result.did (T.contents tree.old) (T.contents tree.new) }
+        ensures works { RunsOut (seen_copy self.old) (seen_copy self.new) result.did (T.contents tree.old) (T.contents tree.new)
+            ⊎ FileBegins (IsPartPlace (P.is_free parts.now) (seen_copy self.old)) facts (file_begun self.old.job pair.source pair.target) (seen_copy self.old) (seen_copy self.new) result.did (T.contents tree.old) (T.contents tree.new) }
         ensures counts { Counts result.did result.calls (T.contents tree.old) (T.contents tree.new) (T.fault_count tree.old) (T.fault_count tree.new) }
         ensures workable { IsWorkable self.new.item }
     {
@@ -205,10 +205,10 @@ impl TreeCopy {
         copy: FileCopy,
         facts: SourceFacts,
     ) -> StepResult
-        requires free { self.old.item ≡ Item.Next }
+        requires free { self.old.item ≡ ItemAtWork.Next }
         requires stage { copy.stage ≡ FileStage.Begin }
         requires range { HasRange facts }
-        ensures works { FileBegins (IsPartPlace (P.is_free parts.now) (seen self.old)) facts copy (seen self.old) (seen self.new) result.did (T.contents tree.old) (T.contents tree.new) }
+        ensures works { FileBegins (IsPartPlace (P.is_free parts.now) (seen_copy self.old)) facts copy (seen_copy self.old) (seen_copy self.new) result.did (T.contents tree.old) (T.contents tree.new) }
         ensures counts { Counts result.did result.calls (T.contents tree.old) (T.contents tree.new) (T.fault_count tree.old) (T.fault_count tree.new) }
         ensures workable { IsWorkable self.new.item }
     {
@@ -226,7 +226,7 @@ impl TreeCopy {
     }
 
     fn file_copy(&self, alloc: Global, pair: Pair) -> Result<FileCopy, NoMemory>
-        requires next { due (seen self.now) ≡ Due.Thing pair }
+        requires next { due (seen_copy self.now) ≡ Due.Thing pair }
         ensures { IfOk result (λ copy. copy ≡ file_begun self.now.job pair.source pair.target) }
     {
         let source_folder = self.stack.source().copy(alloc)?;
@@ -242,11 +242,11 @@ impl TreeCopy {
         replies: Replies,
         pair: Pair,
     ) -> StepResult
-        requires free { self.old.item ≡ Item.Next }
-        requires next { due (seen self.old) ≡ Due.Thing pair }
+        requires free { self.old.item ≡ ItemAtWork.Next }
+        requires next { due (seen_copy self.old) ≡ Due.Thing pair }
         requires reach { IsInReach self.old.stack.levels.left (Due.Thing pair) }
-        requires taken { IfKnown (T.contents tree.old) (λ log. IsTaken (current log) (is_top (seen self.old)) replies pair Taken.Link) }
-        ensures works { TakesNext (IsPartPlace (P.is_free parts.now) (seen self.old)) replies (seen self.old) (seen self.new) result.did (T.contents tree.old) (T.contents tree.new) }
+        requires taken { IfKnown (T.contents tree.old) (λ log. IsTaken (current log) (is_top (seen_copy self.old)) replies pair Taken.Link) }
+        ensures works { TakesNext (IsPartPlace (P.is_free parts.now) (seen_copy self.old)) replies (seen_copy self.old) (seen_copy self.new) result.did (T.contents tree.old) (T.contents tree.new) }
         ensures counts { Counts result.did result.calls (T.contents tree.old) (T.contents tree.new) (T.fault_count tree.old) (T.fault_count tree.new) }
         ensures workable { IsWorkable self.new.item }
     {
@@ -275,10 +275,10 @@ impl TreeCopy {
         pair: Pair,
         part: Path,
     ) -> StepResult
-        requires free { self.old.item ≡ Item.Next }
-        requires next { due (seen self.old) ≡ Due.Thing pair }
-        ensures works { RunsOut (seen self.old) (seen self.new) result.did (T.contents tree.old) (T.contents tree.new)
-            ⊎ LinkWorks (link_begun pair part) (seen self.old) (seen self.new) result.did (T.contents tree.old) (T.contents tree.new) }
+        requires free { self.old.item ≡ ItemAtWork.Next }
+        requires next { due (seen_copy self.old) ≡ Due.Thing pair }
+        ensures works { RunsOut (seen_copy self.old) (seen_copy self.new) result.did (T.contents tree.old) (T.contents tree.new)
+            ⊎ LinkWorks (link_begun pair part) (seen_copy self.old) (seen_copy self.new) result.did (T.contents tree.old) (T.contents tree.new) }
         ensures counts { Counts result.did result.calls (T.contents tree.old) (T.contents tree.new) (T.fault_count tree.old) (T.fault_count tree.new) }
         ensures workable { IsWorkable self.new.item }
     {
@@ -289,7 +289,7 @@ impl TreeCopy {
     }
 
     fn link_copy(&self, alloc: Global, pair: Pair, part: Path) -> Result<LinkCopy, NoMemory>
-        requires next { due (seen self.now) ≡ Due.Thing pair }
+        requires next { due (seen_copy self.now) ≡ Due.Thing pair }
         ensures { IfOk result (λ copy. copy ≡ link_begun pair part) }
     {
         let folder = self.stack.target().copy(alloc)?;
@@ -298,7 +298,7 @@ impl TreeCopy {
 
     /// The paths of a copy, as the name of a part is chosen by.
     fn places_of(&self, alloc: Global, pair: &Pair) -> Result<Places, NoMemory>
-        requires next { due (seen self.now) ≡ Due.Thing pair.now }
+        requires next { due (seen_copy self.now) ≡ Due.Thing pair.now }
         ensures { IfOk result (λ item. item ≡ places self.now.job pair.now.source pair.now.target) }
     {
         let source = pair.source.copy(alloc)?;

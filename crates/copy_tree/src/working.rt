@@ -3,12 +3,12 @@ ghost use Rattle.std.specs.Prelude.{◌≡◌, None, true};
 ghost use Rattle.copy_file.specs.LastSteps.{left_at};
 ghost use Rattle.copy_link.specs.LinkCopying.{is_ready};
 ghost use Rattle.copy_tree.specs.Parts.{IsPartPlace};
-ghost use Rattle.copy_tree.specs.Standing.{seen};
+ghost use Rattle.copy_tree.specs.Standing.{seen_copy};
 ghost use Rattle.copy_tree.specs.Progress.{link_progress, progress};
-ghost use Rattle.copy_tree.specs.Steps.{Advances, CopySteps, Counts, FileWorks, IsWorkable, LinkWorks, noted, settled, stays_ready};
+ghost use Rattle.copy_tree.specs.TreeCopySteps.{Advances, CopySteps, Counts, FileWorks, IsWorkable, LinkWorks, noted_copy, copy_after_progress, stays_ready};
 
 use crate::copy::TreeCopy;
-use crate::item::Item;
+use crate::item::ItemAtWork;
 use crate::parts::{PartPlaces, see_part};
 use crate::progress::{Progress, progress_of, progress_of_link};
 use crate::report::stage_after;
@@ -30,7 +30,7 @@ impl TreeCopy {
         replies: Replies,
     ) -> StepResult
         requires workable { IsWorkable self.old.item }
-        ensures steps { CopySteps (P.is_free parts.now) replies (seen self.old) (seen self.new) result.did result.calls
+        ensures steps { CopySteps (P.is_free parts.now) replies (seen_copy self.old) (seen_copy self.new) result.did result.calls
             (T.contents tree.old) (T.contents tree.new) (T.fault_count tree.old) (T.fault_count tree.new) }
         ensures workable { IsWorkable self.new.item }
     {
@@ -50,15 +50,15 @@ impl TreeCopy {
         replies: Replies,
     ) -> Option<StepResult>
         requires workable { IsWorkable self.old.item }
-        ensures advances { Advances (P.is_free parts.now) replies (seen self.old) (seen self.new) result
+        ensures advances { Advances (P.is_free parts.now) replies (seen_copy self.old) (seen_copy self.new) result
             (T.contents tree.old) (T.contents tree.new) (T.fault_count tree.old) (T.fault_count tree.new) }
         ensures workable { IsWorkable self.new.item }
     {
-        match mem::replace(&mut self.item, Item::Next) {
-            Item::Next => self.go_on(alloc, tree, parts, replies),
-            Item::File(copy) => Some(self.work_file(alloc, tree, parts, copy)),
-            Item::Link(copy) => Some(self.work_link(alloc, tree, copy)),
-            Item::Stays(_) => unreachable!(),
+        match mem::replace(&mut self.item, ItemAtWork::Next) {
+            ItemAtWork::Next => self.go_on(alloc, tree, parts, replies),
+            ItemAtWork::File(copy) => Some(self.work_file(alloc, tree, parts, copy)),
+            ItemAtWork::Link(copy) => Some(self.work_link(alloc, tree, copy)),
+            ItemAtWork::Stays(_) => unreachable!(),
         }
     }
 
@@ -70,9 +70,9 @@ impl TreeCopy {
         parts: &P,
         copy: FileCopy,
     ) -> StepResult
-        requires free { self.old.item ≡ Item.Next }
+        requires free { self.old.item ≡ ItemAtWork.Next }
         requires ready { left_at copy.stage ≡ None }
-        ensures works { FileWorks (IsPartPlace (P.is_free parts.now) (seen self.old)) copy (seen self.old) (seen self.new) result.did (T.contents tree.old) (T.contents tree.new) }
+        ensures works { FileWorks (IsPartPlace (P.is_free parts.now) (seen_copy self.old)) copy (seen_copy self.old) (seen_copy self.new) result.did (T.contents tree.old) (T.contents tree.new) }
         ensures counts { Counts result.did result.calls (T.contents tree.old) (T.contents tree.new) (T.fault_count tree.old) (T.fault_count tree.new) }
         ensures workable { IsWorkable self.new.item }
     {
@@ -96,9 +96,9 @@ impl TreeCopy {
         tree: &mut T,
         copy: LinkCopy,
     ) -> StepResult
-        requires free { self.old.item ≡ Item.Next }
+        requires free { self.old.item ≡ ItemAtWork.Next }
         requires ready { is_ready copy.stage copy.folder ≡ true }
-        ensures works { LinkWorks copy (seen self.old) (seen self.new) result.did (T.contents tree.old) (T.contents tree.new) }
+        ensures works { LinkWorks copy (seen_copy self.old) (seen_copy self.new) result.did (T.contents tree.old) (T.contents tree.new) }
         ensures counts { Counts result.did result.calls (T.contents tree.old) (T.contents tree.new) (T.fault_count tree.old) (T.fault_count tree.new) }
         ensures workable { IsWorkable self.new.item }
     {
@@ -111,7 +111,7 @@ impl TreeCopy {
 
     /// Keeps what was reported, and whether a name was changed.
     pub(crate) fn note(&mut self, did: &Did, changed: bool)
-        ensures { seen self.new ≡ noted did.now changed (seen self.old) }
+        ensures { seen_copy self.new ≡ noted_copy did.now changed (seen_copy self.old) }
     {
         self.stage = stage_after(did, self.stage);
         self.stack.mark_dirty_if(changed);
@@ -119,13 +119,13 @@ impl TreeCopy {
 
     /// The copy of a file goes on, or the file is passed or taken up anew.
     pub(crate) fn put_file(&mut self, copy: FileCopy)
-        requires free { self.old.item ≡ Item.Next }
+        requires free { self.old.item ≡ ItemAtWork.Next }
         requires ready { left_at copy.stage ≡ None }
-        ensures settled { seen self.new ≡ settled (progress copy.stage) (Item.File copy) (seen self.old) }
+        ensures settled { seen_copy self.new ≡ copy_after_progress (progress copy.stage) (ItemAtWork.File copy) (seen_copy self.old) }
         ensures workable { IsWorkable self.new.item }
     {
         match progress_of(&copy) {
-            Progress::UnderWay => self.item = Item::File(copy),
+            Progress::UnderWay => self.item = ItemAtWork::File(copy),
             Progress::Decided => self.stack.pass(false),
             Progress::Anew => {}
         }
@@ -133,13 +133,13 @@ impl TreeCopy {
 
     /// The copy of a link goes on, or the link is passed or taken up anew.
     pub(crate) fn put_link(&mut self, copy: LinkCopy)
-        requires free { self.old.item ≡ Item.Next }
+        requires free { self.old.item ≡ ItemAtWork.Next }
         requires ready { stays_ready copy.stage ≡ true }
-        ensures settled { seen self.new ≡ settled (link_progress copy.stage) (Item.Link copy) (seen self.old) }
+        ensures settled { seen_copy self.new ≡ copy_after_progress (link_progress copy.stage) (ItemAtWork.Link copy) (seen_copy self.old) }
         ensures workable { IsWorkable self.new.item }
     {
         match progress_of_link(&copy) {
-            Progress::UnderWay => self.item = Item::Link(copy),
+            Progress::UnderWay => self.item = ItemAtWork::Link(copy),
             Progress::Decided => self.stack.pass(false),
             Progress::Anew => {}
         }

@@ -12,14 +12,14 @@ use Rattle.delete_job.specs.declared.deletion.Depth.TheVariants.{Top, Inside}
 use Rattle.delete_job.specs.declared.deletion.Stage.{Stage}
 use Rattle.delete_job.specs.declared.deletion.Stage.TheVariants.{Begin, Going, Sync}
 use Rattle.delete_job.specs.declared.deletion.Deletion.{Deletion}
-use Rattle.delete_job.specs.Standing.{Decides, IsDone, after_item, at_barrier, item, item_at, item_of, rank_at, rank_of, things_left, worked}
-use Rattle.delete_job.specs.Steps.{path_of}
+use Rattle.delete_job.specs.Standing.{Decides, IsDone, after_item, at_barrier, item, item_at, item_of, rank_at, rank_of, things_left, worked_folder}
+use Rattle.delete_job.specs.TreeDeletionSteps.{path_of}
 
 itself : (path top : Route) → path ≡ top → same_path path top ≡ false → ⊥
 itself path top is off = both_ways _ off (subst (λ p. same_path p top ≡ true) (sym is) (same_path-self top))
 
-inside_falls : (top path : Route) (left : Bool) (old new : Place) (names : List (List ℕ)) → old.inner.names ≡ names → path ≡ path_of (item_of names old.inner.path (worked top old))
-    → same_path path top ≡ false → IsDone Inside (item_of names old.inner.path (worked top old)) left old new → rank new < rank old
+inside_falls : (top path : Route) (left : Bool) (old new : Place) (names : List (List ℕ)) → old.inner.names ≡ names → path ≡ path_of (item_of names old.inner.path (worked_folder top old))
+    → same_path path top ≡ false → IsDone Inside (item_of names old.inner.path (worked_folder top old)) left old new → rank new < rank old
 inside_falls top path left old new (name ∷ names) has is off done =
     subst (λ (p : Place). rank p < rank old) (sym done) (pass_falls left old (subst (λ (ns : List (List ℕ)). 1 ≤ length ns) (sym has) (omega arith)))
 inside_falls top path left old new [] has is off (inl leaves) = leave_falls left old new leaves

@@ -26,10 +26,10 @@ use Rattle.delete_job.specs.declared.deletion.Stage.{Stage}
 use Rattle.delete_job.specs.declared.deletion.Stage.TheVariants.{Begin, Going, Sync}
 use Rattle.delete_job.specs.declared.deletion.Deletion.{Deletion}
 use Rattle.delete_job.specs.Descending.{Descends, Enters}
-use Rattle.job_unsynced.specs.Folders.{IsOwn, is_of, joined}
+use Rattle.job_unsynced.specs.Folders.{IsOwn, is_of, joined_folders}
 use Rattle.delete_job.specs.Inside.{IsInside}
-use Rattle.delete_job.specs.Standing.{End, Item, Thing, after_item, at_barrier, item}
-use Rattle.delete_job.specs.Steps.{IsProgress, KeepsRest, LastSteps, RemovalLeaves, Skips, SyncSteps, Syncs, TakesOff, Tries, WorkCalls, WorkLeaves, WorkSteps, Works, after_try as machine_try, next_try, path_of, removal_of}
+use Rattle.delete_job.specs.Standing.{End, DeletionItem, Thing, after_item, at_barrier, item}
+use Rattle.delete_job.specs.TreeDeletionSteps.{IsProgress, KeepsRest, LastSteps, RemovalLeaves, Skips, SyncSteps, Syncs, TakesOff, Tries, WorkCalls, WorkLeaves, WorkSteps, Works, after_try as machine_try, next_try, path_of, removal_of}
 use Rattle.delete_job.proofs.Staying.{descends_inside, item_inside, skip_falls, skip_inside, skip_less, work_inside}
 use Rattle.delete_job.specs.Deletions.{Deleting, DeletionCalls, DeletionLeaves, IsAtStage, IsRefused, Tells, left_in, machine_of}
 use Rattle.delete_job.specs.Deletions as deletions
@@ -201,19 +201,19 @@ descends_same contents old mid (folder ∷ before) d =
     record { path_is = o.path_is ∙ k.path_is; folder_is = o.folder_is ∙ k.folder_is; stage_is = o.stage_is ∙ k.stage_is }
 
 -- a removal is of a thing, or of a folder
-removal_called : (i : Item) (path : Route) (log : CallLog) (after : Option CallLog) → path ≡ path_of i → Performs {A = Unit {0}} log (removal_of i) (Ok tt) after
+removal_called : (i : DeletionItem) (path : Route) (log : CallLog) (after : Option CallLog) → path ≡ path_of i → Performs {A = Unit {0}} log (removal_of i) (Ok tt) after
     → Performs {A = Unit {0}} log (RemoveFile path) (Ok tt) after ⊎ Performs {A = Unit {0}} log (RemoveFolder path) (Ok tt) after
 removal_called (Thing thing) path log after is done = inl (subst (λ p. Performs {A = Unit {0}} log (RemoveFile p) (Ok tt) after) (sym is) done)
 removal_called (End folder) path log after is done = inr (subst (λ p. Performs {A = Unit {0}} log (RemoveFolder p) (Ok tt) after) (sym is) done)
 
-removal_refused : (i : Item) (log : CallLog) (e : TreeError) (after : Option CallLog) → Performs {A = Unit {0}} log (removal_of i) (Err e) after → IsRefused log e after
+removal_refused : (i : DeletionItem) (log : CallLog) (e : TreeError) (after : Option CallLog) → Performs {A = Unit {0}} log (removal_of i) (Err e) after → IsRefused log e after
 removal_refused (Thing thing) log e after h = deletions.RefusedFile thing h
 removal_refused (End folder) log e after h = deletions.RefusedFolder folder h
 
-removal_leaves : (i : Item) (path : Route) (dirty dirty_after : List Route) (before after : Option CallLog) → path ≡ path_of i → RemovalLeaves i path dirty dirty_after
+removal_leaves : (i : DeletionItem) (path : Route) (dirty dirty_after : List Route) (before after : Option CallLog) → path ≡ path_of i → RemovalLeaves i path dirty dirty_after
     → IfKnown before (λ log. Performs {A = Unit {0}} log (removal_of i) (Ok tt) after)
-    → ((dirty_after ≡ joined (folder_of path) dirty) × IfKnown before (λ log. Performs {A = Unit {0}} log (RemoveFile path) (Ok tt) after))
-    ⊎ ((dirty_after ≡ without path (joined (folder_of path) dirty)) × IfKnown before (λ log. Performs {A = Unit {0}} log (RemoveFolder path) (Ok tt) after))
+    → ((dirty_after ≡ joined_folders (folder_of path) dirty) × IfKnown before (λ log. Performs {A = Unit {0}} log (RemoveFile path) (Ok tt) after))
+    ⊎ ((dirty_after ≡ without path (joined_folders (folder_of path) dirty)) × IfKnown before (λ log. Performs {A = Unit {0}} log (RemoveFolder path) (Ok tt) after))
 removal_leaves (Thing thing) path dirty dirty_after before after is leaves done = inl (leaves, λ log known. subst (λ p. Performs {A = Unit {0}} log (RemoveFile p) (Ok tt) after) (sym is) (done log known))
 removal_leaves (End folder) path dirty dirty_after before after is leaves done = inr (leaves, λ log known. subst (λ p. Performs {A = Unit {0}} log (RemoveFolder p) (Ok tt) after) (sym is) (done log known))
 

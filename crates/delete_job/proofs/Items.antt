@@ -2,7 +2,7 @@
 use Rattle.std.proofs.Common.{◌≡◌, ℕ, ◌+◌, ◌<◌, ◌≤◌, zero, suc, Bool, false, length, arith, inl, inr, IfSome, IfNone, List, [], refl, sym, ◌∙◌, ap, subst, Option, Some, None, Ok, Err, true}
 use Rattle.std.specs.Prelude.{◌==◌}
 use Rattle.std.proofs.lemmas.Bool.{eqb-true, true≢false}
-use Rattle.mc_text.specs.Routes.{Route, spelled}
+use Rattle.mc_text.specs.Routes.{Route, spelled_route}
 use Rattle.tree_trait.specs.declared.file_system.FileSystem.{FileSystem}
 use Rattle.tree_trait.specs.Change.{CallLog, current}
 use Rattle.job_reports.specs.declared.report.Cause.{Cause}
@@ -12,7 +12,7 @@ use Rattle.job_reports.specs.Stops.{IsTroubleWithPath}
 use Rattle.job_reports.specs.Paths.{folder_of}
 use Rattle.job_reports.proofs.Reading.{told}
 use Rattle.tree_trait.specs.declared.calls.Children.{Children}
-use Rattle.tree_walk.specs.Places.{IsLeft, Place, entered, opened, passed}
+use Rattle.tree_walk.specs.Places.{IsLeft, Place, entered_place, opened_folder, passed_place}
 use Rattle.tree_walk.specs.Ranks.{rank, rank_around, weight}
 use Rattle.delete_job.specs.declared.deletion.Depth.{Depth}
 use Rattle.delete_job.specs.declared.deletion.Depth.TheVariants.{Top, Inside}
@@ -20,8 +20,8 @@ use Rattle.delete_job.specs.declared.deletion.Deletion.{Deletion}
 use Rattle.delete_job.specs.declared.looking.Found.TheVariants as found
 use Rattle.delete_job.specs.declared.meeting.Met.TheVariants as met
 use Rattle.delete_job.specs.declared.deletion.Stage.{Stage}
-use Rattle.delete_job.specs.Standing.{Decides, IsDone, Item, Thing, End, Leaves, after_item, item, item_at, item_of, rank_at, worked}
-use Rattle.delete_job.specs.Steps.{IsThing, KeepsRest, LeavesFolder, Passes, TakesOff, path_of}
+use Rattle.delete_job.specs.Standing.{Decides, IsDone, DeletionItem, Thing, End, Leaves, after_item, item, item_at, item_of, rank_at, worked_folder}
+use Rattle.delete_job.specs.TreeDeletionSteps.{IsThing, KeepsRest, LeavesFolder, Passes, TakesOff, path_of}
 use Rattle.delete_job.specs.Descending.{GoesInto, IsAt, IsNext, IsTooDeep, IsTooLongAt, ItemStops, LookStops, MayLook, Meets, StandsSo, StopsAt, ThingStops, opened_at}
 
 pub at_itself : (d : Deletion) → IsAt d d
@@ -32,13 +32,13 @@ top_item d depth = ap (λ x. item_at x d.path d.walk.place) depth
 
 pub next_item : (d : Deletion) (path : Route) → d.depth ≡ Inside → IsNext path d.walk.place → item d ≡ Thing path
 next_item d path depth n =
-    ap (λ x. item_at x d.path d.walk.place) depth ∙ (ap (λ ns. item_of ns d.walk.place.inner.path (worked d.path d.walk.place)) n.names ∙ ap (λ p. Thing p) (sym n.is))
+    ap (λ x. item_at x d.path d.walk.place) depth ∙ (ap (λ ns. item_of ns d.walk.place.inner.path (worked_folder d.path d.walk.place)) n.names ∙ ap (λ p. Thing p) (sym n.is))
 
-pub end_item : (d : Deletion) → d.depth ≡ Inside → d.walk.place.inner.names ≡ [] → item d ≡ End (worked d.path d.walk.place)
-end_item d depth none = ap (λ x. item_at x d.path d.walk.place) depth ∙ ap (λ ns. item_of ns d.walk.place.inner.path (worked d.path d.walk.place)) none
+pub end_item : (d : Deletion) → d.depth ≡ Inside → d.walk.place.inner.names ≡ [] → item d ≡ End (worked_folder d.path d.walk.place)
+end_item d depth none = ap (λ x. item_at x d.path d.walk.place) depth ∙ ap (λ ns. item_of ns d.walk.place.inner.path (worked_folder d.path d.walk.place)) none
 
 -- out of memory anything stops
-memory_item : (s : FileSystem) (depth : Depth) (place : Place) (i : Item) → ItemStops s depth place i Memory None
+memory_item : (s : FileSystem) (depth : Depth) (place : Place) (i : DeletionItem) → ItemStops s depth place i Memory None
 memory_item s depth place (Thing path) = refl
 memory_item s depth place (End folder) = (refl, refl)
 
@@ -48,13 +48,13 @@ memory_stops s d = memory_item s d.depth d.walk.place (item d)
 pub at_thing : (s : FileSystem) (d : Deletion) (path : Route) (cause : Cause) (named : Option Route) → item d ≡ Thing path → ThingStops s d.depth d.walk.place path cause named → StopsAt s d cause named
 at_thing s d path cause named is stops = subst (λ x. ItemStops s d.depth d.walk.place x cause named) (sym is) stops
 
-pub deep_stops : (s : FileSystem) (d : Deletion) (path : Route) (t : Trouble) → d.depth ≡ Inside → item d ≡ Thing path → (d.walk.place.left == 0) ≡ true → length (spelled path) ≤ 4096 → IsTroubleWithPath TooDeep path t
+pub deep_stops : (s : FileSystem) (d : Deletion) (path : Route) (t : Trouble) → d.depth ≡ Inside → item d ≡ Thing path → (d.walk.place.left == 0) ≡ true → length (spelled_route path) ≤ 4096 → IsTroubleWithPath TooDeep path t
     → StopsAt s d t.cause t.path
 deep_stops s d path t depth is deepest short with_path =
     at_thing s d path t.cause t.path is (told (λ (u : Trouble). ThingStops s d.depth d.walk.place path u.cause u.path) TooDeep path t with_path
     (refl, subst (λ x. IsTooDeep x d.walk.place path) (sym depth) (eqb-true d.walk.place.left 0 deepest, short)) refl)
 
-pub long_stops : (s : FileSystem) (d : Deletion) (path folder : Route) (t : Trouble) → d.depth ≡ Inside → item d ≡ Thing path → folder ≡ folder_of path → 4096 < length (spelled path) → IsTroubleWithPath TooLong folder t
+pub long_stops : (s : FileSystem) (d : Deletion) (path folder : Route) (t : Trouble) → d.depth ≡ Inside → item d ≡ Thing path → folder ≡ folder_of path → 4096 < length (spelled_route path) → IsTroubleWithPath TooLong folder t
     → StopsAt s d t.cause t.path
 long_stops s d path folder t depth is of long with_path =
     at_thing s d path t.cause t.path is (told (λ (u : Trouble). ThingStops s d.depth d.walk.place path u.cause u.path) TooLong folder t with_path
@@ -65,7 +65,7 @@ some_left : (left : ℕ) → (left == 0) ≡ false → 1 ≤ left
 some_left zero more = absurd (true≢false more)
 some_left (suc left) more = omega arith
 
-pub may_below : (d : Deletion) (path : Route) → d.depth ≡ Inside → (d.walk.place.left == 0) ≡ false → length (spelled path) ≤ 4096 → MayLook d.depth d.walk.place path
+pub may_below : (d : Deletion) (path : Route) → d.depth ≡ Inside → (d.walk.place.left == 0) ≡ false → length (spelled_route path) ≤ 4096 → MayLook d.depth d.walk.place path
 may_below d path depth more short = subst (λ x. MayLook x d.walk.place path) (sym depth) (some_left d.walk.place.left more, short)
 
 pub may_top : (d : Deletion) (path : Route) → d.depth ≡ Top → MayLook d.depth d.walk.place path
@@ -100,7 +100,7 @@ module _ (contents : Option CallLog) (old : Deletion) (path : Route) (is : item 
       (goes.0, λ log known. subst (λ (u : Trouble). StopsAt (current log) old u.cause u.path) (sym goes.1) (memory_stops (current log) old))
 
 -- the folder that is deleted is opened
-pub opens : (old new : Deletion) (folder : Route) (names : List (List ℕ)) → old.depth ≡ Top → new.walk.place ≡ record old.walk.place { inner = opened folder names } → new.depth ≡ Inside
+pub opens : (old new : Deletion) (folder : Route) (names : List (List ℕ)) → old.depth ≡ Top → new.walk.place ≡ record old.walk.place { inner = opened_folder folder names } → new.depth ≡ Inside
     → new.stage ≡ old.stage → new.path ≡ old.path → new.folder ≡ old.folder
     → rank new.walk.place < weight (suc old.walk.place.left) + rank_around (suc old.walk.place.left) old.walk.place.around
     → GoesInto old folder names (Ok met.Entered) new
@@ -116,7 +116,7 @@ opens old new folder names depth place inside stage path up falls = (
 )
 
 -- a folder in it is gone into
-pub enters : (old new : Deletion) (folder : Route) (names : List (List ℕ)) → old.depth ≡ Inside → new.walk.place ≡ entered folder names old.walk.place → new.depth ≡ old.depth
+pub enters : (old new : Deletion) (folder : Route) (names : List (List ℕ)) → old.depth ≡ Inside → new.walk.place ≡ entered_place folder names old.walk.place → new.depth ≡ old.depth
     → new.stage ≡ old.stage → new.path ≡ old.path → new.folder ≡ old.folder → rank new.walk.place < rank old.walk.place
     → GoesInto old folder names (Ok met.Entered) new
 enters old new folder names depth place same stage path up falls = (
@@ -138,10 +138,10 @@ top_passes d left depth = (
 )
 
 -- the next name is done with
-pub name_passes : (old new : Deletion) (left : Bool) → old.depth ≡ Inside → IsThing (item old) → new.walk.place ≡ passed left old.walk.place → KeepsRest old new → Passes left old new
+pub name_passes : (old new : Deletion) (left : Bool) → old.depth ≡ Inside → IsThing (item old) → new.walk.place ≡ passed_place left old.walk.place → KeepsRest old new → Passes left old new
 name_passes old new left depth thing is keeps = (subst (λ x. IsDone x (item old) left old.walk.place new.walk.place) (sym depth) (inside (item old) thing), keeps)
   where
-    inside : (i : Item) → IsThing i → IsDone Inside i left old.walk.place new.walk.place
+    inside : (i : DeletionItem) → IsThing i → IsDone Inside i left old.walk.place new.walk.place
     inside (Thing path) t = is
     inside (End folder) t = absurd t
 
@@ -173,14 +173,14 @@ pub top_taken : (d : Deletion) (path : Route) → d.depth ≡ Top → path ≡ d
 top_taken d path depth is = inl (is ∙ sym (ap path_of (top_item d depth)), top_passes d true depth)
 
 -- the folder that ends is left
-pub end_taken : (old new : Deletion) (path : Route) → old.depth ≡ Inside → item old ≡ End (worked old.path old.walk.place) → LeavesFolder path old new → TakesOff path old new
+pub end_taken : (old new : Deletion) (path : Route) → old.depth ≡ Inside → item old ≡ End (worked_folder old.path old.walk.place) → LeavesFolder path old new → TakesOff path old new
 end_taken old new path depth is l = inl (
   l.path_is ∙ sym (ap path_of is),
   (subst (λ x. IsDone x (item old) true old.walk.place new.walk.place) (sym depth) (subst (λ i. IsDone Inside i true old.walk.place new.walk.place) (sym is) l.place), l.rest),
 )
 
 -- the folder is left in which a path would be too long
-pub long_taken : (old new : Deletion) (path long : Route) → item old ≡ Thing long → 4096 < length (spelled long) → LeavesFolder path old new → TakesOff path old new
+pub long_taken : (old new : Deletion) (path long : Route) → item old ≡ Thing long → 4096 < length (spelled_route long) → LeavesFolder path old new → TakesOff path old new
 long_taken old new path long is bytes l = inr (record { path = long; takes = is; bytes = bytes }, l)
 
 -- the next thing is left

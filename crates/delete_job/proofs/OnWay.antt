@@ -13,7 +13,7 @@ use Rattle.delete_job.specs.declared.deletion.Stage.TheVariants.{Begin, Going, S
 use Rattle.delete_job.specs.declared.deletion.Deletion.{Deletion}
 use Rattle.delete_job.specs.Standing.{at_barrier, rank_at, rank_of, things_left}
 use Rattle.delete_job.specs.Descending.{Descends, Enters, IsAt}
-use Rattle.delete_job.specs.Steps.{IsProgress, Working, WorkSteps, Works}
+use Rattle.delete_job.specs.TreeDeletionSteps.{IsProgress, Working, WorkSteps, Works}
 use Rattle.delete_job.proofs.Decided.{decided_falls}
 use Rattle.delete_job.proofs.Items.{at_itself}
 

@@ -7,7 +7,7 @@ use Rattle.tree_trait.specs.declared.calls.TreeError.TheVariants as refused
 use Rattle.tree_trait.specs.Calls.{Call, Stat, ListFolder}
 use Rattle.tree_trait.specs.FileSystem.{node}
 use Rattle.tree_trait.specs.Refusals.{is_folder}
-use Rattle.tree_trait.specs.Change.{CallLog, current, found}
+use Rattle.tree_trait.specs.Change.{CallLog, current, found_node}
 use Rattle.tree_trait.specs.Answers.{Reads}
 use Rattle.job_reports.specs.declared.report.Cause.{Cause}
 use Rattle.job_reports.specs.declared.report.Cause.TheVariants.{Tree, TargetKind, SpecialSource, TooDeep, PartTaken, TooLong, Unnamed, Changed, Memory}
@@ -34,7 +34,7 @@ look_stops s path TooLong named h = absurd h
 look_stops s path (Unnamed count) named h = absurd h
 look_stops s path (Changed said got) named h = absurd h
 
-pub listing_stops : (s : FileSystem) (path : Route) (cause : Cause) (named : Option Route) → is_folder (node s (found s path)) ≡ true → CallStops s (ListFolder path) path cause named → LookStops s path cause named
+pub listing_stops : (s : FileSystem) (path : Route) (cause : Cause) (named : Option Route) → is_folder (node s (found_node s path)) ≡ true → CallStops s (ListFolder path) path cause named → LookStops s path cause named
 listing_stops s path (Tree e) named folder h = (h.0, inr (folder, h.1))
 listing_stops s path Memory named folder h = h
 listing_stops s path (TargetKind kind) named folder h = absurd h

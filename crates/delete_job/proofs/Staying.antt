@@ -9,16 +9,16 @@ use Rattle.job_reports.specs.declared.report.Cause.{Cause}
 use Rattle.job_reports.specs.declared.report.Did.{Did}
 use Rattle.job_reports.specs.declared.report.Did.TheVariants.{Began, Chunk, Placed, Removed, Made, Set, Kept, Skipped, Cleaned, Barrier, Asked, Merges, Moved, Troubled, Ended}
 use Rattle.tree_walk.proofs.Falling.{leave_falls}
-use Rattle.tree_walk.specs.Places.{IsLeft, OpenFolder, Place, is_empty, is_outermost, noted, opened, passed, without_next}
+use Rattle.tree_walk.specs.Places.{IsLeft, OpenFolder, Place, is_empty, is_outermost, noted_folder, opened_folder, passed_place, without_next}
 use Rattle.delete_job.specs.declared.deletion.Depth.{Depth}
 use Rattle.delete_job.specs.declared.deletion.Depth.TheVariants.{Top, Inside}
 use Rattle.delete_job.specs.declared.deletion.Stage.{Stage}
 use Rattle.delete_job.specs.declared.deletion.Stage.TheVariants.{Begin, Going, Sync}
 use Rattle.delete_job.specs.declared.deletion.Deletion.{Deletion}
-use Rattle.delete_job.specs.Standing.{Decides, End, IsDone, Item, Leaves, Thing, after_item, at_barrier, item, item_at, item_of, rank_at, rank_of, things_left, worked}
+use Rattle.delete_job.specs.Standing.{Decides, End, IsDone, DeletionItem, Leaves, Thing, after_item, at_barrier, item, item_at, item_of, rank_at, rank_of, things_left, worked_folder}
 use Rattle.delete_job.specs.Descending.{Descends, Enters, IsAt, IsOpened, opened_at}
 use Rattle.delete_job.specs.Inside.{AreInside, IsInside, IsInsideAt}
-use Rattle.delete_job.specs.Steps.{IsTooLong, KeepsRest, LeavesFolder, Passes, Skips, TakesOff, WorkSteps, Works, path_of}
+use Rattle.delete_job.specs.TreeDeletionSteps.{IsTooLong, KeepsRest, LeavesFolder, Passes, Skips, TakesOff, WorkSteps, Works, path_of}
 use Rattle.delete_job.proofs.Decided.{decided_falls, going_rank, some_rank}
 
 pub prefix_self : (p : Route) → is_prefix p p ≡ true
@@ -33,7 +33,7 @@ worked_inside : (top : Route) (place : Place) (b : Bool) → AreInside top (plac
 worked_inside top place true h = prefix_self top
 worked_inside top place false h = h.0
 
-of_names : (top : Route) (place : Place) (names : List (List ℕ)) → AreInside top (place.inner ∷ place.around) → is_prefix top (path_of (item_of names place.inner.path (worked top place))) ≡ true
+of_names : (top : Route) (place : Place) (names : List (List ℕ)) → AreInside top (place.inner ∷ place.around) → is_prefix top (path_of (item_of names place.inner.path (worked_folder top place))) ≡ true
 of_names top place [] h = worked_inside top place (is_outermost place) h
 of_names top place (name ∷ names) h = prefix_more top place.inner.path name h.0
 
@@ -57,7 +57,7 @@ opened_inside Inside top folder names place h is = (is, (h.0, h.1))
 enters_inside : (contents : Option CallLog) (old new : Deletion) (folder : Route) → Enters contents old folder new → IsInside old → IsInside new
 enters_inside contents old new folder e h =
     let o = e.opened_is in
-    let is : is_prefix old.path folder ≡ true = subst (λ (i : Item). is_prefix old.path (path_of i) ≡ true) e.takes (item_inside old h) in
+    let is : is_prefix old.path folder ≡ true = subst (λ (i : DeletionItem). is_prefix old.path (path_of i) ≡ true) e.takes (item_inside old h) in
     subst (λ x. IsInsideAt x new.path new.walk.place) (sym o.depth_is) (subst (λ (p : Route). IsInsideAt Inside p new.walk.place) (sym o.path_is)
     (subst (λ (w : Place). IsInsideAt Inside old.path w) (sym o.place) (opened_inside old.depth old.path folder (let c = e.children in c.names) old.walk.place h is)))
 
@@ -72,7 +72,7 @@ leaves_inside top left old new (inl l) h =
     (subst (λ (f : OpenFolder). is_prefix top f.path ≡ true) (sym l.inner) a.0, a.1)
 leaves_inside top left old new (inr same) h = subst (λ (p : Place). AreInside top (p.inner ∷ p.around)) (sym same.1) h
 
-done_inside : (depth : Depth) (i : Item) (top : Route) (left : Bool) (old new : Place) → IsDone depth i left old new → IsInsideAt depth top old → IsInsideAt depth top new
+done_inside : (depth : Depth) (i : DeletionItem) (top : Route) (left : Bool) (old new : Place) → IsDone depth i left old new → IsInsideAt depth top old → IsInsideAt depth top new
 done_inside Top i top left old new done h = ap (λ (p : Place). p.around) done ∙ h
 done_inside Inside (Thing path) top left old new done h = subst (λ (p : Place). AreInside top (p.inner ∷ p.around)) (sym done) (h.0, h.1)
 done_inside Inside (End folder) top left old new done h = leaves_inside top left old new done h
@@ -133,7 +133,7 @@ no_barrier : (b : Bool) (depth : Depth) (place : Place) (most : ℕ) → rank_of
 no_barrier true depth place most = omega arith
 no_barrier false depth place most = omega arith
 
-outermost_is : (depth : Depth) (top path : Route) (old new : Place) → IsInsideAt depth top old → path ≡ worked top old → same_path path top ≡ false → Leaves true old new → (depth ≡ Inside) × (rank_at Inside new < rank_at Inside old)
+outermost_is : (depth : Depth) (top path : Route) (old new : Place) → IsInsideAt depth top old → path ≡ worked_folder top old → same_path path top ≡ false → Leaves true old new → (depth ≡ Inside) × (rank_at Inside new < rank_at Inside old)
 outermost_is Inside top path old new h is off (inl l) = (refl, leave_falls true old new l)
 outermost_is Inside top path old new h is off (inr same) = absurd (both_ways _ off (subst (λ p. same_path p top ≡ true) (sym (is ∙ ap (λ (xs : List OpenFolder). if is_empty xs then top else old.inner.path) same.0)) (same_path-self top)))
 outermost_is Top top path old new h is off l = absurd (both_ways _ off (subst (λ p. same_path p top ≡ true) (sym (is ∙ ap (λ (xs : List OpenFolder). if is_empty xs then top else old.inner.path) h)) (same_path-self top)))

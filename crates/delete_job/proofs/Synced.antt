@@ -16,7 +16,7 @@ use Rattle.job_reports.specs.Stops.{calls_made_for, trouble_at}
 use Rattle.job_reports.proofs.Tried.{counts_try, tries_few}
 use Rattle.delete_job.specs.declared.deletion.Deletion.{Deletion}
 use Rattle.job_unsynced.specs.Folders.{IsOwn, IsOwnAt}
-use Rattle.delete_job.specs.Steps.{LastSteps, SyncSteps}
+use Rattle.delete_job.specs.TreeDeletionSteps.{LastSteps, SyncSteps}
 use Rattle.delete_job.proofs.Worked.{fault-cause}
 
 module _ (d : Deletion) (folders folders_after : List Route) (before after : Option CallLog) (faults faults_after : ℕ) where

@@ -18,7 +18,7 @@ use Rattle.delete_job.specs.declared.deletion.Deletion.{Deletion}
 use Rattle.delete_job.specs.declared.deletion.Stage.TheVariants.{Going}
 use Rattle.delete_job.specs.Standing.{Decides, item}
 use Rattle.delete_job.specs.Descending.{IsAt, StopsAt}
-use Rattle.delete_job.specs.Steps.{IsBare, IsSeen, IsSpared, RemovalLeaves, Working, path_of, removal_of}
+use Rattle.delete_job.specs.TreeDeletionSteps.{IsBare, IsSeen, IsSpared, RemovalLeaves, Working, path_of, removal_of}
 
 -- only a fault is called one
 pub fault-cause : (e : TreeError) → cause_of e ≡ Tree refused.Fault → e ≡ refused.Fault

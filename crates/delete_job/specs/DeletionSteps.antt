@@ -17,7 +17,7 @@ use Rattle.job_reports.specs.Stops.{out_of_memory_at}
 use Rattle.job_unsynced.specs.Folders.{is_of}
 use Rattle.job_unsynced.specs.Folders as folders
 use Rattle.delete_job.specs.Standing.{after_item, at_barrier}
-use Rattle.delete_job.specs.Steps.{IsProgress, LastSteps, Skips as MachineSkips, SyncSteps, WorkSteps}
+use Rattle.delete_job.specs.TreeDeletionSteps.{IsProgress, LastSteps, Skips as MachineSkips, SyncSteps, WorkSteps}
 use Rattle.delete_job.specs.declared.deletion.Deletion.{Deletion}
 use Rattle.job_answers.specs.declared.replies.Replies.{Replies}
 use Rattle.job_answers.specs.declared.skips.Skips.{Skips}

@@ -15,13 +15,13 @@ use Rattle.job_reports.specs.Paths.{folder_of, without}
 use Rattle.job_reports.specs.Stops.{cause_of, out_of_memory_at, sync_answer}
 use Rattle.job_answers.specs.Skipping.{holds, kind_in}
 use Rattle.job_answers.specs.declared.replies.Replies.{Replies}
-use Rattle.tree_walk.specs.Places.{Place, unopened}
+use Rattle.tree_walk.specs.Places.{Place, unopened_walk}
 use Rattle.delete_job.specs.declared.deletion.Depth.{Depth}
 use Rattle.delete_job.specs.declared.deletion.Depth.TheVariants.{Top}
 use Rattle.delete_job.specs.declared.deletion.Stage.{Stage}
 use Rattle.delete_job.specs.declared.deletion.Stage.TheVariants.{Begin, Going, Sync}
 use Rattle.delete_job.specs.declared.deletion.Deletion.{Deletion}
-use Rattle.job_unsynced.specs.Folders.{IsOwn, NoneOf, joined}
+use Rattle.job_unsynced.specs.Folders.{IsOwn, NoneOf, joined_folders}
 use Rattle.delete_job.specs.Standing.{after_item, at_barrier, rank_of}
 
 -- a deletion as it stands
@@ -34,8 +34,8 @@ pub record Deleting : Type 0 where
   pub tried : ℕ
 
 -- a deletion just begun
-abbrev pub started : Route → Deleting
-started path = record { path = path; stage = Begin; depth = Top; place = unopened; tried = 0 }
+abbrev pub begun_deletion : Route → Deleting
+begun_deletion path = record { path = path; stage = Begin; depth = Top; place = unopened_walk; tried = 0 }
 
 -- the machine of it, with room for so many folders more
 abbrev pub machine_of : Deleting → ℕ → Deletion
@@ -96,8 +96,8 @@ LastCalls did log after = ⊥
 -- was synced leaves them; and a deletion is finished only where none is left that it may have changed.
 abbrev pub DeletionLeaves : Deleting → Did → List Route → List Route → Option CallLog → Option CallLog → Type 0
 DeletionLeaves d (Removed path) dirty dirty_after before after =
-    ((dirty_after ≡ joined (folder_of path) dirty) × IfKnown before (λ log. Performs {A = Unit {0}} log (RemoveFile path) (Ok tt) after))
-    ⊎ ((dirty_after ≡ without path (joined (folder_of path) dirty)) × IfKnown before (λ log. Performs {A = Unit {0}} log (RemoveFolder path) (Ok tt) after))
+    ((dirty_after ≡ joined_folders (folder_of path) dirty) × IfKnown before (λ log. Performs {A = Unit {0}} log (RemoveFile path) (Ok tt) after))
+    ⊎ ((dirty_after ≡ without path (joined_folders (folder_of path) dirty)) × IfKnown before (λ log. Performs {A = Unit {0}} log (RemoveFolder path) (Ok tt) after))
 DeletionLeaves d Barrier dirty dirty_after before after =
     (folder : Route) × IsOwn (folder_of d.path) d.path dirty folder × (dirty_after ≡ without folder dirty) × IfKnown before (λ log. Performs {A = Unit {0}} log (SyncFolder folder) (Ok tt) after)
 DeletionLeaves d (Ended ending part) dirty dirty_after before after = NoneOf (folder_of d.path) d.path dirty × (dirty_after ≡ dirty)

@@ -1,6 +1,6 @@
 pub mod Standing
 pub mod Descending
-pub mod Steps
+pub mod TreeDeletionSteps
 pub mod Inside
 pub mod DeletionSteps
 pub mod Deletions

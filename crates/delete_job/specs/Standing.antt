@@ -1,7 +1,7 @@
 -- Where a deletion stands: what it takes up next, and where it stands once that is done with.
 use Rattle.std.specs.Prelude.{◌≡◌, ◌⊎◌, ℕ, suc, ◌+◌, Bool, true, false, List, [], ◌∷◌, if◌then◌else◌}
 use Rattle.mc_text.specs.Routes.{Route, same_path}
-use Rattle.tree_walk.specs.Places.{IsLeft, Place, is_outermost, passed, unopened}
+use Rattle.tree_walk.specs.Places.{IsLeft, Place, is_outermost, passed_place, unopened_walk}
 use Rattle.tree_walk.specs.Ranks.{rank, rank_around, weight}
 use Rattle.delete_job.specs.declared.deletion.Stage.{Stage}
 use Rattle.delete_job.specs.declared.deletion.Stage.TheVariants.{Begin, Going, Sync}
@@ -10,8 +10,8 @@ use Rattle.delete_job.specs.declared.deletion.Depth.TheVariants.{Top, Inside}
 use Rattle.delete_job.specs.declared.deletion.Deletion.{Deletion}
 
 -- a walk that is to begin
-abbrev pub begun : Place
-begun = unopened
+abbrev pub begun_walk : Place
+begun_walk = unopened_walk
 
 abbrev pub is_fresh : Stage → Bool
 is_fresh Begin = true
@@ -28,24 +28,24 @@ abbrev pub after_item : Route → Route → Stage → Stage
 after_item top path stage = if same_path path top then Sync else stage
 
 -- what is taken up: a thing, or a folder in which nothing is left to be met
-pub data Item : Type 0 where
-  Thing : (path : Route) → Item
-  End : (folder : Route) → Item
+pub data DeletionItem : Type 0 where
+  Thing : (path : Route) → DeletionItem
+  End : (folder : Route) → DeletionItem
 
 -- the folder that is worked; the outermost is the thing that is deleted
-abbrev pub worked : Route → Place → Route
-worked top place = if is_outermost place then top else place.inner.path
+abbrev pub worked_folder : Route → Place → Route
+worked_folder top place = if is_outermost place then top else place.inner.path
 
 -- the next name in a folder at this path, or the end of the folder that is worked
-abbrev pub item_of : List (List ℕ) → Route → Route → Item
+abbrev pub item_of : List (List ℕ) → Route → Route → DeletionItem
 item_of [] path folder = End folder
 item_of (name ∷ names) path folder = Thing (name ∷ path)
 
-abbrev pub item_at : Depth → Route → Place → Item
+abbrev pub item_at : Depth → Route → Place → DeletionItem
 item_at Top top place = Thing top
-item_at Inside top place = item_of place.inner.names place.inner.path (worked top place)
+item_at Inside top place = item_of place.inner.names place.inner.path (worked_folder top place)
 
-abbrev pub item : Deletion → Item
+abbrev pub item : Deletion → DeletionItem
 item d = item_at d.depth d.path d.walk.place
 
 -- the folder that is worked is done with; the outermost is the last
@@ -53,9 +53,9 @@ abbrev pub Leaves : Bool → Place → Place → Type 0
 Leaves left old new = IsLeft left old new ⊎ ((old.around ≡ []) × (new ≡ old))
 
 -- the place of the walk once this is gone, or was left; of the thing itself nothing is left to be walked
-abbrev pub IsDone : Depth → Item → Bool → Place → Place → Type 0
+abbrev pub IsDone : Depth → DeletionItem → Bool → Place → Place → Type 0
 IsDone Top item left old new = new ≡ old
-IsDone Inside (Thing path) left old new = new ≡ passed left old
+IsDone Inside (Thing path) left old new = new ≡ passed_place left old
 IsDone Inside (End folder) left old new = Leaves left old new
 
 -- the deletion once a thing or a folder at this path is gone, or was left

@@ -1,7 +1,7 @@
 //! A deletion as it stands.
 ghost use Rattle.std.specs.Prelude.{◌≡◌, Some};
 ghost use Rattle.mc_text.specs.Routes.{parent_of};
-ghost use Rattle.delete_job.specs.Standing.{after_item, at_barrier, begun, is_fresh};
+ghost use Rattle.delete_job.specs.Standing.{after_item, at_barrier, begun_walk, is_fresh};
 
 use mc_text::Path;
 use std::alloc::Global;
@@ -43,7 +43,7 @@ impl Deletion {
         requires holder { parent_of path ≡ Some folder }
         ensures path { result.path ≡ path }
         ensures folder { result.folder ≡ folder }
-        ensures begun { result.walk.place ≡ begun }
+        ensures begun { result.walk.place ≡ begun_walk }
         ensures stage { result.stage ≡ Stage.Begin }
         ensures depth { result.depth ≡ Depth.Top }
     {

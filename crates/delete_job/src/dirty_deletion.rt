@@ -4,7 +4,7 @@ ghost use Rattle.std.specs.Prelude.{◌≡◌, Some};
 ghost use Rattle.mc_text.specs.Routes.{parent_of};
 ghost use Rattle.job_reports.specs.Paths.{folder_of};
 ghost use Rattle.delete_job.specs.Standing.{at_barrier, is_fresh};
-ghost use Rattle.delete_job.specs.Deletions.{started};
+ghost use Rattle.delete_job.specs.Deletions.{begun_deletion};
 ghost use Rattle.delete_job.specs.DeletionSteps.{DeletionSkips, DeletionStep, LastDeletionStep, OrPassedOver};
 
 use crate::deletion::Deletion;
@@ -40,7 +40,7 @@ impl TreeDeletion {
     /// A deletion of the thing at `path`, which lies in `folder`.
     pub fn new(alloc: Global, path: Path, folder: Path) -> TreeDeletion
         requires { parent_of path ≡ Some folder }
-        ensures { result ≡ started path }
+        ensures { result ≡ begun_deletion path }
     {
         TreeDeletion {
             machine: Deletion::new(alloc, path, folder),

@@ -1,5 +1,5 @@
 //! The syncs of what was changed.
-ghost use Rattle.delete_job.specs.Steps.{LastSteps, SyncSteps};
+ghost use Rattle.delete_job.specs.TreeDeletionSteps.{LastSteps, SyncSteps};
 
 use crate::deletion::Deletion;
 use job_reports::{Did, Ending, LastStepResult, StepResult, out_of_memory};

@@ -1,7 +1,7 @@
 //! What stands at a path: a folder with its names, or a thing that is none.
 ghost use Rattle.std.specs.Prelude.{◌≡◌, ◌≢◌, true, IfOk, MatchResult};
 ghost use Rattle.tree_trait.specs.Calls.{ListFolder, Stat};
-ghost use Rattle.tree_trait.specs.Change.{current, found};
+ghost use Rattle.tree_trait.specs.Change.{current, found_node};
 ghost use Rattle.tree_trait.specs.FileSystem.{node};
 ghost use Rattle.tree_trait.specs.Refusals.{folder_kind, is_folder, refusal_of};
 ghost use Rattle.tree_trait.specs.Answers.{IfKnown, IsAscending, IsListing};
@@ -41,7 +41,7 @@ pub(crate) fn what_stands<T: Tree>(
 /// Whether what stands at a path is a folder.
 fn is_folder_at<T: Tree>(alloc: Global, tree: &mut T, path: &Path) -> Result<bool, Trouble>
     ensures known { IfKnown (T.contents tree.old) (λ log. MatchResult result
-        (λ answer. is_folder (node (current log) (found (current log) path.now)) ≡ answer)
+        (λ answer. is_folder (node (current log) (found_node (current log) path.now)) ≡ answer)
         (λ trouble. CallStops (current log) (Stat path.now) path.now trouble.cause trouble.path)) }
     ensures peeks { Peeks result (T.contents tree.old) (T.contents tree.new) (T.fault_count tree.old) (T.fault_count tree.new) }
 {
@@ -62,7 +62,7 @@ fn is_kind_of_folder(kind: Kind) -> bool
 
 /// The names in a folder, all of which can be shown.
 fn names_in<T: Tree>(alloc: Global, tree: &mut T, path: &Path) -> Result<Found, Trouble>
-    requires folder { IfKnown (T.contents tree.old) (λ log. is_folder (node (current log) (found (current log) path.now)) ≡ true) }
+    requires folder { IfKnown (T.contents tree.old) (λ log. is_folder (node (current log) (found_node (current log) path.now)) ≡ true) }
     ensures known { StandsSo (T.contents tree.old) path.now result }
     ensures peeks { Peeks result (T.contents tree.old) (T.contents tree.new) (T.fault_count tree.old) (T.fault_count tree.new) }
 {
@@ -74,7 +74,7 @@ fn names_in<T: Tree>(alloc: Global, tree: &mut T, path: &Path) -> Result<Found, 
 
 fn listing<T: Tree>(alloc: Global, tree: &mut T, path: &Path) -> Result<Children, Trouble>
     ensures known { IfKnown (T.contents tree.old) (λ log. MatchResult result
-        (λ children. (refusal_of (current log) (ListFolder path.now) ≡ None) × IsListing (current log) (found (current log) path.now) children)
+        (λ children. (refusal_of (current log) (ListFolder path.now) ≡ None) × IsListing (current log) (found_node (current log) path.now) children)
         (λ trouble. CallStops (current log) (ListFolder path.now) path.now trouble.cause trouble.path)) }
     ensures in_order { IfOk result (λ children. IsAscending children.names) }
     ensures peeks { Peeks result (T.contents tree.old) (T.contents tree.new) (T.fault_count tree.old) (T.fault_count tree.new) }

@@ -1,6 +1,6 @@
 //! What a deletion meets next: looks and listings, up to something that is to be done.
 ghost use Rattle.std.specs.Prelude.{◌≡◌, ◌≤◌, length};
-ghost use Rattle.mc_text.specs.Routes.{spelled};
+ghost use Rattle.mc_text.specs.Routes.{spelled_route};
 ghost use Rattle.job_reports.specs.Reading.{Peeks};
 ghost use Rattle.delete_job.specs.Descending.{GoesInto, IsNext, Meets};
 
@@ -77,7 +77,7 @@ impl Deletion {
     ) -> Result<Met, Trouble>
         requires depth { self.old.depth ≡ Depth.Inside }
         requires next { IsNext path self.old.walk.place }
-        requires short { length (spelled path) ≤ 4096 }
+        requires short { length (spelled_route path) ≤ 4096 }
         ensures meets { Meets (T.contents tree.old) self.old result self.new }
         ensures peeks { Peeks result (T.contents tree.old) (T.contents tree.new) (T.fault_count tree.old) (T.fault_count tree.new) }
     {

@@ -2,9 +2,9 @@
 ghost use Rattle.std.specs.Prelude.{◌≡◌, ◌-◌, false, true, length, take, IfOk, OnErr, OnOk, if◌then◌else◌};
 ghost use Rattle.job_reports.specs.Paths.{folder_of};
 ghost use Rattle.delete_job.specs.Descending.{IsPlain, MayLook};
-ghost use Rattle.job_unsynced.specs.Folders.{joined};
-ghost use Rattle.delete_job.specs.Standing.{Decides, End, Leaves, Thing, at_barrier, item as next_item, worked};
-ghost use Rattle.delete_job.specs.Steps.{IsThing, KeepsRest, Passes, Working};
+ghost use Rattle.job_unsynced.specs.Folders.{joined_folders};
+ghost use Rattle.delete_job.specs.Standing.{Decides, End, Leaves, Thing, at_barrier, item as next_item, worked_folder};
+ghost use Rattle.delete_job.specs.TreeDeletionSteps.{IsThing, KeepsRest, Passes, Working};
 
 use crate::deletion::{Deletion, Depth, Stage, stage_after};
 use job_reports::{Did, StepResult, out_of_memory};
@@ -79,7 +79,7 @@ impl Deletion {
         dirty: &mut Dirty,
     ) -> StepResult
         requires inside { self.old.depth ≡ Depth.Inside }
-        requires next { next_item self.old ≡ End (worked self.old.path self.old.walk.place) }
+        requires next { next_item self.old ≡ End (worked_folder self.old.path self.old.walk.place) }
         requires going { at_barrier self.old.stage ≡ false }
         ensures { Working self.old self.new result.did result.calls dirty.old dirty.new
             (T.contents tree.old) (T.contents tree.new) (T.fault_count tree.old) (T.fault_count tree.new) }
@@ -95,7 +95,7 @@ impl Deletion {
 
     /// The folder that is worked.
     pub(crate) fn worked(&self) -> &Path
-        ensures { result.now ≡ worked self.now.path self.now.walk.place }
+        ensures { result.now ≡ worked_folder self.now.path self.now.walk.place }
     {
         if self.walk.is_outermost() {
             return &self.path;
@@ -155,7 +155,7 @@ impl Deletion {
 
 /// The folder that holds what stands at a path joins the dirty ones; whether it did.
 fn join_holder(alloc: Global, dirty: &mut Dirty, path: &Path) -> Result<bool, NoMemory>
-    ensures joined { OnOk result (dirty.new ≡ joined (folder_of path.now) dirty.old) }
+    ensures joined { OnOk result (dirty.new ≡ joined_folders (folder_of path.now) dirty.old) }
     ensures back { IfOk result (λ more. (if more then take (length dirty.new - 1) dirty.new else dirty.new) ≡ dirty.old) }
     ensures refused { OnErr result (dirty.new ≡ dirty.old) }
 {

@@ -1,6 +1,6 @@
 //! What is left as it is.
 ghost use Rattle.std.specs.Prelude.{◌≡◌, IfOk, OnErr};
-ghost use Rattle.delete_job.specs.Steps.{LeavesFolder, Skips, TakesOff};
+ghost use Rattle.delete_job.specs.TreeDeletionSteps.{LeavesFolder, Skips, TakesOff};
 
 use crate::deletion::{Deletion, Depth, stage_after};
 use job_reports::{Cause, Did, out_of_memory};

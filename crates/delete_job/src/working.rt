@@ -2,7 +2,7 @@
 ghost use Rattle.std.specs.Prelude.{◌≡◌, ◌<◌, ◌≤◌, false, IfNone, IfSome, true};
 ghost use Rattle.delete_job.specs.Standing.{at_barrier, rank_at};
 ghost use Rattle.delete_job.specs.Descending.{Enters, Meets};
-ghost use Rattle.delete_job.specs.Steps.{Advances, WorkSteps};
+ghost use Rattle.delete_job.specs.TreeDeletionSteps.{Advances, WorkSteps};
 
 use crate::deletion::Deletion;
 use crate::meeting::Met;

@@ -14,7 +14,7 @@ use Rattle.job_reports.specs.Stops.{out_of_memory_at, trouble_at}
 use Rattle.job_answers.specs.Skipping.{is_passed_over}
 use Rattle.job_answers.specs.declared.replies.Replies.{Replies}
 use Rattle.emptied_job.specs.declared.removal.RemovalStage.TheVariants as stage
-use Rattle.emptied_job.specs.Removals.{LastRemovalCalls, RemovalCalls, RemovalLeaves, Removing, Tells, Winds, at_barrier, skipped}
+use Rattle.emptied_job.specs.Removals.{LastRemovalCalls, RemovalCalls, RemovalLeaves, Removing, Tells, Winds, at_barrier, skipped_stage}
 
 -- the report tells of a fault: as a trouble, or as why the folder was passed over
 abbrev pub TellsFault : Did → Type 0
@@ -47,7 +47,7 @@ pub record LastRemovalStep (ending : Ending) (old new : Removing) (did : Did) (c
 -- a skip reports the folder as skipped, or that there is no memory for the report, and then it changes nothing
 abbrev pub RemovalSkips : Cause → Removing → Did → Removing → Type 0
 RemovalSkips cause old did new =
-    ((did ≡ Skipped old.path cause) × (new ≡ record old { stage = skipped old.stage }))
+    ((did ≡ Skipped old.path cause) × (new ≡ record old { stage = skipped_stage old.stage }))
     ⊎ ((did ≡ Troubled (out_of_memory_at (at_barrier old.stage))) × (new ≡ old))
 
 -- the removal was refused: the folder is kept where something lies in it, passed over where troubles of that kind are, or that is told; want of memory is always told

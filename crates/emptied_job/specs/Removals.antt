@@ -30,8 +30,8 @@ abbrev pub LiesIn : Route → Route → Type 0
 LiesIn path folder = parent_of path ≡ Some folder
 
 -- a removal, just begun
-abbrev pub started : Route → Removing
-started path = record { path = path; stage = Remove }
+abbrev pub begun_removal : Route → Removing
+begun_removal path = record { path = path; stage = Remove }
 
 -- the next call is at a barrier: a sync
 abbrev pub at_barrier : RemovalStage → Bool
@@ -62,11 +62,11 @@ is_done Finish = true
 is_done PassedOver = true
 
 -- a folder that is skipped stays
-abbrev pub skipped : RemovalStage → RemovalStage
-skipped Remove = PassedOver
-skipped Sync = Sync
-skipped Finish = Finish
-skipped PassedOver = PassedOver
+abbrev pub skipped_stage : RemovalStage → RemovalStage
+skipped_stage Remove = PassedOver
+skipped_stage Sync = Sync
+skipped_stage Finish = Finish
+skipped_stage PassedOver = PassedOver
 
 -- what comes after the sync
 abbrev pub after_sync : RemovalStage → RemovalStage

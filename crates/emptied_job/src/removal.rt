@@ -4,7 +4,7 @@ ghost use Rattle.std.specs.Prelude.{◌≡◌, ◌⊎◌, false, true, Err, Some
 ghost use Rattle.job_reports.specs.Paths.{folder_of};
 ghost use Rattle.job_reports.specs.Stops.{calls_made_for};
 ghost use Rattle.job_answers.specs.Skipping.{holds, kind_in};
-ghost use Rattle.emptied_job.specs.Removals.{LiesIn, at_barrier, is_dirty, is_fresh, skipped as skipped_to, started};
+ghost use Rattle.emptied_job.specs.Removals.{LiesIn, at_barrier, is_dirty, is_fresh, skipped_stage as skipped_to, begun_removal};
 ghost use Rattle.emptied_job.specs.RemovalSteps.{LastRemovalStep, NotRemoved, RemovalSkips, RemovalStep};
 
 use job_answers::{Replies, kind_of};
@@ -50,7 +50,7 @@ impl FolderRemoval {
     /// The removal of the folder at `path`, which lies in `folder`.
     pub fn new(path: Path, folder: Path) -> FolderRemoval
         requires { LiesIn path folder }
-        ensures { result ≡ started path }
+        ensures { result ≡ begun_removal path }
     {
         FolderRemoval {
             path,

@@ -10,16 +10,16 @@ use Rattle.ext_rules.specs.declared.error.ExtError.{ExtError}
 use Rattle.ext_rules.specs.declared.error.ExtError.TheVariants.{NotText}
 use Rattle.ext_rules.specs.declared.line.LineRead.{LineRead}
 use Rattle.ext_rules.specs.declared.line.LineRead.TheVariants.{Passed, Rule}
-use Rattle.text_scan.specs.Words.{behind_word, behind_indent, unindented}
+use Rattle.text_scan.specs.Words.{behind_word, behind_indent, unindented_text}
 use Rattle.ext_rules.specs.FileRules.{FileRule}
 use Rattle.ext_rules.specs.ExtLines.{reading_of, action_line, rule_line}
 use Rattle.ext_rules.specs.ExtFiles.{ext_fault, fault_from, readings, leading_actions, rules_said, IsExtFile}
-use Rattle.ext_rules.specs.Drafts.{continued}
+use Rattle.ext_rules.specs.Drafts.{continued_rules}
 use Rattle.ext_rules.proofs.DraftLemmas.{extended-push, extended-nothing}
 
 -- a rule without actions, put behind the others
 pub continued-rule : (rules : List FileRule) (condition : Condition) (lines : List LineRead)
-    → continued (rules ++ record { condition = condition; actions = [] } ∷ []) lines ≡ continued rules (Rule condition ∷ lines)
+    → continued_rules (rules ++ record { condition = condition; actions = [] } ∷ []) lines ≡ continued_rules rules (Rule condition ∷ lines)
 continued-rule rules condition lines =
     let new : FileRule = record { condition = condition; actions = [] } in
     let said : FileRule = record { condition = condition; actions = leading_actions lines } in
@@ -34,9 +34,9 @@ not_begun None found none is = sym is
 not_begun (Some x) found none is = cc
 
 pub reading_of-action : (line words : List ℕ) → (length line == 0) ≡ false → behind_word (codes "#") line ≡ None
-    → behind_indent line ≡ Some words → reading_of line ≡ action_line (unindented words)
+    → behind_indent line ≡ Some words → reading_of line ≡ action_line (unindented_text words)
 reading_of-action line words some comment indent =
-    let indented : Option (List ℕ) → LineRead = λ found. option_map_or (λ behind. action_line (unindented behind)) found (rule_line line) in
+    let indented : Option (List ℕ) → LineRead = λ found. option_map_or (λ behind. action_line (unindented_text behind)) found (rule_line line) in
     ap (λ test. cond test Passed (option_map_or (λ rest. Passed) (behind_word (codes "#") line) (indented (behind_indent line)))) some
     ∙ ap (λ found. option_map_or (λ rest. Passed) found (indented (behind_indent line))) comment
     ∙ ap indented indent

@@ -13,14 +13,14 @@ use Rattle.ext_rules.specs.declared.condition.Condition.{Condition}
 use Rattle.ext_rules.specs.declared.condition.Condition.TheVariants.{EndsWith, IsName, FoundInName, FoundInFolder, Nothing, Included, Everything}
 
 -- a text as it is compared
-abbrev pub folded : Case → List ℕ → List ℕ
-folded Sensitive text = text
-folded Insensitive text = map to_ascii_lowercase text
+abbrev pub folded_text : Case → List ℕ → List ℕ
+folded_text Sensitive text = text
+folded_text Insensitive text = map to_ascii_lowercase text
 
 -- a thing that is no folder
 abbrev pub fits_file : Condition → List ℕ → Bool
-fits_file (EndsWith case text) name = ends_with nat_eq (folded case name) (folded case text)
-fits_file (IsName case text) name = bytes_eq (folded case name) (folded case text)
+fits_file (EndsWith case text) name = ends_with nat_eq (folded_text case name) (folded_text case text)
+fits_file (IsName case text) name = bytes_eq (folded_text case name) (folded_text case text)
 fits_file (FoundInName pattern) name = is_found pattern name
 fits_file (FoundInFolder pattern) name = false
 fits_file Nothing name = false

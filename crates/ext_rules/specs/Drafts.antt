@@ -11,11 +11,11 @@ has_rule [] = false
 has_rule (rule ∷ rules) = true
 
 -- more actions at the last of some rules
-abbrev pub extended : List FileRule → List Action → List FileRule
-extended [] more = []
-extended (rule ∷ []) more = record { condition = rule.condition; actions = rule.actions ++ more } ∷ []
-extended (rule ∷ next ∷ rules) more = rule ∷ extended (next ∷ rules) more
+abbrev pub extended_rules : List FileRule → List Action → List FileRule
+extended_rules [] more = []
+extended_rules (rule ∷ []) more = record { condition = rule.condition; actions = rule.actions ++ more } ∷ []
+extended_rules (rule ∷ next ∷ rules) more = rule ∷ extended_rules (next ∷ rules) more
 
 -- the rules so far, with what other lines say behind them
-abbrev pub continued : List FileRule → List LineRead → List FileRule
-continued rules lines = extended rules (leading_actions lines) ++ rules_said lines
+abbrev pub continued_rules : List FileRule → List LineRead → List FileRule
+continued_rules rules lines = extended_rules rules (leading_actions lines) ++ rules_said lines

@@ -3,7 +3,7 @@ use Rattle.std.specs.Prelude.{ℕ, ◌==◌, if◌then◌else◌, List, [], ◌�
 use Rattle.std.specs.Option.{option_map_or}
 use Rattle.tagging.specs.Patterns.{PatternText}
 use Rattle.tagging.specs.declared.pattern.PatternKind.TheVariants.{Regex}
-use Rattle.text_scan.specs.Words.{behind_word, behind_indent, unindented}
+use Rattle.text_scan.specs.Words.{behind_word, behind_indent, unindented_text}
 use Rattle.tagging.specs.TypedPatterns.{pattern_in}
 use Rattle.ext_rules.specs.declared.actions.Key.{Key}
 use Rattle.ext_rules.specs.declared.actions.Key.TheVariants.{Open, View, Edit, Include}
@@ -80,4 +80,4 @@ abbrev pub reading_of : List ℕ → LineRead
 reading_of line =
     if length line == 0 then Passed else
     option_map_or (λ comment. Passed) (behind_word (codes "#") line)
-    (option_map_or (λ words. action_line (unindented words)) (behind_indent line) (rule_line line))
+    (option_map_or (λ words. action_line (unindented_text words)) (behind_indent line) (rule_line line))

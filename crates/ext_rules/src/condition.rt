@@ -2,7 +2,7 @@
 ghost use Rattle.std.specs.Prelude.{◌≡◌, nat_eq, string_bytes, IfOk};
 ghost use Rattle.std.specs.List.{ends_with};
 ghost use Rattle.std.specs.Str.{bytes_eq};
-ghost use Rattle.ext_rules.specs.Conditions.{folded, fits_file, fits_folder, is_met, is_included};
+ghost use Rattle.ext_rules.specs.Conditions.{folded_text, fits_file, fits_folder, is_met, is_included};
 
 use mc_text::{Kind, NoMemory, Text};
 use std::alloc::Global;
@@ -86,7 +86,7 @@ impl Condition {
 
 /// Whether a name ends with a text.
 fn ends_with(alloc: Global, name: &str, text: &Text, case: Case) -> Result<bool, NoMemory>
-    ensures { IfOk result (λ is. is ≡ ends_with nat_eq (folded case name.now) (folded case text.now)) }
+    ensures { IfOk result (λ is. is ≡ ends_with nat_eq (folded_text case name.now) (folded_text case text.now)) }
 {
     let name = folded(alloc, name, case)?;
     let text = folded(alloc, text.as_str(), case)?;
@@ -95,7 +95,7 @@ fn ends_with(alloc: Global, name: &str, text: &Text, case: Case) -> Result<bool,
 
 /// Whether a name is a text.
 fn is_name(alloc: Global, name: &str, text: &Text, case: Case) -> Result<bool, NoMemory>
-    ensures { IfOk result (λ is. is ≡ bytes_eq (folded case name.now) (folded case text.now)) }
+    ensures { IfOk result (λ is. is ≡ bytes_eq (folded_text case name.now) (folded_text case text.now)) }
 {
     let name = folded(alloc, name, case)?;
     let text = folded(alloc, text.as_str(), case)?;
@@ -104,7 +104,7 @@ fn is_name(alloc: Global, name: &str, text: &Text, case: Case) -> Result<bool, N
 
 /// A text as it is compared: where the case of letters doesn't count, with small ones.
 fn folded(alloc: Global, text: &str, case: Case) -> Result<String, NoMemory>
-    ensures { IfOk result (λ compared. string_bytes compared ≡ folded case text.now) }
+    ensures { IfOk result (λ compared. string_bytes compared ≡ folded_text case text.now) }
 {
     let mut compared = String::from_str(alloc, text)?;
     match case {

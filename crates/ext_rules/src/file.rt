@@ -3,7 +3,7 @@ ghost use Rattle.std.specs.Prelude.{◌≡◌, ◌≢◌, ◌+◌, ◌<◌, [], 
 ghost use Rattle.ext_rules.specs.declared.line.LineRead.{LineRead};
 ghost use Rattle.ext_rules.specs.declared.actions.Action.{Action};
 ghost use Rattle.ext_rules.specs.ExtFiles.{IsExtFile, ext_fault, fault_from, readings, rules_said};
-ghost use Rattle.ext_rules.specs.Drafts.{has_rule, extended, continued};
+ghost use Rattle.ext_rules.specs.Drafts.{has_rule, extended_rules, continued_rules};
 
 use crate::actions::Action;
 use crate::condition::Condition;
@@ -76,7 +76,7 @@ fn take_line(
     read: LineRead,
     at: usize,
 ) -> Result<(), ExtError>
-    ensures said { OnOk result ((lines : List LineRead) → continued rules.new.items lines ≡ continued rules.old.items (read ∷ lines)) }
+    ensures said { OnOk result ((lines : List LineRead) → continued_rules rules.new.items lines ≡ continued_rules rules.old.items (read ∷ lines)) }
     ensures goes_on { OnOk result ((lines : List LineRead) →
         fault_from (at + 1) (has_rule rules.new.items) lines ≡ fault_from at (has_rule rules.old.items) (read ∷ lines)) }
     ensures refused { IfErr result (λ e. e ≢ ExtError.Memory → (lines : List LineRead) →
@@ -117,7 +117,7 @@ fn begin_rule(alloc: Global, rules: &mut Vec<Rule>, condition: Condition) -> Res
 /// Puts an action at the end of the last rule.
 fn add_action(rules: &mut Vec<Rule>, action: Action) -> Result<(), NoMemory>
     requires { 0 < vec_len rules.old }
-    ensures extended { OnOk result ((more : List Action) → extended rules.new.items more ≡ extended rules.old.items (action ∷ more)) }
+    ensures extended { OnOk result ((more : List Action) → extended_rules rules.new.items more ≡ extended_rules rules.old.items (action ∷ more)) }
     ensures same_rules { OnOk result (vec_len rules.new ≡ vec_len rules.old) }
 {
     let last = rules.len() - 1;

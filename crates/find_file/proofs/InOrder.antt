@@ -6,10 +6,10 @@ use Rattle.std.specs.declared.cmp.Ordering.TheVariants.{Less, Greater}
 use Rattle.mc_text.specs.Routes.{Route}
 use Rattle.tree_trait.specs.declared.file_system.FileSystem.{FileSystem}
 use Rattle.tree_trait.specs.declared.calls.Children.{Children}
-use Rattle.tree_trait.specs.Change.{found}
+use Rattle.tree_trait.specs.Change.{found_node}
 use Rattle.tree_trait.specs.CrashImages.{Among}
 use Rattle.tree_trait.specs.Answers.{name_cmp, AllAfter, IsAscending, IsListing}
-use Rattle.tree_rules.specs.Listed.{gathered}
+use Rattle.tree_rules.specs.Listed.{gathered_names}
 use Rattle.tree_rules.proofs.Listing.{gathered_ascends, gathered_leads, gathered_all}
 use Rattle.find_file.specs.FoundList.{names_in}
 
@@ -49,9 +49,9 @@ one_list (x ∷ xs) (y ∷ ys) up up' to from =
     cc
 
 -- what a listing tells are the names of the folder
-pub listed_names : (s : FileSystem) (folder : Route) (children : Children) → IsAscending children.names → IsListing s (found s folder) children
+pub listed_names : (s : FileSystem) (folder : Route) (children : Children) → IsAscending children.names → IsListing s (found_node s folder) children
     → children.names ≡ names_in s folder
 listed_names s folder children up listing =
-    one_list children.names (gathered s (found s folder) s.names) up (gathered_ascends s (found s folder) s.names)
-    (λ name among. let leads = (listing.names name).0 among in gathered_all s (found s folder) s.names name leads leads)
-    (λ name among. (listing.names name).1 (gathered_leads s (found s folder) s.names name among))
+    one_list children.names (gathered_names s (found_node s folder) s.names) up (gathered_ascends s (found_node s folder) s.names)
+    (λ name among. let leads = (listing.names name).0 among in gathered_all s (found_node s folder) s.names name leads leads)
+    (λ name among. (listing.names name).1 (gathered_leads s (found_node s folder) s.names name among))

@@ -5,7 +5,7 @@ use Rattle.std.proofs.lemmas.List.Folds.{flat_map-map}
 use Rattle.mc_text.specs.declared.error.NoMemory.{NoMemory}
 use Rattle.mc_text.specs.declared.kind.Kind.{Kind}
 use Rattle.mc_text.specs.declared.kind.Kind.TheVariants as kinds
-use Rattle.mc_text.specs.Routes.{Route, spelled}
+use Rattle.mc_text.specs.Routes.{Route, spelled_route}
 use Rattle.tagging.specs.Patterns.{is_found}
 use Rattle.tree_trait.specs.declared.file_system.FileSystem.{FileSystem}
 use Rattle.tree_trait.specs.declared.calls.TreeError.{TreeError}
@@ -13,7 +13,7 @@ use Rattle.tree_trait.specs.declared.calls.TreeError.TheVariants.{Missing, NotFo
 use Rattle.tree_trait.specs.declared.calls.Children.{Children}
 use Rattle.tree_trait.specs.Calls.{Call, Stat, ListFolder, ReadAt}
 use Rattle.tree_trait.specs.FileSystem.{node}
-use Rattle.tree_trait.specs.Change.{CallLog, current, found}
+use Rattle.tree_trait.specs.Change.{CallLog, current, found_node}
 use Rattle.tree_trait.specs.Refusals.{refusal_of}
 use Rattle.tree_trait.specs.Answers.{Reads, HasCause, IsListing, IsAscending}
 use Rattle.find_file.specs.declared.found.Found.{Found}
@@ -23,7 +23,7 @@ use Rattle.find_file.specs.declared.walk.Walk.{Walk}
 use Rattle.find_file.specs.declared.walk.Task.{Task}
 use Rattle.find_file.specs.declared.walk.Task.TheVariants.{Look, List as ListTask}
 use Rattle.find_file.specs.FoundList.Turn.{At, Tells}
-use Rattle.find_file.specs.FoundList.{Turn, is_by_name, holds, brings, path_if, read, by_kind, looked, child, names_in, turns_below}
+use Rattle.find_file.specs.FoundList.{Turn, is_by_name, holds, brings, path_if, read_turns, by_kind, look_turns, child, names_in, turns_below}
 use Rattle.find_file.specs.Folders.{OpenFolder, child_of}
 use Rattle.find_file.specs.Walks.{of_child, of_children, of_folder, of_folders, of_task, left_in, rank_of_folder, rank_of_folders, rank_of, rank}
 use Rattle.find_file.specs.Telling.{place_of, call_of, Leads, Leaves, Advances, Steps, StandsAt, Works, with_task}
@@ -34,9 +34,9 @@ use Rattle.find_file.proofs.Standing.{left-at, rank-at, leads-now}
 
 -- what a look at a thing brings, by its kind
 pub look-kind : (s : FileSystem) (search : Search) (is_named : Bool) (path : Route) (below : List Turn) (kind : Kind)
-    → refusal_of s (Stat path) ≡ None → (node s (found s path)).kind ≡ kind → looked s search is_named path below ≡ At path ∷ by_kind kind s search is_named path below
+    → refusal_of s (Stat path) ≡ None → (node s (found_node s path)).kind ≡ kind → look_turns s search is_named path below ≡ At path ∷ by_kind kind s search is_named path below
 look-kind s search is_named path below kind stands is =
-    ap (λ o. At path ∷ brings o path (by_kind (node s (found s path)).kind s search is_named path below)) stands
+    ap (λ o. At path ∷ brings o path (by_kind (node s (found_node s path)).kind s search is_named path below)) stands
     ∙ ap (λ k. At path ∷ by_kind k s search is_named path below) is
 
 module _ (s : FileSystem) (search : Search) (old : Walk) (none : old.task ≡ None) where
@@ -60,7 +60,7 @@ module _ (s : FileSystem) (search : Search) (old : Walk) (none : old.task ≡ No
   abbrev pub at_look : List Turn
   at_look = left_in s search (with_task old (Look path is_named))
 
-  looked-on : (told : List Turn) (new : Walk) → new ≡ old → looked s search is_named path (turns_below s search path) ≡ At path ∷ told
+  looked-on : (told : List Turn) (new : Walk) → new ≡ old → look_turns s search is_named path (turns_below s search path) ≡ At path ∷ told
       → Leads at_look (told ++ left_in s search new)
   looked-on told new same is = record {
     past = path ∷ [];
@@ -68,11 +68,11 @@ module _ (s : FileSystem) (search : Search) (old : Walk) (none : old.task ≡ No
   }
 
   -- a folder is listed next, or passed over
-  pub looked-into : (new : Walk) → refusal_of s (Stat path) ≡ None → (node s (found s path)).kind ≡ kinds.Folder
+  pub looked-into : (new : Walk) → refusal_of s (Stat path) ≡ None → (node s (found_node s path)).kind ≡ kinds.Folder
       → new ≡ cond search.recursive (with_task old (ListTask path)) old → Leads at_look (left_in s search new)
   looked-into new stands kind is = go search.recursive refl is
     where
-      looks : looked s search is_named path (turns_below s search path) ≡ At path ∷ cond search.recursive (turns_below s search path) []
+      looks : look_turns s search is_named path (turns_below s search path) ≡ At path ∷ cond search.recursive (turns_below s search path) []
       looks = look-kind s search is_named path (turns_below s search path) kinds.Folder stands kind
 
       go : (b : Bool) → search.recursive ≡ b → new ≡ cond b (with_task old (ListTask path)) old → Leads at_look (left_in s search new)
@@ -84,31 +84,31 @@ module _ (s : FileSystem) (search : Search) (old : Walk) (none : old.task ≡ No
       go false stays same = looked-on [] new same (looks ∙ ap (λ b. At path ∷ cond b (turns_below s search path) []) stays)
 
   -- what is no file and no folder brings nothing
-  pub looked-past : (kind : Kind) (new : Walk) → refusal_of s (Stat path) ≡ None → (node s (found s path)).kind ≡ kind
+  pub looked-past : (kind : Kind) (new : Walk) → refusal_of s (Stat path) ≡ None → (node s (found_node s path)).kind ≡ kind
       → by_kind kind s search is_named path (turns_below s search path) ≡ [] → new ≡ old → Leads at_look (left_in s search new)
   looked-past kind new stands is nothing same =
       looked-on [] new same (look-kind s search is_named path (turns_below s search path) kind stands is ∙ ap (λ l. At path ∷ l) nothing)
 
-  module _ (stands : refusal_of s (Stat path) ≡ None) (kind : (node s (found s path)).kind ≡ kinds.File) (new : Walk) (same : new ≡ old) where
-    looks-at-file : looked s search is_named path (turns_below s search path) ≡ At path ∷ cond (is_named && not (is_by_name search)) (read s search path) []
+  module _ (stands : refusal_of s (Stat path) ≡ None) (kind : (node s (found_node s path)).kind ≡ kinds.File) (new : Walk) (same : new ≡ old) where
+    looks-at-file : look_turns s search is_named path (turns_below s search path) ≡ At path ∷ cond (is_named && not (is_by_name search)) (read_turns s search path) []
     looks-at-file = look-kind s search is_named path (turns_below s search path) kinds.File stands kind
 
     -- a file that isn't read
     pub unread-file : (is_named && not (is_by_name search)) ≡ false → Leads at_look (left_in s search new)
-    unread-file unasked = looked-on [] new same (looks-at-file ∙ ap (λ b. At path ∷ cond b (read s search path) []) unasked)
+    unread-file unasked = looked-on [] new same (looks-at-file ∙ ap (λ b. At path ∷ cond b (read_turns s search path) []) unasked)
 
     module _ (asks : (is_named && not (is_by_name search)) ≡ true) (allowed : refusal_of s (ReadAt path 0 0) ≡ None) where
-      looks-in-file : (b : Bool) → b ≡ holds search.content (node s (found s path)).bytes → looked s search is_named path (turns_below s search path) ≡ At path ∷ path_if b path
+      looks-in-file : (b : Bool) → b ≡ holds search.content (node s (found_node s path)).bytes → look_turns s search is_named path (turns_below s search path) ≡ At path ∷ path_if b path
       looks-in-file b is =
-          looks-at-file ∙ ap (λ b. At path ∷ cond b (read s search path) []) asks
-          ∙ ap (λ o. At path ∷ brings o path (path_if (holds search.content (node s (found s path)).bytes) path)) allowed
+          looks-at-file ∙ ap (λ b. At path ∷ cond b (read_turns s search path) []) asks
+          ∙ ap (λ o. At path ∷ brings o path (path_if (holds search.content (node s (found_node s path)).bytes) path)) allowed
           ∙ ap (λ b. At path ∷ path_if b path) (sym is)
 
       -- one that holds the content, and one that doesn't
-      pub read-holds : true ≡ holds search.content (node s (found s path)).bytes → Leads at_look (Tells (Path path) ∷ left_in s search new)
+      pub read-holds : true ≡ holds search.content (node s (found_node s path)).bytes → Leads at_look (Tells (Path path) ∷ left_in s search new)
       read-holds is = looked-on (Tells (Path path) ∷ []) new same (looks-in-file true is)
 
-      pub read-lacks : false ≡ holds search.content (node s (found s path)).bytes → Leads at_look (left_in s search new)
+      pub read-lacks : false ≡ holds search.content (node s (found_node s path)).bytes → Leads at_look (left_in s search new)
       read-lacks is = looked-on [] new same (looks-in-file false is)
 
 module _ (log : CallLog) (search : Search) (old : Walk) (none : old.task ≡ None) where
@@ -213,8 +213,8 @@ module _ (task : Task) (old new : Walk) (before after : ℕ) where
 
 -- ---- a folder that was listed
 
-pub brings-children : (s : FileSystem) (search : Search) (folder : Route) (children : Children) → length (spelled folder) ≤ 4096
-    → refusal_of s (ListFolder folder) ≡ None → IsListing s (found s folder) children → IsAscending children.names
+pub brings-children : (s : FileSystem) (search : Search) (folder : Route) (children : Children) → length (spelled_route folder) ≤ 4096
+    → refusal_of s (ListFolder folder) ≡ None → IsListing s (found_node s folder) children → IsAscending children.names
     → turns_below s search folder ≡ At folder ∷ of_children s search folder (map (child_of search.name) children.names)
 brings-children s search folder children short stands listing up =
     turns_below_is s search folder short
@@ -256,7 +256,7 @@ module _ (search : Search) (old new : Walk) (folder : Route) (names : List (List
 -- ---- each call of the tree
 
 module _ (log : CallLog) (search : Search) (old : Walk) (none : old.task ≡ None) (A : Type 0) (P : A → Type 0) (e : TreeError) (new : Walk) (r : Result (Option Found) NoMemory) where
-  pub list-refused : (folder : Route) → length (spelled folder) ≤ 4096 → Reads {A = A} log (ListFolder folder) (Err e) P
+  pub list-refused : (folder : Route) → length (spelled_route folder) ≤ 4096 → Reads {A = A} log (ListFolder folder) (Err e) P
       → IfOk r (λ told. (told ≡ Some (Skipped folder e)) × (e ≢ Memory) × (new ≡ old)) → IfErr r (λ _. (e ≡ Memory) × (new ≡ with_task old (ListTask folder)))
       → Steps (current log) search (with_task old (ListTask folder)) r new
   list-refused folder short h ok err =
@@ -269,17 +269,17 @@ module _ (log : CallLog) (search : Search) (old : Walk) (none : old.task ≡ Non
       → Steps (current log) search (with_task old (Look path is_named)) r new
   look-refused path is_named h ok err =
       refused log search old none A P (Look path is_named) (Stat path) e
-      (by_kind (node (current log) (found (current log) path)).kind (current log) search is_named path (turns_below (current log) search path))
+      (by_kind (node (current log) (found_node (current log) path)).kind (current log) search is_named path (turns_below (current log) search path))
       new r refl (λ allowed. allowed) h ok err
 
-  pub read-refused : (path : Route) (is_named : Bool) → refusal_of (current log) (Stat path) ≡ None → (node (current log) (found (current log) path)).kind ≡ kinds.File
+  pub read-refused : (path : Route) (is_named : Bool) → refusal_of (current log) (Stat path) ≡ None → (node (current log) (found_node (current log) path)).kind ≡ kinds.File
       → (is_named && not (is_by_name search)) ≡ true → Reads {A = A} log (ReadAt path 0 0) (Err e) P
       → IfOk r (λ told. (told ≡ Some (Skipped path e)) × (e ≢ Memory) × (new ≡ old)) → IfErr r (λ _. (e ≡ Memory) × (new ≡ with_task old (Look path is_named)))
       → Steps (current log) search (with_task old (Look path is_named)) r new
   read-refused path is_named stands kind asks h ok err =
       refused log search old none A P (Look path is_named) (ReadAt path 0 0) e
-      (path_if (holds search.content (node (current log) (found (current log) path)).bytes) path) new r
-      (look-kind (current log) search is_named path (turns_below (current log) search path) kinds.File stands kind ∙ ap (λ b. At path ∷ cond b (read (current log) search path) []) asks)
+      (path_if (holds search.content (node (current log) (found_node (current log) path)).bytes) path) new r
+      (look-kind (current log) search is_named path (turns_below (current log) search path) kinds.File stands kind ∙ ap (λ b. At path ∷ cond b (read_turns (current log) search path) []) asks)
       (λ allowed. stands) h ok err
 
 -- the tests of a reading

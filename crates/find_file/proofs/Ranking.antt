@@ -3,7 +3,7 @@ use Rattle.std.proofs.Common.{◌≡◌, ℕ, zero, suc, ◌+◌, ◌*◌, ◌^�
 use Rattle.std.specs.Prelude.{nat_lt, Some, None}
 use Rattle.std.proofs.Math.Nat.{mul-le-mul_right, suc-mul}
 use Rattle.std.proofs.lemmas.Bool.{ltb-true, ltb-false}
-use Rattle.mc_text.specs.Routes.{Route, spelled}
+use Rattle.mc_text.specs.Routes.{Route, spelled_route}
 use Rattle.find_file.specs.declared.walk.Task.{Task}
 use Rattle.find_file.specs.declared.walk.Task.TheVariants.{Look, List as ListTask}
 use Rattle.find_file.specs.Folders.{OpenFolder}
@@ -31,10 +31,10 @@ weight-grows less (suc more) h = go (nat_lt less more) refl (weight-grows less m
 sums : (below one many rest : ℕ) → 4 + 2 ^ 64 * below ≤ one → (3 + 2 ^ 64 * below) + ((1 + many) + rest) < 0 + ((1 + (many + one)) + rest)
 sums below one many rest h = omega arith
 
-pub rank-taken : (name : List ℕ) (folder : Route) (n rest : ℕ) → length (spelled (name ∷ folder)) ≤ 4096
+pub rank-taken : (name : List ℕ) (folder : Route) (n rest : ℕ) → length (spelled_route (name ∷ folder)) ≤ 4096
     → (3 + 2 ^ 64 * weight (bytes_left (name ∷ folder))) + ((1 + n * weight (bytes_left folder)) + rest) < 0 + ((1 + suc n * weight (bytes_left folder)) + rest)
 rank-taken name folder n rest short =
-    let is : length (spelled (name ∷ folder)) ≡ length (spelled folder) + suc (length name) = longer name folder in
+    let is : length (spelled_route (name ∷ folder)) ≡ length (spelled_route folder) + suc (length name) = longer name folder in
     let fewer : bytes_left (name ∷ folder) < bytes_left folder = omega arith in
     subst (λ all. (3 + 2 ^ 64 * weight (bytes_left (name ∷ folder))) + ((1 + n * weight (bytes_left folder)) + rest) < 0 + ((1 + all) + rest))
     (sym (suc-mul n (weight (bytes_left folder))))

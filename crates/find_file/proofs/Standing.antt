@@ -3,7 +3,7 @@ use Rattle.std.proofs.Common.{◌≡◌, ◌<◌, ◌≤◌, Bool, true, false, 
 use Rattle.std.specs.Prelude.{◌&&◌, ◌||◌, nat_lt, Option, Some, None, Result, Ok, Err, IfOk, IfErr}
 use Rattle.std.proofs.lemmas.Bool.{lt-ltb, le-ltb}
 use Rattle.mc_text.specs.declared.error.NoMemory.{NoMemory}
-use Rattle.mc_text.specs.Routes.{Route, spelled}
+use Rattle.mc_text.specs.Routes.{Route, spelled_route}
 use Rattle.tree_trait.specs.declared.file_system.FileSystem.{FileSystem}
 use Rattle.find_file.specs.declared.opened.Child.{Child}
 use Rattle.find_file.specs.declared.found.Found.{Found}
@@ -13,7 +13,7 @@ use Rattle.find_file.specs.declared.walk.Walk.{Walk}
 use Rattle.find_file.specs.declared.walk.Task.{Task}
 use Rattle.find_file.specs.declared.walk.Task.TheVariants.{Look}
 use Rattle.find_file.specs.FoundList.Turn.{Tells}
-use Rattle.find_file.specs.FoundList.{Turn, is_by_name, leaves_out, is_passed_over, path_if, looked, turns_below}
+use Rattle.find_file.specs.FoundList.{Turn, is_by_name, leaves_out, is_passed_over, path_if, look_turns, turns_below}
 use Rattle.find_file.specs.Folders.{OpenFolder}
 use Rattle.find_file.specs.Walks.{of_children, of_folders, left_of, left_in, rank_of_folders, rank_of, rank}
 use Rattle.find_file.specs.Telling.{StandsAt, IsOver, Goes, Leads}
@@ -94,7 +94,7 @@ module _ (search : Search) (old new : Walk) where
     goes-past over is =
         silent None None (record { path = path; children = c ∷ cs }) (record { path = path; children = cs }) fs fs was is
         (λ s. ap (λ l. (l ++ of_children s search path cs) ++ of_folders s search fs)
-        (sym (passed (is_passed_over search c.name path) (path_if (c.is_named && is_by_name search) (c.name ∷ path) ++ looked s search c.is_named (c.name ∷ path) (turns_below s search (c.name ∷ path))) over)))
+        (sym (passed (is_passed_over search c.name path) (path_if (c.is_named && is_by_name search) (c.name ∷ path) ++ look_turns s search c.is_named (c.name ∷ path) (turns_below s search (c.name ∷ path))) over)))
         (rank-past path (length cs) (rank_of_folders fs)) not_over
 
     -- a child is looked at next
@@ -103,7 +103,7 @@ module _ (search : Search) (old new : Walk) where
     goes-on over unnamed is =
         silent None (Some (Look (c.name ∷ path) c.is_named)) (record { path = path; children = c ∷ cs }) (record { path = path; children = cs }) fs fs was is
         (λ s.
-        let look = looked s search c.is_named (c.name ∷ path) (turns_below s search (c.name ∷ path)) in
+        let look = look_turns s search c.is_named (c.name ∷ path) (turns_below s search (c.name ∷ path)) in
         sym (append_assoc look (of_children s search path cs) (of_folders s search fs))
         ∙ ap (λ l. (l ++ of_children s search path cs) ++ of_folders s search fs)
         (sym (met (is_passed_over search c.name path) (path_if (c.is_named && is_by_name search) (c.name ∷ path) ++ look) over
@@ -115,7 +115,7 @@ module _ (search : Search) (old new : Walk) where
         → StandsAt new (Some (Look (c.name ∷ path) c.is_named)) (record { path = path; children = cs }) fs → Goes search old new (Ok (Some (Path (c.name ∷ path))))
     goes-found over named is = record {
       steps = λ s.
-          let look = looked s search c.is_named (c.name ∷ path) (turns_below s search (c.name ∷ path)) in
+          let look = look_turns s search c.is_named (c.name ∷ path) (turns_below s search (c.name ∷ path)) in
           leads-now (left_in s search old) (Tells (Path (c.name ∷ path)) ∷ left_in s search new)
           (left-at old None (record { path = path; children = c ∷ cs }) fs s search was
           ∙ (ap (λ l. (l ++ of_children s search path cs) ++ of_folders s search fs)
@@ -176,15 +176,15 @@ module _ (search : Search) (old : Walk) (none : old.task ≡ None) (c : Child) (
   -- a name that is left out, and a path that would be too long
   pub passes-name : (new : Walk) (told : Option Found) → told ≡ None → new ≡ past → leaves_out search c.name ≡ true → Goes search old new (Ok told)
   passes-name new told silent is out =
-      passes new told silent is (or_true (leaves_out search c.name) (nat_lt 4096 (length (spelled (c.name ∷ old.inner.path)))) out)
+      passes new told silent is (or_true (leaves_out search c.name) (nat_lt 4096 (length (spelled_route (c.name ∷ old.inner.path)))) out)
 
-  pub passes-path : (new : Walk) (told : Option Found) → told ≡ None → new ≡ past → 4096 < length (spelled (c.name ∷ old.inner.path)) → Goes search old new (Ok told)
+  pub passes-path : (new : Walk) (told : Option Found) → told ≡ None → new ≡ past → 4096 < length (spelled_route (c.name ∷ old.inner.path)) → Goes search old new (Ok told)
   passes-path new told silent is long =
-      passes new told silent is (or_last (leaves_out search c.name) (nat_lt 4096 (length (spelled (c.name ∷ old.inner.path)))) (lt-ltb 4096 _ long))
+      passes new told silent is (or_last (leaves_out search c.name) (nat_lt 4096 (length (spelled_route (c.name ∷ old.inner.path)))) (lt-ltb 4096 _ long))
 
   -- a child that is taken up
   pub takes : (new : Walk) (path : Route) (r : Result (Option Found) NoMemory) → leaves_out search c.name ≡ false → path ≡ c.name ∷ old.inner.path
-      → length (spelled (c.name ∷ old.inner.path)) ≤ 4096
+      → length (spelled_route (c.name ∷ old.inner.path)) ≤ 4096
       → IfOk r (λ told. told ≡ cond (c.is_named && is_by_name search) (Some (Path path)) None)
       → IfOk r (λ _. new ≡ record old { task = Some (Look path c.is_named); inner = record old.inner { children = drop 1 old.inner.children } })
       → IfErr r (λ _. new ≡ old) → Goes search old new r
@@ -194,7 +194,7 @@ module _ (search : Search) (old : Walk) (none : old.task ≡ None) (c : Child) (
       subst (λ t. Goes search old new (Ok t)) (sym (told_is ∙ ap (λ p. cond (c.is_named && is_by_name search) (Some (Path p)) None) is)) (go (c.is_named && is_by_name search) refl)
     where
       over : is_passed_over search c.name old.inner.path ≡ false
-      over = or_neither (leaves_out search c.name) (nat_lt 4096 (length (spelled (c.name ∷ old.inner.path)))) kept (le-ltb 4096 (length (spelled (c.name ∷ old.inner.path))) short)
+      over = or_neither (leaves_out search c.name) (nat_lt 4096 (length (spelled_route (c.name ∷ old.inner.path)))) kept (le-ltb 4096 (length (spelled_route (c.name ∷ old.inner.path))) short)
 
       stands : StandsAt new (Some (Look (c.name ∷ old.inner.path) c.is_named)) (record { path = old.inner.path; children = drop 1 old.inner.children }) old.around.nearest
       stands = record {

@@ -1,6 +1,6 @@
 -- What is yet to come where a walk stands, and how many steps it has left at most.
 use Rattle.std.specs.Prelude.{ℕ, zero, suc, ◌+◌, ◌-◌, ◌*◌, ◌^◌, List, [], ◌∷◌, ◌++◌, length, flat_map, Option, Some, None}
-use Rattle.mc_text.specs.Routes.{Route, spelled}
+use Rattle.mc_text.specs.Routes.{Route, spelled_route}
 use Rattle.tree_trait.specs.declared.file_system.FileSystem.{FileSystem}
 use Rattle.find_file.specs.declared.opened.Child.{Child}
 use Rattle.find_file.specs.Folders.{OpenFolder}
@@ -10,7 +10,7 @@ use Rattle.find_file.specs.declared.walk.Walk.{Walk}
 use Rattle.find_file.specs.declared.finder.Finder.{Finder}
 use Rattle.find_file.specs.declared.search.Search.{Search}
 use Rattle.find_file.specs.declared.found.Found.{Found}
-use Rattle.find_file.specs.FoundList.{Turn, looked, child, turns_below, told_in}
+use Rattle.find_file.specs.FoundList.{Turn, look_turns, child, turns_below, told_in}
 
 -- what a child is yet to bring
 abbrev pub of_child : FileSystem → Search → Route → Child → List Turn
@@ -29,7 +29,7 @@ of_folders s search = flat_map (of_folder s search)
 -- what a task is to bring
 abbrev pub of_task : FileSystem → Search → Option Task → List Turn
 of_task s search None = []
-of_task s search (Some (Look path is_named)) = looked s search is_named path (turns_below s search path)
+of_task s search (Some (Look path is_named)) = look_turns s search is_named path (turns_below s search path)
 of_task s search (Some (ListTask folder)) = turns_below s search folder
 
 -- what is yet to come from where a walk stands: of its task, of the folder that is worked, of those around it
@@ -49,7 +49,7 @@ yet_to_find s finder = told_in (yet_to_come s finder)
 -- How many steps are left at most. What lies below a folder isn't known before it is listed; but a path that is a name longer
 -- has fewer bytes to go, and a folder has at most as many names as a number of 64 bits counts.
 abbrev pub bytes_left : Route → ℕ
-bytes_left path = 4096 - length (spelled path)
+bytes_left path = 4096 - length (spelled_route path)
 
 -- the steps that a child takes at most with all below it, where its folder's path may be so many bytes longer
 abbrev pub weight : ℕ → ℕ

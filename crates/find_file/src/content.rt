@@ -2,7 +2,7 @@
 ghost use Rattle.std.specs.Prelude.{◌≡◌, ◌≤◌, ◌<◌, ◌-◌, ◌^◌, ◌++◌, length, drop, take, IfOk, IfSome, MatchOption};
 ghost use Rattle.tree_trait.specs.Calls.{ReadAt};
 ghost use Rattle.tree_trait.specs.FileSystem.{node};
-ghost use Rattle.tree_trait.specs.Change.{current, found};
+ghost use Rattle.tree_trait.specs.Change.{current, found_node};
 ghost use Rattle.tree_trait.specs.Answers.{HasCause, IfKnown, Reads};
 ghost use Rattle.find_file.specs.FoundList.{holds};
 
@@ -27,8 +27,8 @@ pub fn file_holds<T: ReadTree>(
 ) -> Result<bool, TreeError>
     requires some { 1 ≤ length content.now }
     ensures answer { IfKnown (T.contents tree.old) (λ log.
-        length (node (current log) (found (current log) path.now)).bytes ≤ 2 ^ 63
-        → Reads log (ReadAt path.now 0 0) result (λ is. is ≡ holds content.now (node (current log) (found (current log) path.now)).bytes)) }
+        length (node (current log) (found_node (current log) path.now)).bytes ≤ 2 ^ 63
+        → Reads log (ReadAt path.now 0 0) result (λ is. is ≡ holds content.now (node (current log) (found_node (current log) path.now)).bytes)) }
     ensures same { T.contents tree.new ≡ T.contents tree.old }
     ensures cause { HasCause TreeError.Fault (T.fault_count tree.old) (T.fault_count tree.new) result }
 {
@@ -46,8 +46,8 @@ fn read_through<T: ReadTree>(
     requires width { width ≡ length finder.now }
     requires some { 1 ≤ length finder.now }
     ensures answer { IfKnown (T.contents tree.old) (λ log.
-        length (node (current log) (found (current log) path.now)).bytes ≤ 2 ^ 63
-        → Reads log (ReadAt path.now 0 0) result (λ is. is ≡ holds finder.now (node (current log) (found (current log) path.now)).bytes)) }
+        length (node (current log) (found_node (current log) path.now)).bytes ≤ 2 ^ 63
+        → Reads log (ReadAt path.now 0 0) result (λ is. is ≡ holds finder.now (node (current log) (found_node (current log) path.now)).bytes)) }
     ensures same { T.contents tree.new ≡ T.contents tree.old }
     ensures cause { HasCause TreeError.Fault (T.fault_count tree.old) (T.fault_count tree.new) result }
 {
@@ -85,7 +85,7 @@ fn next_piece<T: ReadTree>(
 ) -> Result<Option<Vec<u8>>, TreeError>
     requires { 1 ≤ most }
     ensures answer { IfKnown (T.contents tree.old) (λ log. Reads log (ReadAt path.now 0 0) result (λ piece.
-        let file = (node (current log) (found (current log) path.now)).bytes in
+        let file = (node (current log) (found_node (current log) path.now)).bytes in
         MatchOption piece (length file ≤ offset) (λ bytes. bytes.items ≡ take (length bytes.items) (drop offset file)))) }
     ensures some { IfOk result (λ piece. IfSome piece (λ bytes. 1 ≤ length bytes.items)) }
     ensures same { T.contents tree.new ≡ T.contents tree.old }

@@ -5,7 +5,7 @@ ghost use Rattle.tree_trait.specs.declared.file_system.FileSystem.{FileSystem};
 ghost use Rattle.tree_trait.specs.Calls.{Stat};
 ghost use Rattle.tree_trait.specs.Refusals.{refusal_of};
 ghost use Rattle.tree_trait.specs.FileSystem.{node};
-ghost use Rattle.tree_trait.specs.Change.{current, found};
+ghost use Rattle.tree_trait.specs.Change.{current, found_node};
 ghost use Rattle.tree_trait.specs.Answers.{IfKnown};
 ghost use Rattle.find_file.specs.FoundList.{is_by_name};
 ghost use Rattle.find_file.specs.Folders.{child_of};
@@ -204,8 +204,8 @@ impl Walk {
         requires { self.old.task ≡ None }
         ensures answer { IfKnown (T.contents tree.old) (λ log.
             refusal_of (current log) (Stat path) ≡ None
-            → (node (current log) (found (current log) path)).kind ≡ File
-            → length (node (current log) (found (current log) path)).bytes ≤ 2 ^ 63
+            → (node (current log) (found_node (current log) path)).kind ≡ File
+            → length (node (current log) (found_node (current log) path)).bytes ≤ 2 ^ 63
             → Steps (current log) search.now (with_task self.old (Task.Look path is_named)) result self.new) }
         ensures works { Works (Task.Look path is_named) self.old self.new (T.fault_count tree.old) (T.fault_count tree.new) result }
         ensures apart { (is_named && not (is_by_name search.now)) ≡ false → tree.new ≡ tree.old }

@@ -5,7 +5,7 @@ use Rattle.std.proofs.lemmas.List.{take_at, drop_at, take-append-le, take-take}
 use Rattle.std.proofs.lemmas.List.Edits.{take-paste, drop-paste}
 use Rattle.std.proofs.Math.Seq.{take-add}
 use lib.Seq.{paste}
-use Rattle.gap_text.specs.PointedText.{PointedText, inserted, deleted}
+use Rattle.gap_text.specs.PointedText.{PointedText, inserted_text, deleted_text}
 
 -- the text in a block: what stands before the gap, and what stands after it
 abbrev pub text_around : List ℕ → ℕ → ℕ → List ℕ
@@ -49,7 +49,7 @@ module _ (room : List ℕ) (start end : ℕ) (within : start ≤ length room) wh
 
   -- a longer gap takes out the bytes that it covers
   pub deleted-around : (count : ℕ)
-      → text_with (text_around room start (end + count)) start ≡ deleted (text_with (text_around room start end) start) count
+      → text_with (text_around room start (end + count)) start ≡ deleted_text (text_with (text_around room start end) start) count
   deleted-around count =
       let around = text_around room start end in
       let rest = sym (drop-drop count start around) ∙ ap (drop count) drop-text_around ∙ drop-drop count end room in
@@ -92,7 +92,7 @@ module _ (room new : List ℕ) (start end at to count : ℕ) (pasted : new ≡ p
 -- bytes are written at the start of a gap that is long enough for them
 module _ (room new bytes : List ℕ) (start end to : ℕ) (written : new ≡ take start room ++ (bytes ++ drop to room)) where
   pub inserted-around : start + length bytes ≡ to → to ≤ end → end ≤ length room
-      → text_with (text_around new to end) to ≡ inserted (text_with (text_around room start end) start) bytes
+      → text_with (text_around new to end) to ≡ inserted_text (text_with (text_around room start end) start) bytes
   inserted-around after long within =
       let kept : length (take start room) ≡ start = length-take-le start room (omega arith) in
       let front_length : length (take start room ++ bytes) ≡ to = omega (arith, length-append (take start room) bytes) in

@@ -1,7 +1,7 @@
 -- The counts of both halves stay true where the point moves and bytes change.
 use Rattle.std.proofs.Common.{◌≡◌, ℕ, ◌+◌, ◌-◌, ◌*◌, ◌≤◌, List, ◌++◌, length, take, drop, reverse, sym, ap, subst, ◌∙◌, arith, append_assoc, length-append, length-drop, length-take-le, drop-drop}
 use Rattle.std.proofs.lemmas.List.{take-take, take_at, drop_at, length-reverse}
-use Rattle.gap_text.specs.PointedText.{PointedText, inserted, deleted}
+use Rattle.gap_text.specs.PointedText.{PointedText, inserted_text, deleted_text}
 use Rattle.gap_text.specs.LineCounts.{AreCounts}
 use Rattle.gap_text.proofs.LineCountLemmas.{AreCounts-cut, AreCounts-longer, take-reverse}
 
@@ -34,28 +34,28 @@ module _ (text : PointedText) (within : text.point ≤ length text.bytes) where
   fits : length (take text.point text.bytes) ≡ text.point
   fits = length-take-le text.point text.bytes within
 
-  pub front-deleted : (count : ℕ) → take text.point (deleted text count).bytes ≡ take text.point text.bytes
+  pub front-deleted : (count : ℕ) → take text.point (deleted_text text count).bytes ≡ take text.point text.bytes
   front-deleted count = take_at (take text.point text.bytes) (drop (text.point + count) text.bytes) text.point fits
 
-  pub back-deleted : (count : ℕ) → drop text.point (deleted text count).bytes ≡ drop (text.point + count) text.bytes
+  pub back-deleted : (count : ℕ) → drop text.point (deleted_text text count).bytes ≡ drop (text.point + count) text.bytes
   back-deleted count = drop_at (take text.point text.bytes) (drop (text.point + count) text.bytes) text.point fits
 
   module _ (new : List ℕ) where
     begin : List ℕ
     begin = take text.point text.bytes ++ new
 
-    whole : (inserted text new).bytes ≡ (take text.point text.bytes ++ new) ++ drop text.point text.bytes
+    whole : (inserted_text text new).bytes ≡ (take text.point text.bytes ++ new) ++ drop text.point text.bytes
     whole = sym (append_assoc (take text.point text.bytes) new (drop text.point text.bytes))
 
     begin_fits : length (take text.point text.bytes ++ new) ≡ text.point + length new
     begin_fits = omega (arith, fits, length-append (take text.point text.bytes) new)
 
-    pub front-inserted : take (text.point + length new) (inserted text new).bytes ≡ take text.point text.bytes ++ new
+    pub front-inserted : take (text.point + length new) (inserted_text text new).bytes ≡ take text.point text.bytes ++ new
     front-inserted =
         ap (take (text.point + length new)) whole
         ∙ take_at (take text.point text.bytes ++ new) (drop text.point text.bytes) (text.point + length new) begin_fits
 
-    pub back-inserted : drop (text.point + length new) (inserted text new).bytes ≡ drop text.point text.bytes
+    pub back-inserted : drop (text.point + length new) (inserted_text text new).bytes ≡ drop text.point text.bytes
     back-inserted =
         ap (drop (text.point + length new)) whole
         ∙ drop_at (take text.point text.bytes ++ new) (drop text.point text.bytes) (text.point + length new) begin_fits
@@ -63,8 +63,8 @@ module _ (text : PointedText) (within : text.point ≤ length text.bytes) where
 -- the counts once bytes were put in
 pub counts-inserted : (before behind new : List ℕ) (text : PointedText) → text.point ≤ length text.bytes
     → AreCounts before (take text.point text.bytes) → AreCounts behind (reverse (drop text.point text.bytes))
-    → AreCounts before (take (inserted text new).point (inserted text new).bytes)
-    × AreCounts behind (reverse (drop (inserted text new).point (inserted text new).bytes))
+    → AreCounts before (take (inserted_text text new).point (inserted_text text new).bytes)
+    × AreCounts behind (reverse (drop (inserted_text text new).point (inserted_text text new).bytes))
 counts-inserted before behind new text within front back = (
   subst (λ (l : List ℕ). AreCounts before l) (sym (front-inserted text within new)) (AreCounts-longer before _ new front),
   subst (λ (l : List ℕ). AreCounts behind (reverse l)) (sym (back-inserted text within new)) back,
@@ -74,8 +74,8 @@ counts-inserted before behind new text within front back = (
 pub counts-deleted : (before behind : List ℕ) (text : PointedText) (count k : ℕ) → text.point + count ≤ length text.bytes
     → 65536 * k ≤ length text.bytes - text.point - count
     → AreCounts before (take text.point text.bytes) → AreCounts behind (reverse (drop text.point text.bytes))
-    → AreCounts before (take (deleted text count).point (deleted text count).bytes)
-    × AreCounts (take k behind) (reverse (drop (deleted text count).point (deleted text count).bytes))
+    → AreCounts before (take (deleted_text text count).point (deleted_text text count).bytes)
+    × AreCounts (take k behind) (reverse (drop (deleted_text text count).point (deleted_text text count).bytes))
 counts-deleted before behind text count k within few front back =
     let inside : text.point ≤ length text.bytes = omega (arith, within) in (
       subst (λ (l : List ℕ). AreCounts before l) (sym (front-deleted text inside count)) front,

@@ -13,23 +13,23 @@ abbrev pub no_changes : ℕ → UndoHistory
 no_changes depth = record { past = []; future = []; depth = depth }
 
 -- a change is put before the past, the oldest past the depth are dropped, and so is all that was undone
-abbrev pub noted : UndoHistory → Change → UndoHistory
-noted history change =
+abbrev pub noted_history : UndoHistory → Change → UndoHistory
+noted_history history change =
     record { past = take history.depth (change ∷ history.past); future = []; depth = history.depth }
 
 -- the first change of `from` goes before `to`
-abbrev pub carried : List Change → List Change → List Change × List Change
-carried [] to = ([], to)
-carried (change ∷ from) to = (from, change ∷ to)
+abbrev pub carried_changes : List Change → List Change → List Change × List Change
+carried_changes [] to = ([], to)
+carried_changes (change ∷ from) to = (from, change ∷ to)
 
 -- the newest change goes from the past to the future
-abbrev pub undone : UndoHistory → UndoHistory
-undone history =
-    let moved = carried history.past history.future in
+abbrev pub undone_history : UndoHistory → UndoHistory
+undone_history history =
+    let moved = carried_changes history.past history.future in
     record { past = moved.0; future = moved.1; depth = history.depth }
 
 -- the change that was undone last goes from the future to the past
-abbrev pub redone : UndoHistory → UndoHistory
-redone history =
-    let moved = carried history.future history.past in
+abbrev pub redone_history : UndoHistory → UndoHistory
+redone_history history =
+    let moved = carried_changes history.future history.past in
     record { past = moved.1; future = moved.0; depth = history.depth }

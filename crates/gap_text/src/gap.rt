@@ -3,7 +3,7 @@ ghost use Rattle.std.specs.Prelude.{◌≡◌, ◌+◌, ◌^◌, ◌<◌, ◌≤
 ghost use Rattle.std.specs.Prelude.{IfOk, OnOk, OnErr};
 ghost use Rattle.memchr.specs.Find.{IsFirst, IsLast, Passes, is_byte};
 ghost use Rattle.gap_text.specs.Places.{first_place, IsLeastPlace};
-ghost use Rattle.gap_text.specs.PointedText.{opened, moved_to, inserted, deleted};
+ghost use Rattle.gap_text.specs.PointedText.{opened_text, moved_to, inserted_text, deleted_text};
 
 use crate::bytes::{byte_in_halves, last_byte_in_halves};
 use crate::places::place_in_halves;
@@ -39,7 +39,7 @@ impl GapBuffer {
 
     /// A text with no bytes. It takes no memory.
     pub fn new(alloc: Global) -> GapBuffer
-        ensures { result ≡ opened [] }
+        ensures { result ≡ opened_text [] }
     {
         GapBuffer {
             room: Vec::new(alloc),
@@ -50,7 +50,7 @@ impl GapBuffer {
 
     /// A copy of these bytes, with the point before the first. Takes time linear in the bytes.
     pub fn from_bytes(alloc: Global, bytes: &[u8]) -> Result<GapBuffer, NoMemory>
-        ensures { IfOk result (λ text. text ≡ opened bytes.now) }
+        ensures { IfOk result (λ text. text ≡ opened_text bytes.now) }
     {
         Ok(GapBuffer {
             room: Vec::from_slice(alloc, bytes)?,
@@ -104,7 +104,7 @@ impl GapBuffer {
     /// short for them, the block grows by at least a quarter, so many insertions at one place take time linear in the
     /// text and all their bytes.
     pub fn insert(&mut self, bytes: &[u8]) -> Result<(), NoMemory>
-        ensures done { OnOk result (self.new ≡ inserted self.old bytes.now) }
+        ensures done { OnOk result (self.new ≡ inserted_text self.old bytes.now) }
         ensures refused { OnErr result (self.new ≡ self.old) }
     {
         let _point = self.point();
@@ -115,7 +115,7 @@ impl GapBuffer {
     /// taken first, so the block grows only where the new ones don't fit into it and the gap.
     pub fn replace(&mut self, count: usize, bytes: &[u8]) -> Result<(), NoMemory>
         requires { self.old.point + count ≤ length self.old.bytes }
-        ensures done { OnOk result (self.new ≡ inserted (deleted self.old count) bytes.now) }
+        ensures done { OnOk result (self.new ≡ inserted_text (deleted_text self.old count) bytes.now) }
         ensures refused { OnErr result (self.new ≡ self.old) }
     {
         let end = self.gap_end + count;
@@ -128,7 +128,7 @@ impl GapBuffer {
     /// Takes out the next `count` bytes after the point, in constant time. It takes no memory, and gives none back.
     pub fn delete(&mut self, count: usize)
         requires { self.old.point + count ≤ length self.old.bytes }
-        ensures { self.new ≡ deleted self.old count }
+        ensures { self.new ≡ deleted_text self.old count }
     {
         self.gap_end += count;
     }

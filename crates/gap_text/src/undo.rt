@@ -3,7 +3,7 @@ ghost use Rattle.std.specs.Prelude.{◌≡◌, ⊤, None, IfOk, IsOk, slice_get,
 ghost use Rattle.std.specs.Borrow.{sem};
 ghost use mathlib.Core.Option.{none};
 ghost use denote.Follow.{follows_so};
-ghost use Rattle.gap_text.specs.UndoHistory.{noted, undone, redone, no_changes};
+ghost use Rattle.gap_text.specs.UndoHistory.{noted_history, undone_history, redone_history, no_changes};
 
 use crate::change::Change;
 use circular_buffer::HeapCircularBuffer;
@@ -48,7 +48,7 @@ impl Undo {
 
     /// Notes a change that was made. All that was undone is dropped, and the oldest change where there is no more room.
     pub fn note(&mut self, change: Change)
-        ensures { self.new ≡ noted self.old change }
+        ensures { self.new ≡ noted_history self.old change }
     {
         self.future.clear();
         self.past.push_front(change);
@@ -60,7 +60,7 @@ impl Undo {
         ensures succeeds { IsOk result }
         ensures shown { IfOk result (λ shown. option_copied shown ≡ slice_get self.old.past 0) }
         ensures* after { sem 𝓛 (follows_so the_row the_row self.entry.ghost_name none (λ _ _. ⊤)
-            (λ after. after ≡ undone self.old)) }
+            (λ after. after ≡ undone_history self.old)) }
     {
         if self.step_back() {
             Ok(self.next_redone())
@@ -73,7 +73,7 @@ impl Undo {
     pub fn redo(&mut self) -> Option<&Change>
         ensures shown { option_copied result ≡ slice_get self.old.future 0 }
         ensures* after { sem 𝓛 (follows_so the_row the_row self.entry.ghost_name none (λ _ _. ⊤)
-            (λ after. after ≡ redone self.old)) }
+            (λ after. after ≡ redone_history self.old)) }
     {
         if self.step_forward() {
             self.next_undone()
@@ -98,7 +98,7 @@ impl Undo {
 
     /// Takes the newest change from the past to what was undone, if there is one. It takes no memory.
     pub fn step_back(&mut self) -> bool
-        ensures after { self.new ≡ undone self.old }
+        ensures after { self.new ≡ undone_history self.old }
         ensures shown { slice_get self.old.past 0 ≡ (if result then slice_get self.new.future 0 else None) }
     {
         let Some(newest) = self.past.pop_front() else {
@@ -110,7 +110,7 @@ impl Undo {
 
     /// Takes the change that was undone last back into the past, if there is one. It takes no memory.
     pub fn step_forward(&mut self) -> bool
-        ensures after { self.new ≡ redone self.old }
+        ensures after { self.new ≡ redone_history self.old }
         ensures shown { slice_get self.old.future 0 ≡ (if result then slice_get self.new.past 0 else None) }
     {
         let Some(last_undone) = self.future.pop_front() else {

@@ -2,7 +2,7 @@
 use Rattle.std.proofs.Common.{◌≡◌, ℕ, zero, suc, ◌-◌, ◌<◌, ◌≤◌, Bool, true, false, ◌&&◌, List, [], ◌∷◌, ◌++◌, length, get_or, set, remove, Option, Some, None, is_none, option_map, refl, ap, ◌∙◌, sym, subst, ⊎_elim, arith}
 use Rattle.hotlist.specs.declared.items.HotItem.{HotItem}
 use Rattle.hotlist.specs.HotLists.{HotList, NoMore, AnEntry, AGroup, before, list_of, is_within}
-use Rattle.hotlist.specs.Places.{followed_by, changed_at, added, without_position, removed}
+use Rattle.hotlist.specs.Places.{followed_by, changed_at, list_with_item, without_position, list_without_item}
 use Rattle.hotlist.proofs.ListLemmas.{item_is}
 
 followed-before : (item : HotItem) (others second : HotList) → followed_by (before item others) second ≡ before item (followed_by others second)
@@ -137,14 +137,14 @@ changed_at-within (suc room) (suc position) change (AGroup label items others) n
     subst (λ list. is_within (suc room) list ≡ true) found.2
     (joined (is_within room items) (is_within (suc room) found.0) parts.0 (changed_at-within (suc room) position change others found.0 keeps found.1 parts.1))
 
-pub added-within : (place : List ℕ) (room : ℕ) (item list new : HotList) → added place item list ≡ Some new → is_within room list ≡ true
+pub added-within : (place : List ℕ) (room : ℕ) (item list new : HotList) → list_with_item place item list ≡ Some new → is_within room list ≡ true
     → is_within (room - length place) item ≡ true → is_within room new ≡ true
 added-within [] room item list new is within fits =
     let same : followed_by list item ≡ new = cc in
     let whole : is_within room item ≡ true = subst (λ r. is_within r item ≡ true) (let e : room - 0 ≡ room = omega arith in e) fits in
     subst (λ l. is_within room l ≡ true) same (within-followed room list item within whole)
 added-within (position ∷ place) room item list new is within fits =
-    changed_at-within room position (added place item) list new
+    changed_at-within room position (list_with_item place item) list new
     (λ less items changed deep change inner. added-within place less item items changed change inner
     (subst (λ r. is_within r item ≡ true) (let e : room - length (position ∷ place) ≡ less - length place = omega (arith, deep) in e) fits))
     is within
@@ -184,11 +184,11 @@ without_position-past zero (item ∷ items) past = absurd (omega arith)
 without_position-past (suc position) (item ∷ items) past =
     without_next position item (list_of items) ∙ ap (option_map (before item)) (without_position-past position items (omega arith))
 
-pub removed-past : (position : ℕ) (below : List ℕ) (items : List HotItem) → length items ≤ position → removed (position ∷ below) (list_of items) ≡ None
+pub removed-past : (position : ℕ) (below : List ℕ) (items : List HotItem) → length items ≤ position → list_without_item (position ∷ below) (list_of items) ≡ None
 removed-past position [] items past = without_position-past position items past
-removed-past position (next ∷ below) items past = changed_at-past position (removed (next ∷ below)) items past
+removed-past position (next ∷ below) items past = changed_at-past position (list_without_item (next ∷ below)) items past
 
-pub removed-below : (position : ℕ) (below : List ℕ) (list : HotList) → 0 < length below → removed (position ∷ below) list ≡ changed_at position (removed below) list
+pub removed-below : (position : ℕ) (below : List ℕ) (list : HotList) → 0 < length below → list_without_item (position ∷ below) list ≡ changed_at position (list_without_item below) list
 removed-below position [] list some = absurd (omega arith)
 removed-below position (next ∷ below) list some = refl
 
@@ -210,9 +210,9 @@ without_position-within (suc room) (suc position) (AGroup label items others) ne
     subst (λ l. is_within (suc room) l ≡ true) found.2
     (joined (is_within room items) (is_within (suc room) found.0) parts.0 (without_position-within (suc room) position others found.0 found.1 parts.1))
 
-pub removed-within : (place : List ℕ) (room : ℕ) (list new : HotList) → removed place list ≡ Some new → is_within room list ≡ true → is_within room new ≡ true
+pub removed-within : (place : List ℕ) (room : ℕ) (list new : HotList) → list_without_item place list ≡ Some new → is_within room list ≡ true → is_within room new ≡ true
 removed-within [] room list new is within = absurd (cc)
 removed-within (position ∷ []) room list new is within = without_position-within room position list new is within
 removed-within (position ∷ next ∷ place) room list new is within =
-    changed_at-within room position (removed (next ∷ place)) list new
+    changed_at-within room position (list_without_item (next ∷ place)) list new
     (λ less items changed deep change inner. removed-within (next ∷ place) less items changed change inner) is within

@@ -9,11 +9,11 @@ use Rattle.text_scan.specs.Lines.{lines_of}
 use Rattle.hotlist.specs.declared.error.HotError.{HotError}
 use Rattle.hotlist.specs.declared.error.HotError.TheVariants.{NotText, BadLine, TooDeep, UnclosedGroup, Memory}
 use Rattle.hotlist.specs.HotLists.{HotList, NoMore, AnEntry, AGroup, is_within}
-use Rattle.hotlist.specs.HotLines.{SaidLine, EntryLine, GroupLine, EndLine, LineReading, Passed, Said, Bad, reading_of}
+use Rattle.hotlist.specs.HotLines.{ParsedLine, EntryLine, GroupLine, EndLine, LineReading, Passed, Parsed, Bad, reading_of}
 use Rattle.hotlist.specs.HotFiles.{lines_that_say, said_before, said_by, IsHotlist, outermost, fault_at, fault_from, hotlist_fault}
 
 -- groups are ended, none but those that were begun, and nested within the room
-abbrev is_balanced : ℕ → ℕ → List SaidLine → Bool
+abbrev is_balanced : ℕ → ℕ → List ParsedLine → Bool
 is_balanced room zero [] = true
 is_balanced room (suc unclosed) [] = false
 is_balanced room unclosed (EntryLine label path ∷ lines) = is_balanced room unclosed lines
@@ -23,7 +23,7 @@ is_balanced room zero (EndLine ∷ lines) = false
 is_balanced room (suc unclosed) (EndLine ∷ lines) = is_balanced (suc room) unclosed lines
 
 -- lines have no fault exactly where what they say is balanced
-pub faultless-balanced : (lines : List (List ℕ)) (at room : ℕ) (unclosed : List ℕ) (said : List SaidLine) → said_by lines ≡ Some said
+pub faultless-balanced : (lines : List (List ℕ)) (at room : ℕ) (unclosed : List ℕ) (said : List ParsedLine) → said_by lines ≡ Some said
     → is_none (fault_from at lines room unclosed) ≡ is_balanced room (length unclosed) said
 faultless-balanced [] at room [] [] is = refl
 faultless-balanced [] at room (line ∷ unclosed) [] is = refl
@@ -34,25 +34,25 @@ faultless-balanced (line ∷ lines) at room unclosed said is = go (reading_of li
     behind = fault_from (at + 1) lines
 
     go : (reading : LineReading) → said_before reading (said_by lines) ≡ Some said
-        → (others : Option (List SaidLine)) → said_by lines ≡ others → (room : ℕ) (unclosed : List ℕ)
-        → ((room : ℕ) (unclosed : List ℕ) (said : List SaidLine) → said_by lines ≡ Some said
+        → (others : Option (List ParsedLine)) → said_by lines ≡ others → (room : ℕ) (unclosed : List ℕ)
+        → ((room : ℕ) (unclosed : List ℕ) (said : List ParsedLine) → said_by lines ≡ Some said
         → is_none (fault_from (at + 1) lines room unclosed) ≡ is_balanced room (length unclosed) said)
         → is_none (fault_at reading at room unclosed (fault_from (at + 1) lines)) ≡ is_balanced room (length unclosed) said
     go Passed e others is room unclosed hyp = hyp room unclosed said e
     go Bad e others is room unclosed hyp = absurd (cc)
-    go (Said line) e None is room unclosed hyp = let none : None ≡ Some said = sym (ap (said_before (Said line)) is) ∙ e in absurd (cc)
-    go (Said line) e (Some more) is room unclosed hyp =
-        let whole : line ∷ more ≡ said = some_same _ _ (sym (ap (said_before (Said line)) is) ∙ e) in
-        subst (λ all. is_none (fault_at (Said line) at room unclosed (fault_from (at + 1) lines)) ≡ is_balanced room (length unclosed) all) whole
+    go (Parsed line) e None is room unclosed hyp = let none : None ≡ Some said = sym (ap (said_before (Parsed line)) is) ∙ e in absurd (cc)
+    go (Parsed line) e (Some more) is room unclosed hyp =
+        let whole : line ∷ more ≡ said = some_same _ _ (sym (ap (said_before (Parsed line)) is) ∙ e) in
+        subst (λ all. is_none (fault_at (Parsed line) at room unclosed (fault_from (at + 1) lines)) ≡ is_balanced room (length unclosed) all) whole
         (said_one line room unclosed hyp)
       where
-        some_same : (a b : List SaidLine) → Some a ≡ Some b → a ≡ b
+        some_same : (a b : List ParsedLine) → Some a ≡ Some b → a ≡ b
         some_same a b same = cc
 
-        said_one : (line : SaidLine) (room : ℕ) (unclosed : List ℕ)
-            → ((room : ℕ) (unclosed : List ℕ) (said : List SaidLine) → said_by lines ≡ Some said
+        said_one : (line : ParsedLine) (room : ℕ) (unclosed : List ℕ)
+            → ((room : ℕ) (unclosed : List ℕ) (said : List ParsedLine) → said_by lines ≡ Some said
             → is_none (fault_from (at + 1) lines room unclosed) ≡ is_balanced room (length unclosed) said)
-            → is_none (fault_at (Said line) at room unclosed (fault_from (at + 1) lines)) ≡ is_balanced room (length unclosed) (line ∷ more)
+            → is_none (fault_at (Parsed line) at room unclosed (fault_from (at + 1) lines)) ≡ is_balanced room (length unclosed) (line ∷ more)
         said_one (EntryLine label path) room unclosed hyp = hyp room unclosed more is
         said_one (GroupLine label) zero unclosed hyp = refl
         said_one (GroupLine label) (suc room) unclosed hyp = hyp room (at ∷ unclosed) more is
@@ -64,7 +64,7 @@ and_assoc true b c = refl
 and_assoc false b c = refl
 
 -- the lines of a list are balanced where it is nested within the room
-within-balanced : (list : HotList) (room unclosed : ℕ) (more : List SaidLine)
+within-balanced : (list : HotList) (room unclosed : ℕ) (more : List ParsedLine)
     → is_balanced room unclosed (lines_that_say list ++ more) ≡ (is_within room list && is_balanced room unclosed more)
 within-balanced NoMore room unclosed more = refl
 within-balanced (AnEntry label path others) room unclosed more = within-balanced others room unclosed more
@@ -97,14 +97,14 @@ faultless-nested lines list says nested =
     none_is (fault_from 1 lines 32 []) (faultless-balanced lines 1 32 [] (lines_that_say list) says ∙ list-balanced list ∙ nested)
 
 -- lines that can't go on a list: none, or an end
-abbrev Stops : List SaidLine → Type 0
+abbrev Stops : List ParsedLine → Type 0
 Stops [] = Unit {0}
 Stops (EntryLine label path ∷ lines) = ⊥
 Stops (GroupLine label ∷ lines) = ⊥
 Stops (EndLine ∷ lines) = Unit {0}
 
 -- lines say one list
-one_list : (a b : HotList) (x y : List SaidLine) → Stops x → Stops y → lines_that_say a ++ x ≡ lines_that_say b ++ y → (a ≡ b) × (x ≡ y)
+one_list : (a b : HotList) (x y : List ParsedLine) → Stops x → Stops y → lines_that_say a ++ x ≡ lines_that_say b ++ y → (a ≡ b) × (x ≡ y)
 one_list NoMore NoMore x y sx sy is = (refl, is)
 one_list NoMore (AnEntry label path others) x y sx sy is = absurd (subst Stops is sx)
 one_list NoMore (AGroup label items others) x y sx sy is = absurd (subst Stops is sx)

@@ -5,7 +5,7 @@ use Rattle.hotlist.specs.declared.items.HotItem.{HotItem}
 use Rattle.hotlist.specs.declared.items.HotItem.TheOpen.{HotItem-F, Entry, Group}
 use Rattle.hotlist.specs.declared.items.HotItem.TheFolds.{fold-HotItem, fold_out-HotItem}
 use Rattle.hotlist.specs.HotLists.{HotList, NoMore, AnEntry, AGroup, in_row, layer_before, before, list_of}
-use Rattle.hotlist.specs.HotLines.{SaidLine, EntryLine, GroupLine, EndLine}
+use Rattle.hotlist.specs.HotLines.{ParsedLine, EntryLine, GroupLine, EndLine}
 use Rattle.hotlist.specs.HotFiles.{lines_that_say}
 use Rattle.hotlist.specs.Drafts.{with_said}
 
@@ -44,13 +44,13 @@ lines-push (first ∷ items) item =
     ∙ ap (λ lines. lines ++ lines_that_say (before item NoMore)) (sym (lines-before first (list_of items)))
 
 -- one line more in front of others
-pub with_said-push : (old new : List SaidLine) (line : SaidLine) (others : Option (List SaidLine)) → new ≡ old ++ line ∷ []
+pub with_said-push : (old new : List ParsedLine) (line : ParsedLine) (others : Option (List ParsedLine)) → new ≡ old ++ line ∷ []
     → with_said new others ≡ with_said old (option_map (λ lines. line ∷ lines) others)
 with_said-push old new line None is = refl
-with_said-push old new line (Some lines) is = ap (λ front. Some (front ++ lines)) is ∙ ap Some (append_assoc old (line ∷ []) lines)
+with_said-push old new line (Some lines) is = ap (λ prefix. Some (prefix ++ lines)) is ∙ ap Some (append_assoc old (line ∷ []) lines)
 
 -- a group that ends is an item of the list around it
-pub group-ends : (groups items_before items : List SaidLine) (label : List ℕ)
+pub group-ends : (groups items_before items : List ParsedLine) (label : List ℕ)
     → groups ++ (items_before ++ (GroupLine label ∷ (items ++ EndLine ∷ [])))
     ≡ ((groups ++ (items_before ++ GroupLine label ∷ [])) ++ items) ++ EndLine ∷ []
 group-ends groups items_before items label = simp append_assoc

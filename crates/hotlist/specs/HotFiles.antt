@@ -4,24 +4,24 @@ use Rattle.std.specs.Str.{IsUtf8, is_utf8}
 use Rattle.std.specs.Str.Lossy.{utf8_valid_len}
 use Rattle.text_scan.specs.Lines.{lines_of}
 use Rattle.hotlist.specs.HotLists.{HotList, NoMore, AnEntry, AGroup, is_within}
-use Rattle.hotlist.specs.HotLines.{SaidLine, EntryLine, GroupLine, EndLine, LineReading, Passed, Said, Bad, reading_of}
+use Rattle.hotlist.specs.HotLines.{ParsedLine, EntryLine, GroupLine, EndLine, LineReading, Passed, Parsed, Bad, reading_of}
 use Rattle.hotlist.specs.declared.error.HotError.{HotError}
 use Rattle.hotlist.specs.declared.error.HotError.TheVariants.{NotText, BadLine, TooDeep, UnclosedGroup}
 
 -- the lines that say a list: a group's items stand between its line and its end
-abbrev pub lines_that_say : HotList → List SaidLine
+abbrev pub lines_that_say : HotList → List ParsedLine
 lines_that_say NoMore = []
 lines_that_say (AnEntry label path others) = EntryLine label path ∷ lines_that_say others
 lines_that_say (AGroup label items others) = GroupLine label ∷ (lines_that_say items ++ EndLine ∷ lines_that_say others)
 
 -- what one line says, before what the others say
-abbrev pub said_before : LineReading → Option (List SaidLine) → Option (List SaidLine)
+abbrev pub said_before : LineReading → Option (List ParsedLine) → Option (List ParsedLine)
 said_before Passed said = said
-said_before (Said line) said = option_map (λ lines. line ∷ lines) said
+said_before (Parsed line) said = option_map (λ lines. line ∷ lines) said
 said_before Bad said = None
 
 -- what the lines of a text say; nothing where one is bad
-abbrev pub said_by : List (List ℕ) → Option (List SaidLine)
+abbrev pub said_by : List (List ℕ) → Option (List ParsedLine)
 said_by [] = Some []
 said_by (line ∷ lines) = said_before (reading_of line) (said_by lines)
 
@@ -42,11 +42,11 @@ outermost (line ∷ next ∷ lines) = outermost (next ∷ lines)
 abbrev pub fault_at : LineReading → ℕ → ℕ → List ℕ → (ℕ → List ℕ → Option HotError) → Option HotError
 fault_at Passed at room unclosed behind = behind room unclosed
 fault_at Bad at room unclosed behind = Some (BadLine at)
-fault_at (Said (EntryLine label path)) at room unclosed behind = behind room unclosed
-fault_at (Said (GroupLine label)) at zero unclosed behind = Some (TooDeep at)
-fault_at (Said (GroupLine label)) at (suc room) unclosed behind = behind room (at ∷ unclosed)
-fault_at (Said EndLine) at room [] behind = Some (BadLine at)
-fault_at (Said EndLine) at room (line ∷ unclosed) behind = behind (suc room) unclosed
+fault_at (Parsed (EntryLine label path)) at room unclosed behind = behind room unclosed
+fault_at (Parsed (GroupLine label)) at zero unclosed behind = Some (TooDeep at)
+fault_at (Parsed (GroupLine label)) at (suc room) unclosed behind = behind room (at ∷ unclosed)
+fault_at (Parsed EndLine) at room [] behind = Some (BadLine at)
+fault_at (Parsed EndLine) at room (line ∷ unclosed) behind = behind (suc room) unclosed
 
 -- the first fault of lines that are counted from `at`
 abbrev pub fault_from : ℕ → List (List ℕ) → ℕ → List ℕ → Option HotError

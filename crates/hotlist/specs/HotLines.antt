@@ -3,15 +3,15 @@
 use Rattle.std.specs.Prelude.{ℕ, Bool, true, false, ◌==◌, ◌||◌, if◌then◌else◌, List, [], ◌∷◌, Option, Some, None, option_and_then, codes}
 
 -- what a line says: an entry, the begin of a group, or the end of one
-pub data SaidLine : Type 0 where
-  EntryLine : (label path : List ℕ) → SaidLine
-  GroupLine : (label : List ℕ) → SaidLine
-  EndLine : SaidLine
+pub data ParsedLine : Type 0 where
+  EntryLine : (label path : List ℕ) → ParsedLine
+  GroupLine : (label : List ℕ) → ParsedLine
+  EndLine : ParsedLine
 
 -- a line is passed over, or says something, or is bad
 pub data LineReading : Type 0 where
   Passed : LineReading
-  Said : SaidLine → LineReading
+  Parsed : ParsedLine → LineReading
   Bad : LineReading
 
 -- words that are read from a text, and the text behind them
@@ -58,32 +58,32 @@ abbrev pub spaced_text : List ℕ → Option ReadText
 spaced_text text = option_and_then quoted_text (behind_blanks text)
 
 -- nothing stands behind the last word
-abbrev pub alone : SaidLine → List ℕ → Option SaidLine
+abbrev pub alone : ParsedLine → List ℕ → Option ParsedLine
 alone line [] = Some line
 alone line (byte ∷ rest) = None
 
 -- an entry behind its label
-abbrev pub entry_behind_label : ReadText → Option SaidLine
+abbrev pub entry_behind_label : ReadText → Option ParsedLine
 entry_behind_label label =
     option_and_then (λ path. alone (EntryLine label.text path.text) path.rest)
     (option_and_then spaced_text (option_and_then (behind_word (codes "URL")) (behind_blanks label.rest)))
 
 -- the line behind the word ENTRY, behind GROUP, and behind ENDGROUP
-abbrev pub entry_line : List ℕ → Option SaidLine
+abbrev pub entry_line : List ℕ → Option ParsedLine
 entry_line text = option_and_then entry_behind_label (spaced_text text)
 
-abbrev pub group_line : List ℕ → Option SaidLine
+abbrev pub group_line : List ℕ → Option ParsedLine
 group_line text = option_and_then (λ label. alone (GroupLine label.text) label.rest) (spaced_text text)
 
-abbrev pub said_or_bad : Option SaidLine → LineReading
-said_or_bad None = Bad
-said_or_bad (Some line) = Said line
+abbrev pub parsed_or_bad : Option ParsedLine → LineReading
+parsed_or_bad None = Bad
+parsed_or_bad (Some line) = Parsed line
 
 -- a line by its first word
 abbrev pub behind_first_word : Option (List ℕ) → Option (List ℕ) → Option (List ℕ) → LineReading
-behind_first_word (Some text) group end = said_or_bad (entry_line text)
-behind_first_word None (Some text) end = said_or_bad (group_line text)
-behind_first_word None None (Some text) = said_or_bad (alone EndLine text)
+behind_first_word (Some text) group end = parsed_or_bad (entry_line text)
+behind_first_word None (Some text) end = parsed_or_bad (group_line text)
+behind_first_word None None (Some text) = parsed_or_bad (alone EndLine text)
 behind_first_word None None None = Bad
 
 -- what a line without leading blanks and tabs says; an empty one and one that begins with # are passed over

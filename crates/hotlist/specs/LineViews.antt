@@ -7,14 +7,14 @@ use Rattle.hotlist.specs.declared.lines.LineRead.{LineRead}
 use Rattle.hotlist.specs.declared.lines.LineRead.TheVariants as read
 use Rattle.hotlist.specs.HotLines as said
 
-abbrev pub said_line : HotLine → said.SaidLine
-said_line (Entry label path) = said.EntryLine label path
-said_line (Group label) = said.GroupLine label
-said_line End = said.EndLine
+abbrev pub parsed_line : HotLine → said.ParsedLine
+parsed_line (Entry label path) = said.EntryLine label path
+parsed_line (Group label) = said.GroupLine label
+parsed_line End = said.EndLine
 
 abbrev pub reading_view : LineRead → said.LineReading
 reading_view read.Passed = said.Passed
-reading_view (read.Said line) = said.Said (said_line line)
+reading_view (read.Said line) = said.Parsed (parsed_line line)
 reading_view read.Bad = said.Bad
 
 -- a text that was read, and the text behind it

@@ -44,9 +44,9 @@ changed_at (suc position) change (AnEntry label path others) = option_map (AnEnt
 changed_at (suc position) change (AGroup label items others) = option_map (AGroup label items) (changed_at position change others)
 
 -- the list with an item at the end of the group at a place; the empty place names the list itself
-abbrev pub added : List ℕ → HotList → HotList → Option HotList
-added [] item list = Some (followed_by list item)
-added (position ∷ place) item list = changed_at position (added place item) list
+abbrev pub list_with_item : List ℕ → HotList → HotList → Option HotList
+list_with_item [] item list = Some (followed_by list item)
+list_with_item (position ∷ place) item list = changed_at position (list_with_item place item) list
 
 -- why an item isn't added, by whether its group is missing and whether it nests to few enough levels
 abbrev pub fault_of : (is_missing fits : Bool) → Option HotEditError
@@ -56,7 +56,7 @@ fault_of false true = None
 
 -- why an item isn't added to the group at a place: none stands there, or else groups would nest to more than 32 levels
 abbrev pub add_fault : List ℕ → HotList → HotList → Option HotEditError
-add_fault group item list = fault_of (is_none (added group item list)) (is_within (32 - length group) item)
+add_fault group item list = fault_of (is_none (list_with_item group item list)) (is_within (32 - length group) item)
 
 -- the list without the item at a position
 abbrev pub without_position : ℕ → HotList → Option HotList
@@ -67,7 +67,7 @@ without_position (suc position) (AnEntry label path others) = option_map (AnEntr
 without_position (suc position) (AGroup label items others) = option_map (AGroup label items) (without_position position others)
 
 -- the list without the item at a place
-abbrev pub removed : List ℕ → HotList → Option HotList
-removed [] list = None
-removed (position ∷ []) list = without_position position list
-removed (position ∷ next ∷ place) list = changed_at position (removed (next ∷ place)) list
+abbrev pub list_without_item : List ℕ → HotList → Option HotList
+list_without_item [] list = None
+list_without_item (position ∷ []) list = without_position position list
+list_without_item (position ∷ next ∷ place) list = changed_at position (list_without_item (next ∷ place)) list

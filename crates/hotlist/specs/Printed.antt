@@ -5,12 +5,12 @@ use Rattle.std.specs.List.{flat_map}
 use Rattle.hotlist.specs.HotLists.{HotList, NoMore, AnEntry, AGroup}
 
 -- a backslash before a quote and a backslash
-abbrev pub escaped : ℕ → List ℕ
-escaped byte = if byte == 34 || byte == 92 then 92 ∷ byte ∷ [] else byte ∷ []
+abbrev pub escaped_byte : ℕ → List ℕ
+escaped_byte byte = if byte == 34 || byte == 92 then 92 ∷ byte ∷ [] else byte ∷ []
 
 -- a text in quotes, before others
 abbrev pub in_quotes : List ℕ → List ℕ → List ℕ
-in_quotes text others = 34 ∷ (flat_map escaped text ++ 34 ∷ others)
+in_quotes text others = 34 ∷ (flat_map escaped_byte text ++ 34 ∷ others)
 
 -- two blanks for each group around a line
 abbrev pub indent : ℕ → List ℕ → List ℕ
@@ -31,8 +31,8 @@ abbrev pub line_of : ℕ → List ℕ → List ℕ
 line_of depth words = indent depth words ++ 10 ∷ []
 
 -- a list with so many groups around it
-abbrev pub printed : ℕ → HotList → List ℕ
-printed depth NoMore = []
-printed depth (AnEntry label path others) = line_of depth (entry_words label path) ++ printed depth others
-printed depth (AGroup label items others) =
-    line_of depth (group_words label) ++ (printed (suc depth) items ++ (line_of depth end_words ++ printed depth others))
+abbrev pub printed_list : ℕ → HotList → List ℕ
+printed_list depth NoMore = []
+printed_list depth (AnEntry label path others) = line_of depth (entry_words label path) ++ printed_list depth others
+printed_list depth (AGroup label items others) =
+    line_of depth (group_words label) ++ (printed_list (suc depth) items ++ (line_of depth end_words ++ printed_list depth others))

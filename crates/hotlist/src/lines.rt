@@ -1,7 +1,7 @@
 //! One line of a hotlist's file.
 ghost use Rattle.std.specs.Prelude.{◌≡◌, ◌≢◌, ◌<◌, ◌≤◌, ◌∷◌, ◌++◌, ℕ, List, length, encode_utf8, IfOk, IfSome, MatchOption, None, false, option_map};
-ghost use Rattle.hotlist.specs.HotLines.{behind_word, without_blanks, behind_blanks, up_to_quote, quoted_text, spaced_text, entry_line, group_line, said_or_bad, reading_of, reading_of_words};
-ghost use Rattle.hotlist.specs.LineViews.{said_line, reading_view, read_view, with_bytes, path_behind, reading_of_text};
+ghost use Rattle.hotlist.specs.HotLines.{behind_word, without_blanks, behind_blanks, up_to_quote, quoted_text, spaced_text, entry_line, group_line, parsed_or_bad, reading_of, reading_of_words};
+ghost use Rattle.hotlist.specs.LineViews.{parsed_line, reading_view, read_view, with_bytes, path_behind, reading_of_text};
 
 use mc_text::{NoMemory, Text};
 use std::alloc::Global;
@@ -90,7 +90,7 @@ fn read_words(alloc: Global, words: &str) -> Result<LineRead, NoMemory>
 
 /// What a line says, or that it is bad.
 fn said_or_bad(line: Option<HotLine>) -> LineRead
-    ensures { reading_view result ≡ said_or_bad (option_map said_line line) }
+    ensures { reading_view result ≡ parsed_or_bad (option_map parsed_line line) }
 {
     match line {
         Some(line) => LineRead::Said(line),
@@ -100,7 +100,7 @@ fn said_or_bad(line: Option<HotLine>) -> LineRead
 
 /// The entry behind its first word.
 fn read_entry(alloc: Global, text: &str) -> Result<Option<HotLine>, NoMemory>
-    ensures { IfOk result (λ line. option_map said_line line ≡ entry_line text.now) }
+    ensures { IfOk result (λ line. option_map parsed_line line ≡ entry_line text.now) }
 {
     let Some((label, rest)) = spaced_text(alloc, text)? else {
         return Ok(None);
@@ -130,7 +130,7 @@ fn path_behind(alloc: Global, text: &str) -> Result<Option<(Text, &str)>, NoMemo
 
 /// The begin of a group behind its first word.
 fn read_group(alloc: Global, text: &str) -> Result<Option<HotLine>, NoMemory>
-    ensures { IfOk result (λ line. option_map said_line line ≡ group_line text.now) }
+    ensures { IfOk result (λ line. option_map parsed_line line ≡ group_line text.now) }
 {
     let Some((label, rest)) = spaced_text(alloc, text)? else {
         return Ok(None);

@@ -19,7 +19,7 @@ pub struct Hotlist {
 
 impl Hotlist {
     ghost use Rattle.hotlist.specs.ListViews.{list_in};
-    ghost use Rattle.hotlist.specs.Places.{added, add_fault, removed, item_at};
+    ghost use Rattle.hotlist.specs.Places.{list_with_item, add_fault, list_without_item, item_at};
 
     /// None yet. It takes no memory.
     pub fn new(alloc: Global) -> Hotlist
@@ -33,7 +33,7 @@ impl Hotlist {
     /// Puts an item at the end of the group at a place; the empty place is that of the list itself. `NoSuchGroup` where no
     /// group stands there, else `TooDeep` where groups would nest to more than 32 levels.
     pub fn add(&mut self, group: &[usize], item: HotItem) -> Result<(), HotEditError>
-        ensures added { OnOk result (added group.now (before item NoMore) (list_in self.old) ≡ Some (list_in self.new)) }
+        ensures added { OnOk result (list_with_item group.now (before item NoMore) (list_in self.old) ≡ Some (list_in self.new)) }
         ensures fits { OnOk result (is_within (32 - length group.now) (before item NoMore) ≡ true) }
         ensures same { OnErr result (list_in self.new ≡ list_in self.old) }
         ensures refused { IfErr result (λ e.
@@ -45,8 +45,8 @@ impl Hotlist {
 
     /// Takes the item at a place out; with a group all that it holds. The empty place is that of no item.
     pub fn remove(&mut self, place: &[usize]) -> Option<HotItem>
-        ensures removed { MatchOption result (removed place.now (list_in self.old) ≡ None)
-            (λ _. removed place.now (list_in self.old) ≡ Some (list_in self.new)) }
+        ensures removed { MatchOption result (list_without_item place.now (list_in self.old) ≡ None)
+            (λ _. list_without_item place.now (list_in self.old) ≡ Some (list_in self.new)) }
         ensures same { IfNone result (list_in self.new ≡ list_in self.old) }
         ensures item { IfSome result (λ item. item_at place.now (list_in self.old) ≡ Some (before item NoMore)) }
     {

@@ -4,7 +4,7 @@ ghost use Rattle.std.specs.List.{flat_map};
 ghost use Rattle.hotlist.specs.HotLists.{NoMore, AreOneLine, before, list_of, is_within};
 ghost use Rattle.hotlist.specs.HotFiles.{IsHotlist};
 ghost use Rattle.hotlist.specs.ListViews.{list_in};
-ghost use Rattle.hotlist.specs.Printed.{escaped, in_quotes, indent, entry_words, group_words, end_words, line_of, printed};
+ghost use Rattle.hotlist.specs.Printed.{escaped_byte, in_quotes, indent, entry_words, group_words, end_words, line_of, printed_list};
 
 use crate::items::HotItem;
 use crate::list::Hotlist;
@@ -15,7 +15,7 @@ use text_scan::first_char;
 
 /// Prints a hotlist. Where no label and no path holds a newline, the file is read back as the list.
 pub fn print_hotlist(alloc: Global, list: &Hotlist) -> Result<Bytes, NoMemory>
-    ensures printed { IfOk result (λ bytes. bytes ≡ printed 0 (list_in list.now)) }
+    ensures printed { IfOk result (λ bytes. bytes ≡ printed_list 0 (list_in list.now)) }
     ensures read_back { IfOk result (λ bytes. AreOneLine (list_in list.now) → IsHotlist bytes (list_in list.now)) }
 {
     let mut text = String::new(alloc);
@@ -28,7 +28,7 @@ pub fn print_hotlist(alloc: Global, list: &Hotlist) -> Result<Bytes, NoMemory>
 fn print_items(text: &mut String, items: &[HotItem], depth: usize) -> Result<(), NoMemory>
     requires depth { depth ≤ 32 }
     requires nested { is_within (32 - depth) (list_of items.now) ≡ true }
-    ensures { OnOk result (string_bytes text.new ≡ string_bytes text.old ++ printed depth (list_of items.now)) }
+    ensures { OnOk result (string_bytes text.new ≡ string_bytes text.old ++ printed_list depth (list_of items.now)) }
 {
     for item in items {
         print_item(text, item, depth)?;
@@ -41,7 +41,7 @@ fn print_items(text: &mut String, items: &[HotItem], depth: usize) -> Result<(),
 fn print_item(text: &mut String, item: &HotItem, depth: usize) -> Result<(), NoMemory>
     requires depth { depth ≤ 32 }
     requires nested { is_within (32 - depth) (before item.now NoMore) ≡ true }
-    ensures { OnOk result (string_bytes text.new ≡ string_bytes text.old ++ printed depth (before item.now NoMore)) }
+    ensures { OnOk result (string_bytes text.new ≡ string_bytes text.old ++ printed_list depth (before item.now NoMore)) }
 {
     match item {
         HotItem::Entry { label, path } => print_entry(text, depth, label, path),
@@ -98,7 +98,7 @@ fn push_indent(text: &mut String, depth: usize) -> Result<(), NoMemory>
 
 /// Puts a text at the end, with a backslash before each quote and backslash.
 fn push_escaped(text: &mut String, plain: &str) -> Result<(), NoMemory>
-    ensures { OnOk result (string_bytes text.new ≡ string_bytes text.old ++ flat_map escaped plain.now) }
+    ensures { OnOk result (string_bytes text.new ≡ string_bytes text.old ++ flat_map escaped_byte plain.now) }
 {
     let mut rest = plain;
     while let Some((character, behind)) = first_char(rest) {
@@ -110,7 +110,7 @@ fn push_escaped(text: &mut String, plain: &str) -> Result<(), NoMemory>
 
 /// Puts a character at the end, behind a backslash where it is a quote or a backslash.
 fn push_character(text: &mut String, character: char) -> Result<(), NoMemory>
-    ensures { OnOk result (string_bytes text.new ≡ string_bytes text.old ++ flat_map escaped (encode_utf8 character)) }
+    ensures { OnOk result (string_bytes text.new ≡ string_bytes text.old ++ flat_map escaped_byte (encode_utf8 character)) }
 {
     match character {
         '"' => text.push_str("\\\"")?,

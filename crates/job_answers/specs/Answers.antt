@@ -55,8 +55,8 @@ to_barrier Nothing = Err WrongAnswer
 to_barrier SizeDiffers = Err WrongAnswer
 
 -- what a job does after an answer, by what it waits with
-abbrev pub answered : Option Waiting → Answer → Result Then AnswerError
-answered None answer = Err NotAsked
-answered (Some waits.Question) answer = to_question answer
-answered (Some (waits.Trouble cause)) answer = to_trouble answer
-answered (Some waits.Barrier) answer = to_barrier answer
+abbrev pub answer_result : Option Waiting → Answer → Result Then AnswerError
+answer_result None answer = Err NotAsked
+answer_result (Some waits.Question) answer = to_question answer
+answer_result (Some (waits.Trouble cause)) answer = to_trouble answer
+answer_result (Some waits.Barrier) answer = to_barrier answer

@@ -32,8 +32,8 @@ decided_by (Some item.No) rule question = Keep
 decided_by None (Some rule) question = rule_decides rule question
 decided_by None None question = Ask
 
-abbrev pub decided : Replies → Question → Decision
-decided replies question = decided_by replies.item replies.rule question
+abbrev pub decision_on : Replies → Question → Decision
+decision_on replies question = decided_by replies.item replies.rule question
 
 -- what is answered to a question stands for this item, or for all
 abbrev pub with_reply : Answer → Replies → Replies

@@ -1,6 +1,6 @@
 //! What may be answered to a question, to a trouble and at a barrier, and what the job does then.
 ghost use Rattle.std.specs.Prelude.{◌≡◌};
-ghost use Rattle.job_answers.specs.Answers.{answered, to_barrier, to_question, to_trouble, waiting_of};
+ghost use Rattle.job_answers.specs.Answers.{answer_result, to_barrier, to_question, to_trouble, waiting_of};
 
 use job_reports::{Answer, AnswerError, Cause, Trouble};
 
@@ -38,7 +38,7 @@ pub fn waiting_in(trouble: &Trouble) -> Waiting
 
 /// What a job does after this answer. `NotAsked` where it doesn't wait, `WrongAnswer` where the answer is none to that.
 pub fn then_after(waiting: Option<Waiting>, answer: Answer) -> Result<Then, AnswerError>
-    ensures { result ≡ answered waiting answer }
+    ensures { result ≡ answer_result waiting answer }
 {
     match waiting {
         None => Err(AnswerError::NotAsked),

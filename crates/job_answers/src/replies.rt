@@ -1,6 +1,6 @@
 //! What was answered to a job: to its questions, for the item that is at hand and for all later items, and to its troubles.
 ghost use Rattle.std.specs.Prelude.{◌≡◌, Some, None, if◌then◌else◌};
-ghost use Rattle.job_answers.specs.Decisions.{decided, no_replies, rule_decides, with_reply, with_skips};
+ghost use Rattle.job_answers.specs.Decisions.{decision_on, no_replies, rule_decides, with_reply, with_skips};
 
 use crate::skips::{Skips, kind_of};
 use job_reports::{Answer, Cause, Question};
@@ -53,7 +53,7 @@ impl Replies {
 
     /// Whether the item replaces what stands at its target, or that is to be asked.
     pub fn decide(&self, question: &Question) -> Decision
-        ensures { result ≡ decided self.now question.now }
+        ensures { result ≡ decision_on self.now question.now }
     {
         match (self.item, self.rule) {
             (Some(ItemAnswer::Yes), _) => Decision::Replace,

@@ -8,8 +8,8 @@ use Rattle.tree_trait.specs.declared.calls.TreeError.{TreeError}
 use Rattle.tree_trait.specs.declared.calls.TreeError.TheVariants.{Missing, NotFolder, Denied, Exists}
 use Rattle.tree_trait.specs.Calls.{Stat, MakeFile, SyncFolder}
 use Rattle.tree_trait.specs.FileSystem.{lookup, find, node}
-use Rattle.tree_trait.specs.Refusals.{is_folder, lacks, step, and_then, reached, walk, last_step, Place, first_of, folder_of, missing, exists, no_folder, denied, refusal_of}
-use Rattle.tree_trait.specs.Change.{found}
+use Rattle.tree_trait.specs.Refusals.{is_folder, lacks, step, and_then, reached_node, walk, last_step, Place, first_of, folder_of, missing, exists, no_folder, denied_access, refusal_of}
+use Rattle.tree_trait.specs.Change.{found_node}
 use Rattle.tree_trait.proofs.Walking.{passed_walk, check_passes, last_place, reached-find, walk-find, some_there}
 
 none_there : (o : Option ℕ) → is_some o ≡ false → o ≡ None
@@ -18,19 +18,19 @@ none_there (Some i) h = absurd (true≢false h)
 
 -- a file that may be made
 pub record IsMaking (s : FileSystem) (name : List ℕ) (up : Route) : Type 0 where
-  pub folder : find s up ≡ Some (found s up)
-  pub holds : is_folder (node s (found s up)) ≡ true
-  pub none : lookup s.names (found s up) name ≡ None
+  pub folder : find s up ≡ Some (found_node s up)
+  pub holds : is_folder (node s (found_node s up)) ≡ true
+  pub none : lookup s.names (found_node s up) name ≡ None
 
 pub making_passes : (s : FileSystem) (name : List ℕ) (up : Route) (mode : ℕ) → refusal_of s (MakeFile (name ∷ up) mode) ≡ None → IsMaking s name up
 making_passes s name up mode h =
-    let w = passed_walk (walk s (name ∷ up)) (λ p. first_of (exists p ∷ denied 0o200 (folder_of s p) ∷ [])) h in
+    let w = passed_walk (walk s (name ∷ up)) (λ p. first_of (exists p ∷ denied_access 0o200 (folder_of s p) ∷ [])) h in
     let l = last_place s name up w.0 w.1 in
     let a = check_passes (is_some w.0.there) Exists _ w.2 in
     record { folder = l.folder; holds = l.is_one; none = none_there _ (ap is_some (sym l.there) ∙ a.0) }
 
 -- a folder that may be synced is there
-pub sync_finds : (s : FileSystem) (path : Route) → refusal_of s (SyncFolder path) ≡ None → find s path ≡ Some (found s path)
+pub sync_finds : (s : FileSystem) (path : Route) → refusal_of s (SyncFolder path) ≡ None → find s path ≡ Some (found_node s path)
 sync_finds s path h =
     let w = passed_walk (walk s path) (λ p. first_of (missing p ∷ no_folder s p ∷ [])) h in
     let t = some_there w.0.there (check_passes (is_none w.0.there) Missing _ w.2).0 in
@@ -50,11 +50,11 @@ step_missing : (s : FileSystem) (name : List ℕ) (f : ℕ) → step s name f �
 step_missing s name f h =
     no_entry (lookup s.names f name) (not_refused (lacks 0o100 (node s f)) Denied _ (λ e. cc) (not_refused (not (is_folder (node s f))) NotFolder _ (λ e. cc) h))
 
-reached_missing : (s : FileSystem) (path : Route) → reached s path ≡ Err Missing → find s path ≡ None
+reached_missing : (s : FileSystem) (path : Route) → reached_node s path ≡ Err Missing → find s path ≡ None
 reached_missing s [] h = cc
-reached_missing s (name ∷ folder) h = go (reached s folder) refl h (reached_missing s folder)
+reached_missing s (name ∷ folder) h = go (reached_node s folder) refl h (reached_missing s folder)
   where
-    go : (r : Result ℕ TreeError) → reached s folder ≡ r → and_then (step s name) r ≡ Err Missing → (reached s folder ≡ Err Missing → find s folder ≡ None) → find s (name ∷ folder) ≡ None
+    go : (r : Result ℕ TreeError) → reached_node s folder ≡ r → and_then (step s name) r ≡ Err Missing → (reached_node s folder ≡ Err Missing → find s folder ≡ None) → find s (name ∷ folder) ≡ None
     go (Ok f) is h above = ap (option_and_then (λ g. lookup s.names g name)) (reached-find s folder f is) ∙ step_missing s name f h
     go (Err e) is h above = ap (option_and_then (λ g. lookup s.names g name)) (above (is ∙ h))
 
@@ -68,9 +68,9 @@ last_found s name f h =
 
 walk_missing : (s : FileSystem) (path : Route) → walk s path ≡ Err Missing → find s path ≡ None
 walk_missing s [] h = cc
-walk_missing s (name ∷ folder) h = go (reached s folder) refl h
+walk_missing s (name ∷ folder) h = go (reached_node s folder) refl h
   where
-    go : (r : Result ℕ TreeError) → reached s folder ≡ r → and_then (last_step s name) r ≡ Err Missing → find s (name ∷ folder) ≡ None
+    go : (r : Result ℕ TreeError) → reached_node s folder ≡ r → and_then (last_step s name) r ≡ Err Missing → find s (name ∷ folder) ≡ None
     go (Ok f) is h = absurd (last_found s name f h)
     go (Err e) is h = ap (option_and_then (λ g. lookup s.names g name)) (reached_missing s folder (is ∙ (let same : e ≡ Missing = cc in ap (λ x. Err x) same)))
 

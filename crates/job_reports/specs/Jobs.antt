@@ -31,17 +31,17 @@ is_workable (RemoveEmptied path) = is_some (parent_of path)
 
 -- what a job works on: a thing with all that lies in it that is copied or moved to a target, or removed, a folder or a link that is made, a thing that is given a
 -- mode, or a folder that is removed once it was emptied
-pub data Item : Type 0 where
-  Copies : (source : Route) → (target : Route) → Item
-  Moves : (source : Route) → (target : Route) → Item
-  Removes : (path : Route) → Item
-  Makes : (path : Route) → Item
-  MakesLink : (path : Route) → (text : List ℕ) → Item
-  Sets : (path : Route) → (mode : ℕ) → Item
-  RemovesEmptied : (path : Route) → Item
+pub data ItemOfJob : Type 0 where
+  Copies : (source : Route) → (target : Route) → ItemOfJob
+  Moves : (source : Route) → (target : Route) → ItemOfJob
+  Removes : (path : Route) → ItemOfJob
+  Makes : (path : Route) → ItemOfJob
+  MakesLink : (path : Route) → (text : List ℕ) → ItemOfJob
+  Sets : (path : Route) → (mode : ℕ) → ItemOfJob
+  RemovesEmptied : (path : Route) → ItemOfJob
 
 -- the item of a job of one path or pair
-abbrev pub only_item : Job → Option Item
+abbrev pub only_item : Job → Option ItemOfJob
 only_item (Delete []) = None
 only_item (Delete (path ∷ [])) = Some (Removes path)
 only_item (Delete (path ∷ more ∷ paths)) = None
@@ -59,7 +59,7 @@ only_item (SetMode (path ∷ more ∷ paths) mode) = None
 only_item (RemoveEmptied path) = Some (RemovesEmptied path)
 
 -- the item of a job that can be worked
-abbrev pub item_of : Job → Option Item
+abbrev pub item_of : Job → Option ItemOfJob
 item_of job = if is_workable job then only_item job else None
 
 -- a new folder has this mode
@@ -67,7 +67,7 @@ abbrev pub new_folder_mode : ℕ
 new_folder_mode = 0o755
 
 -- the folder in which a job changes names; of a move that of the target, and of a mode that is set, the one that holds the thing
-abbrev pub folder_changed : Item → Route
+abbrev pub folder_changed : ItemOfJob → Route
 folder_changed (Copies source target) = folder_of target
 folder_changed (Moves source target) = folder_of target
 folder_changed (Removes path) = folder_of path

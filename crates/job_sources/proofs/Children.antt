@@ -4,7 +4,7 @@ use Rattle.std.proofs.Math.Nat.{suc-mul}
 use Rattle.std.proofs.lemmas.List.{length-append}
 use Rattle.std.specs.Prelude.{if◌then◌else◌, is_some, ◌&&◌, not}
 use Rattle.std.specs.Option.{option_map_or}
-use Rattle.mc_text.specs.Routes.{Route, parent_of, same_path, spelled}
+use Rattle.mc_text.specs.Routes.{Route, parent_of, same_path, spelled_route}
 use Rattle.job_reports.specs.declared.job.Job.{Job}
 use Rattle.job_reports.specs.declared.job.Job.TheVariants.{Copy, Delete, MakeFolder, MakeLink, Move, SetMode, RemoveEmptied}
 use Rattle.job_reports.specs.declared.job.Pair.{Pair}
@@ -12,7 +12,7 @@ use Rattle.job_reports.specs.declared.report.Transfer.{Transfer}
 use Rattle.job_reports.specs.declared.report.Transfer.TheVariants.{ByCopy, ByMove}
 use Rattle.job_reports.specs.Jobs.{is_link_text}
 use Rattle.session_entries.specs.Sources.{child_in, children_in}
-use Rattle.copy_job.specs.Standing.{started}
+use Rattle.copy_job.specs.Standing.{begun_subtree_copy}
 use Rattle.copy_tree.specs.Taking.{AreShort}
 use Rattle.copy_move.specs.declared.work.Work.{Work}
 use Rattle.copy_move.specs.Jobs.{copies, deletes, first_work, makes, moves, removes_emptied, sets}
@@ -28,9 +28,9 @@ own_within : (own room : ℕ) → own ≤ merged_steps own room
 own_within own room = let parts = merged_parts own room in omega (arith, parts)
 
 -- a path has at least as many bytes as names
-spelled_long : (path : Route) → length path ≤ length (spelled path)
+spelled_long : (path : Route) → length path ≤ length (spelled_route path)
 spelled_long [] = omega arith
-spelled_long (name ∷ folder) = let here = spelled_long folder in let all = length-append (spelled folder) (47 ∷ name) in omega (arith, here, all)
+spelled_long (name ∷ folder) = let here = spelled_long folder in let all = length-append (spelled_route folder) (47 ∷ name) in omega (arith, here, all)
 
 pub sources_apart : (id : ℕ) (first second : List Job) → sources_rank id (first ++ second) ≡ sources_rank id first + sources_rank id second
 sources_apart id [] second = omega arith
@@ -108,7 +108,7 @@ some_moved room = some_steps moving_steps room (omega arith)
 tree_cost : (id : ℕ) (pair : Pair) → start_cost (copies id pair) ≤ merged_steps tree_steps (room_below pair.source)
 tree_cost id pair =
     let parts = merged_parts tree_steps (room_below pair.source) in
-    let none : children_left (copies id pair) ≤ below_steps tree_steps (room_below pair.source) = unless_over (is_over (let c = started id pair in c.at)) (below_steps tree_steps (room_below pair.source)) in
+    let none : children_left (copies id pair) ≤ below_steps tree_steps (room_below pair.source) = unless_over (is_over (let c = begun_subtree_copy id pair in c.at)) (below_steps tree_steps (room_below pair.source)) in
     let own : steps_of (copies id pair) ≡ tree_steps = refl in
     omega (arith, parts, none, own)
 

@@ -12,7 +12,7 @@ use Rattle.copy_move.specs.declared.run.Course.TheVariants.{GoesOn, Asking, InTr
 use Rattle.copy_move.specs.declared.work.Work.{Work}
 use Rattle.copy_move.specs.declared.work.Work.TheVariants.{Copy, Delete, Make, Move, SetMode, RemoveEmptied}
 use Rattle.copy_move.specs.Jobs.{Running, TellsOn, WorkTells}
-use Rattle.copy_move.specs.Steps.{RunStep, SyncsOwed, step_made}
+use Rattle.copy_move.specs.JobStepReports.{RunStep, SyncsOwed, step_made}
 use Rattle.copy_move.proofs.Merging.{none_wound}
 use Rattle.job_sources.specs.Turning.{MayFollow, MayLeave}
 

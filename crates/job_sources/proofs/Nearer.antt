@@ -18,7 +18,7 @@ use Rattle.copy_move.specs.declared.run.Course.TheVariants.{GoesOn, Asking, InTr
 use Rattle.copy_move.specs.declared.work.Work.{Work}
 use Rattle.copy_move.specs.Jobs.{Running, TellsOn, first_work}
 use Rattle.copy_move.specs.Ranks.{rank_at, rank_with, work_rank}
-use Rattle.copy_move.specs.Steps.{RunStep, SyncsOwed, step_made}
+use Rattle.copy_move.specs.JobStepReports.{RunStep, SyncsOwed, step_made}
 use Rattle.copy_move.specs.Told.{if_closed, with_next}
 use Rattle.copy_move.proofs.Finishing.{Finishes, finish_stays}
 use Rattle.copy_move.proofs.Merging.{merge_stays}

@@ -20,8 +20,8 @@ use Rattle.copy_job.specs.Merged.{IsOver}
 use Rattle.copy_job.specs.Standing.{SubtreeCopying}
 use Rattle.copy_job.proofs.MergedOnes.{merged_law}
 use Rattle.tree_walk.specs.Places.{is_empty}
-use Rattle.copy_tree.specs.declared.item.Item.{Item}
-use Rattle.copy_tree.specs.declared.item.Item.TheVariants as item
+use Rattle.copy_tree.specs.declared.item.ItemAtWork.{ItemAtWork}
+use Rattle.copy_tree.specs.declared.item.ItemAtWork.TheVariants as item
 use Rattle.copy_tree.specs.Standing.{Seen}
 use Rattle.move_job.specs.declared.moving.MovingStage.{MovingStage}
 use Rattle.move_job.specs.declared.moving.MovingStage.TheVariants.{Take, SyncTarget, SyncSource, Finish, PassedOver}
@@ -32,7 +32,7 @@ use Rattle.copy_move.specs.declared.run.Course.TheVariants.{GoesOn, Asking, InTr
 use Rattle.copy_move.specs.declared.work.Work.{Work}
 use Rattle.copy_move.specs.declared.work.Work.TheVariants.{Copy, Delete, Make, Move, SetMode, RemoveEmptied}
 use Rattle.copy_move.specs.Jobs.{PassesOver, Running, TellsOn, WorkTells, closed_course}
-use Rattle.copy_move.specs.Steps.{RunStep, SkipWalks, SyncsOwed, WalksOn, step_made}
+use Rattle.copy_move.specs.JobStepReports.{RunStep, SkipWalks, SyncsOwed, WalksOn, step_made}
 use Rattle.copy_move.specs.TreeCopies as trees
 use Rattle.copy_move.proofs.Merging.{none_wound}
 use Rattle.job_sources.specs.Turning.{children_left, children_on, is_next, is_over, sources_rank, within_steps}
@@ -59,7 +59,7 @@ unless_so : (a : Bool) → not a ≡ true → a ≡ false
 unless_so true h = absurd (false≢true h)
 unless_so false h = refl
 
-next_so : (i : Item) → is_next i ≡ true → i ≡ item.Next
+next_so : (i : ItemAtWork) → is_next i ≡ true → i ≡ item.Next
 next_so item.Next h = refl
 next_so (item.File f) h = absurd (false≢true h)
 next_so (item.Link l) h = absurd (false≢true h)
@@ -130,7 +130,7 @@ synced_late pair SyncSource h = refl
 synced_late pair Finish h = refl
 synced_late pair PassedOver h = refl
 
-skipped_late : (stage : MovingStage) → movings.is_fresh (movings.skipped stage) ≡ false
+skipped_late : (stage : MovingStage) → movings.is_fresh (movings.skipped_stage stage) ≡ false
 skipped_late Take = refl
 skipped_late SyncTarget = refl
 skipped_late SyncSource = refl
@@ -163,7 +163,7 @@ skips_less : (cause : Cause) (old new : Work) (did : Did) (path : Route) → Pas
 skips_less cause (Copy c) (Copy new) did path p s = tree_less c new (ap (λ (k : SubtreeCopying). k.top) s.stands) (λ o. merged_law.skip cause c new did s o)
 skips_less cause (Delete d) (Delete new) did path p s = omega arith
 skips_less cause (Make m) (Make new) did path p s = omega arith
-skips_less cause (Move m) (Move new) did path p s = late_less m new (movings.skipped m.stage) p.1 (skipped_late m.stage)
+skips_less cause (Move m) (Move new) did path p s = late_less m new (movings.skipped_stage m.stage) p.1 (skipped_late m.stage)
 skips_less cause (SetMode m) (SetMode new) did path p s = omega arith
 skips_less cause (RemoveEmptied r) (RemoveEmptied new) did path p s = omega arith
 skips_less cause old new did path p s = absurd p

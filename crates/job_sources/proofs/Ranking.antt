@@ -24,10 +24,10 @@ use Rattle.mode_job.specs.declared.setting.Stage.{Stage as SettingStage}
 use Rattle.mode_job.specs.declared.setting.Stage.TheVariants as setting
 use Rattle.mode_job.specs.Settings as settings
 use Rattle.copy_move.specs.Ranks.{last_making_steps, last_moving_steps, last_rank, last_removal_steps, last_setting_steps, making_rank, moving_rank, rank_at, rank_on, rank_with, removal_rank, setting_rank, work_rank}
-use Rattle.job_unsynced.specs.Folders.{joined}
+use Rattle.job_unsynced.specs.Folders.{joined_folders}
 use Rattle.copy_move.specs.Settling.{WorkLeaves}
 use Rattle.job_reports.specs.Paths.{folder_of, without}
-use Rattle.copy_move.specs.Steps.{LeavesDirty, RunStep, OwedSyncStep, SyncsOwed, step_made}
+use Rattle.copy_move.specs.JobStepReports.{LeavesDirty, RunStep, OwedSyncStep, SyncsOwed, step_made}
 use Rattle.copy_move.specs.Told.{if_closed}
 use Rattle.delete_job.proofs.DeletionRuns.{fewer, one_fewer}
 use Rattle.copy_move.proofs.FolderSteps.{joined_more, one_more, tried_more}
@@ -157,7 +157,7 @@ rank_left closed job stepped did dirty dirty_after few falls = go closed (ends d
 deletion_more : (d : Deleting) (did : Did) (dirty dirty_after : List Route) (before after : Option CallLog) → DeletionLeaves d did dirty dirty_after before after → length dirty_after ≤ length dirty + 1
 deletion_more d (Removed path) dirty dirty_after before after (inl h) = subst (λ xs. length xs ≤ length dirty + 1) (sym h.0) (joined_more (folder_of path) dirty)
 deletion_more d (Removed path) dirty dirty_after before after (inr h) =
-    subst (λ xs. length xs ≤ length dirty + 1) (sym h.0) (let less = fewer path (joined (folder_of path) dirty) in let more = joined_more (folder_of path) dirty in omega (arith, less, more))
+    subst (λ xs. length xs ≤ length dirty + 1) (sym h.0) (let less = fewer path (joined_folders (folder_of path) dirty) in let more = joined_more (folder_of path) dirty in omega (arith, less, more))
 deletion_more d Barrier dirty dirty_after before after (folder, own, left, called) = subst (λ xs. length xs ≤ length dirty + 1) (sym left) (let less = fewer folder dirty in omega (arith, less))
 deletion_more d (Ended ending part) dirty dirty_after before after h = let same = ap length h.1 in omega (arith, same)
 deletion_more d (Kept path) dirty dirty_after before after h = let same = ap length h in omega (arith, same)

@@ -17,8 +17,8 @@ use Rattle.session_entries.specs.declared.history.Event.TheVariants.{Step, Next}
 use Rattle.session_entries.specs.Sources.{left_by}
 use Rattle.copy_job.specs.Leaving.{owes_at_end}
 use Rattle.tree_walk.specs.Places.{is_empty}
-use Rattle.copy_tree.specs.declared.item.Item.{Item}
-use Rattle.copy_tree.specs.declared.item.Item.TheVariants as item
+use Rattle.copy_tree.specs.declared.item.ItemAtWork.{ItemAtWork}
+use Rattle.copy_tree.specs.declared.item.ItemAtWork.TheVariants as item
 use Rattle.copy_tree.specs.Standing.{Seen}
 use Rattle.move_job.specs.Movings as movings
 use Rattle.copy_move.specs.declared.run.Course.{Course}
@@ -27,7 +27,7 @@ use Rattle.copy_move.specs.declared.work.Work.{Work}
 use Rattle.copy_move.specs.declared.work.Work.TheVariants as work
 use Rattle.copy_move.specs.Jobs.{Running, copies, first_work, moves, part_of, removes_emptied}
 use Rattle.copy_move.specs.Ranks.{rank_with, work_rank}
-use Rattle.copy_move.specs.Told.{turned}
+use Rattle.copy_move.specs.Told.{turned_job}
 use Rattle.job_sources.specs.declared.turning.Stepped.{Stepped}
 
 -- the plan of one source: of a path that is deleted, or given this mode; of a pair that is copied; of one that is moved
@@ -79,7 +79,7 @@ pub record Turns (job : Running) (source : Job) (stepped : Stepped) : Type 0 whe
   pub told : stepped.what ≡ Next job.id source
   pub uncounted : stepped.calls ≡ 0
   pub run : Running
-  pub run_is : turned source job ≡ Some run
+  pub run_is : turned_job source job ≡ Some run
   pub stands : stepped.job ≡ Some run
 
 -- There is no memory to go on with the next source, or to keep those of a folder that is merged, and the job ends so.
@@ -147,7 +147,7 @@ sources_rank id [] = 0
 sources_rank id (source ∷ more) = source_rank id source + sources_rank id more
 
 -- nothing is left to be copied, and nothing is owed, as after a merge
-abbrev pub is_next : Item → Bool
+abbrev pub is_next : ItemAtWork → Bool
 is_next item.Next = true
 is_next (item.File copy) = false
 is_next (item.Link copy) = false

@@ -13,12 +13,12 @@ abbrev pub is_one_of : Route → List Route → Bool
 is_one_of folder folders = list_any (λ kept. same_path kept folder) folders
 
 -- one more, unless it is one of them
-abbrev pub joined : Route → List Route → List Route
-joined folder folders = if is_one_of folder folders then folders else folders ++ folder ∷ []
+abbrev pub joined_folders : Route → List Route → List Route
+joined_folders folder folders = if is_one_of folder folders then folders else folders ++ folder ∷ []
 
 -- a folder joins them with its first change, and leaves them with its sync
 abbrev pub with_change : Bool → Bool → Route → List Route → List Route
-with_change false true folder dirty = joined folder dirty
+with_change false true folder dirty = joined_folders folder dirty
 with_change true false folder dirty = without folder dirty
 with_change false false folder dirty = dirty
 with_change true true folder dirty = dirty

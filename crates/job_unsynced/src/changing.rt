@@ -1,7 +1,7 @@
 //! One change with the list of what is dirty: what it makes dirty joins the list before the change, when there may still be no memory, and
 //! leaves it with its sync.
 ghost use Rattle.std.specs.Prelude.{◌≡◌, IfOk, OnErr, false, true};
-ghost use Rattle.job_unsynced.specs.Changes.{IsReadied, followed};
+ghost use Rattle.job_unsynced.specs.Changes.{IsReadied, dirty_after_step};
 
 use crate::dirty::{Dirty, but_not};
 use mc_text::{NoMemory, Path};
@@ -44,7 +44,7 @@ impl Dirty {
 
     /// Follows that step, after which this is dirty or not.
     pub fn follow(&mut self, readied: Readied, is_dirty: bool, changed: &Path)
-        ensures { self.new ≡ followed readied is_dirty changed.now self.old }
+        ensures { self.new ≡ dirty_after_step readied is_dirty changed.now self.old }
     {
         self.drop_last_if(but_not(readied.joined, is_dirty));
         self.remove_if(but_not(readied.was_dirty, is_dirty), changed);

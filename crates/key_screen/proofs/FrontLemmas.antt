@@ -1,7 +1,7 @@
 -- what begins the front of a key is the front of a key, and no front has more than 18 bytes
 use Rattle.std.proofs.Common.{◌≡◌, ◌≢◌, ℕ, ◌≤◌, ◌+◌, ◌-◌, Bool, true, false, ◌&&◌, ◌==◌, if◌then◌else◌, nat_lt, List, [], ◌∷◌, ◌++◌, length, refl, arith, length-append}
 use Rattle.std.proofs.lemmas.Bool.Decides.{nat_tests}
-use Rattle.key_screen.specs.KeySpelling.{spelling_of, escaped, character, sequence, letter, last_tail, two_tails, second_of_three, second_of_four, ends, is_tail, is_second, is_within, joined}
+use Rattle.key_screen.specs.KeySpelling.{spelling_of, escape_spelling, character, sequence, letter, last_tail, two_tails, second_of_three, second_of_four, ends, is_tail, is_second, is_within, joined_code}
 use Rattle.key_screen.specs.declared.keys.Key.{Key}
 use Rattle.key_screen.specs.declared.spelling.Spelling.{Spelling}
 use Rattle.key_screen.specs.declared.spelling.Spelling.TheVariants.{Partial, Broken}
@@ -33,19 +33,19 @@ last_tail-front meta code (byte ∷ a) b next is = both (is_tail byte) _ _ _ _ i
 
 two_tails-front : (meta : Bool) (code : ℕ) (a b : List ℕ) (next : ℕ) → two_tails meta code (a ++ next ∷ b) ≢ Broken → two_tails meta code a ≡ Partial
 two_tails-front meta code [] b next is = refl
-two_tails-front meta code (byte ∷ a) b next is = both (is_tail byte) _ _ _ _ is (last_tail-front meta (joined code byte) a b next) (λ broken. absurd (broken refl))
+two_tails-front meta code (byte ∷ a) b next is = both (is_tail byte) _ _ _ _ is (last_tail-front meta (joined_code code byte) a b next) (λ broken. absurd (broken refl))
 
 second_of_three-front : (meta : Bool) (first : ℕ) (a b : List ℕ) (next : ℕ)
     → second_of_three meta first (a ++ next ∷ b) ≢ Broken → second_of_three meta first a ≡ Partial
 second_of_three-front meta first [] b next is = refl
 second_of_three-front meta first (byte ∷ a) b next is =
-    both (is_second first byte) _ _ _ _ is (last_tail-front meta (joined (first - 224) byte) a b next) (λ broken. absurd (broken refl))
+    both (is_second first byte) _ _ _ _ is (last_tail-front meta (joined_code (first - 224) byte) a b next) (λ broken. absurd (broken refl))
 
 second_of_four-front : (meta : Bool) (first : ℕ) (a b : List ℕ) (next : ℕ)
     → second_of_four meta first (a ++ next ∷ b) ≢ Broken → second_of_four meta first a ≡ Partial
 second_of_four-front meta first [] b next is = refl
 second_of_four-front meta first (byte ∷ a) b next is =
-    both (is_second first byte) _ _ _ _ is (two_tails-front meta (joined (first - 240) byte) a b next) (λ broken. absurd (broken refl))
+    both (is_second first byte) _ _ _ _ is (two_tails-front meta (joined_code (first - 240) byte) a b next) (λ broken. absurd (broken refl))
 
 character-front : (meta : Bool) (first : ℕ) (a b : List ℕ) (next : ℕ) → character meta first (a ++ next ∷ b) ≢ Broken → character meta first a ≡ Partial
 character-front meta first a b next is =
@@ -64,7 +64,7 @@ letter-front : (a b : List ℕ) (next : ℕ) → letter (a ++ next ∷ b) ≢ Br
 letter-front [] b next is = refl
 letter-front (byte ∷ a) b next is = both (is_within 64 126 byte) _ _ _ _ is (ends-last _ a b next) (λ broken. absurd (broken refl))
 
-escaped-front : (a b : List ℕ) (next : ℕ) → escaped (a ++ next ∷ b) ≢ Broken → escaped a ≡ Partial
+escaped-front : (a b : List ℕ) (next : ℕ) → escape_spelling (a ++ next ∷ b) ≢ Broken → escape_spelling a ≡ Partial
 escaped-front [] b next is = refl
 escaped-front (byte ∷ a) b next is =
     both (byte == 27) _ _ _ _ is (ends-last _ a b next) (λ is2.
@@ -85,17 +85,17 @@ last_tail-short meta code (byte ∷ bytes) is = chosen (is_tail byte) _ _ _ is (
 two_tails-short : (meta : Bool) (code : ℕ) (bytes : List ℕ) → two_tails meta code bytes ≡ Partial → length bytes ≤ 1
 two_tails-short meta code [] is = omega arith
 two_tails-short meta code (byte ∷ bytes) is =
-    chosen (is_tail byte) _ _ _ is (λ partial. omega (arith, last_tail-short meta (joined code byte) bytes partial)) (λ never. absurd (cc))
+    chosen (is_tail byte) _ _ _ is (λ partial. omega (arith, last_tail-short meta (joined_code code byte) bytes partial)) (λ never. absurd (cc))
 
 second_of_three-short : (meta : Bool) (first : ℕ) (bytes : List ℕ) → second_of_three meta first bytes ≡ Partial → length bytes ≤ 1
 second_of_three-short meta first [] is = omega arith
 second_of_three-short meta first (byte ∷ bytes) is =
-    chosen (is_second first byte) _ _ _ is (λ partial. omega (arith, last_tail-short meta (joined (first - 224) byte) bytes partial)) (λ never. absurd (cc))
+    chosen (is_second first byte) _ _ _ is (λ partial. omega (arith, last_tail-short meta (joined_code (first - 224) byte) bytes partial)) (λ never. absurd (cc))
 
 second_of_four-short : (meta : Bool) (first : ℕ) (bytes : List ℕ) → second_of_four meta first bytes ≡ Partial → length bytes ≤ 2
 second_of_four-short meta first [] is = omega arith
 second_of_four-short meta first (byte ∷ bytes) is =
-    chosen (is_second first byte) _ _ _ is (λ partial. omega (arith, two_tails-short meta (joined (first - 240) byte) bytes partial)) (λ never. absurd (cc))
+    chosen (is_second first byte) _ _ _ is (λ partial. omega (arith, two_tails-short meta (joined_code (first - 240) byte) bytes partial)) (λ never. absurd (cc))
 
 character-short : (meta : Bool) (first : ℕ) (bytes : List ℕ) → character meta first bytes ≡ Partial → length bytes ≤ 2
 character-short meta first bytes is =
@@ -126,7 +126,7 @@ letter-short : (bytes : List ℕ) → letter bytes ≡ Partial → length bytes 
 letter-short [] is = omega arith
 letter-short (byte ∷ bytes) is = chosen (is_within 64 126 byte) _ _ _ is (ends-not_partial _ _) (λ never. absurd (cc))
 
-escaped-short : (bytes : List ℕ) → escaped bytes ≡ Partial → length bytes ≤ 17
+escaped-short : (bytes : List ℕ) → escape_spelling bytes ≡ Partial → length bytes ≤ 17
 escaped-short [] is = omega arith
 escaped-short (byte ∷ bytes) is =
     chosen (byte == 27) _ _ _ is (ends-not_partial _ _) (λ is2.

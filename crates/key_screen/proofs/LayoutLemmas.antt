@@ -5,7 +5,7 @@ use Rattle.key_screen.specs.declared.cells.Attr.{Attr}
 use Rattle.key_screen.specs.declared.cells.Glyph.{Glyph}
 use Rattle.key_screen.specs.declared.cells.Glyph.TheVariants.{Blank, Cluster, RightHalf}
 use Rattle.key_screen.specs.declared.cells.Cell.{Cell}
-use Rattle.key_screen.specs.Cells.{is_right_half, right_half_in, right_half_at, blanked_in, with_blank, left_freed, right_freed, freed, put_narrow, put_wide}
+use Rattle.key_screen.specs.Cells.{is_right_half, right_half_in, right_half_at, blanked_in, with_blank, left_freed, right_freed, freed_cells, put_narrow, put_wide}
 use Rattle.key_screen.specs.Layout.{is_wide, IsDrawn, half_behind, AreLaid, IsLaidOut}
 
 -- a cell of this glyph and look
@@ -62,10 +62,10 @@ right_freed-next c cells k = ap at_place next ∙ by_test (right_half_at cells (
   by_test true = with_blank-next c cells (k + 1)
   by_test false = refl
 
-freed-next : (c : Cell) (cells : List Cell) (k : ℕ) → freed (c ∷ cells) (suc (suc k)) ≡ c ∷ freed cells (suc k)
+freed-next : (c : Cell) (cells : List Cell) (k : ℕ) → freed_cells (c ∷ cells) (suc (suc k)) ≡ c ∷ freed_cells cells (suc k)
 freed-next c cells k = ap (λ x. right_freed x (suc (suc k))) (left_freed-next c cells k) ∙ right_freed-next c (left_freed cells (suc k)) (suc k)
 
-freed-next_apart : (c : Cell) (cells : List Cell) (k : ℕ) → right_half_at cells k ≡ false → freed (c ∷ cells) (suc k) ≡ c ∷ freed cells k
+freed-next_apart : (c : Cell) (cells : List Cell) (k : ℕ) → right_half_at cells k ≡ false → freed_cells (c ∷ cells) (suc k) ≡ c ∷ freed_cells cells k
 freed-next_apart c cells k apart =
     ap (λ x. right_freed x (suc k)) (left_freed-apart (c ∷ cells) (suc k) apart) ∙ right_freed-next c cells k
     ∙ ap (λ x. c ∷ right_freed x k) (sym (left_freed-apart cells k apart))
@@ -77,7 +77,7 @@ right_freed-first c (d ∷ cells) = by_test (is_right_half d.glyph) where
   by_test true = refl
   by_test false = refl
 
-freed-first : (c : Cell) (cells : List Cell) → freed (c ∷ cells) 0 ≡ freed_cell c ∷ freed_front cells
+freed-first : (c : Cell) (cells : List Cell) → freed_cells (c ∷ cells) 0 ≡ freed_cell c ∷ freed_front cells
 freed-first c cells = by_test (is_right_half c.glyph) where
   by_test : (test : Bool) → right_freed (if test then with_blank (c ∷ cells) 0 else c ∷ cells) 0 ≡ (if test then record c { glyph = Blank } else c) ∷ freed_front cells
   by_test true = right_freed-first (record c { glyph = Blank }) cells
@@ -87,9 +87,9 @@ freed-first c cells = by_test (is_right_half c.glyph) where
 pub put_narrow-first : (c : Cell) (cells : List Cell) (glyph : Glyph) (attr : Attr) → put_narrow (c ∷ cells) 0 glyph attr ≡ cell glyph attr ∷ freed_front cells
 put_narrow-first c cells glyph attr = ap (λ x. slice_set x 0 (cell glyph attr)) (freed-first c cells)
 
-both_freed-first : (c d : Cell) (cells : List Cell) → freed (freed (c ∷ d ∷ cells) 0) 1 ≡ freed_cell c ∷ freed_cell (freed_cell d) ∷ freed_front cells
+both_freed-first : (c d : Cell) (cells : List Cell) → freed_cells (freed_cells (c ∷ d ∷ cells) 0) 1 ≡ freed_cell c ∷ freed_cell (freed_cell d) ∷ freed_front cells
 both_freed-first c d cells =
-    ap (λ x. freed x 1) (freed-first c (d ∷ cells))
+    ap (λ x. freed_cells x 1) (freed-first c (d ∷ cells))
     ∙ freed-next_apart (freed_cell c) (freed_cell d ∷ cells) 0 (freed_cell-apart d)
     ∙ ap (λ x. freed_cell c ∷ x) (freed-first (freed_cell d) cells)
 
@@ -154,7 +154,7 @@ put-laid put columns is some (Some attr) (c ∷ d ∷ cells) (suc (suc k)) room 
 put-laid put columns is some half (c ∷ []) (suc (suc k)) room laid free = absurd (omega arith)
 
 -- a right half in the second place makes the first a blank
-both_freed-half : (c d : Cell) (cells : List Cell) → is_right_half d.glyph ≡ true → freed (c ∷ d ∷ cells) 1 ≡ record c { glyph = Blank } ∷ d ∷ freed_front cells
+both_freed-half : (c d : Cell) (cells : List Cell) → is_right_half d.glyph ≡ true → freed_cells (c ∷ d ∷ cells) 1 ≡ record c { glyph = Blank } ∷ d ∷ freed_front cells
 both_freed-half c d cells half =
     ap (λ test. right_freed (if test then with_blank (c ∷ d ∷ cells) 0 else c ∷ d ∷ cells) 1) half
     ∙ right_freed-next (record c { glyph = Blank }) (d ∷ cells) 0
@@ -170,24 +170,24 @@ narrow_is_put glyph attr drawn narrow = record {
       ∙ ap (λ x. record c { glyph = Blank } ∷ x) (sym (put_narrow-first d cells glyph attr));
   first = λ half c cells room laid.
       let rest = before_rest half c cells laid in
-      let front : AreLaid None (freed_front cells) = freed_front-laid rest.0 cells rest.1 in
+      let prefix : AreLaid None (freed_front cells) = freed_front-laid rest.0 cells rest.1 in
       rw (put_narrow-first c cells glyph attr)
-      (drawn, subst (λ (test : Bool). AreLaid (if test then Some attr else None) (freed_front cells)) (sym narrow) front);
+      (drawn, subst (λ (test : Bool). AreLaid (if test then Some attr else None) (freed_front cells)) (sym narrow) prefix);
 }
 
 -- a glyph of two columns
-freed-both_next : (c : Cell) (cells : List Cell) (at next : ℕ) → freed (freed (c ∷ cells) (suc (suc at))) (suc (suc next)) ≡ c ∷ freed (freed cells (suc at)) (suc next)
+freed-both_next : (c : Cell) (cells : List Cell) (at next : ℕ) → freed_cells (freed_cells (c ∷ cells) (suc (suc at))) (suc (suc next)) ≡ c ∷ freed_cells (freed_cells cells (suc at)) (suc next)
 freed-both_next c cells at next =
-    ap (λ x. freed x (suc (suc next))) (freed-next c cells at) ∙ freed-next c (freed cells (suc at)) next
+    ap (λ x. freed_cells x (suc (suc next))) (freed-next c cells at) ∙ freed-next c (freed_cells cells (suc at)) next
 
-freed-second : (c d : Cell) (cells : List Cell) → freed (c ∷ freed_cell d ∷ cells) 1 ≡ c ∷ freed (freed_cell d ∷ cells) 0
+freed-second : (c d : Cell) (cells : List Cell) → freed_cells (c ∷ freed_cell d ∷ cells) 1 ≡ c ∷ freed_cells (freed_cell d ∷ cells) 0
 freed-second c d cells = freed-next_apart c (freed_cell d ∷ cells) 0 (freed_cell-apart d)
 
 pub wide_is_put : (glyph : Glyph) (attr : Attr) → IsDrawn glyph → is_wide glyph ≡ true → IsPutting (λ cells at. put_wide cells at glyph attr) 2
 wide_is_put glyph attr drawn wide = record {
   next = next;
   next_apart = λ c d cells room apart.
-      ap (both_set 1 2) (ap (λ x. freed x 2) (freed-next_apart c (d ∷ cells) 0 apart) ∙ freed-next c (freed (d ∷ cells) 0) 0);
+      ap (both_set 1 2) (ap (λ x. freed_cells x 2) (freed-next_apart c (d ∷ cells) 0 apart) ∙ freed-next c (freed_cells (d ∷ cells) 0) 0);
   next_half = next_half;
   first = first;
 } where
@@ -198,27 +198,27 @@ wide_is_put glyph attr drawn wide = record {
   next c cells k =
       let two : suc (suc k) + 1 ≡ suc (suc (k + 1)) = omega arith in
       let one : suc (k + 1) ≡ suc k + 1 = omega arith in
-      ap (λ n. both_set (suc (suc k)) n (freed (freed (c ∷ cells) (suc (suc k))) n)) two
+      ap (λ n. both_set (suc (suc k)) n (freed_cells (freed_cells (c ∷ cells) (suc (suc k))) n)) two
       ∙ ap (both_set (suc (suc k)) (suc (suc (k + 1)))) (freed-both_next c cells k (k + 1))
-      ∙ ap (λ n. c ∷ both_set (suc k) n (freed (freed cells (suc k)) n)) one
+      ∙ ap (λ n. c ∷ both_set (suc k) n (freed_cells (freed_cells cells (suc k)) n)) one
 
   next_half : (c d : Cell) (cells : List Cell) → 2 ≤ length (d ∷ cells) → is_right_half d.glyph ≡ true
       → put_wide (c ∷ d ∷ cells) 1 glyph attr ≡ record c { glyph = Blank } ∷ put_wide (d ∷ cells) 0 glyph attr
   next_half c d [] room half = absurd (omega arith)
   next_half c d (e ∷ cells) room half =
       let c' : Cell = record c { glyph = Blank } in
-      ap (λ x. both_set 1 2 (freed x 2)) (both_freed-half c d (e ∷ cells) half)
+      ap (λ x. both_set 1 2 (freed_cells x 2)) (both_freed-half c d (e ∷ cells) half)
       ∙ ap (both_set 1 2) (freed-next c' (d ∷ freed_cell e ∷ cells) 0)
       ∙ ap (λ x. both_set 1 2 (c' ∷ x)) (freed-second d e cells)
       ∙ ap (λ x. c' ∷ both_set 0 1 x) (sym (freed-second (freed_cell d) e cells))
-      ∙ ap (λ x. c' ∷ both_set 0 1 (freed x 1)) (sym (freed-first d (e ∷ cells)))
+      ∙ ap (λ x. c' ∷ both_set 0 1 (freed_cells x 1)) (sym (freed-first d (e ∷ cells)))
 
   first : (half : Option Attr) (c : Cell) (cells : List Cell) → 2 ≤ length (c ∷ cells) → AreLaid half (c ∷ cells) → AreLaid None (put_wide (c ∷ cells) 0 glyph attr)
   first half c [] room laid = absurd (omega arith)
   first half c (d ∷ cells) room laid =
       let rest = before_rest half c (d ∷ cells) laid in
       let behind = before_rest rest.0 d cells rest.1 in
-      let front : AreLaid None (freed_front cells) = freed_front-laid behind.0 cells behind.1 in
-      let halves : AreLaid (Some attr) (cell RightHalf attr ∷ freed_front cells) = (refl, front) in
+      let prefix : AreLaid None (freed_front cells) = freed_front-laid behind.0 cells behind.1 in
+      let halves : AreLaid (Some attr) (cell RightHalf attr ∷ freed_front cells) = (refl, prefix) in
       rw (put_wide-first c d cells glyph attr)
       (drawn, subst (λ (test : Bool). AreLaid (if test then Some attr else None) (cell RightHalf attr ∷ freed_front cells)) (sym wide) halves)

@@ -7,7 +7,7 @@ use Rattle.key_screen.specs.declared.cells.Attr.{Attr}
 use Rattle.key_screen.specs.declared.cells.Glyph.{Glyph}
 use Rattle.key_screen.specs.declared.cells.Glyph.TheVariants.{Blank, Cluster, RightHalf}
 use Rattle.key_screen.specs.declared.cells.Cell.{Cell}
-use Rattle.key_screen.specs.Cells.{blank_cell, is_right_half, right_half_in, right_half_at, blanked_in, with_blank, left_freed, right_freed, freed, put_narrow, put_wide}
+use Rattle.key_screen.specs.Cells.{blank_cell, is_right_half, right_half_in, right_half_at, blanked_in, with_blank, left_freed, right_freed, freed_cells, put_narrow, put_wide}
 use Rattle.key_screen.specs.DrawnText.{cluster_columns, is_drawable, drawn_glyph, glyph_columns, put_glyph, put_glyphs, has_room}
 use Rattle.key_screen.specs.Layout.{is_wide, IsDrawn, half_behind, AreLaid, IsLaidOut, IsRowEnd}
 use Rattle.key_screen.proofs.LayoutLemmas.{cell, drawn-apart, narrow_is_put, wide_is_put, put-laid}
@@ -39,20 +39,20 @@ apart-by_test : (test : Bool) (cells : List Cell) (at k : ℕ) → right_half_at
 apart-by_test true cells at k apart = apart-with_blank cells at k apart
 apart-by_test false cells at k apart = apart
 
-apart-freed : (cells : List Cell) (at k : ℕ) → right_half_at cells k ≡ false → right_half_at (freed cells at) k ≡ false
+apart-freed : (cells : List Cell) (at k : ℕ) → right_half_at cells k ≡ false → right_half_at (freed_cells cells at) k ≡ false
 apart-freed cells at k apart =
     let left = left_freed cells at in
     apart-by_test (right_half_at left (at + 1)) left (at + 1) k (apart-by_test (right_half_at cells at) cells (at - 1) k apart)
 
 apart-narrow : (cells : List Cell) (at : ℕ) (glyph : Glyph) (attr : Attr) (k : ℕ) → is_right_half glyph ≡ false → right_half_at cells k ≡ false
     → right_half_at (put_narrow cells at glyph attr) k ≡ false
-apart-narrow cells at glyph attr k no_half apart = apart-set (freed cells at) at (cell glyph attr) k no_half (apart-freed cells at k apart)
+apart-narrow cells at glyph attr k no_half apart = apart-set (freed_cells cells at) at (cell glyph attr) k no_half (apart-freed cells at k apart)
 
 apart-wide : (cells : List Cell) (at : ℕ) (glyph : Glyph) (attr : Attr) (k : ℕ) → is_right_half glyph ≡ false → (k ≡ at + 1 → ⊥) → right_half_at cells k ≡ false
     → right_half_at (put_wide cells at glyph attr) k ≡ false
 apart-wide cells at glyph attr k no_half other apart =
-    apart-set_other (slice_set (freed (freed cells at) (at + 1)) at (cell glyph attr)) (at + 1) (cell RightHalf attr) k other
-    (apart-set (freed (freed cells at) (at + 1)) at (cell glyph attr) k no_half (apart-freed (freed cells at) (at + 1) k (apart-freed cells at k apart)))
+    apart-set_other (slice_set (freed_cells (freed_cells cells at) (at + 1)) at (cell glyph attr)) (at + 1) (cell RightHalf attr) k other
+    (apart-set (freed_cells (freed_cells cells at) (at + 1)) at (cell glyph attr) k no_half (apart-freed (freed_cells cells at) (at + 1) k (apart-freed cells at k apart)))
 
 -- the second of two places in a row begins no row
 second_begins_no_row : (columns at room rows row : ℕ) → at + room ≡ rows * columns → 2 ≤ room → room ≤ columns → row * columns ≡ at + 1 → ⊥
@@ -79,18 +79,18 @@ length-by_test : (test : Bool) (cells : List Cell) (at : ℕ) → length (if tes
 length-by_test true cells at = length-with_blank cells at
 length-by_test false cells at = refl
 
-length-freed : (cells : List Cell) (at : ℕ) → length (freed cells at) ≡ length cells
+length-freed : (cells : List Cell) (at : ℕ) → length (freed_cells cells at) ≡ length cells
 length-freed cells at =
     let left = left_freed cells at in
     length-by_test (right_half_at left (at + 1)) left (at + 1) ∙ length-by_test (right_half_at cells at) cells (at - 1)
 
 length-narrow : (cells : List Cell) (at : ℕ) (glyph : Glyph) (attr : Attr) → length (put_narrow cells at glyph attr) ≡ length cells
-length-narrow cells at glyph attr = length-set (freed cells at) at (cell glyph attr) ∙ length-freed cells at
+length-narrow cells at glyph attr = length-set (freed_cells cells at) at (cell glyph attr) ∙ length-freed cells at
 
 length-wide : (cells : List Cell) (at : ℕ) (glyph : Glyph) (attr : Attr) → length (put_wide cells at glyph attr) ≡ length cells
 length-wide cells at glyph attr =
-    length-set (slice_set (freed (freed cells at) (at + 1)) at (cell glyph attr)) (at + 1) (cell RightHalf attr)
-    ∙ length-set (freed (freed cells at) (at + 1)) at (cell glyph attr) ∙ length-freed (freed cells at) (at + 1) ∙ length-freed cells at
+    length-set (slice_set (freed_cells (freed_cells cells at) (at + 1)) at (cell glyph attr)) (at + 1) (cell RightHalf attr)
+    ∙ length-set (freed_cells (freed_cells cells at) (at + 1)) at (cell glyph attr) ∙ length-freed (freed_cells cells at) (at + 1) ∙ length-freed cells at
 
 pub length-put_glyph : (cells : List Cell) (at : ℕ) (glyph : Glyph) (attr : Attr) → length (put_glyph cells at glyph attr) ≡ length cells
 length-put_glyph cells at glyph attr = by_test (glyph_columns glyph == 2) where

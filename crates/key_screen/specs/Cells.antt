@@ -39,15 +39,15 @@ left_freed cells at = if right_half_at cells at then with_blank cells (at - 1) e
 abbrev pub right_freed : List Cell → ℕ → List Cell
 right_freed cells at = if right_half_at cells (at + 1) then with_blank cells (at + 1) else cells
 
-abbrev pub freed : List Cell → ℕ → List Cell
-freed cells at = right_freed (left_freed cells at) at
+abbrev pub freed_cells : List Cell → ℕ → List Cell
+freed_cells cells at = right_freed (left_freed cells at) at
 
 -- a glyph of one column is put into its cell
 abbrev pub put_narrow : List Cell → ℕ → Glyph → Attr → List Cell
-put_narrow cells at glyph attr = slice_set (freed cells at) at (record { glyph = glyph; attr = attr })
+put_narrow cells at glyph attr = slice_set (freed_cells cells at) at (record { glyph = glyph; attr = attr })
 
 -- a glyph of two columns is put into its cells
 abbrev pub put_wide : List Cell → ℕ → Glyph → Attr → List Cell
 put_wide cells at glyph attr =
-    slice_set (slice_set (freed (freed cells at) (at + 1)) at (record { glyph = glyph; attr = attr })) (at + 1)
+    slice_set (slice_set (freed_cells (freed_cells cells at) (at + 1)) at (record { glyph = glyph; attr = attr })) (at + 1)
     (record { glyph = RightHalf; attr = attr })

@@ -26,32 +26,32 @@ abbrev pub sequence_of : Control → ℕ → Option Sequence
 sequence_of control bytes = Some (record { control = control; bytes = bytes })
 
 -- after the second number of a placement
-abbrev pub placed : Number → Number → List ℕ → Option Sequence
-placed row column [] = None
-placed row column (byte ∷ bytes) =
+abbrev pub placement_sequence : Number → Number → List ℕ → Option Sequence
+placement_sequence row column [] = None
+placement_sequence row column (byte ∷ bytes) =
     if byte == 72 then sequence_of (Place row.value column.value) (row.digits + column.digits + 3) else None
 
 -- after the first number of a placement
 abbrev pub placed_in_row : Number → List ℕ → Option Sequence
 placed_in_row row [] = None
 placed_in_row row (byte ∷ bytes) =
-    if byte == 59 then (let column = number_from 0 0 bytes in placed row column (drop column.digits bytes)) else None
+    if byte == 59 then (let column = number_from 0 0 bytes in placement_sequence row column (drop column.digits bytes)) else None
 
 -- after `[`: a placement
 abbrev pub placement_of : List ℕ → Option Sequence
 placement_of bytes = let row = number_from 0 0 bytes in placed_in_row row (drop row.digits bytes)
 
 -- after `[`: clearing, a look, or a placement
-abbrev pub bracketed : List ℕ → Option Sequence
-bracketed (first ∷ (second ∷ bytes)) =
+abbrev pub bracket_sequence : List ℕ → Option Sequence
+bracket_sequence (first ∷ (second ∷ bytes)) =
     if first == 48 && second == 109 then sequence_of (Look Plain) 3
     else if first == 49 && second == 109 then sequence_of (Look Bold) 3
     else if first == 55 && second == 109 then sequence_of (Look Reverse) 3
     else if first == 50 && second == 74 then sequence_of Clear 3
     else placement_of (first ∷ (second ∷ bytes))
-bracketed bytes = None
+bracket_sequence bytes = None
 
 -- the sequence that bytes after an escape begin with, if they begin with one that is read
 abbrev pub control_of : List ℕ → Option Sequence
 control_of [] = None
-control_of (byte ∷ bytes) = if byte == 91 then bracketed bytes else None
+control_of (byte ∷ bytes) = if byte == 91 then bracket_sequence bytes else None

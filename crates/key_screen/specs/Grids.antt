@@ -35,8 +35,8 @@ abbrev pub room_from : CellGrid → ℕ → ℕ
 room_from grid column = grid.columns - (column - 1)
 
 -- a text is written from a cell on; what passes the last column is dropped
-abbrev pub written : CellGrid → ℕ → ℕ → List ℕ → Attr → CellGrid
-written grid row column text attr =
+abbrev pub grid_with_text : CellGrid → ℕ → ℕ → List ℕ → Attr → CellGrid
+grid_with_text grid row column text attr =
     record grid {
       cells = put_glyphs grid.cells (place_of grid row column) (room_from grid column)
           (map drawn_glyph (graphemes true text)) attr;
@@ -45,7 +45,7 @@ written grid row column text attr =
 -- a text is written from a cell on, where that lies on the screen
 unfoldable pub written_at : CellGrid → ℕ → ℕ → List ℕ → Attr → CellGrid
 written_at grid row column text attr =
-    if is_within 1 grid.lines row && is_within 1 grid.columns column then written grid row column text attr else grid
+    if is_within 1 grid.lines row && is_within 1 grid.columns column then grid_with_text grid row column text attr else grid
 
 -- the cells of a row, counted from 1
 abbrev pub row_cells : CellGrid → ℕ → List Cell

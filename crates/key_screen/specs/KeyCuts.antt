@@ -4,17 +4,17 @@ use Rattle.key_screen.specs.declared.keys.Key.{Key}
 use Rattle.key_screen.specs.declared.spelling.Spelling.TheVariants.{Partial, Whole, Broken}
 use Rattle.key_screen.specs.KeySpelling.{spelling_of, unknown}
 
--- bytes begin with one that can't go on the front of a key
+-- bytes begin with one that can't go on the prefix of a key
 abbrev pub BreaksOff : List ℕ → List ℕ → Type 0
-BreaksOff front [] = ⊥
-BreaksOff front (byte ∷ bytes) = spelling_of (front ++ byte ∷ []) ≡ Broken
+BreaksOff prefix [] = ⊥
+BreaksOff prefix (byte ∷ bytes) = spelling_of (prefix ++ byte ∷ []) ≡ Broken
 
--- a piece before other bytes is this key: it spells it, or it is the front of one, broken off, and is unknown
+-- a piece before other bytes is this key: it spells it, or it is the prefix of one, broken off, and is unknown
 abbrev pub IsKeyBefore : List ℕ → Key → List ℕ → Type 0
 IsKeyBefore piece key after =
     (spelling_of piece ≡ Whole key) ⊎ ((spelling_of piece ≡ Partial) × BreaksOff piece after × (key ≡ unknown))
 
--- the bytes are cut into these keys, up to a rest that is the front of one
+-- the bytes are cut into these keys, up to a rest that is the prefix of one
 abbrev pub IsCut : List ℕ → List Key → List ℕ → Type 0
 IsCut bytes [] rest = (bytes ≡ rest) × (spelling_of rest ≡ Partial)
 IsCut bytes (key ∷ keys) rest =

@@ -49,8 +49,8 @@ is_second first byte =
     else is_tail byte
 
 -- the code of a character, by its first byte less what marks it and the bytes after it
-abbrev pub joined : ℕ → ℕ → ℕ
-joined code byte = code * 64 + (byte - 128)
+abbrev pub joined_code : ℕ → ℕ → ℕ
+joined_code code byte = code * 64 + (byte - 128)
 
 -- every last byte makes a character of this code: none is a surrogate (D800 to DFFF) or past 10FFFF
 abbrev pub CanEnd : ℕ → Type 0
@@ -60,24 +60,24 @@ CanEnd code = (code < 864) ⊎ ((896 ≤ code) × (code < 17408))
 abbrev pub last_tail : Bool → ℕ → List ℕ → Spelling
 last_tail meta code [] = Partial
 last_tail meta code (byte ∷ bytes) =
-    if is_tail byte then ends (key meta (Char (joined code byte))) bytes else Broken
+    if is_tail byte then ends (key meta (Char (joined_code code byte))) bytes else Broken
 
 -- the last two bytes of a character
 abbrev pub two_tails : Bool → ℕ → List ℕ → Spelling
 two_tails meta code [] = Partial
-two_tails meta code (byte ∷ bytes) = if is_tail byte then last_tail meta (joined code byte) bytes else Broken
+two_tails meta code (byte ∷ bytes) = if is_tail byte then last_tail meta (joined_code code byte) bytes else Broken
 
 -- the bytes of a character of three, after the first
 abbrev pub second_of_three : Bool → ℕ → List ℕ → Spelling
 second_of_three meta first [] = Partial
 second_of_three meta first (byte ∷ bytes) =
-    if is_second first byte then last_tail meta (joined (first - 224) byte) bytes else Broken
+    if is_second first byte then last_tail meta (joined_code (first - 224) byte) bytes else Broken
 
 -- the bytes of a character of four, after the first
 abbrev pub second_of_four : Bool → ℕ → List ℕ → Spelling
 second_of_four meta first [] = Partial
 second_of_four meta first (byte ∷ bytes) =
-    if is_second first byte then two_tails meta (joined (first - 240) byte) bytes else Broken
+    if is_second first byte then two_tails meta (joined_code (first - 240) byte) bytes else Broken
 
 -- a key that begins with this byte, which is no escape: a control, or a character; a byte that begins none is unknown
 abbrev pub character : Bool → ℕ → List ℕ → Spelling
@@ -143,9 +143,9 @@ letter [] = Partial
 letter (byte ∷ bytes) = if is_within 64 126 byte then ends (key false (letter_base byte)) bytes else Broken
 
 -- the bytes after an escape
-abbrev pub escaped : List ℕ → Spelling
-escaped [] = Partial
-escaped (byte ∷ bytes) =
+abbrev pub escape_spelling : List ℕ → Spelling
+escape_spelling [] = Partial
+escape_spelling (byte ∷ bytes) =
     if byte == 27 then ends (key false Escape) bytes
     else if byte == 91 then sequence [] bytes
     else if byte == 79 then letter bytes
@@ -156,4 +156,4 @@ escaped (byte ∷ bytes) =
 -- what bytes are as the spelling of a key: the front of one, one whole, or neither
 abbrev pub spelling_of : List ℕ → Spelling
 spelling_of [] = Partial
-spelling_of (byte ∷ bytes) = if byte == 27 then escaped bytes else character false byte bytes
+spelling_of (byte ∷ bytes) = if byte == 27 then escape_spelling bytes else character false byte bytes

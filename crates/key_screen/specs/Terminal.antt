@@ -78,11 +78,11 @@ looking t Plain attr = Some (record t { mode = attr })
 looking t other attr = None
 
 -- what a control makes of a terminal, if it is read there
-abbrev pub controlled : TerminalState → Control → Option TerminalState
-controlled t Clear = Some (record t { cells = replicate (length t.cells) blank_cell })
-controlled t (Look Plain) = Some (record t { mode = Plain })
-controlled t (Look attr) = looking t t.mode attr
-controlled t (Place row column) =
+abbrev pub controlled_terminal : TerminalState → Control → Option TerminalState
+controlled_terminal t Clear = Some (record t { cells = replicate (length t.cells) blank_cell })
+controlled_terminal t (Look Plain) = Some (record t { mode = Plain })
+controlled_terminal t (Look attr) = looking t t.mode attr
+controlled_terminal t (Place row column) =
     if is_within 1 t.lines row && is_within 1 t.columns column
     then Some (record t { at = (row - 1) * t.columns + (column - 1); room = t.columns - (column - 1) })
     else None
@@ -94,7 +94,7 @@ behind_control position bytes sequence (Some t) = text_read t (position + 1 + se
 
 abbrev pub behind_sequence : TerminalState → ℕ → List ℕ → Option Sequence → Result TerminalState ℕ
 behind_sequence t position bytes None = Err position
-behind_sequence t position bytes (Some sequence) = behind_control position bytes sequence (controlled t sequence.control)
+behind_sequence t position bytes (Some sequence) = behind_control position bytes sequence (controlled_terminal t sequence.control)
 
 -- the bytes after an escape at this position, up to the next one, are read
 abbrev pub sequence_read : TerminalState → ℕ → List ℕ → Result TerminalState ℕ

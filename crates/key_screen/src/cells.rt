@@ -1,6 +1,6 @@
 //! What a cell of the screen shows.
 ghost use Rattle.std.specs.Prelude.{◌≡◌, ◌<◌, ◌≤◌, ◌+◌, ◌-◌, ◌*◌, length, slice_set, true, ◌↔◌, IsTrue};
-ghost use Rattle.key_screen.specs.Cells.{freed, left_freed, right_freed, right_half_at, with_blank, put_narrow, put_wide};
+ghost use Rattle.key_screen.specs.Cells.{freed_cells, left_freed, right_freed, right_half_at, with_blank, put_narrow, put_wide};
 
 use mc_text::Text;
 use std::convert::AsStr;
@@ -72,7 +72,7 @@ fn free_right(cells: &mut [Cell], at: usize)
 /// Makes the other half of a wide cluster blank, where one half of it stands there.
 fn free(cells: &mut [Cell], at: usize)
     requires { at < length cells.old }
-    ensures { cells.new ≡ freed cells.old at }
+    ensures { cells.new ≡ freed_cells cells.old at }
 {
     free_left(cells, at);
     free_right(cells, at);

@@ -1,6 +1,6 @@
 //! The keys of one character, spelled in UTF-8, and the control keys.
 ghost use Rattle.std.specs.Prelude.{◌≡◌, ◌+◌, ◌*◌, ◌-◌, ◌<◌, ◌≤◌, ◌⊎◌};
-ghost use Rattle.key_screen.specs.KeySpelling.{character as character_of, ascii_base, is_second, is_tail, second_of_three, second_of_four, last_tail, two_tails, joined, CanEnd};
+ghost use Rattle.key_screen.specs.KeySpelling.{character as character_of, ascii_base, is_second, is_tail, second_of_three, second_of_four, last_tail, two_tails, joined_code, CanEnd};
 
 use crate::keys::Base;
 use crate::spelling::{Spelling, ended};
@@ -100,7 +100,7 @@ fn last(meta: bool, code: u32, rest: &[u8]) -> Spelling
 fn join(bits: u8, byte: u8) -> u32
     requires bits { bits < 16 }
     requires tail { 128 ≤ byte }
-    ensures { result ≡ joined bits byte }
+    ensures { result ≡ joined_code bits byte }
 {
     u32::from(bits) * 64 + u32::from(byte - 0x80)
 }

@@ -3,7 +3,7 @@ ghost use Rattle.std.specs.Prelude.{◌≡◌, ◌↔◌, ◌<◌, ◌≤◌, �
 ghost use Rattle.unicode_segmentation.specs.Grapheme.{graphemes};
 ghost use Rattle.key_screen.specs.Cells.{blank_cell};
 ghost use Rattle.key_screen.specs.DrawnText.{drawn_glyph, glyph_columns, put_glyph, put_glyphs};
-ghost use Rattle.key_screen.specs.Grids.{blank_grid, cells_text, glyph_text, row_cells, written, written_at, IsOnGrid};
+ghost use Rattle.key_screen.specs.Grids.{blank_grid, cells_text, glyph_text, row_cells, grid_with_text, written_at, IsOnGrid};
 ghost use Rattle.key_screen.specs.Layout.{IsLaidOut};
 
 use crate::cells::{Attr, Cell, Glyph, are_same, put_one, put_two};
@@ -102,7 +102,7 @@ impl Grid {
         attr: Attr,
     ) -> Result<(), NoMemory>
         requires { IsOnGrid self.old row column }
-        ensures done { OnOk result (self.new ≡ written self.old row column text.now attr) }
+        ensures done { OnOk result (self.new ≡ grid_with_text self.old row column text.now attr) }
         ensures refused { OnErr result (self.new ≡ self.old) }
     {
         let room = usize::from(self.columns) - usize::from(column - 1);

@@ -1,6 +1,6 @@
 //! The reader that cuts the bytes of the terminal into keys.
 ghost use Rattle.std.specs.Prelude.{◌≡◌, ◌≤◌, [], ◌∷◌, ◌++◌, length, IsSome};
-ghost use Rattle.key_screen.specs.DecodedKeys.{decoded_keys, keys_fed, IsUnknownFirst, IsFedAfresh, fed};
+ghost use Rattle.key_screen.specs.DecodedKeys.{decoded_keys, keys_fed, IsUnknownFirst, IsFedAfresh, keys_completed};
 ghost use Rattle.key_screen.specs.KeySpelling.{unknown};
 
 use crate::keys::{Base, Fed, Key};
@@ -98,7 +98,7 @@ const UNKNOWN: Key = Key {
 
 /// The byte completes no key.
 fn none() -> Fed
-    ensures { result ≡ fed None None }
+    ensures { result ≡ keys_completed None None }
 {
     Fed {
         first: None,
@@ -108,7 +108,7 @@ fn none() -> Fed
 
 /// The byte completes a key.
 fn one(key: Key) -> Fed
-    ensures { result ≡ fed (Some key) None }
+    ensures { result ≡ keys_completed (Some key) None }
 {
     Fed {
         first: Some(key),
@@ -118,7 +118,7 @@ fn one(key: Key) -> Fed
 
 /// The byte ends an unknown key, and is a key.
 fn two(key: Key) -> Fed
-    ensures { result ≡ fed (Some unknown) (Some key) }
+    ensures { result ≡ keys_completed (Some unknown) (Some key) }
 {
     Fed {
         first: Some(UNKNOWN),

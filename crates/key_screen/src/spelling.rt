@@ -1,6 +1,6 @@
 //! What bytes are as the spelling of a key.
 ghost use Rattle.std.specs.Prelude.{◌≡◌, ◌∷◌};
-ghost use Rattle.key_screen.specs.KeySpelling.{spelling_of, escaped, ends, key};
+ghost use Rattle.key_screen.specs.KeySpelling.{spelling_of, escape_spelling, ends, key};
 
 use crate::characters::character;
 use crate::keys::{Base, Key};
@@ -27,7 +27,7 @@ pub fn spelled(bytes: &[u8]) -> Spelling
 
 /// What these bytes spell after an escape.
 fn escape(bytes: &[u8]) -> Spelling
-    ensures { result ≡ escaped bytes.now }
+    ensures { result ≡ escape_spelling bytes.now }
 {
     match bytes {
         [] => Spelling::Partial,

@@ -3,7 +3,7 @@ ghost use Rattle.std.specs.Prelude.{◌≡◌, ◌<◌, ◌≤◌, ◌+◌, ◌^
 ghost use Rattle.key_screen.specs.Cells.{blank_cell};
 ghost use Rattle.std.specs.Str.{IsUtf8};
 ghost use Rattle.unicode_segmentation.specs.Grapheme.{graphemes};
-ghost use Rattle.key_screen.specs.Terminal.{cluster_read, clusters_read, text_read, up_to_fault, sequence_read, controlled, looking, all_read, segments, shown_grid, screen_after, blank_terminal, Reads, Obeys, TellsScreen};
+ghost use Rattle.key_screen.specs.Terminal.{cluster_read, clusters_read, text_read, up_to_fault, sequence_read, controlled_terminal, looking, all_read, segments, shown_grid, screen_after, blank_terminal, Reads, Obeys, TellsScreen};
 
 use crate::cells::{Attr, Cell, Glyph};
 use crate::control::{Control, control_of};
@@ -166,7 +166,7 @@ impl Terminal {
 
     /// Does what a control says, and tells whether it is read.
     fn obey(&mut self, control: Control) -> bool
-        ensures { Obeys (controlled self.old control) result self.new }
+        ensures { Obeys (controlled_terminal self.old control) result self.new }
     {
         match control {
             Control::Clear => {
@@ -195,7 +195,7 @@ impl Terminal {
 
     /// Places the next cluster, if the row and column lie on the grid.
     fn place(&mut self, row: u32, column: u32) -> bool
-        ensures { Obeys (controlled self.old (Control.Place row column)) result self.new }
+        ensures { Obeys (controlled_terminal self.old (Control.Place row column)) result self.new }
     {
         if row == 0
             || row > u32::from(self.lines)

@@ -4,7 +4,7 @@ use Rattle.tree_trait.specs.FileSystem.{View}
 use Rattle.op_plan.specs.declared.job.Job.{Job}
 use Rattle.job_claims.specs.Claiming.{claims, clashes}
 use Rattle.laws_claims.specs.Works.{Work, does, after_works}
-use Rattle.laws_claims.specs.Outcome.{done, outcome}
+use Rattle.laws_claims.specs.Outcome.{decisions_of_works, outcome}
 use Rattle.laws_claims.specs.Commuting.{WorksCommute, OutcomesCommute}
 use Rattle.laws_claims.proofs.LocalLemmas.{order_law, work_law}
 use Rattle.laws_claims.proofs.Whole.{fit_law}
@@ -25,8 +25,8 @@ works_commute mine theirs (work ∷ works) their_works v apart =
 
 pub outcomes_commute : OutcomesCommute
 outcomes_commute mine theirs my_works their_works v apart my_sound their_sound my_fit their_fit =
-    ap (λ (w : View). outcome w mine (done my_works)) (sym (fit_law theirs their_works v their_sound their_fit))
+    ap (λ (w : View). outcome w mine (decisions_of_works my_works)) (sym (fit_law theirs their_works v their_sound their_fit))
     ∙ (sym (fit_law mine my_works (after_works theirs their_works v) my_sound my_fit)
     ∙ (works_commute mine theirs my_works their_works v apart
     ∙ (ap (after_works theirs their_works) (fit_law mine my_works v my_sound my_fit)
-    ∙ fit_law theirs their_works (outcome v mine (done my_works)) their_sound their_fit)))
+    ∙ fit_law theirs their_works (outcome v mine (decisions_of_works my_works)) their_sound their_fit)))

@@ -4,7 +4,7 @@ use Rattle.std.specs.Prelude.{◌||◌, ◌&&◌, is_some}
 use Rattle.std.specs.Option.{option_map}
 use Rattle.std.proofs.lemmas.Bool.{cases_Bool, both_ways, or_left, or_right, or_from, and_left, and_right, and_parts, and_from, false_from_ne_true}
 use Rattle.mc_text.specs.Routes.{Route, same_path, is_prefix}
-use Rattle.tree_trait.specs.FileSystem.{Value, Spot, View, put}
+use Rattle.tree_trait.specs.FileSystem.{Value, Spot, View, view_with}
 use Rattle.tree_trait.specs.Refusals.{holder}
 use Rattle.job_reports.specs.declared.job.Pair.{Pair}
 use Rattle.op_plan.specs.Meeting.{meet}
@@ -13,7 +13,7 @@ use Rattle.laws_claims.specs.Views.{nothing, Nothing, Puts, Carries, holding, ca
 use mathlib.Core.Path.{fun_ext}
 use Rattle.op_plan.specs.declared.job.Job.TheVariants.{Move}
 use Rattle.laws_claims.specs.Works.{Part, Make, Place, Set, Remove, Work, Did, is_part, with_mode, made_for, mode_or, covers, sources, source_of, moves, does, after_works}
-use Rattle.laws_claims.specs.Outcome.{Decisions, is_work, done, copied, Spotted, AtTarget, AtSource, Elsewhere, place, is_carried, moved, outcome}
+use Rattle.laws_claims.specs.Outcome.{Decisions, is_work, decisions_of_works, copied_target, Spotted, AtTarget, AtSource, Elsewhere, place, is_carried, moved_spot, outcome}
 use Rattle.laws_claims.specs.Fits.{is_above, is_near_work, IsFree, MayFollow, Follow}
 use Rattle.laws_claims.proofs.Apart.{all_apart}
 use Rattle.op_plan.proofs.Paths.{same-true, same-self}
@@ -39,7 +39,7 @@ one_mount-like v w a b at_a at_b =
       mount-like v w (holder b) (λ q h. at_b q (under-trans q (holder b) b h (above_holder b))),
     ) refl
 
-near_work : (part : Part) (a p : Route) (older : List Work) → meet a p ≡ true → IsFree (is_near_work part p) older → done older part a ≡ false
+near_work : (part : Part) (a p : Route) (older : List Work) → meet a p ≡ true → IsFree (is_near_work part p) older → decisions_of_works older part a ≡ false
 near_work part a p older near free = free_of (is_near_work part p) (is_work part a) older narrower free
   where
     narrower : (w : Work) → is_work part a w ≡ true → is_near_work part p w ≡ true
@@ -61,7 +61,7 @@ off_path a p off =
 
 module _ (v : View) (p : Route) (older : List Work) (pair : Pair) where
   -- a placing elsewhere carries nothing here
-  carried-away : (rest : Route) → is_prefix p (rest ++ pair.target) ≡ false → is_carried v (done (Did Place p ∷ older)) pair rest ≡ is_carried v (done older) pair rest
+  carried-away : (rest : Route) → is_prefix p (rest ++ pair.target) ≡ false → is_carried v (decisions_of_works (Did Place p ∷ older)) pair rest ≡ is_carried v (decisions_of_works older) pair rest
   carried-away [] off = let here = off_path pair.target p off in rw here refl
   carried-away (name ∷ rest) off =
       let here = off_path (name ∷ rest ++ pair.target) p off in
@@ -71,7 +71,7 @@ module _ (v : View) (p : Route) (older : List Work) (pair : Pair) where
       rw (here, carried-away rest up) refl
 
   -- a placing by one renaming carries all below it
-  carried-here : (rest : Route) → p ≡ rest ++ pair.target → one_mount v (rest ++ pair.source) p ≡ true → is_carried v (done (Did Place p ∷ older)) pair rest ≡ true
+  carried-here : (rest : Route) → p ≡ rest ++ pair.target → one_mount v (rest ++ pair.source) p ≡ true → is_carried v (decisions_of_works (Did Place p ∷ older)) pair rest ≡ true
   carried-here [] is mount =
       let on : same_path pair.target p ≡ true = subst (λ q. same_path q p ≡ true) is (same-self p) in
       let m : one_mount v pair.source pair.target ≡ true = subst (λ q. one_mount v pair.source q ≡ true) is mount in
@@ -79,34 +79,34 @@ module _ (v : View) (p : Route) (older : List Work) (pair : Pair) where
   carried-here (name ∷ rest) is mount =
       let on : same_path (name ∷ rest ++ pair.target) p ≡ true = subst (λ q. same_path q p ≡ true) is (same-self p) in
       let m : one_mount v (name ∷ rest ++ pair.source) (name ∷ rest ++ pair.target) ≡ true = subst (λ q. one_mount v (name ∷ rest ++ pair.source) q ≡ true) is mount in
-      or_left _ (is_carried v (done (Did Place p ∷ older)) pair rest) (rw (on, m) refl)
+      or_left _ (is_carried v (decisions_of_works (Did Place p ∷ older)) pair rest) (rw (on, m) refl)
 
-  carried-below : (r rest : Route) → is_carried v (done (Did Place p ∷ older)) pair rest ≡ true → is_carried v (done (Did Place p ∷ older)) pair (r ++ rest) ≡ true
+  carried-below : (r rest : Route) → is_carried v (decisions_of_works (Did Place p ∷ older)) pair rest ≡ true → is_carried v (decisions_of_works (Did Place p ∷ older)) pair (r ++ rest) ≡ true
   carried-below [] rest h = h
-  carried-below (name ∷ r) rest h = or_right _ (is_carried v (done (Did Place p ∷ older)) pair (r ++ rest)) (carried-below r rest h)
+  carried-below (name ∷ r) rest h = or_right _ (is_carried v (decisions_of_works (Did Place p ∷ older)) pair (r ++ rest)) (carried-below r rest h)
 
   -- a placing across mounts carries nothing
-  same_test : (a s : Route) → (same_path a p ≡ true → one_mount v s a ≡ false) → ((same_path a p || done older Place a) && one_mount v s a) ≡ (done older Place a && one_mount v s a)
+  same_test : (a s : Route) → (same_path a p ≡ true → one_mount v s a ≡ false) → ((same_path a p || decisions_of_works older Place a) && one_mount v s a) ≡ (decisions_of_works older Place a && one_mount v s a)
   same_test a s off =
       elim (cases_Bool (same_path a p)) [
-        | inl on ↦ and_right (same_path a p || done older Place a) (one_mount v s a) (off on) ∙ sym (and_right (done older Place a) (one_mount v s a) (off on))
+        | inl on ↦ and_right (same_path a p || decisions_of_works older Place a) (one_mount v s a) (off on) ∙ sym (and_right (decisions_of_works older Place a) (one_mount v s a) (off on))
         | inr out ↦ rw out refl
       ]
 
   mount_off : (a s : Route) → a ≡ p → one_mount v s p ≡ false → one_mount v s a ≡ false
   mount_off a s e h = subst (λ q. one_mount v s q ≡ false) (sym e) h
 
-  carried-across : (rest : Route) → ((r : Route) → r ++ pair.target ≡ p → one_mount v (r ++ pair.source) p ≡ false) → is_carried v (done (Did Place p ∷ older)) pair rest ≡ is_carried v (done older) pair rest
+  carried-across : (rest : Route) → ((r : Route) → r ++ pair.target ≡ p → one_mount v (r ++ pair.source) p ≡ false) → is_carried v (decisions_of_works (Did Place p ∷ older)) pair rest ≡ is_carried v (decisions_of_works older) pair rest
   carried-across [] off = same_test pair.target pair.source (λ on. let e : pair.target ≡ p = same-true pair.target p on in mount_off pair.target pair.source e (off [] e))
   carried-across (name ∷ rest) off =
       rw (carried-across rest off)
-      (ap (λ t. t || is_carried v (done older) pair rest)
+      (ap (λ t. t || is_carried v (decisions_of_works older) pair rest)
       (same_test (name ∷ rest ++ pair.target) (name ∷ rest ++ pair.source)
       (λ on. let e : (name ∷ rest ++ pair.target) ≡ p = same-true (name ∷ rest ++ pair.target) p on in mount_off (name ∷ rest ++ pair.target) (name ∷ rest ++ pair.source) e (off (name ∷ rest) e))))
 
 module _ (pairs : List Pair) (v : View) (sound : all_apart pairs ≡ true) where
   abbrev left : List Work → View
-  left works = outcome v (Move pairs) (done works)
+  left works = outcome v (Move pairs) (decisions_of_works works)
 
   -- a path that has a source, and that source
   record At (p s : Route) : Type 0 where
@@ -134,19 +134,19 @@ module _ (pairs : List Pair) (v : View) (sound : all_apart pairs ≡ true) where
         place_s = ap (place pairs) has.source ∙ h'.sources has.rest;
       }
 
-  not_carried_at : (p s : Route) (older : List Work) (a : At p s) → IsFree (is_above Place p) older → is_carried v (done older) a.pair a.rest ≡ false
+  not_carried_at : (p s : Route) (older : List Work) (a : At p s) → IsFree (is_above Place p) older → is_carried v (decisions_of_works older) a.pair a.rest ≡ false
   not_carried_at p s older a free =
-      not_carried v (done older) a.pair a.rest (λ b above. not_placed b p older (subst (λ q. is_prefix b q ≡ true) (sym a.is) above) free)
+      not_carried v (decisions_of_works older) a.pair a.rest (λ b above. not_placed b p older (subst (λ q. is_prefix b q ≡ true) (sym a.is) above) free)
 
   -- the source as it was
-  at_source_is : (older : List Work) (p s : Route) → At p s → IsFree (is_above Place p) older → done older Remove s ≡ false → left older s ≡ v s
+  at_source_is : (older : List Work) (p s : Route) → At p s → IsFree (is_above Place p) older → decisions_of_works older Remove s ≡ false → left older s ≡ v s
   at_source_is older p s a free kept = let e = a.place_s in let c = not_carried_at p s older a free in rw (e, c, kept) refl
 
   -- what a work at p changes at no other path, but for what it carries
   away_at : (part : Part) (p : Route) (older : List Work) (q : Route) (o : Spotted) → same_path q p ≡ false
-      → ((pair : Pair) (rest : Route) → o ≡ AtTarget pair rest → is_carried v (done (Did part p ∷ older)) pair rest ≡ is_carried v (done older) pair rest)
-      → ((pair : Pair) (rest : Route) → o ≡ AtSource pair rest → is_carried v (done (Did part p ∷ older)) pair rest ≡ is_carried v (done older) pair rest)
-      → moved v (done (Did part p ∷ older)) q o ≡ moved v (done older) q o
+      → ((pair : Pair) (rest : Route) → o ≡ AtTarget pair rest → is_carried v (decisions_of_works (Did part p ∷ older)) pair rest ≡ is_carried v (decisions_of_works older) pair rest)
+      → ((pair : Pair) (rest : Route) → o ≡ AtSource pair rest → is_carried v (decisions_of_works (Did part p ∷ older)) pair rest ≡ is_carried v (decisions_of_works older) pair rest)
+      → moved_spot v (decisions_of_works (Did part p ∷ older)) q o ≡ moved_spot v (decisions_of_works older) q o
   away_at part p older q (AtTarget pair rest) off t s =
       let c = copied-other part p q older (v (rest ++ pair.source)).value (v q).value off in
       rw (t pair rest refl, c) refl
@@ -155,18 +155,18 @@ module _ (pairs : List Pair) (v : View) (sound : all_apart pairs ≡ true) where
 
   -- a work that puts a value where the outcome has it
   puts : (part : Part) (older : List Work) (p s : Route) (new : Option Value) → (a : At p s)
-      → ((pair : Pair) (rest : Route) → Among pairs pair → is_carried v (done (Did part p ∷ older)) pair rest ≡ is_carried v (done older) pair rest)
-      → is_carried v (done older) a.pair a.rest ≡ false
-      → new ≡ copied (done (Did part p ∷ older)) p (v s).value (v p).value → (q : Route) → put (left older) p new q ≡ left (Did part p ∷ older) q
+      → ((pair : Pair) (rest : Route) → Among pairs pair → is_carried v (decisions_of_works (Did part p ∷ older)) pair rest ≡ is_carried v (decisions_of_works older) pair rest)
+      → is_carried v (decisions_of_works older) a.pair a.rest ≡ false
+      → new ≡ copied_target (decisions_of_works (Did part p ∷ older)) p (v s).value (v p).value → (q : Route) → view_with (left older) p new q ≡ left (Did part p ∷ older) q
   puts part older p s new a same_carried c e q =
       elim (cases_Bool (same_path q p)) [
-        | inl on ↦ subst (λ (r : Route). put (left older) p new r ≡ left (Did part p ∷ older) r) (sym (same-true q p on))
-            (let l = a.place_p in let k : is_carried v (done (Did part p ∷ older)) a.pair a.rest ≡ false = same_carried a.pair a.rest a.among ∙ c in
+        | inl on ↦ subst (λ (r : Route). view_with (left older) p new r ≡ left (Did part p ∷ older) r) (sym (same-true q p on))
+            (let l = a.place_p in let k : is_carried v (decisions_of_works (Did part p ∷ older)) a.pair a.rest ≡ false = same_carried a.pair a.rest a.among ∙ c in
             let f : (v s).value ≡ (v (a.rest ++ a.pair.source)).value = ap (λ (r : Route). (v r).value) a.source in
-            let old : left older p ≡ holding (copied (done older) p (v (a.rest ++ a.pair.source)).value (v p).value) (v p) = rw (l, c) refl in
-            let new_is : left (Did part p ∷ older) p ≡ holding (copied (done (Did part p ∷ older)) p (v (a.rest ++ a.pair.source)).value (v p).value) (v p) = rw (l, k) refl in
+            let old : left older p ≡ holding (copied_target (decisions_of_works older) p (v (a.rest ++ a.pair.source)).value (v p).value) (v p) = rw (l, c) refl in
+            let new_is : left (Did part p ∷ older) p ≡ holding (copied_target (decisions_of_works (Did part p ∷ older)) p (v (a.rest ++ a.pair.source)).value (v p).value) (v p) = rw (l, k) refl in
             put_on (left older) p new ∙ (ap (λ (x : Spot). holding new x) old
-            ∙ (ap (λ (x : Option Value). holding x (v p)) (e ∙ ap (λ (x : Option Value). copied (done (Did part p ∷ older)) p x (v p).value) f) ∙ sym new_is)))
+            ∙ (ap (λ (x : Option Value). holding x (v p)) (e ∙ ap (λ (x : Option Value). copied_target (decisions_of_works (Did part p ∷ older)) p x (v p).value) f) ∙ sym new_is)))
         | inr off ↦ put_off (left older) p q new off
             ∙ sym (away_at part p older q (place pairs q) off (λ pair rest h. same_carried pair rest (at_target pairs q pair rest h).among)
             (λ pair rest h. same_carried pair rest (at_source pairs q pair rest h).among))
@@ -174,12 +174,12 @@ module _ (pairs : List Pair) (v : View) (sound : all_apart pairs ≡ true) where
 
   -- a work at a path with no source
   nothing_at : (part : Part) (older : List Work) (p : Route) → source_of pairs p ≡ None
-      → ((pair : Pair) (rest : Route) → Among pairs pair → is_carried v (done (Did part p ∷ older)) pair rest ≡ is_carried v (done older) pair rest)
-      → ((q : Route) → done (Did part p ∷ older) Remove q ≡ done older Remove q)
+      → ((pair : Pair) (rest : Route) → Among pairs pair → is_carried v (decisions_of_works (Did part p ∷ older)) pair rest ≡ is_carried v (decisions_of_works older) pair rest)
+      → ((q : Route) → decisions_of_works (Did part p ∷ older) Remove q ≡ decisions_of_works older Remove q)
       → (q : Route) → left older q ≡ left (Did part p ∷ older) q
   nothing_at part older p gone same_carried same_removed q = go (place pairs q) refl
     where
-      go : (o : Spotted) → place pairs q ≡ o → moved v (done older) q o ≡ moved v (done (Did part p ∷ older)) q o
+      go : (o : Spotted) → place pairs q ≡ o → moved_spot v (decisions_of_works older) q o ≡ moved_spot v (decisions_of_works (Did part p ∷ older)) q o
       go (AtTarget pair rest) l =
           let f = at_target pairs q pair rest l in
           let h = home pairs pair sound f.among in
@@ -201,10 +201,10 @@ module _ (pairs : List Pair) (v : View) (sound : all_apart pairs ≡ true) where
   spot_at_target : (older : List Work) (p s : Route) → At p s → IsFree (is_above Place p) older → (x : Route) → is_prefix x p ≡ true → (left older x).is_mount ≡ (v x).is_mount
   spot_at_target older p s a free x above = go (place pairs x) refl
     where
-      go : (o : Spotted) → place pairs x ≡ o → (moved v (done older) x o).is_mount ≡ (v x).is_mount
+      go : (o : Spotted) → place pairs x ≡ o → (moved_spot v (decisions_of_works older) x o).is_mount ≡ (v x).is_mount
       go (AtTarget pair rest) l =
           let f = at_target pairs x pair rest l in
-          let c = not_carried v (done older) pair rest (λ b h. not_placed b p older (under-trans b x p (subst (λ q. is_prefix b q ≡ true) (sym f.is) h) above) free) in
+          let c = not_carried v (decisions_of_works older) pair rest (λ b h. not_placed b p older (under-trans b x p (subst (λ q. is_prefix b q ≡ true) (sym f.is) h) above) free) in
           rw c refl
       go (AtSource pair rest) l =
           let f = at_source pairs x pair rest l in
@@ -217,7 +217,7 @@ module _ (pairs : List Pair) (v : View) (sound : all_apart pairs ≡ true) where
   spot_at_source : (older : List Work) (p s : Route) → At p s → IsFree (is_above Place p) older → (x : Route) → is_prefix x s ≡ true → (left older x).is_mount ≡ (v x).is_mount
   spot_at_source older p s a free x above = go (place pairs x) refl
     where
-      go : (o : Spotted) → place pairs x ≡ o → (moved v (done older) x o).is_mount ≡ (v x).is_mount
+      go : (o : Spotted) → place pairs x ≡ o → (moved_spot v (decisions_of_works older) x o).is_mount ≡ (v x).is_mount
       go (AtTarget pair rest) l =
           let f = at_target pairs x pair rest l in
           let h = home pairs pair sound f.among in
@@ -234,8 +234,8 @@ module _ (pairs : List Pair) (v : View) (sound : all_apart pairs ≡ true) where
           let same_rest : a.rest ≡ w.0 ++ rest = cc in
           let p_is : p ≡ w.0 ++ (rest ++ pair.target) = a.is ∙ (ap (λ (r : Route). r ++ a.pair.target) same_rest ∙ (ap (λ (y : Pair). (w.0 ++ rest) ++ y.target) same_pair ∙ append_assoc w.0 rest pair.target)) in
           let up : is_prefix (rest ++ pair.target) p ≡ true = under-from (rest ++ pair.target) p w.0 p_is in
-          let c = not_carried v (done older) pair rest (λ b h. not_placed b p older (under-trans b (rest ++ pair.target) p h up) free) in
-          rw c (removed_spot (done older Remove x) (v x))
+          let c = not_carried v (decisions_of_works older) pair rest (λ b h. not_placed b p older (under-trans b (rest ++ pair.target) p h up) free) in
+          rw c (removed_spot (decisions_of_works older Remove x) (v x))
       go Elsewhere l = refl
 
   mount_stays : (older : List Work) (p s : Route) → At p s → IsFree (is_above Place p) older → one_mount (left older) s p ≡ one_mount v s p
@@ -249,7 +249,7 @@ module _ (pairs : List Pair) (v : View) (sound : all_apart pairs ≡ true) where
           let t = and_parts (is_part part Place) (is_prefix b p) h in
           and_from (is_part part Place) (meet b p) t.0 (or_left (is_prefix b p) (is_prefix p b) t.1)
 
-  near_self : (s : Route) (older : List Work) → IsFree (is_near_work Remove s) older → done older Remove s ≡ false
+  near_self : (s : Route) (older : List Work) → IsFree (is_near_work Remove s) older → decisions_of_works older Remove s ≡ false
   near_self s older free = near_work Remove s s older (or_left (is_prefix s s) (is_prefix s s) (under-self s)) free
 
   -- the pair of a target is the only one that leads there
@@ -262,7 +262,7 @@ module _ (pairs : List Pair) (v : View) (sound : all_apart pairs ≡ true) where
       (same_pair, same_rest)
 
   place_across : (older : List Work) (p s : Route) (a : At p s) → IsFree (is_near_work Place p) older → IsFree (is_near_work Remove s) older → one_mount v s p ≡ false
-      → (q : Route) → put (left older) p (left older s).value q ≡ left (Did Place p ∷ older) q
+      → (q : Route) → view_with (left older) p (left older s).value q ≡ left (Did Place p ∷ older) q
   place_across older p s a free kept off q =
       puts Place older p s (left older s).value a
       (λ pair rest among. carried-across v p older pair rest (λ r is.
@@ -273,7 +273,7 @@ module _ (pairs : List Pair) (v : View) (sound : all_apart pairs ≡ true) where
       (ap (λ (x : Spot). x.value) (at_source_is older p s a (near_above p older free) (near_self s older kept)) ∙ sym (copied-placed p older (v s).value (v p).value)) q
 
   module _ (older : List Work) (p s : Route) (a : At p s) (free : IsFree (is_near_work Place p) older) (kept : IsFree (is_near_work Remove s) older) (on : one_mount v s p ≡ true) where
-    carried_now : (r : Route) → is_carried v (done (Did Place p ∷ older)) a.pair (r ++ a.rest) ≡ true
+    carried_now : (r : Route) → is_carried v (decisions_of_works (Did Place p ∷ older)) a.pair (r ++ a.rest) ≡ true
     carried_now r = carried-below v p older a.pair r a.rest (carried-here v p older a.pair a.rest a.is (subst (λ t. one_mount v t p ≡ true) a.source on))
 
     target_is : (r : Route) → r ++ p ≡ (r ++ a.rest) ++ a.pair.target
@@ -286,10 +286,10 @@ module _ (pairs : List Pair) (v : View) (sound : all_apart pairs ≡ true) where
     was : (r : Route) → left older (r ++ s) ≡ v (r ++ s)
     was r =
         let l : place pairs (r ++ s) ≡ AtSource a.pair (r ++ a.rest) = ap (place pairs) (source_is r) ∙ a.here.sources (r ++ a.rest) in
-        let c : is_carried v (done older) a.pair (r ++ a.rest) ≡ false =
-        not_carried v (done older) a.pair (r ++ a.rest) (λ b h.
+        let c : is_carried v (decisions_of_works older) a.pair (r ++ a.rest) ≡ false =
+        not_carried v (decisions_of_works older) a.pair (r ++ a.rest) (λ b h.
         near_work Place b p older (meet_above b p (r ++ p) (subst (λ q. is_prefix b q ≡ true) (sym (target_is r)) h) (under-from p (r ++ p) r refl)) free) in
-        let k : done older Remove (r ++ s) ≡ false = near_work Remove (r ++ s) s older (or_right (is_prefix (r ++ s) s) (is_prefix s (r ++ s)) (under-from s (r ++ s) r refl)) kept in
+        let k : decisions_of_works older Remove (r ++ s) ≡ false = near_work Remove (r ++ s) s older (or_right (is_prefix (r ++ s) s) (is_prefix s (r ++ s)) (under-from s (r ++ s) r refl)) kept in
         rw (l, c, k) refl
 
     arrives : (r : Route) → left (Did Place p ∷ older) (r ++ p) ≡ v (r ++ s)
@@ -344,10 +344,10 @@ module _ (pairs : List Pair) (v : View) (sound : all_apart pairs ≡ true) where
   remove_on older p true is =
       let f = covered pairs p is in
       let l : place pairs p ≡ AtSource f.0 f.1 = ap (place pairs) f.3 ∙ (home pairs f.0 sound f.2).sources f.1 in
-      put_on (left older) p None ∙ rw (l, same-self p) (gone_twice (is_carried v (done older) f.0 f.1) (done older Remove p) (v p))
+      put_on (left older) p None ∙ rw (l, same-self p) (gone_twice (is_carried v (decisions_of_works older) f.0 f.1) (decisions_of_works older Remove p) (v p))
   remove_on older p false is = go (place pairs p) refl
     where
-      go : (o : Spotted) → place pairs p ≡ o → moved v (done older) p o ≡ moved v (done (Did Remove p ∷ older)) p o
+      go : (o : Spotted) → place pairs p ≡ o → moved_spot v (decisions_of_works older) p o ≡ moved_spot v (decisions_of_works (Did Remove p ∷ older)) p o
       go (AtTarget pair rest) l = refl
       go (AtSource pair rest) l =
           let f = at_source pairs p pair rest l in
@@ -383,7 +383,7 @@ module _ (pairs : List Pair) (v : View) (sound : all_apart pairs ≡ true) where
       let l = a.place_p in
       let c = not_carried_at p s older a may.0 in
       let f : (v s).value ≡ (v (a.rest ++ a.pair.source)).value = ap (λ (r : Route). (v r).value) a.source in
-      let was : (left older p).value ≡ copied (done older) p (v s).value (v p).value = rw (f, l, c) refl in
+      let was : (left older p).value ≡ copied_target (decisions_of_works older) p (v s).value (v p).value = rw (f, l, c) refl in
       rw g (puts Set older p s (option_map (with_mode (mode_or (left older s).value 0)) (left older p).value) a (λ pair rest among. refl) c
       (ap (λ (x : Spot). option_map (with_mode (mode_or x.value 0)) (left older p).value) (at_source_is older p s a may.0 (may.2 s g))
       ∙ (ap (option_map (with_mode (mode_or (v s).value 0))) was
@@ -406,13 +406,13 @@ module _ (pairs : List Pair) (v : View) (sound : all_apart pairs ≡ true) where
   one part p older may None h q = without_source part older p h q
   one part p older may (Some s) h q = with_source part older p s may h q
 
-  no_works : (pair : Pair) (rest : Route) → is_carried v (done []) pair rest ≡ false
-  no_works pair rest = not_carried v (done []) pair rest (λ b h. refl)
+  no_works : (pair : Pair) (rest : Route) → is_carried v (decisions_of_works []) pair rest ≡ false
+  no_works pair rest = not_carried v (decisions_of_works []) pair rest (λ b h. refl)
 
-  pub move_fits : (works : List Work) → Follow pairs works → after_works (Move pairs) works v ≡ outcome v (Move pairs) (done works)
+  pub move_fits : (works : List Work) → Follow pairs works → after_works (Move pairs) works v ≡ outcome v (Move pairs) (decisions_of_works works)
   move_fits [] fits = fun_ext (λ q. start q (place pairs q))
     where
-      start : (q : Route) (o : Spotted) → v q ≡ moved v (done []) q o
+      start : (q : Route) (o : Spotted) → v q ≡ moved_spot v (decisions_of_works []) q o
       start q (AtTarget pair rest) = let c = no_works pair rest in rw c refl
       start q (AtSource pair rest) = let c = no_works pair rest in rw c refl
       start q Elsewhere = refl

@@ -4,17 +4,17 @@ use Rattle.std.specs.Prelude.{◌||◌, ◌&&◌}
 use Rattle.std.specs.Option.{option_map}
 use Rattle.std.proofs.lemmas.Bool.{cases_Bool}
 use Rattle.mc_text.specs.Routes.{Route, same_path}
-use Rattle.tree_trait.specs.FileSystem.{Value, Spot, View, put}
+use Rattle.tree_trait.specs.FileSystem.{Value, Spot, View, view_with}
 use Rattle.laws_claims.specs.Views.{Change, Nothing, Puts, holding, apply}
 use mathlib.Core.Path.{fun_ext}
 use Rattle.laws_claims.specs.Works.{Part, Work, Did, is_part, with_mode, Plain, plainly}
-use Rattle.laws_claims.specs.Outcome.{done, plain_left}
+use Rattle.laws_claims.specs.Outcome.{decisions_of_works, plain_left}
 use Rattle.op_plan.proofs.Paths.{same-true, same-self}
 use Rattle.laws_claims.proofs.CopyLemmas.{put_on, put_off}
 
 module _ (v : View) (plain : Plain) (twice : (x : Option Value) → plain.new (plain.new x) ≡ plain.new x) where
   abbrev left : List Work → View
-  left works = plain_left plain v (done works)
+  left works = plain_left plain v (decisions_of_works works)
 
   abbrev made : Part → Route → View → View
   made part p w = apply (plainly plain w part p) w
@@ -32,7 +32,7 @@ module _ (v : View) (plain : Plain) (twice : (x : Option Value) → plain.new (p
   passed part p older true is false at h q =
       elim (cases_Bool (same_path q p)) [
         | inl on ↦ subst (λ (r : Route). left older r ≡ left (Did part p ∷ older) r) (sym (same-true q p on)) (rw at refl)
-        | inr off ↦ rw off (away (is_part part plain.part) (plain.is_at q) (done older plain.part q))
+        | inr off ↦ rw off (away (is_part part plain.part) (plain.is_at q) (decisions_of_works older plain.part q))
       ]
     where
       away : (b t r : Bool) → cond (t && r) (holding (plain.new (v q).value) (v q)) (v q) ≡ cond (t && ((b && false) || r)) (holding (plain.new (v q).value) (v q)) (v q)
@@ -50,8 +50,8 @@ module _ (v : View) (plain : Plain) (twice : (x : Option Value) → plain.new (p
   one part p older true is true at q =
       let e : plainly plain (left older) part p ≡ Puts p (plain.new (left older p).value) = rw (is, at) refl in
       ap (λ (c : Change). apply c (left older) q) e ∙ elim (cases_Bool (same_path q p)) [
-        | inl on ↦ subst (λ (r : Route). put (left older) p (plain.new (left older p).value) r ≡ left (Did part p ∷ older) r) (sym (same-true q p on))
-            (put_on (left older) p (plain.new (left older p).value) ∙ (again (plain.is_at p) (done older plain.part p) (v p) at ∙ here))
+        | inl on ↦ subst (λ (r : Route). view_with (left older) p (plain.new (left older p).value) r ≡ left (Did part p ∷ older) r) (sym (same-true q p on))
+            (put_on (left older) p (plain.new (left older p).value) ∙ (again (plain.is_at p) (decisions_of_works older plain.part p) (v p) at ∙ here))
         | inr off ↦ put_off (left older) p q (plain.new (left older p).value) off ∙ rw (is, off) refl
       ]
     where

@@ -11,8 +11,8 @@ use Rattle.mc_text.specs.declared.kind.Kind.{Kind}
 use Rattle.mc_text.specs.declared.kind.Kind.TheVariants.{File, Folder, Link, Other}
 use Rattle.op_plan.specs.declared.job.Job.TheVariants.{Copy, Move, Delete, MakeFolder, SetMode, MakeLink, Save}
 use Rattle.laws_claims.specs.Works.{Part, Make, Place, Set, Remove, is_part, folder, made_for, source_of, Plain, deleting, making, setting, linking, saving}
-use Rattle.laws_claims.specs.Outcome.{Decisions, Spotted, AtTarget, AtSource, Elsewhere, place, is_carried, moved, plain_left, outcome}
-use Rattle.laws_claims.specs.Planned.{folder_kind, is_folder, is_special, is_whole, move_parts, plain_parts, planned, IsPlanned, IsBetween, BetweenLaw}
+use Rattle.laws_claims.specs.Outcome.{Decisions, Spotted, AtTarget, AtSource, Elsewhere, place, is_carried, moved_spot, plain_left, outcome}
+use Rattle.laws_claims.specs.Planned.{folder_kind, is_folder, is_special, is_whole, move_parts, plain_parts, planned_decisions, IsPlanned, IsBetween, BetweenLaw}
 
 -- a value from before, from after, or a folder as after
 abbrev Among3 : Option Value → Option Value → Option Value → Type 0
@@ -127,11 +127,11 @@ module _ (v : View) (d : Decisions) where
   copy_at : (pairs : List Pair) (p : Route) → IsPlanned v (Copy pairs) d → (o : Option Route) → source_of pairs p ≡ o → IsBetween v (Copy pairs) p (outcome v (Copy pairs) d p).value
   copy_at pairs p plan None is = inl (rw is refl)
   copy_at pairs p plan (Some s) is =
-      let place_is : (d Place p ≡ true → is_whole (v s).value ≡ true) = λ h. sym (let e : planned v (Copy pairs) Place p ≡ is_whole (v s).value = rw is refl in e) ∙ plan Place p h in
+      let place_is : (d Place p ≡ true → is_whole (v s).value ≡ true) = λ h. sym (let e : planned_decisions v (Copy pairs) Place p ≡ is_whole (v s).value = rw is refl in e) ∙ plan Place p h in
       let make_is : (d Make p ≡ true → (is_folder (v s).value && is_none (v p).value) ≡ true) =
-      λ h. sym (let e : planned v (Copy pairs) Make p ≡ (is_folder (v s).value && is_none (v p).value) = rw is refl in e) ∙ plan Make p h in
+      λ h. sym (let e : planned_decisions v (Copy pairs) Make p ≡ (is_folder (v s).value && is_none (v p).value) = rw is refl in e) ∙ plan Make p h in
       let now_is : (outcome v (Copy pairs) d p).value ≡ copied_by (d Place p) (d Make p) (d Set p) (v s).value (v p).value = rw is refl in
-      let will_is : (outcome v (Copy pairs) (planned v (Copy pairs)) p).value
+      let will_is : (outcome v (Copy pairs) (planned_decisions v (Copy pairs)) p).value
       ≡ copied_by (is_whole (v s).value) (is_folder (v s).value && is_none (v p).value) (is_folder (v s).value && is_none (v p).value) (v s).value (v p).value = rw is refl in
       between_from (v p).value _ _ _ _ will_is now_is (copy_between (v s).value (v p).value (d Place p) (d Make p) (d Set p) place_is make_is)
 
@@ -146,32 +146,32 @@ module _ (v : View) (d : Decisions) where
   move_at : (pairs : List Pair) (p : Route) → IsPlanned v (Move pairs) d → (o : Spotted) → place pairs p ≡ o → IsBetween v (Move pairs) p (outcome v (Move pairs) d p).value
   move_at pairs p plan (AtTarget pair rest) is =
       let from : (part : Part) → d part p ≡ true → move_parts (one_mount v (rest ++ pair.source) p) (v (rest ++ pair.source)).value (v p).value part ≡ true =
-      λ part h. sym (let e : planned v (Move pairs) part p ≡ move_parts (one_mount v (rest ++ pair.source) p) (v (rest ++ pair.source)).value (v p).value part = rw is refl in e) ∙ plan part p h in
-      let will_part : (part : Part) → planned v (Move pairs) part p ≡ move_parts (one_mount v (rest ++ pair.source) p) (v (rest ++ pair.source)).value (v p).value part = λ part. rw is refl in
-      let c : is_carried v d pair rest ≡ true → is_carried v (planned v (Move pairs)) pair rest ≡ true = more_carried v d (planned v (Move pairs)) pair rest (λ q. plan Place q) in
-      let now_is : outcome v (Move pairs) d p ≡ going pair rest p d = ap (moved v d p) is in
-      let will_is : outcome v (Move pairs) (planned v (Move pairs)) p ≡ going pair rest p (planned v (Move pairs)) = ap (moved v (planned v (Move pairs)) p) is in
+      λ part h. sym (let e : planned_decisions v (Move pairs) part p ≡ move_parts (one_mount v (rest ++ pair.source) p) (v (rest ++ pair.source)).value (v p).value part = rw is refl in e) ∙ plan part p h in
+      let will_part : (part : Part) → planned_decisions v (Move pairs) part p ≡ move_parts (one_mount v (rest ++ pair.source) p) (v (rest ++ pair.source)).value (v p).value part = λ part. rw is refl in
+      let c : is_carried v d pair rest ≡ true → is_carried v (planned_decisions v (Move pairs)) pair rest ≡ true = more_carried v d (planned_decisions v (Move pairs)) pair rest (λ q. plan Place q) in
+      let now_is : outcome v (Move pairs) d p ≡ going pair rest p d = ap (moved_spot v d p) is in
+      let will_is : outcome v (Move pairs) (planned_decisions v (Move pairs)) p ≡ going pair rest p (planned_decisions v (Move pairs)) = ap (moved_spot v (planned_decisions v (Move pairs)) p) is in
       let now_value = ap (λ (x : Spot). x.value) now_is ∙ chosen (is_carried v d pair rest) (v (rest ++ pair.source)) (v p) (copied_by (d Place p) (d Make p) (d Set p) (v (rest ++ pair.source)).value (v p).value) in
       let will_value = ap (λ (x : Spot). x.value) will_is
-      ∙ chosen (is_carried v (planned v (Move pairs)) pair rest) (v (rest ++ pair.source)) (v p)
-      (copied_by (planned v (Move pairs) Place p) (planned v (Move pairs) Make p) (planned v (Move pairs) Set p) (v (rest ++ pair.source)).value (v p).value) in
-      let parts_are : copied_by (planned v (Move pairs) Place p) (planned v (Move pairs) Make p) (planned v (Move pairs) Set p) (v (rest ++ pair.source)).value (v p).value
+      ∙ chosen (is_carried v (planned_decisions v (Move pairs)) pair rest) (v (rest ++ pair.source)) (v p)
+      (copied_by (planned_decisions v (Move pairs) Place p) (planned_decisions v (Move pairs) Make p) (planned_decisions v (Move pairs) Set p) (v (rest ++ pair.source)).value (v p).value) in
+      let parts_are : copied_by (planned_decisions v (Move pairs) Place p) (planned_decisions v (Move pairs) Make p) (planned_decisions v (Move pairs) Set p) (v (rest ++ pair.source)).value (v p).value
       ≡ copied_by (move_parts (one_mount v (rest ++ pair.source) p) (v (rest ++ pair.source)).value (v p).value Place)
       (move_parts (one_mount v (rest ++ pair.source) p) (v (rest ++ pair.source)).value (v p).value Make)
       (move_parts (one_mount v (rest ++ pair.source) p) (v (rest ++ pair.source)).value (v p).value Set) (v (rest ++ pair.source)).value (v p).value =
-      ap (λ (b : Bool). copied_by b (planned v (Move pairs) Make p) (planned v (Move pairs) Set p) (v (rest ++ pair.source)).value (v p).value) (will_part Place)
-      ∙ (ap (λ (b : Bool). copied_by (move_parts (one_mount v (rest ++ pair.source) p) (v (rest ++ pair.source)).value (v p).value Place) b (planned v (Move pairs) Set p) (v (rest ++ pair.source)).value (v p).value) (will_part Make)
+      ap (λ (b : Bool). copied_by b (planned_decisions v (Move pairs) Make p) (planned_decisions v (Move pairs) Set p) (v (rest ++ pair.source)).value (v p).value) (will_part Place)
+      ∙ (ap (λ (b : Bool). copied_by (move_parts (one_mount v (rest ++ pair.source) p) (v (rest ++ pair.source)).value (v p).value Place) b (planned_decisions v (Move pairs) Set p) (v (rest ++ pair.source)).value (v p).value) (will_part Make)
       ∙ ap (λ (b : Bool). copied_by (move_parts (one_mount v (rest ++ pair.source) p) (v (rest ++ pair.source)).value (v p).value Place) (move_parts (one_mount v (rest ++ pair.source) p) (v (rest ++ pair.source)).value (v p).value Make) b (v (rest ++ pair.source)).value (v p).value) (will_part Set)) in
       between_from (v p).value _ _ _ _
-      (will_value ∙ ap (λ (o : Option Value). cond (is_carried v (planned v (Move pairs)) pair rest) (v (rest ++ pair.source)).value o) parts_are) now_value
-      (moved_between (v (rest ++ pair.source)).value (v p).value (one_mount v (rest ++ pair.source) p) (is_carried v (planned v (Move pairs)) pair rest) (is_carried v d pair rest)
+      (will_value ∙ ap (λ (o : Option Value). cond (is_carried v (planned_decisions v (Move pairs)) pair rest) (v (rest ++ pair.source)).value o) parts_are) now_value
+      (moved_between (v (rest ++ pair.source)).value (v p).value (one_mount v (rest ++ pair.source) p) (is_carried v (planned_decisions v (Move pairs)) pair rest) (is_carried v d pair rest)
       (d Place p) (d Make p) (d Set p) c (from Place) (from Make) (from Set))
   move_at pairs p plan (AtSource pair rest) is =
-      let c : is_carried v d pair rest ≡ true → is_carried v (planned v (Move pairs)) pair rest ≡ true = more_carried v d (planned v (Move pairs)) pair rest (λ q. plan Place q) in
-      let removes : planned v (Move pairs) Remove p ≡ true = rw is refl in
-      let now_is = ap (λ (x : Spot). x.value) (ap (moved v d p) is) in
-      let will_is = ap (λ (x : Spot). x.value) (ap (moved v (planned v (Move pairs)) p) is ∙ ap (λ (b : Bool). cond (is_carried v (planned v (Move pairs)) pair rest) nothing (cond b (holding None (v p)) (v p))) removes) in
-      between_from (v p).value _ _ _ _ will_is now_is (left_between (v p) (is_carried v (planned v (Move pairs)) pair rest) (is_carried v d pair rest) (d Remove p) c)
+      let c : is_carried v d pair rest ≡ true → is_carried v (planned_decisions v (Move pairs)) pair rest ≡ true = more_carried v d (planned_decisions v (Move pairs)) pair rest (λ q. plan Place q) in
+      let removes : planned_decisions v (Move pairs) Remove p ≡ true = rw is refl in
+      let now_is = ap (λ (x : Spot). x.value) (ap (moved_spot v d p) is) in
+      let will_is = ap (λ (x : Spot). x.value) (ap (moved_spot v (planned_decisions v (Move pairs)) p) is ∙ ap (λ (b : Bool). cond (is_carried v (planned_decisions v (Move pairs)) pair rest) nothing (cond b (holding None (v p)) (v p))) removes) in
+      between_from (v p).value _ _ _ _ will_is now_is (left_between (v p) (is_carried v (planned_decisions v (Move pairs)) pair rest) (is_carried v d pair rest) (d Remove p) c)
   move_at pairs p plan Elsewhere is = inl (rw is refl)
 
   plain_at : (plain : Plain) (p : Route) → (d plain.part p ≡ true → plain_parts plain plain.part p ≡ true)

@@ -3,14 +3,14 @@ use Rattle.std.proofs.Common.{◌≡◌, Bool, true, false, [], ◌∷◌, ◌++
 use Rattle.std.specs.Prelude.{◌||◌, is_some}
 use Rattle.std.proofs.lemmas.Bool.{cases_Bool, or_cases, false≢true}
 use Rattle.mc_text.specs.Routes.{Route, same_path, is_prefix}
-use Rattle.tree_trait.specs.FileSystem.{View, put}
+use Rattle.tree_trait.specs.FileSystem.{View, view_with}
 use Rattle.job_reports.specs.declared.job.Pair.{Pair}
 use Rattle.laws_claims.specs.Ways.{below}
 use Rattle.laws_claims.specs.Views.{holding}
 use mathlib.Core.Path.{fun_ext}
 use Rattle.op_plan.specs.declared.job.Job.TheVariants.{Copy}
 use Rattle.laws_claims.specs.Works.{Make, Place, source_of}
-use Rattle.laws_claims.specs.Outcome.{Decisions, copied, outcome}
+use Rattle.laws_claims.specs.Outcome.{Decisions, copied_target, outcome}
 use Rattle.laws_claims.specs.Recursion.{Shape, End, Child, is_open, copy_children, lists, IsWithin, RecursionLaw}
 use Rattle.op_plan.proofs.Paths.{same-true}
 use Rattle.laws_claims.proofs.PathLemmas.{below-append, under-some, under-from, under-trans}
@@ -21,7 +21,7 @@ module _ (v : View) (d : Decisions) (pair : Pair) where
   out = outcome v (Copy (pair ∷ [])) d
 
   -- a path at this way below the target
-  out_at : (r : Route) → out (r ++ pair.target) ≡ holding (copied d (r ++ pair.target) (v (r ++ pair.source)).value (v (r ++ pair.target)).value) (v (r ++ pair.target))
+  out_at : (r : Route) → out (r ++ pair.target) ≡ holding (copied_target d (r ++ pair.target) (v (r ++ pair.source)).value (v (r ++ pair.target)).value) (v (r ++ pair.target))
   out_at r = rw (below-append r pair.target) refl
 
   -- each path holds what it held, or what the outcome says
@@ -29,19 +29,19 @@ module _ (v : View) (d : Decisions) (pair : Pair) where
   Goes w = (p : Route) → (w p ≡ v p) ⊎ (w p ≡ out p)
 
   put_goes : (w : View) (r p : Route) → (w p ≡ v p) ⊎ (w p ≡ out p) → (let x : Route = r ++ pair.target in same_path p x) ≡ true
-      → put w (r ++ pair.target) (copied d (r ++ pair.target) (v (r ++ pair.source)).value (v (r ++ pair.target)).value) p ≡ out p
+      → view_with w (r ++ pair.target) (copied_target d (r ++ pair.target) (v (r ++ pair.source)).value (v (r ++ pair.target)).value) p ≡ out p
   put_goes w r p goes on =
       let e : p ≡ r ++ pair.target = same-true p (r ++ pair.target) on in
-      let new = copied d (r ++ pair.target) (v (r ++ pair.source)).value (v (r ++ pair.target)).value in
-      let was : holding (copied d (r ++ pair.target) (v (r ++ pair.source)).value (v (r ++ pair.target)).value) (w p) ≡ out p =
+      let new = copied_target d (r ++ pair.target) (v (r ++ pair.source)).value (v (r ++ pair.target)).value in
+      let was : holding (copied_target d (r ++ pair.target) (v (r ++ pair.source)).value (v (r ++ pair.target)).value) (w p) ≡ out p =
       elim goes [
-        | inl old ↦ ap (holding (copied d (r ++ pair.target) (v (r ++ pair.source)).value (v (r ++ pair.target)).value)) (old ∙ ap v e) ∙ (sym (out_at r) ∙ ap out (sym e))
-        | inr done ↦ ap (holding (copied d (r ++ pair.target) (v (r ++ pair.source)).value (v (r ++ pair.target)).value)) (done ∙ (ap out e ∙ out_at r)) ∙ (sym (out_at r) ∙ ap out (sym e))
+        | inl old ↦ ap (holding (copied_target d (r ++ pair.target) (v (r ++ pair.source)).value (v (r ++ pair.target)).value)) (old ∙ ap v e) ∙ (sym (out_at r) ∙ ap out (sym e))
+        | inr done ↦ ap (holding (copied_target d (r ++ pair.target) (v (r ++ pair.source)).value (v (r ++ pair.target)).value)) (done ∙ (ap out e ∙ out_at r)) ∙ (sym (out_at r) ∙ ap out (sym e))
       ] in
       rw on was
 
   abbrev here : View → Route → View
-  here w r = put w (r ++ pair.target) (copied d (r ++ pair.target) (v (r ++ pair.source)).value (v (r ++ pair.target)).value)
+  here w r = view_with w (r ++ pair.target) (copied_target d (r ++ pair.target) (v (r ++ pair.source)).value (v (r ++ pair.target)).value)
 
   here_goes : (w : View) (r : Route) → Goes w → Goes (here w r)
   here_goes w r goes p =

@@ -8,8 +8,8 @@ use Rattle.op_plan.specs.declared.job.Job.TheVariants.{Copy, Move, Delete, MakeF
 use Rattle.op_plan.specs.Checks.{pair}
 use Rattle.laws_claims.specs.Views.{nothing}
 use Rattle.laws_claims.specs.Works.{Make, Place, Set, Remove, Work, Did, file, folder, link, after_works}
-use Rattle.laws_claims.specs.Outcome.{done, outcome}
-use Rattle.laws_claims.specs.Planned.{planned}
+use Rattle.laws_claims.specs.Outcome.{decisions_of_works, outcome}
+use Rattle.laws_claims.specs.Planned.{planned_decisions}
 use Rattle.laws_claims.specs.Recursion.{Shape, End, Child}
 use Rattle.laws_claims.specs.Items.{all_items, Shows}
 
@@ -59,7 +59,7 @@ shown v = map (λ p. (v p).value)
 
 -- all parts of a job are done
 abbrev whole : Job → View
-whole job = outcome tree job (planned tree job)
+whole job = outcome tree job (planned_decisions tree job)
 
 -- the folder `d`, the file `y`, the link `l` and the file `x` of a folder `a`
 abbrev within : Route → List Route
@@ -85,7 +85,7 @@ copied-source : shown (whole copy) (a ∷ within a) ≡ Some (folder 0o700) ∷ 
 copied-source = refl
 
 -- a folder is open to its owner until its mode is set
-copied-unset : shown (outcome tree copy (done (Did Make (codes "d" ∷ codes "a" ∷ t) ∷ []))) (within (codes "a" ∷ t)) ≡ Some (folder 0o700) ∷ None ∷ None ∷ None ∷ []
+copied-unset : shown (outcome tree copy (decisions_of_works (Did Make (codes "d" ∷ codes "a" ∷ t) ∷ []))) (within (codes "a" ∷ t)) ≡ Some (folder 0o700) ∷ None ∷ None ∷ None ∷ []
 copied-unset = refl
 
 -- `/a` is copied onto `/u/a`, which keeps its mode; its file `x` is replaced
@@ -119,7 +119,7 @@ merged-away = refl
 abbrev all_but_x : List Work
 all_but_x = Did Place (codes "l" ∷ u_a) ∷ Did Place (codes "d" ∷ u_a) ∷ []
 
-merged-but_one : shown (outcome tree merge (done all_but_x)) (a ∷ a_d ∷ a_x ∷ []) ≡ Some (folder 0o700) ∷ None ∷ Some (file (codes "1") 0o644) ∷ []
+merged-but_one : shown (outcome tree merge (decisions_of_works all_but_x)) (a ∷ a_d ∷ a_x ∷ []) ≡ Some (folder 0o700) ∷ None ∷ Some (file (codes "1") 0o644) ∷ []
 merged-but_one = refl
 
 merged-but_one_there : shown (after_works merge all_but_x tree) (within u_a)
@@ -137,7 +137,7 @@ crossed-away : shown (whole cross) (a ∷ within a) ≡ None ∷ none_inside
 crossed-away = refl
 
 -- a file is copied, and not removed yet
-crossed-copied : shown (outcome tree cross (done (Did Place (codes "x" ∷ codes "a" ∷ m) ∷ []))) (a_x ∷ (codes "x" ∷ codes "a" ∷ m) ∷ [])
+crossed-copied : shown (outcome tree cross (decisions_of_works (Did Place (codes "x" ∷ codes "a" ∷ m) ∷ []))) (a_x ∷ (codes "x" ∷ codes "a" ∷ m) ∷ [])
     ≡ Some (file (codes "1") 0o644) ∷ Some (file (codes "1") 0o644) ∷ []
 crossed-copied = refl
 

@@ -5,7 +5,7 @@ use Rattle.op_plan.specs.declared.job.Job.{Job}
 use Rattle.job_claims.specs.Claiming.{claims, clashes}
 use Rattle.op_plan.specs.Soundness.{IsSound}
 use Rattle.laws_claims.specs.Works.{Work, after_works}
-use Rattle.laws_claims.specs.Outcome.{done, outcome}
+use Rattle.laws_claims.specs.Outcome.{decisions_of_works, outcome}
 use Rattle.laws_claims.specs.Fits.{Fits}
 
 -- whatever each has done so far, in whichever way the works are interleaved, each pair of them may change places
@@ -19,4 +19,4 @@ abbrev pub OutcomesCommute : Type 0
 OutcomesCommute =
     (mine theirs : Job) (my_works their_works : List Work) (v : View) → clashes (claims mine) (claims theirs) ≡ false
     → IsSound mine → IsSound theirs → Fits mine my_works → Fits theirs their_works
-    → outcome (outcome v theirs (done their_works)) mine (done my_works) ≡ outcome (outcome v mine (done my_works)) theirs (done their_works)
+    → outcome (outcome v theirs (decisions_of_works their_works)) mine (decisions_of_works my_works) ≡ outcome (outcome v mine (decisions_of_works my_works)) theirs (decisions_of_works their_works)

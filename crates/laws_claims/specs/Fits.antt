@@ -9,7 +9,7 @@ use Rattle.op_plan.specs.Soundness.{IsSound}
 use Rattle.op_plan.specs.declared.job.Job.{Job}
 use Rattle.op_plan.specs.declared.job.Job.TheVariants.{Copy, Move, Delete, MakeFolder, SetMode, MakeLink, Save}
 use Rattle.laws_claims.specs.Works.{Part, Make, Place, Set, Remove, Work, Did, is_part, source_of, after_works}
-use Rattle.laws_claims.specs.Outcome.{is_work, done, outcome}
+use Rattle.laws_claims.specs.Outcome.{is_work, decisions_of_works, outcome}
 
 -- a work of this part at this path, or above it
 abbrev pub is_above : Part → Route → Work → Bool
@@ -29,9 +29,9 @@ SourceIsFree pairs p test works = (source : Route) → source_of pairs p ≡ Som
 -- A folder is made, its mode is set, and then its source is removed, and nothing of this is at or below what was placed.
 -- What is placed comes once and whole, before anything of its source is removed.
 abbrev pub MayFollow : List Pair → Part → Route → List Work → Type 0
-MayFollow pairs Make p older = IsFree (is_above Place p) older × (done older Set p ≡ false) × SourceIsFree pairs p (is_work Remove) older
+MayFollow pairs Make p older = IsFree (is_above Place p) older × (decisions_of_works older Set p ≡ false) × SourceIsFree pairs p (is_work Remove) older
 MayFollow pairs Place p older = IsFree (is_near_work Place p) older × SourceIsFree pairs p (is_near_work Remove) older
-MayFollow pairs Set p older = IsFree (is_above Place p) older × (done older Make p ≡ true) × SourceIsFree pairs p (is_work Remove) older
+MayFollow pairs Set p older = IsFree (is_above Place p) older × (decisions_of_works older Make p ≡ true) × SourceIsFree pairs p (is_work Remove) older
 MayFollow pairs Remove p older = Unit {0}
 
 abbrev pub Follow : List Pair → List Work → Type 0
@@ -50,4 +50,4 @@ Fits (Save path bytes) works = Unit {0}
 
 -- The works of a sound job, in any order in which they fit, leave its outcome.
 abbrev pub FitLaw : Type 0
-FitLaw = (job : Job) (works : List Work) (v : View) → IsSound job → Fits job works → after_works job works v ≡ outcome v job (done works)
+FitLaw = (job : Job) (works : List Work) (v : View) → IsSound job → Fits job works → after_works job works v ≡ outcome v job (decisions_of_works works)

@@ -4,7 +4,7 @@ use Rattle.mc_text.specs.Routes.{Route}
 use Rattle.tree_trait.specs.FileSystem.{View}
 use Rattle.job_reports.specs.declared.job.Pair.{Pair}
 use Rattle.laws_claims.specs.Works.{Remove, Place}
-use Rattle.laws_claims.specs.Outcome.{Decisions, AtTarget, place, moved}
+use Rattle.laws_claims.specs.Outcome.{Decisions, AtTarget, place, moved_spot}
 use Rattle.op_plan.specs.Soundness.{ArePairsApart}
 use Rattle.laws_claims.specs.Planned.{is_whole, is_special}
 use Rattle.op_plan.specs.declared.job.Job.TheVariants.{Move}

@@ -19,13 +19,13 @@ abbrev pub is_work : Part → Route → Work → Bool
 is_work part p (Did other path) = is_part other part && same_path p path
 
 -- what works have done
-abbrev pub done : List Work → Decisions
-done works part p = list_any (is_work part p) works
+abbrev pub decisions_of_works : List Work → Decisions
+decisions_of_works works part p = list_any (is_work part p) works
 
 -- What a copy leaves at a target: what is placed there; or a folder with the source's mode, open to its owner until it is
 -- set; or what was there.
-abbrev pub copied : Decisions → Route → Option Value → Option Value → Option Value
-copied d p source target =
+abbrev pub copied_target : Decisions → Route → Option Value → Option Value → Option Value
+copied_target d p source target =
     if d Place p then source else
     if d Make p then (if d Set p then option_map (λ x. folder x.mode) source else made_for source) else target
 
@@ -46,20 +46,20 @@ is_carried v d pair [] = d Place pair.target && one_mount v pair.source pair.tar
 is_carried v d pair (name ∷ rest) =
     (d Place (name ∷ rest ++ pair.target) && one_mount v (name ∷ rest ++ pair.source) (name ∷ rest ++ pair.target)) || is_carried v d pair rest
 
-abbrev pub moved : View → Decisions → Route → Spotted → Spot
-moved v d p (AtTarget pair rest) =
-    if is_carried v d pair rest then v (rest ++ pair.source) else holding (copied d p (v (rest ++ pair.source)).value (v p).value) (v p)
-moved v d p (AtSource pair rest) =
+abbrev pub moved_spot : View → Decisions → Route → Spotted → Spot
+moved_spot v d p (AtTarget pair rest) =
+    if is_carried v d pair rest then v (rest ++ pair.source) else holding (copied_target d p (v (rest ++ pair.source)).value (v p).value) (v p)
+moved_spot v d p (AtSource pair rest) =
     if is_carried v d pair rest then nothing else if d Remove p then holding None (v p) else v p
-moved v d p Elsewhere = v p
+moved_spot v d p Elsewhere = v p
 
 abbrev pub plain_left : Plain → View → Decisions → Route → Spot
 plain_left plain v d p = if plain.is_at p && d plain.part p then holding (plain.new (v p).value) (v p) else v p
 
 -- The spot at each path after a job of which these parts are done. A part that isn't done changes nothing.
 abbrev pub outcome : View → Job → Decisions → View
-outcome v (Copy pairs) d p = option_map_or (λ source. holding (copied d p (v source).value (v p).value) (v p)) (source_of pairs p) (v p)
-outcome v (Move pairs) d p = moved v d p (place pairs p)
+outcome v (Copy pairs) d p = option_map_or (λ source. holding (copied_target d p (v source).value (v p).value) (v p)) (source_of pairs p) (v p)
+outcome v (Move pairs) d p = moved_spot v d p (place pairs p)
 outcome v (Delete paths) d p = plain_left (deleting paths) v d p
 outcome v (MakeFolder path) d p = plain_left (making path) v d p
 outcome v (SetMode paths mode) d p = plain_left (setting paths mode) v d p

@@ -56,24 +56,24 @@ abbrev pub plain_parts : Plain → Part → Route → Bool
 plain_parts plain part p = is_part part plain.part && plain.is_at p
 
 -- the parts of a job, by the view at its start
-abbrev pub planned : View → Job → Decisions
-planned v (Copy pairs) part p = option_map_or (λ source. copy_parts (v source).value (v p).value part) (source_of pairs p) false
-planned v (Move pairs) part p = moving_parts v part p (place pairs p)
-planned v (Delete paths) part p = plain_parts (deleting paths) part p
-planned v (MakeFolder path) part p = plain_parts (making path) part p
-planned v (SetMode paths mode) part p = plain_parts (setting paths mode) part p
-planned v (MakeLink path text) part p = plain_parts (linking path text) part p
-planned v (Save path bytes) part p = plain_parts (saving path bytes) part p
+abbrev pub planned_decisions : View → Job → Decisions
+planned_decisions v (Copy pairs) part p = option_map_or (λ source. copy_parts (v source).value (v p).value part) (source_of pairs p) false
+planned_decisions v (Move pairs) part p = moving_parts v part p (place pairs p)
+planned_decisions v (Delete paths) part p = plain_parts (deleting paths) part p
+planned_decisions v (MakeFolder path) part p = plain_parts (making path) part p
+planned_decisions v (SetMode paths mode) part p = plain_parts (setting paths mode) part p
+planned_decisions v (MakeLink path text) part p = plain_parts (linking path text) part p
+planned_decisions v (Save path bytes) part p = plain_parts (saving path bytes) part p
 
 abbrev pub before : View → Job → Route → Option Value
 before v job p = (v p).value
 
 abbrev pub after : View → Job → Route → Option Value
-after v job p = (outcome v job (planned v job) p).value
+after v job p = (outcome v job (planned_decisions v job) p).value
 
 -- only parts that the job has are done
 abbrev pub IsPlanned : View → Job → Decisions → Type 0
-IsPlanned v job d = (part : Part) (p : Route) → d part p ≡ true → planned v job part p ≡ true
+IsPlanned v job d = (part : Part) (p : Route) → d part p ≡ true → planned_decisions v job part p ≡ true
 
 -- a value from before or after the job, or a folder where there will be one
 abbrev pub IsBetween : View → Job → Route → Option Value → Type 0

@@ -4,7 +4,7 @@ use Rattle.std.specs.Option.{option_map_or}
 use Rattle.mc_text.specs.Routes.{Route, same_path, is_prefix}
 use Rattle.tree_trait.specs.Refusals.{holder}
 use Rattle.laws_claims.specs.Ways.{below}
-use Rattle.tree_trait.specs.FileSystem.{Value, Spot, View, put}
+use Rattle.tree_trait.specs.FileSystem.{Value, Spot, View, view_with}
 
 -- nothing stands there
 abbrev pub nothing : Spot
@@ -29,7 +29,7 @@ carry v from to p = option_map_or (λ rest. v (rest ++ from)) (below to p) (if i
 -- the view after a change
 abbrev pub apply : Change → View → View
 apply Nothing v = v
-apply (Puts path new) v = put v path new
+apply (Puts path new) v = view_with v path new
 apply (Carries from to) v = carry v from to
 
 -- the folder of the mount on which a path lies

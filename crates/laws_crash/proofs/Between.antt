@@ -6,7 +6,7 @@ use Rattle.tree_trait.specs.Change.{Change, Nothing, Makes, Moves, Removes, Sets
 use Rattle.tree_trait.specs.CrashImages.{same_name}
 use Rattle.tree_trait.proofs.Settled.{is_settled-more, or_follows, and_follows}
 use Rattle.laws_crash.specs.Possible.{Leads}
-use Rattle.laws_crash.specs.Steps.{is_near, MeanwhileLaw, GoneLaw, CanRemove}
+use Rattle.laws_crash.specs.NameKnowledge.{is_near, MeanwhileLaw, GoneLaw, CanRemove}
 use Rattle.laws_crash.proofs.Guarding.{naming_law}
 use Rattle.laws_crash.proofs.Syncing.{sync_law, synced_law}
 use Rattle.laws_crash.proofs.Others.{others_law, same_at}

@@ -5,15 +5,15 @@ use Rattle.std.proofs.lemmas.Bool.{true≢false, false_from_ne_true}
 use Rattle.mc_text.specs.Routes.{Route, same_path}
 use Rattle.tree_trait.specs.declared.calls.TreeError.TheVariants.{Missing, Exists}
 use Rattle.tree_trait.specs.FileSystem.{lookup, find}
-use Rattle.tree_trait.specs.Refusals.{holder, walk, first_of, folder_of, missing, exists, no_folder, denied, after_walk, rename_refusal}
+use Rattle.tree_trait.specs.Refusals.{holder, walk, first_of, folder_of, missing, exists, no_folder, denied_access, after_walk, rename_refusal}
 use Rattle.tree_trait.specs.Calls.{RemoveFile, Rename}
-use Rattle.tree_trait.specs.Change.{Change, CallLog, Nothing, Moves, Removes, current, with_change, change_of, found}
+use Rattle.tree_trait.specs.Change.{Change, CallLog, Nothing, Moves, Removes, current, with_change, change_of, found_node}
 use Rattle.tree_trait.specs.Shape.{IsRemovable}
 use Rattle.tree_trait.proofs.Finding.{same_name-true}
 use Rattle.tree_trait.proofs.Visible.{same_path-true}
 use Rattle.tree_trait.proofs.Walking.{removable, passed_walk, check_passes, last_place, walk-find, some_there}
 use Rattle.laws_crash.specs.Guarded.{IsGuarded, IsSettledAt}
-use Rattle.laws_crash.specs.Steps.{IsAnchored, IsUnworked}
+use Rattle.laws_crash.specs.NameKnowledge.{IsAnchored, IsUnworked}
 use Rattle.laws_crash.specs.Called.{RemovedLaw, MadeLaw, PlacedLaw, FolderSyncedLaw}
 use Rattle.laws_crash.proofs.Guarding.{naming_law}
 use Rattle.laws_crash.proofs.Removing.{removal_law}
@@ -36,11 +36,11 @@ removed_law marks log now path guarded done anchored unworked =
     at : (r : IsRemovable (current log) path) → path ≡ r.name ∷ r.up → Some now ≡ Some (with_change log (change_of (current log) (RemoveFile path) done.1.0)) → IsAnchored marks log (holder path)
         → IsUnworked marks log path → IsGuarded marks now
     at r is now_is anchored unworked =
-        let at_up : found (current log) r.up ≡ r.f = ap (λ o. unwrap_or o 0) r.folder in
-        let change : change_of (current log) (RemoveFile path) done.1.0 ≡ Removes r.f r.name (found (current log) path) =
-        ap (λ p. change_of (current log) (RemoveFile p) done.1.0) is ∙ (ap (λ f. Removes f r.name (found (current log) (r.name ∷ r.up))) at_up ∙ ap (λ p. Removes r.f r.name (found (current log) p)) (sym is)) in
+        let at_up : found_node (current log) r.up ≡ r.f = ap (λ o. unwrap_or o 0) r.folder in
+        let change : change_of (current log) (RemoveFile path) done.1.0 ≡ Removes r.f r.name (found_node (current log) path) =
+        ap (λ p. change_of (current log) (RemoveFile p) done.1.0) is ∙ (ap (λ f. Removes f r.name (found_node (current log) (r.name ∷ r.up))) at_up ∙ ap (λ p. Removes r.f r.name (found_node (current log) p)) (sym is)) in
         subst (λ (l : CallLog). IsGuarded marks l) (sym (is_with log now _ _ now_is change))
-        (naming_law marks log (Removes r.f r.name (found (current log) path)) guarded (removal_law marks log r.up r.name r.f (found (current log) path) guarded (record {
+        (naming_law marks log (Removes r.f r.name (found_node (current log) path)) guarded (removal_law marks log r.up r.name r.f (found_node (current log) path) guarded (record {
           stands = record { at = r.folder; anchored = subst (λ p. IsAnchored marks log (holder p)) is anchored };
           unworked = subst (λ p. IsUnworked marks log p) is unworked;
         })))
@@ -51,11 +51,11 @@ none_there (Some i) h = absurd (true≢false h)
 
 pub made_law : MadeLaw
 made_law marks log now name up mode guarded done anchored out =
-    let w = passed_walk (walk (current log) (name ∷ up)) (λ p. first_of (exists p ∷ denied 0o200 (folder_of (current log) p) ∷ [])) done.0 in
+    let w = passed_walk (walk (current log) (name ∷ up)) (λ p. first_of (exists p ∷ denied_access 0o200 (folder_of (current log) p) ∷ [])) done.0 in
     let l = last_place (current log) name up w.0 w.1 in
     let a = check_passes (is_some w.0.there) Exists _ w.2 in
     subst (λ (x : CallLog). IsGuarded marks x) (sym (is_with log now _ _ done.1.1 refl))
-    (naming_law marks log _ guarded (making_law marks log up name (found (current log) up) _ guarded (record {
+    (naming_law marks log _ guarded (making_law marks log up name (found_node (current log) up) _ guarded (record {
       stands = record { at = l.folder; anchored = anchored };
       folder = l.is_one;
       free = none_there _ (ap is_some (sym l.there) ∙ a.0);
@@ -71,10 +71,10 @@ placed_law marks log now part target up i guarded done can =
     let w = passed_walk (walk (current log) (part ∷ up)) (λ a. after_walk (current log) (target ∷ up) (λ b. rename_refusal (current log) (part ∷ up) (target ∷ up) a b)) done.0 in
     let v = passed_walk (walk (current log) (target ∷ up)) (λ b. rename_refusal (current log) (part ∷ up) (target ∷ up) w.0 b) w.2 in
     let l = last_place (current log) target up v.0 v.1 in
-    let f = found (current log) up in
-    let it : found (current log) (part ∷ up) ≡ i = ap (λ o. unwrap_or o 0) can.leads in
+    let f = found_node (current log) up in
+    let it : found_node (current log) (part ∷ up) ≡ i = ap (λ o. unwrap_or o 0) can.leads in
     let change : change_of (current log) (Rename (part ∷ up) (target ∷ up)) done.1.0 ≡ Moves f part f target i (find (current log) (target ∷ up)) =
-    ap (λ b. cond b Nothing (Moves f part f target (found (current log) (part ∷ up)) (find (current log) (target ∷ up)))) (other_path part target up can.other)
+    ap (λ b. cond b Nothing (Moves f part f target (found_node (current log) (part ∷ up)) (find (current log) (target ∷ up)))) (other_path part target up can.other)
     ∙ ap (λ k. Moves f part f target k (find (current log) (target ∷ up))) it in
     subst (λ (x : CallLog). IsGuarded marks x) (sym (is_with log now _ _ done.1.1 change))
     (naming_law marks log _ guarded (placing_law marks log up part target f i _ guarded (record {
@@ -95,8 +95,8 @@ folder_synced_law marks log now name up guarded done way near =
     let w = passed_walk (walk (current log) up) (λ p. first_of (missing p ∷ no_folder (current log) p ∷ [])) done.0 in
     let t = some_there w.0.there (check_passes (is_none w.0.there) Missing _ w.2).0 in
     let at : find (current log) up ≡ Some t.0 = walk-find (current log) up w.0 w.1 ∙ t.1 in
-    let stands : find (current log) up ≡ Some (found (current log) up) = at ∙ ap (λ k. Some k) (sym (ap (λ o. unwrap_or o 0) at)) in
+    let stands : find (current log) up ≡ Some (found_node (current log) up) = at ∙ ap (λ k. Some k) (sym (ap (λ o. unwrap_or o 0) at)) in
     let is = is_with log now _ _ done.1.1 refl in (
-      subst (λ (x : CallLog). IsGuarded marks x) (sym is) (sync_law marks log (found (current log) up) guarded),
-      subst (λ (x : CallLog). IsSettledAt x (name ∷ up)) (sym is) (synced_law log up name (found (current log) up) way stands near),
+      subst (λ (x : CallLog). IsGuarded marks x) (sym is) (sync_law marks log (found_node (current log) up) guarded),
+      subst (λ (x : CallLog). IsSettledAt x (name ∷ up)) (sym is) (synced_law log up name (found_node (current log) up) way stands near),
     )

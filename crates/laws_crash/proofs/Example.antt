@@ -16,8 +16,8 @@ use Rattle.tree_trait.proofs.BareRoot.{bare, bare_tree}
 use Rattle.tree_trait.proofs.Kept.{tree_made}
 use Rattle.laws_crash.specs.Possible.{IsImage, MayFind}
 use Rattle.laws_crash.specs.Guarded.{Marks, IsGuarded, IsUnder, Touches}
-use Rattle.laws_crash.specs.Modes.{moded, unmoded}
-use Rattle.laws_crash.specs.Steps.{Meanwhile, as_it_stands}
+use Rattle.laws_crash.specs.Modes.{marks_with_mode, marks_without_mode}
+use Rattle.laws_crash.specs.NameKnowledge.{Meanwhile, as_it_stands}
 use Rattle.laws_crash.proofs.Guarding.{guard_law, settle_law, naming_law, found_there}
 use Rattle.laws_crash.proofs.Making.{making_law}
 use Rattle.laws_crash.proofs.ModeLaws.{setting_law}
@@ -175,18 +175,18 @@ second mode = Some (value (record (file (8 ∷ [])) { mode = mode }))
 abbrev mode_set : CallLog
 mode_set = with_change opening (Sets 2 0o600)
 
-at_setting : IsGuarded (moded 2 0o644 (as_it_stands opening)) mode_set
+at_setting : IsGuarded (marks_with_mode 2 0o644 (as_it_stands opening)) mode_set
 at_setting = setting_law.sets (as_it_stands opening) opening 2 0o600 (opening_law opening small_tree refl) (omega arith) refl refl
 
 -- Until its sync a crash leaves the file with the one mode or the other.
 either_mode : (image : FileSystem) → IsImage mode_set image → (value_at image ((2 ∷ []) ∷ []) ≡ second 0o600) ⊎ (value_at image ((2 ∷ []) ∷ []) ≡ second 0o644)
 either_mode image left =
-    elim (guard_law (moded 2 0o644 (as_it_stands opening)) mode_set image ((2 ∷ []) ∷ []) at_setting left refl) [ inl now ↦ now.1 refl | inr before ↦ before.1 refl ]
+    elim (guard_law (marks_with_mode 2 0o644 (as_it_stands opening)) mode_set image ((2 ∷ []) ∷ []) at_setting left refl) [ inl now ↦ now.1 refl | inr before ↦ before.1 refl ]
 
 -- after it, with the new one
 new_mode : (image : FileSystem) → IsImage (with_change mode_set (Syncs 2)) image → value_at image ((2 ∷ []) ∷ []) ≡ second 0o600
 new_mode image left =
-    elim (guard_law (unmoded 2 (moded 2 0o644 (as_it_stands opening))) (with_change mode_set (Syncs 2)) image ((2 ∷ []) ∷ []) (setting_law.synced (moded 2 0o644 (as_it_stands opening)) mode_set 2 at_setting) left refl) [
+    elim (guard_law (marks_without_mode 2 (marks_with_mode 2 0o644 (as_it_stands opening))) (with_change mode_set (Syncs 2)) image ((2 ∷ []) ∷ []) (setting_law.synced (marks_with_mode 2 0o644 (as_it_stands opening)) mode_set 2 at_setting) left refl) [
       | inl now ↦ now.1 refl
       | inr before ↦ before.1 refl
     ]

@@ -14,7 +14,7 @@ use Rattle.tree_trait.proofs.Kept.{tree_made}
 use Rattle.tree_trait.proofs.Names.{count-after_change}
 use Rattle.laws_crash.specs.Possible.{MayLead, MayFind, IsSettledBelow}
 use Rattle.laws_crash.specs.Guarded.{Marks, IsGuarded, IsUnder, IsNaming}
-use Rattle.laws_crash.specs.Steps.{CanMake, MakingLaw}
+use Rattle.laws_crash.specs.NameKnowledge.{CanMake, MakingLaw}
 use Rattle.laws_crash.proofs.Leading.{current_more, leads_now}
 use Rattle.laws_crash.proofs.Guarding.{find_same, said, unsaid, leads_as_before, found_at}
 use Rattle.laws_crash.proofs.Tops.{bare_below, path_once, under_made, not_longer}

@@ -12,7 +12,7 @@ use Rattle.tree_trait.specs.Change.{Sets, Syncs, CallLog, current, with_change}
 use Rattle.tree_trait.proofs.Kept.{tree_set}
 use Rattle.tree_trait.proofs.Steady.{node_law}
 use Rattle.laws_crash.specs.Guarded.{Marks, IsGuarded, IsOnDisk, IsSettledAt, MayHaveMode, with_mode}
-use Rattle.laws_crash.specs.Modes.{ModesLaw, SettingLaw, moded, unmoded}
+use Rattle.laws_crash.specs.Modes.{ModesLaw, SettingLaw, marks_with_mode, marks_without_mode}
 use Rattle.laws_crash.specs.Possible.{IsImage}
 use Rattle.laws_crash.proofs.Guarding.{unnamed_kept}
 use Rattle.laws_crash.proofs.Leading.{current_more, find_law}
@@ -46,9 +46,9 @@ module _ (marks : Marks) (log : CallLog) (i : ℕ) (guarded : IsGuarded marks lo
   set_on_disk mode there firm none k false is loose =
       on_disk_more log (Sets i mode) k (marks.modes k) (false_from_ne_true (i == k) (λ same. both_ways _ is (eq-eqb k i (sym (eqb-true i k same))))) (guarded.clean k loose)
 
-  pub mode_kept : (mode : ℕ) → i < length (current log).nodes → marks.loose i ≡ false → marks.modes i ≡ None → IsGuarded (moded i (node (current log) i).mode marks) (with_change log (Sets i mode))
+  pub mode_kept : (mode : ℕ) → i < length (current log).nodes → marks.loose i ≡ false → marks.modes i ≡ None → IsGuarded (marks_with_mode i (node (current log) i).mode marks) (with_change log (Sets i mode))
   mode_kept mode there firm none =
-      unnamed_kept marks (let m = moded i (node (current log) i).mode marks in m.modes) log (Sets i mode) guarded (subst IsTree (sym (current_more log (Sets i mode))) (tree_set (current log) i _ guarded.tree refl))
+      unnamed_kept marks (let m = marks_with_mode i (node (current log) i).mode marks in m.modes) log (Sets i mode) guarded (subst IsTree (sym (current_more log (Sets i mode))) (tree_set (current log) i _ guarded.tree refl))
       (λ g m. refl) (ap (λ (s : FileSystem). length s.nodes) (current_more log (Sets i mode)) ∙ length-set (current log).nodes i _)
       (λ k loose. set_on_disk mode there firm none k (k == i) refl loose)
 
@@ -56,9 +56,9 @@ module _ (marks : Marks) (log : CallLog) (i : ℕ) (guarded : IsGuarded marks lo
   synced_on_disk k true is loose = subst (λ j. IsOnDisk (with_change log (Syncs i)) j None) (sym (eqb-true k i is)) (firm_law log i)
   synced_on_disk k false is loose = on_disk_more log (Syncs i) k (marks.modes k) refl (guarded.clean k loose)
 
-  pub sync_kept : IsGuarded (unmoded i marks) (with_change log (Syncs i))
+  pub sync_kept : IsGuarded (marks_without_mode i marks) (with_change log (Syncs i))
   sync_kept =
-      unnamed_kept marks (let m = unmoded i marks in m.modes) log (Syncs i) guarded (subst IsTree (sym (current_more log (Syncs i))) guarded.tree)
+      unnamed_kept marks (let m = marks_without_mode i marks in m.modes) log (Syncs i) guarded (subst IsTree (sym (current_more log (Syncs i))) guarded.tree)
       (λ g m. refl) (ap (λ (s : FileSystem). length s.nodes) (current_more log (Syncs i)))
       (λ k loose. synced_on_disk k (k == i) refl loose)
 

@@ -11,7 +11,7 @@ use Rattle.tree_trait.proofs.Finding.{same_name-true, same_name-self, find-once}
 use Rattle.tree_trait.proofs.Kept.{tree_moved}
 use Rattle.laws_crash.specs.Possible.{MayFind, MayFindFrom, Leads, find_from, IsSettledBelow}
 use Rattle.laws_crash.specs.Guarded.{Marks, IsGuarded, IsUnder, IsNaming}
-use Rattle.laws_crash.specs.Steps.{CanMove, MovingLaw}
+use Rattle.laws_crash.specs.NameKnowledge.{CanMove, MovingLaw}
 use Rattle.laws_crash.proofs.Leading.{current_more}
 use Rattle.laws_crash.proofs.Guarding.{find_same, said, unsaid, leads_as_before, found_at, still_firm}
 use Rattle.laws_crash.proofs.Tops.{found_from, find_below, path_once, goes_through, top_is, some_of_two, not_longer, none_below}

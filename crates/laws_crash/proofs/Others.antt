@@ -13,7 +13,7 @@ use Rattle.tree_trait.proofs.Finding.{and_then-some, same_name-true}
 use Rattle.tree_trait.proofs.Kept.{folder_there}
 use Rattle.laws_crash.specs.Possible.{MayLead, MayFind, Leads}
 use Rattle.laws_crash.specs.Guarded.{IsGuarded, IsUnder, Marks}
-use Rattle.laws_crash.specs.Steps.{IsAnchored, HasTwoNames, NamesOfMovedLaw, is_near, OthersLaw, OpeningLaw, as_it_stands}
+use Rattle.laws_crash.specs.NameKnowledge.{IsAnchored, HasTwoNames, NamesOfMovedLaw, is_near, OthersLaw, OpeningLaw, as_it_stands}
 use Rattle.laws_crash.proofs.Leading.{leads_more, leads_now}
 use Rattle.laws_crash.proofs.Placing.{two}
 use Rattle.laws_crash.proofs.Guarding.{find_same, said, leads_as_before}

@@ -12,7 +12,7 @@ use Rattle.tree_trait.proofs.Finding.{find-once, same_name-true, same_name-self}
 use Rattle.tree_trait.proofs.Kept.{tree_moved}
 use Rattle.laws_crash.specs.Possible.{MayFind, IsSettledBelow}
 use Rattle.laws_crash.specs.Guarded.{Marks, IsGuarded, IsUnder, IsNaming}
-use Rattle.laws_crash.specs.Steps.{CanPlace, PlacingLaw}
+use Rattle.laws_crash.specs.NameKnowledge.{CanPlace, PlacingLaw}
 use Rattle.laws_crash.proofs.Leading.{current_more, leads_now}
 use Rattle.laws_crash.proofs.Guarding.{find_same, said, unsaid, leads_as_before, found_at}
 use Rattle.laws_crash.proofs.Tops.{bare_below, path_once, under_moved, not_longer, none_below}

@@ -9,7 +9,7 @@ use Rattle.tree_trait.proofs.Finding.{same_name-true, same_name-self}
 use Rattle.tree_trait.proofs.Kept.{tree_removed}
 use Rattle.laws_crash.specs.Possible.{MayFind}
 use Rattle.laws_crash.specs.Guarded.{Marks, IsGuarded, IsNaming}
-use Rattle.laws_crash.specs.Steps.{CanRemove, RemovalLaw, StandsAt}
+use Rattle.laws_crash.specs.NameKnowledge.{CanRemove, RemovalLaw, StandsAt}
 use Rattle.laws_crash.proofs.Leading.{current_more}
 use Rattle.laws_crash.proofs.Guarding.{find_same, said, found_at}
 use Rattle.laws_crash.proofs.Tops.{path_once, under_removed, not_longer, none_below}

@@ -16,7 +16,7 @@ use Rattle.tree_trait.proofs.Settled.{is_settled-more}
 use Rattle.tree_trait.proofs.Synced.{is_settled-end}
 use Rattle.tree_trait.proofs.Finding.{same_name-true}
 use Rattle.laws_crash.specs.Possible.{MayFind, Leads, MayFindFrom}
-use Rattle.laws_crash.specs.Steps.{SyncedLaw, SyncLaw, WriteLaw, ModeLaw, FirmLaw, FrameLaw, is_near, BelowLaw, UnalteredLaw}
+use Rattle.laws_crash.specs.NameKnowledge.{SyncedLaw, SyncLaw, WriteLaw, ModeLaw, FirmLaw, FrameLaw, is_near, BelowLaw, UnalteredLaw}
 use Rattle.laws_crash.proofs.Leading.{current_more}
 use Rattle.laws_crash.proofs.Guarding.{quiet_law, find_quiet, same_quiet, find_same, find_more, found_now}
 

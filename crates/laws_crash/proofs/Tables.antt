@@ -8,7 +8,7 @@ use Rattle.tree_trait.specs.FileSystem.{find, value_at, node}
 use Rattle.tree_trait.specs.Change.{Change, Sets, Syncs, CallLog, current, with_change}
 use Rattle.tree_trait.specs.CrashImages.{Among, says}
 use Rattle.laws_crash.specs.Guarded.{Marks, IsGuarded, IsSettledAt, Holds}
-use Rattle.laws_crash.specs.Modes.{moded, unmoded}
+use Rattle.laws_crash.specs.Modes.{marks_with_mode, marks_without_mode}
 use Rattle.laws_crash.specs.Table.{Live, IsTable, is_written, SafeLaw, StepLaw, CalmLaw, ModeStepLaw, BeginLaw, RestLaw, NodesLaw, at_rest, begins}
 use Rattle.laws_crash.proofs.Guarding.{guard_law, naming_law, quiet_law, settle_law, find_same, same_quiet}
 use Rattle.laws_crash.proofs.ModeLaws.{setting_law}
@@ -87,10 +87,10 @@ calm_law jobs doubt marks log c table quiet = unnamed_table jobs doubt marks mar
 pub mode_step_law : ModeStepLaw
 mode_step_law = record {
   sets = λ jobs doubt marks log i mode table there firm none.
-      unnamed_table jobs doubt marks (let m = moded i (node (current log) i).mode marks in m.modes) log (Sets i mode) (λ g n. refl)
+      unnamed_table jobs doubt marks (let m = marks_with_mode i (node (current log) i).mode marks in m.modes) log (Sets i mode) (λ g n. refl)
       (setting_law.sets marks log i mode table.guarded there firm none) table;
   synced = λ jobs doubt marks log i table.
-      unnamed_table jobs doubt marks (let m = unmoded i marks in m.modes) log (Syncs i) (λ g n. refl) (setting_law.synced marks log i table.guarded) table;
+      unnamed_table jobs doubt marks (let m = marks_without_mode i marks in m.modes) log (Syncs i) (λ g n. refl) (setting_law.synced marks log i table.guarded) table;
 }
 
 or_none : (a b : Bool) → a ≡ false → b ≡ false → (a || b) ≡ false

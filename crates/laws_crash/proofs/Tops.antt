@@ -11,7 +11,7 @@ use Rattle.tree_trait.specs.CrashImages.{same_name, says}
 use Rattle.tree_trait.proofs.Finding.{and_then-some, find-once, same_name-true}
 use Rattle.laws_crash.specs.Possible.{MayLead, MayFind, Leads, IsSettledBelow, find_from, MayFindFrom}
 use Rattle.laws_crash.specs.Guarded.{Marks, IsGuarded, Touches, IsUnder}
-use Rattle.laws_crash.specs.Steps.{IsAnchored}
+use Rattle.laws_crash.specs.NameKnowledge.{IsAnchored}
 use Rattle.laws_crash.proofs.Leading.{leads_now}
 
 -- it goes through such a name

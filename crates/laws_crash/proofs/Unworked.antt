@@ -5,7 +5,7 @@ use Rattle.tree_trait.specs.FileSystem.{find}
 use Rattle.tree_trait.specs.Change.{Change, Removes, CallLog, current, with_change}
 use Rattle.tree_trait.specs.CrashImages.{says}
 use Rattle.laws_crash.specs.Guarded.{Marks, IsGuarded}
-use Rattle.laws_crash.specs.Steps.{IsUnworked, StandsAt, UnworkedLaw}
+use Rattle.laws_crash.specs.NameKnowledge.{IsUnworked, StandsAt, UnworkedLaw}
 use Rattle.laws_crash.proofs.Guarding.{find_same, same_quiet}
 use Rattle.laws_crash.proofs.Removing.{removed_paths}
 

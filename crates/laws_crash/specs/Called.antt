@@ -4,11 +4,11 @@ use Rattle.mc_text.specs.Routes.{Route}
 use Rattle.tree_trait.specs.FileSystem.{find}
 use Rattle.tree_trait.specs.Refusals.{holder}
 use Rattle.tree_trait.specs.Calls.{MakeFile, RemoveFile, Rename, SyncFolder}
-use Rattle.tree_trait.specs.Change.{CallLog, current, found}
+use Rattle.tree_trait.specs.Change.{CallLog, current, found_node}
 use Rattle.tree_trait.specs.Answers.{Performs}
 use Rattle.laws_crash.specs.Possible.{MayLead}
 use Rattle.laws_crash.specs.Guarded.{Marks, IsGuarded, IsSettledAt}
-use Rattle.laws_crash.specs.Steps.{IsAnchored, IsUnworked, is_near}
+use Rattle.laws_crash.specs.NameKnowledge.{IsAnchored, IsUnworked, is_near}
 
 -- a removal: the way to the path is anchored, and nothing was done there yet
 abbrev pub RemovedLaw : Type 0
@@ -40,5 +40,5 @@ PlacedLaw = (marks : Marks) (log now : CallLog) (part target : List ℕ) (up : R
 -- the sync of a folder settles its names
 abbrev pub FolderSyncedLaw : Type 0
 FolderSyncedLaw = (marks : Marks) (log now : CallLog) (name : List ℕ) (up : Route) → IsGuarded marks log
-    → Performs {A = Unit {0}} log (SyncFolder up) (Ok tt) (Some now) → IsSettledAt log up → is_near (found (current log) up) name log.changes ≡ true
+    → Performs {A = Unit {0}} log (SyncFolder up) (Ok tt) (Some now) → IsSettledAt log up → is_near (found_node (current log) up) name log.changes ≡ true
     → IsGuarded marks now × IsSettledAt now (name ∷ up)

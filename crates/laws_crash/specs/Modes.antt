@@ -20,15 +20,15 @@ pub record ModesLaw : Type 0 where
       → (value_at image p ≡ value_at (current log) p) ⊎ (value_at image p ≡ (let v : Option Value = Some (value (with_mode before (node (current log) i))) in v))
 
 -- the mode that a node has waits from now on; it had this one before
-abbrev pub moded : ℕ → ℕ → Marks → Marks
-moded i before marks = record marks { modes = λ k. if k == i then Some before else marks.modes k }
+abbrev pub marks_with_mode : ℕ → ℕ → Marks → Marks
+marks_with_mode i before marks = record marks { modes = λ k. if k == i then Some before else marks.modes k }
 
 -- it waits no more
-abbrev pub unmoded : ℕ → Marks → Marks
-unmoded i marks = record marks { modes = λ k. if k == i then None else marks.modes k }
+abbrev pub marks_without_mode : ℕ → Marks → Marks
+marks_without_mode i marks = record marks { modes = λ k. if k == i then None else marks.modes k }
 
 -- A job may set the mode of a thing of which nothing waits, and sync the thing itself: what is known of the tree is kept, with the mode before.
 pub record SettingLaw : Type 0 where
   pub sets : (marks : Marks) (log : CallLog) (i mode : ℕ) → IsGuarded marks log → i < length (current log).nodes → marks.loose i ≡ false → marks.modes i ≡ None
-      → IsGuarded (moded i (node (current log) i).mode marks) (with_change log (Sets i mode))
-  pub synced : (marks : Marks) (log : CallLog) (i : ℕ) → IsGuarded marks log → IsGuarded (unmoded i marks) (with_change log (Syncs i))
+      → IsGuarded (marks_with_mode i (node (current log) i).mode marks) (with_change log (Sets i mode))
+  pub synced : (marks : Marks) (log : CallLog) (i : ℕ) → IsGuarded marks log → IsGuarded (marks_without_mode i marks) (with_change log (Syncs i))

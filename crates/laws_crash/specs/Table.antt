@@ -8,7 +8,7 @@ use Rattle.tree_trait.specs.CrashImages.{Among}
 use Rattle.tree_trait.specs.Refusals.{is_folder}
 use Rattle.laws_crash.specs.Possible.{IsImage}
 use Rattle.laws_crash.specs.Guarded.{Marks, IsGuarded, IsSettledAt, IsQuiet, IsUnder, IsNaming, MayRemark, Holds}
-use Rattle.laws_crash.specs.Modes.{moded, unmoded}
+use Rattle.laws_crash.specs.Modes.{marks_with_mode, marks_without_mode}
 
 -- a live job: what lies under its claims, for writing and for reading, and the node that stood at each path as it began
 pub record Live : Type 0 where
@@ -68,8 +68,8 @@ CalmLaw = (jobs : List Live) (doubt : Route → Bool) (marks : Marks) (log : Cal
 -- A mode is set, by whichever job, of a thing of which nothing waits, and the thing itself is synced.
 pub record ModeStepLaw : Type 0 where
   pub sets : (jobs : List Live) (doubt : Route → Bool) (marks : Marks) (log : CallLog) (i mode : ℕ) → IsTable jobs doubt marks log → i < length (current log).nodes → marks.loose i ≡ false
-      → marks.modes i ≡ None → IsTable jobs doubt (moded i (node (current log) i).mode marks) (with_change log (Sets i mode))
-  pub synced : (jobs : List Live) (doubt : Route → Bool) (marks : Marks) (log : CallLog) (i : ℕ) → IsTable jobs doubt marks log → IsTable jobs doubt (unmoded i marks) (with_change log (Syncs i))
+      → marks.modes i ≡ None → IsTable jobs doubt (marks_with_mode i (node (current log) i).mode marks) (with_change log (Sets i mode))
+  pub synced : (jobs : List Live) (doubt : Route → Bool) (marks : Marks) (log : CallLog) (i : ℕ) → IsTable jobs doubt marks log → IsTable jobs doubt (marks_without_mode i marks) (with_change log (Syncs i))
 
 -- a job that begins now with these claims
 abbrev pub begins : ℕ → (Route → Bool) → (Route → Bool) → CallLog → Live

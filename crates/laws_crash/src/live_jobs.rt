@@ -1,5 +1,5 @@
 //! Several live jobs: what their steps keep, and what a crash leaves.
-ghost use Rattle.laws_crash.specs.Steps.{FrameLaw, MeanwhileLaw, OpeningLaw, OthersLaw};
+ghost use Rattle.laws_crash.specs.NameKnowledge.{FrameLaw, MeanwhileLaw, OpeningLaw, OthersLaw};
 ghost use Rattle.laws_crash.specs.Table.{BeginLaw, CalmLaw, ModeStepLaw, NodesLaw, RestLaw, SafeLaw, StepLaw};
 
 /// What one job changes is nothing to another's paths.

@@ -6,7 +6,7 @@ use Rattle.std.proofs.lemmas.Bool.{both_ways, false_from_ne_true}
 use Rattle.std.proofs.lemmas.List.{append_assoc}
 use Rattle.mc_text.specs.Routes.{Route, is_prefix, same_path}
 use Rattle.mc_text.specs.declared.kind.Kind.TheVariants.{Folder}
-use Rattle.tree_trait.specs.FileSystem.{Value, View, put}
+use Rattle.tree_trait.specs.FileSystem.{Value, View, view_with}
 use Rattle.tree_trait.specs.CrashImages.{Among}
 use Rattle.tree_trait.proofs.Visible.{same_path-true}
 use Rattle.job_reports.specs.Jobs.{Copies}
@@ -20,8 +20,8 @@ use Rattle.copy_link.specs.declared.stage.Stage.{Stage as LinkStage}
 use Rattle.copy_link.specs.declared.stage.Stage.TheVariants as link_stage
 use Rattle.copy_folders.specs.declared.stage.Stage.TheVariants as at
 use Rattle.copy_folders.specs.declared.level.Level.{Level}
-use Rattle.copy_tree.specs.declared.item.Item.{Item}
-use Rattle.copy_tree.specs.declared.item.Item.TheVariants.{Next, File, Link, Stays}
+use Rattle.copy_tree.specs.declared.item.ItemAtWork.{ItemAtWork}
+use Rattle.copy_tree.specs.declared.item.ItemAtWork.TheVariants.{Next, File, Link, Stays}
 use Rattle.copy_tree.specs.declared.progress.Progress.TheVariants.{UnderWay}
 use Rattle.copy_tree.specs.InPlace.{owed_of}
 use Rattle.copy_tree.specs.Progress.{link_progress, progress}
@@ -101,7 +101,7 @@ abbrev pub IsNext : Level → Route → Type 0
 IsNext l path = (name : List ℕ) × (names : List (List ℕ)) × (l.names.names ≡ name ∷ names) × (path ≡ name ∷ l.copy.source)
 
 -- what is at work has the next name
-abbrev pub ItemDone : View → List Route → Route → Level → List Level → Item → Type 0
+abbrev pub ItemDone : View → List Route → Route → Level → List Level → ItemAtWork → Type 0
 ItemDone v passed top inner around Next = ⊤
 ItemDone v passed top inner around (File f) = (progress f.stage ≡ UnderWay) × IsNext inner f.source × FileDone v passed top around f.source f.target f.stage
 ItemDone v passed top inner around (Link l) = (link_progress l.stage ≡ UnderWay) × IsNext inner l.source × LinkDone v passed top around l.source l.target l.stage
@@ -158,12 +158,12 @@ apart_from top path place off on = false_from_ne_true _ (λ same. both_ways _ of
 
 -- a view that is another at one path
 module _ (v : View) (path : Route) (new : Option Value) where
-  pub put_value : (put v path new path).value ≡ new
+  pub put_value : (view_with v path new path).value ≡ new
   put_value = ap (λ s. s.value) (put_at v path new)
 
-  pub put_same : (p : Route) → same_path p path ≡ false → (put v path new p).value ≡ (v p).value
+  pub put_same : (p : Route) → same_path p path ≡ false → (view_with v path new p).value ≡ (v p).value
   put_same p off = ap (λ s. s.value) (put_off v path new p off)
 
   -- a copy that stood, and whose paths are others, stands
-  pub copy_off : (source target : Route) → same_path source path ≡ false → same_path target path ≡ false → IsCopy v source target → IsCopy (put v path new) source target
+  pub copy_off : (source target : Route) → same_path source path ≡ false → same_path target path ≡ false → IsCopy v source target → IsCopy (view_with v path new) source target
   copy_off source target s t is = put_same target t ∙ (is ∙ ap (option_map as_copied) (sym (put_same source s)))

@@ -6,7 +6,7 @@ use Rattle.mc_text.specs.Routes.{Route}
 use Rattle.tree_trait.specs.declared.calls.Meta.{Meta}
 use Rattle.tree_trait.specs.Answers.{IsMeta}
 use Rattle.tree_trait.specs.Calls.{Stat}
-use Rattle.tree_trait.specs.Change.{CallLog, current, found}
+use Rattle.tree_trait.specs.Change.{CallLog, current, found_node}
 use Rattle.tree_trait.specs.FileSystem.{Value, View, node, value}
 use Rattle.tree_trait.specs.Refusals.{refusal_of}
 use Rattle.tree_trait.specs.Shape.{IsTree}
@@ -22,7 +22,7 @@ use Rattle.job_reports.specs.declared.report.Transfer.TheVariants.{ByCopy}
 use Rattle.job_answers.specs.declared.replies.Decision.{Decision}
 use Rattle.job_answers.specs.declared.replies.Decision.TheVariants.{Ask, Keep, Replace}
 use Rattle.job_answers.specs.declared.replies.Replies.{Replies}
-use Rattle.job_answers.specs.Decisions.{decided}
+use Rattle.job_answers.specs.Decisions.{decision_on}
 use Rattle.copy_file.specs.Copying as file
 use Rattle.copy_file.specs.Copying.{Copying, places}
 use Rattle.copy_file.specs.PartNames.{part_path}
@@ -42,16 +42,16 @@ use Rattle.copy_tree.specs.Progress.{link_progress}
 use Rattle.copy_tree.specs.Reports.{IsToldAs}
 use Rattle.copy_tree.specs.Standing.{Seen, due}
 use Rattle.copy_tree.specs.declared.due.Due.TheVariants.{Thing}
-use Rattle.copy_tree.specs.Steps.{CopySteps, TakesNext, WorksOn, is_top, link_begun}
-use Rattle.copy_tree.specs.declared.item.Item.{Item}
-use Rattle.copy_tree.specs.declared.item.Item.TheVariants.{Next, File, Link, Stays}
+use Rattle.copy_tree.specs.TreeCopySteps.{CopySteps, TakesNext, WorksOn, is_top, link_begun}
+use Rattle.copy_tree.specs.declared.item.ItemAtWork.{ItemAtWork}
+use Rattle.copy_tree.specs.declared.item.ItemAtWork.TheVariants.{Next, File, Link, Stays}
 use Rattle.copy_tree.specs.declared.progress.Progress.TheVariants.{Anew, UnderWay}
 use Rattle.copy_tree.proofs.InPlaces.{leaves_all, pair_moved}
 use Rattle.copy_job.specs.Passing.{OrPassedOver}
 use Rattle.copy_job.specs.Standing.{SubtreeCopying}
 use Rattle.copy_job.specs.SubtreeSteps.{ListSteps, SubtreeSteps, step_result}
 use Rattle.copy_move.specs.declared.run.Course.{Course}
-use Rattle.laws_sessions.proofs.Knowing.{IsKept, Said}
+use Rattle.laws_sessions.proofs.Knowing.{IsKept, HistoryFacts}
 use Rattle.laws_sessions.proofs.OwedModes.{ShowsTree}
 use Rattle.laws_sessions.proofs.TreeCalls.{left_item}
 use Rattle.laws_sessions.proofs.TreeKnown.{ItemHas}
@@ -151,7 +151,7 @@ none_there (Some x) none some = absurd (let f : ⊥ = cc in f)
 -- where the history shows the tree, a question is on what stands there
 module _ (v : View) (log : CallLog) (tree : IsTree (current log)) (shows : ShowsTree v log) where
   sized : (path : Route) (meta : Meta) → refusal_of (current log) (Stat path) ≡ None → IsMeta (current log) path meta → IsReplaceable meta.kind → IsSized v path meta.size
-  sized path meta there is kind = (value (node (current log) (found (current log) path)), some_shown v log tree shows path there, subst IsReplaceable is.kind kind, is.size)
+  sized path meta there is kind = (value (node (current log) (found_node (current log) path)), some_shown v log tree shows path there, subst IsReplaceable is.kind kind, is.size)
 
   tree_question : (pair : Pair) (replies : Replies) (question : Question) (decision : Decision) → tops.IsDecided (current log) pair replies question decision → IsQuestionOf v pair.source pair.target question
   tree_question pair replies question decision d =
@@ -193,7 +193,7 @@ module _ (log : CallLog) (v : View) (top : Pair) (unclaimed : Route → Type 0) 
       same : (pair.source ≡ top.source) × (pair.target ≡ top.target)
       same = beside top old.name pair.source pair.target place.name m (sym (ap folder_of part_is) ∙ near)
 
-      by : IsOpen (current log) (is_top old) replies pair → (question : Question) × IsQuestionOf v top.source top.target question × (decided replies question ≡ Replace)
+      by : IsOpen (current log) (is_top old) replies pair → (question : Question) × IsQuestionOf v top.source top.target question × (decision_on replies question ≡ Replace)
       by (inl free) = none_there (v top.target).value (ap (λ p. (v p).value) (sym same.1) ∙ none_shown v log tree shows pair.target (stat_missing (current log) pair.target free)) some
       by (inr (alone, (question, d))) = (
         question,
@@ -201,8 +201,8 @@ module _ (log : CallLog) (v : View) (top : Pair) (unclaimed : Route → Type 0) 
         d.decides,
       )
 
-  file_as : (pair : Pair) (facts : SourceFacts) (moved : Copying) → IsMoved top pair.source pair.target → IsOpen (current log) (is_top old) replies pair → ShowsTree v log → (d : Did) → TellsMade facts (file.begun old.job pair.source pair.target) d moved
-      → MadeCalls unclaimed facts (file.begun old.job pair.source pair.target) d log after → As d
+  file_as : (pair : Pair) (facts : SourceFacts) (moved : Copying) → IsMoved top pair.source pair.target → IsOpen (current log) (is_top old) replies pair → ShowsTree v log → (d : Did) → TellsMade facts (file.begun_copy old.job pair.source pair.target) d moved
+      → MadeCalls unclaimed facts (file.begun_copy old.job pair.source pair.target) d log after → As d
   file_as pair facts moved m onto shows (Began part) t called = begins_as pair called.0 part called.1 m onto shows
   file_as pair facts moved m onto shows (Troubled trouble) t called = tt
   file_as pair facts moved m onto shows (Asked question) t called = absurd t
@@ -242,7 +242,7 @@ module _ (log : CallLog) (v : View) (top : Pair) (unclaimed : Route → Type 0) 
 
   -- a question about what is taken up, where no folder is open around
   top_question : (pair : Pair) (question : Question) (decision : Decision) → due old ≡ Thing pair → is_top old ≡ true → ShowsTree v log
-      → tops.IsDecided (current log) pair replies question decision → (pair.target ≡ top.target) × (IsQuestionOf v top.source top.target question × (decided replies question ≡ decision))
+      → tops.IsDecided (current log) pair replies question decision → (pair.target ≡ top.target) × (IsQuestionOf v top.source top.target question × (decision_on replies question ≡ decision))
   top_question pair question decision next alone shows d =
       let from = top_source top old pair.source (top_alone old alone) (next_of old old.levels.inner.names.names pair refl next) place in
       let to = at_top top pair.source pair.target (moved_as pair next) from in (
@@ -276,7 +276,7 @@ module _ (log : CallLog) (v : View) (top : Pair) (unclaimed : Route → Type 0) 
   link_made : (l : LinkCopying) → link_progress l.stage ≡ UnderWay → l.stage ≡ link_stage.Make → ⊥
   link_made l under is = (let e : Anew ≡ UnderWay = sym (ap link_progress is) ∙ under in let f : ⊥ = cc in f)
 
-  pub works_as : (passed : List Route) (item : Item) → ItemDone v passed top.target old.levels.inner old.levels.around item → (item ≡ Next → ShowsTree v log) → WorksOn item unclaimed replies old new did (Some log) after → As did
+  pub works_as : (passed : List Route) (item : ItemAtWork) → ItemDone v passed top.target old.levels.inner old.levels.around item → (item ≡ Next → ShowsTree v log) → WorksOn item unclaimed replies old new did (Some log) after → As did
   works_as passed Next d shows (inl w) = other_as replies top.source top.target v did (told_other w.report did w.says)
   works_as passed Next d shows (inr (clean, takes)) = takes_as (shows refl) takes
   works_as passed (File f) d shows w = other_as replies top.source top.target v did (file_other f w.moved did w.tells (not_begun f.stage d.0))
@@ -284,7 +284,7 @@ module _ (log : CallLog) (v : View) (top : Pair) (unclaimed : Route → Type 0) 
   works_as passed (Stays part) d shows w = absurd w
 
 -- a step of the copy of a thing with all that lies in it
-module _ (told : Said) (dirty dirty_after : List Route) (marks : Marks) (log now : CallLog) (kept : IsKept told dirty marks log) (c new : SubtreeCopying) (did : Did)
+module _ (told : HistoryFacts) (dirty dirty_after : List Route) (marks : Marks) (log now : CallLog) (kept : IsKept told dirty marks log) (c new : SubtreeCopying) (did : Did)
     (merges : (pair : Pair) (names : List (List ℕ)) → did ≡ Merges ByCopy pair names → pair ≡ c.top) (passed : List Route) (course : Course) (free : Route → Bool) (replies : Replies) (count f0 f1 : ℕ)
     (part : ItemHas told dirty marks (current log) course c.at.item) (s : SubtreeSteps free replies c new did count dirty dirty_after (Some log) (Some now) f0 f1) (a : TreeAccounts passed told.tree c) where
   abbrev Here : Did → Type 0

@@ -10,7 +10,7 @@ use Rattle.tree_trait.specs.FileSystem.{View}
 use Rattle.laws_crash.specs.Guarded.{Marks}
 use Rattle.job_answers.specs.declared.replies.Replies.{Replies}
 use Rattle.job_answers.specs.Decisions.{to_questions}
-use Rattle.job_reports.specs.Jobs.{Item, Copies, Moves, Removes, Makes, MakesLink, Sets, RemovesEmptied}
+use Rattle.job_reports.specs.Jobs.{ItemOfJob, Copies, Moves, Removes, Makes, MakesLink, Sets, RemovesEmptied}
 use Rattle.job_reports.specs.declared.report.Did.{Did}
 use Rattle.job_reports.specs.declared.report.Did.TheVariants.{Began, Chunk, Placed, Removed, Made, Set, Kept, Skipped, Cleaned, Barrier, Asked, Merges, Moved, Troubled, Ended}
 use Rattle.job_reports.specs.declared.report.Cause.{Cause}
@@ -22,7 +22,7 @@ use Rattle.session_entries.specs.declared.history.Entry.{Entry}
 use Rattle.session_entries.specs.declared.history.Event.TheVariants.{Step}
 use Rattle.session_entries.specs.Entries.{IsMoment}
 use Rattle.session_entries.specs.LiveJobs.{live_item, live_jobs}
-use Rattle.copy_job.specs.Reporting.{MayWind}
+use Rattle.copy_job.specs.Reporting.{MayTellLast}
 use Rattle.copy_job.specs.Standing.{part_of}
 use Rattle.make_job.specs.declared.new_thing.NewThing.{NewThing}
 use Rattle.make_job.specs.declared.new_thing.NewThing.TheVariants as thing
@@ -34,7 +34,7 @@ use Rattle.copy_move.specs.declared.work.Work.{Work}
 use Rattle.copy_move.specs.declared.work.Work.TheVariants.{Copy, Delete, Make, Move, SetMode, RemoveEmptied}
 use Rattle.copy_move.specs.Jobs.{part_of as left_of}
 use Rattle.copy_move.specs.Jobs.{CallsOn, Running, TellsOn, WorkCalls, WorkTells, WorkWinds}
-use Rattle.copy_move.specs.Steps.{SyncsOwed, Walks, WalksOn}
+use Rattle.copy_move.specs.JobStepReports.{SyncsOwed, Walks, WalksOn}
 use Rattle.laws_sessions.specs.Replayed.{replayed_tree}
 use Rattle.laws_sessions.specs.Traces.{EventLeads, IsTraced, IsUnclaimed, Stand, StepLeads}
 use Rattle.laws_sessions.proofs.Done.{IsFound, found_moment, same_item}
@@ -42,7 +42,7 @@ use Rattle.laws_sessions.proofs.Going.{only_job}
 use Rattle.laws_sessions.proofs.Histories.{traced_reached}
 use Rattle.laws_sessions.proofs.JobKnows.{WorkKnows}
 use Rattle.laws_sessions.proofs.Reports.{HasLive, JobsKnow}
-use Rattle.laws_sessions.proofs.Knowing.{IsKept, Said}
+use Rattle.laws_sessions.proofs.Knowing.{IsKept, HistoryFacts}
 use Rattle.laws_sessions.proofs.Moments.{log_of}
 use Rattle.laws_sessions.proofs.Prefixes.{replayed_more, told_of}
 use Rattle.laws_sessions.proofs.Sources.{item_in, making_item}
@@ -59,7 +59,7 @@ use Rattle.laws_outcomes.proofs.Outcome.{traced_done}
 use Rattle.laws_outcomes.proofs.Touching.{UnlessEnding}
 
 -- last steps ask nothing, keep nothing, merge nothing and begin no part
-tree_wound : (ending : Ending) (stands : Option Route) (did : Did) → MayWind ending stands did → IsOther did
+tree_wound : (ending : Ending) (stands : Option Route) (did : Did) → MayTellLast ending stands did → IsOther did
 tree_wound ending stands (Asked question) w = absurd w
 tree_wound ending stands (Kept path) w = absurd w
 tree_wound ending stands (Began part) w = absurd w
@@ -77,7 +77,7 @@ tree_wound ending stands (Troubled trouble) w = tt
 tree_wound ending stands (Ended how part) w = tt
 
 -- what a job that works on an item reports is as was answered
-abbrev IsAs : Replies → View → Item → Did → Type 0
+abbrev IsAs : Replies → View → ItemOfJob → Did → Type 0
 IsAs replies v (Copies source target) did = IsAsAnswered replies source target v did
 IsAs replies v (Moves source target) did = IsMovedAsAnswered replies source target v did
 IsAs replies v (Removes path) did = ⊤
@@ -95,7 +95,7 @@ moves_to_questions : (replies : Replies) (source target : Route) (v : View) (did
 moves_to_questions replies source target v (Asked question) h = h
 moves_to_questions replies source target v did h = h
 
-to_questions_as : (replies : Replies) (v : View) (item : Item) (did : Did) → IsAs replies v item did → IsAs (to_questions replies) v item did
+to_questions_as : (replies : Replies) (v : View) (item : ItemOfJob) (did : Did) → IsAs replies v item did → IsAs (to_questions replies) v item did
 to_questions_as replies v (Copies source target) did h = copies_to_questions replies source target v did h
 to_questions_as replies v (Moves source target) did h = moves_to_questions replies source target v did h
 to_questions_as replies v (Removes path) did h = h
@@ -110,7 +110,7 @@ made_as replies v did thing.Folder path = tt
 made_as replies v did (thing.Link text) path = tt
 
 -- nor does a report of something that is passed over, of a sync, or of a trouble
-skipped_as : (replies : Replies) (v : View) (item : Item) (path : Route) (cause : Cause) → IsAs replies v item (Skipped path cause)
+skipped_as : (replies : Replies) (v : View) (item : ItemOfJob) (path : Route) (cause : Cause) → IsAs replies v item (Skipped path cause)
 skipped_as replies v (Copies source target) path cause = tt
 skipped_as replies v (Moves source target) path cause = tt
 skipped_as replies v (Removes top) path cause = tt
@@ -119,7 +119,7 @@ skipped_as replies v (MakesLink made text) path cause = tt
 skipped_as replies v (Sets thing mode) path cause = tt
 skipped_as replies v (RemovesEmptied folder) path cause = tt
 
-synced_as : (replies : Replies) (v : View) (item : Item) → IsAs replies v item Barrier
+synced_as : (replies : Replies) (v : View) (item : ItemOfJob) → IsAs replies v item Barrier
 synced_as replies v (Copies source target) = tt
 synced_as replies v (Moves source target) = tt
 synced_as replies v (Removes top) = tt
@@ -128,7 +128,7 @@ synced_as replies v (MakesLink made text) = tt
 synced_as replies v (Sets thing mode) = tt
 synced_as replies v (RemovesEmptied folder) = tt
 
-troubled_as : (replies : Replies) (v : View) (item : Item) (trouble : Trouble) → IsAs replies v item (Troubled trouble)
+troubled_as : (replies : Replies) (v : View) (item : ItemOfJob) (trouble : Trouble) → IsAs replies v item (Troubled trouble)
 troubled_as replies v (Copies source target) trouble = tt
 troubled_as replies v (Moves source target) trouble = tt
 troubled_as replies v (Removes top) trouble = tt
@@ -137,7 +137,7 @@ troubled_as replies v (MakesLink made text) trouble = tt
 troubled_as replies v (Sets thing mode) trouble = tt
 troubled_as replies v (RemovesEmptied folder) trouble = tt
 
-ended_as : (replies : Replies) (v : View) (item : Item) (ending : Ending) (part : Option Route) → IsAs replies v item (Ended ending part)
+ended_as : (replies : Replies) (v : View) (item : ItemOfJob) (ending : Ending) (part : Option Route) → IsAs replies v item (Ended ending part)
 ended_as replies v (Copies source target) ending part = tt
 ended_as replies v (Moves source target) ending part = tt
 ended_as replies v (Removes top) ending part = tt
@@ -187,7 +187,7 @@ work_wound replies v ending (RemoveEmptied r) (SetMode new) did w = absurd w
 work_wound replies v ending (Copy c) (RemoveEmptied new) did w = absurd w
 work_wound replies v ending (Move m) (RemoveEmptied new) did w = absurd w
 
-module _ (told : Said) (dirty dirty_after : List Route) (marks : Marks) (log now : CallLog) (kept : IsKept told dirty marks log) (passed : List Route) (begun : View) where
+module _ (told : HistoryFacts) (dirty dirty_after : List Route) (marks : Marks) (log now : CallLog) (kept : IsKept told dirty marks log) (passed : List Route) (begun : View) where
   work_as : (replies : Replies) (old new : Work) (did : Did) (calls f0 f1 : ℕ) → WorkTells replies old did new → WorkCalls IsUnclaimed replies old did new log (Some now)
       → Walks IsUnclaimed replies old new did calls dirty dirty_after (Some log) (Some now) f0 f1 → WorkKnows told dirty marks log GoesOn old → WorkDone passed begun told.tree (current log) old → IsAs replies told.tree (item_in old) did
   work_as replies (Copy c) (Copy new) did calls f0 f1 t called walks knows done =
@@ -242,7 +242,7 @@ module _ (told : Said) (dirty dirty_after : List Route) (marks : Marks) (log now
   leads_as job did new asks said (inr (gives, after_is)) knows done k =
       subst (λ (d : Did). IsAs said told.tree (item_in job.work) d) (sym gives.did_is) (ended_as said told.tree (item_in job.work) NoMemory (left_of job.work))
 
-module _ (opening now : CallLog) (tree : IsTree (current opening)) (settled : all_settled opening.changes ≡ true) (e : Entry) (older : List Entry) (id : ℕ) (did : Did) (item : Item) (what : e.what ≡ Step id did)
+module _ (opening now : CallLog) (tree : IsTree (current opening)) (settled : all_settled opening.changes ≡ true) (e : Entry) (older : List Entry) (id : ℕ) (did : Did) (item : ItemOfJob) (what : e.what ≡ Step id did)
     (its : live_item id (live_jobs older) ≡ Some item) where
   answered_by : IsFound opening tree settled now e older → IsAs (replies_said id older) (replayed_tree opening now older) item did
   answered_by f = by (subst (λ x. EventLeads f.was x f.after f.before f.now) what f.leads)
@@ -263,7 +263,7 @@ module _ (opening now : CallLog) (tree : IsTree (current opening)) (settled : al
           (subst (λ js. JobsKnow (told_of opening f.before older r.part) f.was.dirty r.marks f.before js) one.0 r.knows) done said)))
 
 module _ (opening now : CallLog) (newest : List Entry) (stand : Stand) (tree : IsTree (current opening)) (settled : all_settled opening.changes ≡ true) (traced : IsTraced opening newest stand now) where
-  follows : (e : Entry) (older : List Entry) (id : ℕ) (did : Did) (item : Item) → e.what ≡ Step id did → live_item id (live_jobs older) ≡ Some item → IsMoment newest (e ∷ older) (e ∷ older) e.calls
+  follows : (e : Entry) (older : List Entry) (id : ℕ) (did : Did) (item : ItemOfJob) → e.what ≡ Step id did → live_item id (live_jobs older) ≡ Some item → IsMoment newest (e ∷ older) (e ∷ older) e.calls
       → IsAs (replies_said id older) (replayed_tree opening now older) item did
   follows e older id did item what its moment =
       answered_by opening now tree settled e older id did item what its

@@ -26,10 +26,10 @@ use Rattle.session_entries.specs.Sources.{sources_of}
 use Rattle.copy_move.specs.declared.run.Course.{Course}
 use Rattle.copy_move.specs.declared.run.Course.TheVariants.{GoesOn, Asking, InTrouble, OwedSyncFailed, Skips, Ends}
 use Rattle.copy_move.specs.declared.work.Work.{Work}
-use Rattle.copy_move.specs.Jobs.{Running, TellsOn, answered, answered_on, asks_on, begun_work, closed_course, closed_job, course_after}
-use Rattle.copy_move.specs.Steps.{SyncsOwed}
+use Rattle.copy_move.specs.Jobs.{Running, TellsOn, answered_job, answered_on, asks_on, begun_work, closed_course, closed_job, course_after}
+use Rattle.copy_move.specs.JobStepReports.{SyncsOwed}
 use Rattle.copy_move.specs.Told.{running}
-use Rattle.laws_sessions.specs.Traces.{EventLeads, IsTraced, Stand, StepLeads, before_others, if_closed, ordered, unless_ended, with_job}
+use Rattle.laws_sessions.specs.Traces.{EventLeads, IsTraced, Stand, StepLeads, before_others, if_closed, ordered_job, unless_ended, with_job}
 use Rattle.laws_sessions.proofs.Finished.{AreTidy, IsTidyJob, traced_tidy}
 use Rattle.laws_sessions.proofs.FinishedPaths.{wound_up}
 use Rattle.laws_sessions.proofs.Going.{only_job}
@@ -180,19 +180,19 @@ answer_said course answer job asks said is k = by course answer is k
     by (Ends ending) a at h = here (Ends ending) a at tt
 
 order_said : (asks : ℕ → Bool) (said : ℕ → Replies) (id : ℕ) (order : JobOrder) (job : Running) → JobSaid asks said job
-    → JobSaid (λ n. asks_after n (Order id order) (asks n)) (λ n. said_after n (Order id order) (asks n) (said n)) (ordered id order job)
+    → JobSaid (λ n. asks_after n (Order id order) (asks n)) (λ n. said_after n (Order id order) (asks n) (said n)) (ordered_job id order job)
 order_said asks said id (Answered answer) job k =
-    subst (λ n. UnlessEnding (let x : Running = ordered id (Answered answer) job in x.course)
-    (IsSaid (asks_after n (Order id (Answered answer)) (asks n)) (said_after n (Order id (Answered answer)) (asks n) (said n)) (let x : Running = ordered id (Answered answer) job in x.course) (let x : Running = ordered id (Answered answer) job in x.replies)))
+    subst (λ n. UnlessEnding (let x : Running = ordered_job id (Answered answer) job in x.course)
+    (IsSaid (asks_after n (Order id (Answered answer)) (asks n)) (said_after n (Order id (Answered answer)) (asks n) (said n)) (let x : Running = ordered_job id (Answered answer) job in x.course) (let x : Running = ordered_job id (Answered answer) job in x.replies)))
     (sym (ordered_id id (Answered answer) job)) (by (job.id == id))
   where
-    by : (b : Bool) → (let x : Running = if b then answered answer job else job in UnlessEnding x.course (IsSaid (if b then asks job.id && not (settles answer) else asks job.id)
+    by : (b : Bool) → (let x : Running = if b then answered_job answer job else job in UnlessEnding x.course (IsSaid (if b then asks job.id && not (settles answer) else asks job.id)
         (if b then (if asks job.id then with_reply answer (said job.id) else said job.id) else said job.id) x.course x.replies))
     by true = answer_said job.course answer job (asks job.id) (said job.id) refl k
     by false = k
 
 orders_said : (asks : ℕ → Bool) (said : ℕ → Replies) (id : ℕ) (order : JobOrder) (jobs : List Running) → JobsSaid asks said jobs
-    → JobsSaid (λ n. asks_after n (Order id order) (asks n)) (λ n. said_after n (Order id order) (asks n) (said n)) (map (ordered id order) jobs)
+    → JobsSaid (λ n. asks_after n (Order id order) (asks n)) (λ n. said_after n (Order id order) (asks n) (said n)) (map (ordered_job id order) jobs)
 orders_said asks said id order [] k = tt
 orders_said asks said id order (job ∷ jobs) k = order_said asks said id order job k
 

@@ -3,7 +3,7 @@ use Rattle.std.proofs.Common.{◌≡◌, ◌⊎◌, ℕ, false, List, ◌∷◌,
 use Rattle.std.proofs.lemmas.Bool.{both_ways, or_right}
 use Rattle.mc_text.specs.Routes.{Route, is_prefix, same_path}
 use Rattle.tree_trait.specs.Calls.{Rename}
-use Rattle.tree_trait.specs.Change.{CallLog, current, found}
+use Rattle.tree_trait.specs.Change.{CallLog, current, found_node}
 use Rattle.tree_trait.specs.FileSystem.{find, node}
 use Rattle.tree_trait.specs.Refusals.{folder_kind, is_folder, refusal_of}
 use Rattle.tree_trait.specs.Shape.{IsTree}
@@ -28,13 +28,13 @@ module _ (log : CallLog) (tree : IsTree (current log)) (replies : Replies) (old 
   renaming = renaming_passes (current log) old from new to other passes
 
   -- a folder goes where nothing stands
-  free : (is_folder (node (current log) (found (current log) (old ∷ from))) ≡ false) ⊎ (find (current log) (new ∷ to) ≡ None)
+  free : (is_folder (node (current log) (found_node (current log) (old ∷ from))) ≡ false) ⊎ (find (current log) (new ∷ to) ≡ None)
   free = elim may.free [
     | inl missing ↦ inr (stat_missing (current log) (new ∷ to) missing)
     | inr (question, decided) ↦ inl (ap folder_kind (sym decided.of_source.is.kind) ∙ decided.single)
   ]
 
-  moves_thing : MovesThing log old from new to (found (current log) from) (found (current log) to) (found (current log) (old ∷ from))
+  moves_thing : MovesThing log old from new to (found_node (current log) from) (found_node (current log) to) (found_node (current log) (old ∷ from))
   moves_thing = record {
     tree = tree;
     from = renaming.from_at;
@@ -52,7 +52,7 @@ module _ (log : CallLog) (tree : IsTree (current log)) (replies : Replies) (old 
   }
 
   renamed_apart : AreApart (record { source = old ∷ from; target = new ∷ to })
-  renamed_apart = apart log old from new to (found (current log) from) (found (current log) to) (found (current log) (old ∷ from)) None moves_thing
+  renamed_apart = apart log old from new to (found_node (current log) from) (found_node (current log) to) (found_node (current log) (old ∷ from)) None moves_thing
 
 -- the pair of these two paths
 abbrev pair_of : Route → Route → Pair

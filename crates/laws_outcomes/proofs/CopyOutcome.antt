@@ -29,14 +29,14 @@ use Rattle.copy_folders.specs.declared.stage.FolderDid.{FolderDid}
 use Rattle.copy_folders.specs.declared.stage.FolderDid.TheVariants as folder_did
 use Rattle.copy_folders.specs.declared.level.Level.{Level}
 use Rattle.copy_tree.specs.declared.due.Due.TheVariants.{Thing}
-use Rattle.copy_tree.specs.declared.item.Item.{Item}
-use Rattle.copy_tree.specs.declared.item.Item.TheVariants.{Next, File, Link, Stays}
+use Rattle.copy_tree.specs.declared.item.ItemAtWork.{ItemAtWork}
+use Rattle.copy_tree.specs.declared.item.ItemAtWork.TheVariants.{Next, File, Link, Stays}
 use Rattle.copy_tree.specs.declared.progress.Progress.TheVariants.{UnderWay}
 use Rattle.copy_tree.specs.InPlace.{AreMoved, HoldsTop, IsInPlace}
 use Rattle.copy_tree.specs.Progress.{progress}
 use Rattle.copy_tree.specs.Reports.{IsToldAs}
 use Rattle.copy_tree.specs.Standing.{Seen, due, due_at, pair_of}
-use Rattle.copy_tree.specs.Steps.{CopySteps, TakesNext, WorksOn, at_end, is_top, link_begun}
+use Rattle.copy_tree.specs.TreeCopySteps.{CopySteps, TakesNext, WorksOn, at_end, is_top, link_begun}
 use Rattle.copy_tree.specs.Asking.{IsOpen, IsReplaceable}
 use Rattle.copy_tree.specs.Taking.{SourceIs}
 use Rattle.tree_walk.specs.Places.{is_empty}
@@ -44,12 +44,12 @@ use Rattle.copy_tree.specs.Parts.{IsPartPlace}
 use Rattle.copy_tree.proofs.InPlaces.{closed_in_place, leaves_all, pair_moved, place_law}
 use Rattle.copy_tree.proofs.Staying.{staying_law}
 use Rattle.copy_job.specs.Passing.{OrPassedOver}
-use Rattle.copy_job.specs.Standing.{SubtreeCopying, named_of, retries, started}
+use Rattle.copy_job.specs.Standing.{SubtreeCopying, named_of, retries, begun_subtree_copy}
 use Rattle.copy_job.proofs.Begun.{begins_held}
 use Rattle.copy_job.specs.SubtreeSteps.{ListSteps, SubtreeSkips, SubtreeSteps, step_result}
 use Rattle.laws_sessions.specs.Replayed.{replayed_step}
 use Rattle.laws_sessions.proofs.Intact.{prefix_append}
-use Rattle.laws_sessions.proofs.Knowing.{IsKept, Said}
+use Rattle.laws_sessions.proofs.Knowing.{IsKept, HistoryFacts}
 use Rattle.laws_sessions.proofs.OwedModes.{ShowsTree}
 use Rattle.laws_sessions.proofs.Untouched.{IsBare as NoFolder, bare_free}
 use Rattle.laws_sessions.proofs.TreeCalls.{left_item}
@@ -75,7 +75,7 @@ covered_not : {A : Type 0} (passed : List Route) (path : Route) → IsReached pa
 covered_not passed path reached (left, among, above) = absurd (both_ways _ (reached left among) above)
 
 -- where no part stands the history shows the tree
-pub shows_all : (told : Said) (dirty : List Route) (marks : Marks) (log : CallLog) → IsKept told dirty marks log → told.part ≡ None → ShowsTree told.tree log
+pub shows_all : (told : HistoryFacts) (dirty : List Route) (marks : Marks) (log : CallLog) → IsKept told dirty marks log → told.part ≡ None → ShowsTree told.tree log
 shows_all told dirty marks log kept none p = ap (λ (s : Spot). s.value) (kept.known.shows p (λ part. let e : (let o : Option Route = None in o) ≡ Some p = sym none ∙ part in let f : ⊥ = cc in f))
 
 -- the next name is that of what is taken up
@@ -137,7 +137,7 @@ module _ (now : CallLog) (v : View) (passed : List Route) (top : Pair) where
     takes_done none shows (inl s) = subst (λ d. TreeDone (Then d) (passed_at top d passed) top new) (sym s.says) (subst (TreeDone v passed top) (sym s.stands) h)
     takes_done none shows (inr (inl t)) =
         let is = t.is log refl in
-        file_begins now v passed top old new did h unclaimed t.facts (file.begun old.job t.pair.source t.pair.target) (Some log) (Some now) t.works
+        file_begins now v passed top old new did h unclaimed t.facts (file.begun_copy old.job t.pair.source t.pair.target) (Some log) (Some now) t.works
         (pair_moved top old.levels.inner.names.names old t.pair refl t.next place) (next_of old old.levels.inner.names.names t.pair refl t.next) refl
         (can_place t.pair kind.File refl is.0 is.2 shows)
     takes_done none shows (inr (inr (inl t))) =
@@ -165,7 +165,7 @@ module _ (now : CallLog) (v : View) (passed : List Route) (top : Pair) where
     takes_done none shows (inr (inr (inr (inr (inr (inr (inr (next, inr (debt, f, same))))))))) =
         subst (λ d. TreeDone (Then d) (passed_at top d passed) top new) (sym f.says) (subst (TreeDone v passed top) (sym f.stands) (closed_done v passed top old none h))
 
-    works_done : (item : Item) → old.item ≡ item → (item ≡ Next → ShowsTree v log) → WorksOn item unclaimed replies old new did (Some log) (Some now) → After
+    works_done : (item : ItemAtWork) → old.item ≡ item → (item ≡ Next → ShowsTree v log) → WorksOn item unclaimed replies old new did (Some log) (Some now) → After
     works_done Next is shows (inl s) = syncs_done now v passed top old new did (Some log) (Some now) h is s
     works_done Next is shows (inr (clean, takes)) = takes_done is (shows refl) takes
     works_done (File f) is shows w =
@@ -191,7 +191,7 @@ module _ (now : CallLog) (v : View) (passed : List Route) (top : Pair) where
   passed_still did (inr (trouble, is)) = ap Then is
 
 -- A step of the copy of a thing with all that lies in it.
-module _ (told : Said) (dirty dirty_after : List Route) (marks : Marks) (log now : CallLog) (kept : IsKept told dirty marks log) (c new : SubtreeCopying) (did : Did) (passed : List Route) (course : Course) (free : Route → Bool) (replies : Replies) (count f0 f1 : ℕ)
+module _ (told : HistoryFacts) (dirty dirty_after : List Route) (marks : Marks) (log now : CallLog) (kept : IsKept told dirty marks log) (c new : SubtreeCopying) (did : Did) (passed : List Route) (course : Course) (free : Route → Bool) (replies : Replies) (count f0 f1 : ℕ)
     (part : ItemHas told dirty marks (current log) course c.at.item) (s : SubtreeSteps free replies c new did count dirty dirty_after (Some log) (Some now) f0 f1) (a : TreeAccounts passed told.tree c) where
   abbrev seen_tree : Did → View
   seen_tree d = replayed_step now d (Some (Copies c.top.source c.top.target)) told.tree
@@ -275,7 +275,7 @@ module _ (told : Said) (dirty dirty_after : List Route) (marks : Marks) (log now
   takes_end unclaimed old next part (inr (inr (inr (inr (inr (inr (inr (due, inl (debt, e))))))))) = absurd (no_end e.report part e.says)
   takes_end unclaimed old next part (inr (inr (inr (inr (inr (inr (inr (due, inr (debt, f, same))))))))) = (no_name old old.levels.inner.names.names due, f.last)
 
-  works_end : (unclaimed : Route → Type 0) (old next : Seen) (part : Option Route) (item : Item) → ItemDone told.tree passed c.top.target old.levels.inner old.levels.around item → WorksOn item unclaimed replies old next (Ended Finished part) (Some log) (Some now) → IsAtEnd old
+  works_end : (unclaimed : Route → Type 0) (old next : Seen) (part : Option Route) (item : ItemAtWork) → ItemDone told.tree passed c.top.target old.levels.inner old.levels.around item → WorksOn item unclaimed replies old next (Ended Finished part) (Some log) (Some now) → IsAtEnd old
   works_end unclaimed old next part Next d (inl x) = absurd (no_end x.report part x.says)
   works_end unclaimed old next part Next d (inr (clean, t)) = takes_end unclaimed old next part t
   works_end unclaimed old next part (File f) d w = (let tells = w.tells in absurd (let e : progress file_stage.Decided ≡ UnderWay = sym (ap progress tells.0) ∙ d.0 in let f : ⊥ = cc in f))
@@ -341,7 +341,7 @@ named_is [] is = absurd (false≢true is)
 named_is (name ∷ folder) is = refl
 
 -- a copy that begins has all to meet
-pub tree_begins : (id : ℕ) (top : Pair) (v : View) → is_some (parent_of top.source) ≡ true → is_some (parent_of top.target) ≡ true → TreeAccounts [] v (started id top)
+pub tree_begins : (id : ℕ) (top : Pair) (v : View) → is_some (parent_of top.source) ≡ true → is_some (parent_of top.target) ≡ true → TreeAccounts [] v (begun_subtree_copy id top)
 tree_begins id top v from to = record {
   in_place = (let held = begins_held id top from to in held.in_place);
   done = record {

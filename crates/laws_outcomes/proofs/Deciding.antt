@@ -7,14 +7,14 @@ use Rattle.tree_trait.specs.declared.file_system.FileSystem.{FileSystem}
 use Rattle.tree_trait.specs.FileSystem.{find}
 use Rattle.tree_trait.specs.CrashImages.{Among}
 use Rattle.tree_trait.proofs.Visible.{same_path-self}
-use Rattle.tree_walk.specs.Places.{OpenFolder, Place, noted, passed as passed_on}
+use Rattle.tree_walk.specs.Places.{OpenFolder, Place, noted_folder, passed_place as passed_on}
 use Rattle.delete_job.specs.declared.deletion.Depth.{Depth}
 use Rattle.delete_job.specs.declared.deletion.Depth.TheVariants.{Top, Inside}
 use Rattle.delete_job.specs.declared.deletion.Stage.{Stage}
 use Rattle.delete_job.specs.declared.deletion.Stage.TheVariants.{Begin, Going, Sync}
 use Rattle.delete_job.specs.declared.deletion.Deletion.{Deletion}
-use Rattle.delete_job.specs.Standing.{Decides, End, IsDone, Item, Leaves, Thing, after_item, at_barrier, item, item_at, item_of, worked}
-use Rattle.delete_job.specs.Steps.{IsSpared as IsLeftIn, path_of}
+use Rattle.delete_job.specs.Standing.{Decides, End, IsDone, DeletionItem, Leaves, Thing, after_item, at_barrier, item, item_at, item_of, worked_folder}
+use Rattle.delete_job.specs.TreeDeletionSteps.{IsSpared as IsLeftIn, path_of}
 use Rattle.delete_job.specs.Deletions.{Deleting}
 use Rattle.laws_sessions.proofs.Intact.{prefix_append, prefix_way}
 use Rattle.laws_outcomes.proofs.Walked.{AreHonest, AreNested, IsAhead, IsHonest, IsSpared, IsWalked, Stand, inside_apart, nested_longer, passes_folder, passes_thing, passes_top}
@@ -57,7 +57,7 @@ up_of path up q name is within =
 
 -- what was taken up is decided: all that stands in it is spared
 module _ (passed more : List Route) (s after : FileSystem) (grows : (q : Route) → Among passed q → Among more q) (fewer : (p : Route) (i : ℕ) → find after p ≡ Some i → (j : ℕ) × (find s p ≡ Some j)) where
-  abbrev GoneAt : OpenFolder → Item → Type 0
+  abbrev GoneAt : OpenFolder → DeletionItem → Type 0
   GoneAt inner (Thing path) = (p : Route) (i : ℕ) → is_prefix path p ≡ true → find after p ≡ Some i → IsSpared more p
   GoneAt inner (End folder) = (p : Route) (i : ℕ) → IsAhead inner p → find after p ≡ Some i → IsSpared more p
 
@@ -74,7 +74,7 @@ module _ (passed more : List Route) (s after : FileSystem) (grows : (q : Route) 
       subst (λ b. DoneAt (if b then Sync else stage) depth top place more after) (sym apart) (of_walk stage depth top place more after off walk)
 
   -- the folder that is worked is left
-  pub leaves : (top path : Route) (inner : OpenFolder) (around : List OpenFolder) (old new : Place) (left : Bool) (stage : Stage) → inner ≡ old.inner → around ≡ old.around → path ≡ worked top old → Leaves left old new → at_barrier stage ≡ false
+  pub leaves : (top path : Route) (inner : OpenFolder) (around : List OpenFolder) (old new : Place) (left : Bool) (stage : Stage) → inner ≡ old.inner → around ≡ old.around → path ≡ worked_folder top old → Leaves left old new → at_barrier stage ≡ false
       → ((p : Route) (i : ℕ) → IsAhead inner p → find after p ≡ Some i → IsSpared more p) → Seen left path → IsWalked passed s top inner around → DoneAt (after_item top path stage) Inside top new more after
   leaves top path inner [] old new left stage inner_is is path_is (inl l) off gone seen w = absurd (let e : (let xs : List OpenFolder = [] in xs) ≡ l.outer ∷ new.around = is ∙ l.was in let f : ⊥ = cc in f)
   leaves top path inner [] old new left stage inner_is is path_is (inr (none, same)) off gone seen w =
@@ -90,19 +90,19 @@ module _ (passed more : List Route) (s after : FileSystem) (grows : (q : Route) 
       let lies : path ≡ nest.0 ∷ outer.path = path_inner ∙ nest.1 in
       goes_on Inside top path new stage (subst (λ (q : Route). same_path q top ≡ false) (sym lies) (inside_apart top outer.path nest.0 (nested_longer top outer around (w.nested).1))) off
       (subst (λ (a : List OpenFolder). IsWalked more after top new.inner a) others
-      (subst (λ (x : OpenFolder). IsWalked more after top x around) (sym (l.inner ∙ ap (noted left) (sym first)))
+      (subst (λ (x : OpenFolder). IsWalked more after top x around) (sym (l.inner ∙ ap (noted_folder left) (sym first)))
       (passes_folder passed more s after top grows fewer inner outer around left gone (λ is_left. let x = seen is_left in (x.0, x.1, up_of path outer.path x.0 nest.0 lies x.2)) w)))
 
   pub decided : (depth : Depth) (top path : Route) (old new : Place) (names : List (List ℕ)) (left : Bool) (stage : Stage) → old.inner.names ≡ names → path ≡ path_of (item_at depth top old) → IsDone depth (item_at depth top old) left old new → at_barrier stage ≡ false
       → GoneAt old.inner (item_at depth top old) → Seen left path → WalkAt depth top old passed s → DoneAt (after_item top path stage) depth top new more after
   decided Top top path old new names left stage is path_is done off gone seen w = ended Top top path new stage path_is gone
   decided Inside top path old new [] left stage is path_is done off gone seen w =
-      let as_end : item_at Inside top old ≡ End (worked top old) = ap (λ xs. item_of xs old.inner.path (worked top old)) is in
-      leaves top path old.inner old.around old new left stage refl refl (path_is ∙ ap path_of as_end) (subst (λ (x : Item). IsDone Inside x left old new) as_end done) off (subst (GoneAt old.inner) as_end gone) seen w
+      let as_end : item_at Inside top old ≡ End (worked_folder top old) = ap (λ xs. item_of xs old.inner.path (worked_folder top old)) is in
+      leaves top path old.inner old.around old new left stage refl refl (path_is ∙ ap path_of as_end) (subst (λ (x : DeletionItem). IsDone Inside x left old new) as_end done) off (subst (GoneAt old.inner) as_end gone) seen w
   decided Inside top path old new (name ∷ names) left stage is path_is done off gone seen w =
-      let as_thing : item_at Inside top old ≡ Thing (name ∷ old.inner.path) = ap (λ xs. item_of xs old.inner.path (worked top old)) is in
+      let as_thing : item_at Inside top old ≡ Thing (name ∷ old.inner.path) = ap (λ xs. item_of xs old.inner.path (worked_folder top old)) is in
       let lies : path ≡ name ∷ old.inner.path = path_is ∙ ap path_of as_thing in
-      let moved : new ≡ passed_on left old = subst (λ (x : Item). IsDone Inside x left old new) as_thing done in
+      let moved : new ≡ passed_on left old = subst (λ (x : DeletionItem). IsDone Inside x left old new) as_thing done in
       goes_on Inside top path new stage (subst (λ (q : Route). same_path q top ≡ false) (sym lies) (inside_apart top old.inner.path name (nested_longer top old.inner old.around w.nested))) off
       (subst (λ (x : Place). IsWalked more after top x.inner x.around) (sym moved)
       (passes_thing passed more s after top grows fewer old.inner old.around name names left is (subst (GoneAt old.inner) as_thing gone) (λ is_left. let x = seen is_left in (x.0, x.1, up_of path old.inner.path x.0 name lies x.2)) w))
@@ -128,11 +128,11 @@ module _ (passed more : List Route) (s after : FileSystem) (grows : (q : Route) 
       → GoneAt passed more s after grows fewer old.inner (item_at depth top old)
   gone_of Top top path old names is path_is w c = λ p i within at. c p i (subst (λ (q : Route). is_prefix q p ≡ true) (sym path_is) within) at
   gone_of Inside top path old [] is path_is w c =
-      let as_end : item_at Inside top old ≡ End (worked top old) = ap (λ xs. item_of xs old.inner.path (worked top old)) is in
+      let as_end : item_at Inside top old ≡ End (worked_folder top old) = ap (λ xs. item_of xs old.inner.path (worked_folder top old)) is in
       subst (GoneAt passed more s after grows fewer old.inner) (sym as_end)
       (λ p i ahead at. c p i (subst (λ (q : Route). is_prefix q p ≡ true) (sym (path_is ∙ (ap path_of as_end ∙ worked_is top old.inner old.around w.nested))) (below_ahead old.inner p ahead)) at)
   gone_of Inside top path old (name ∷ names) is path_is w c =
-      let as_thing : item_at Inside top old ≡ Thing (name ∷ old.inner.path) = ap (λ xs. item_of xs old.inner.path (worked top old)) is in
+      let as_thing : item_at Inside top old ≡ Thing (name ∷ old.inner.path) = ap (λ xs. item_of xs old.inner.path (worked_folder top old)) is in
       subst (GoneAt passed more s after grows fewer old.inner) (sym as_thing) (λ p i within at. c p i (subst (λ (q : Route). is_prefix q p ≡ true) (sym (path_is ∙ ap path_of as_thing)) within) at)
 
   pub of_decides : (old new : Deletion) (left : Bool) (path : Route) (stage : Stage) → Decides old left path stage new → path ≡ path_of (item old) → at_barrier stage ≡ false → GoneAt passed more s after grows fewer old.walk.place.inner (item old)
@@ -149,8 +149,8 @@ pub kept_of : (passed : List Route) (s after : FileSystem) (grows : (q : Route) 
     → GoneAt passed passed s after grows fewer old.inner (item_at depth top old) × Seen passed passed s after grows fewer true path
 kept_of passed s after grows fewer Top top path old names is path_is left w = absurd left
 kept_of passed s after grows fewer Inside top path old [] is path_is left w =
-    let as_end : item_at Inside top old ≡ End (worked top old) = ap (λ xs. item_of xs old.inner.path (worked top old)) is in
-    let spared : old.inner.spared ≡ true = subst (λ (x : Item). IsLeftIn x old.inner.spared) as_end left in
+    let as_end : item_at Inside top old ≡ End (worked_folder top old) = ap (λ xs. item_of xs old.inner.path (worked_folder top old)) is in
+    let spared : old.inner.spared ≡ true = subst (λ (x : DeletionItem). IsLeftIn x old.inner.spared) as_end left in
     let h = inner_honest passed old.inner old.around w.honest spared in (
       subst (GoneAt passed passed s after grows fewer old.inner) (sym as_end) (λ p i ahead at. elim ahead [
         | inl same ↦ (h.0, h.1, inr (subst (λ (q : Route). is_prefix q h.0 ≡ true) (sym same) h.2))
@@ -159,5 +159,5 @@ kept_of passed s after grows fewer Inside top path old [] is path_is left w =
       λ is_left. (h.0, h.1, subst (λ (q : Route). is_prefix q h.0 ≡ true) (sym (path_is ∙ (ap path_of as_end ∙ worked_is top old.inner old.around w.nested))) h.2),
     )
 kept_of passed s after grows fewer Inside top path old (name ∷ names) is path_is left w =
-    let as_thing : item_at Inside top old ≡ Thing (name ∷ old.inner.path) = ap (λ xs. item_of xs old.inner.path (worked top old)) is in
-    absurd (subst (λ (x : Item). IsLeftIn x old.inner.spared) as_thing left)
+    let as_thing : item_at Inside top old ≡ Thing (name ∷ old.inner.path) = ap (λ xs. item_of xs old.inner.path (worked_folder top old)) is in
+    absurd (subst (λ (x : DeletionItem). IsLeftIn x old.inner.spared) as_thing left)

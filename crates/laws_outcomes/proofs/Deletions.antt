@@ -10,7 +10,7 @@ use Rattle.tree_trait.specs.declared.calls.Children.{Children}
 use Rattle.tree_trait.specs.FileSystem.{Spot, View, find, node, value, value_at, visible_tree}
 use Rattle.tree_trait.specs.Shape.{IsTree}
 use Rattle.tree_trait.specs.Calls.{RemoveFile, RemoveFolder, SyncFolder}
-use Rattle.tree_trait.specs.Change.{CallLog, Removes, Syncs, current, found, with_change}
+use Rattle.tree_trait.specs.Change.{CallLog, Removes, Syncs, current, found_node, with_change}
 use Rattle.tree_trait.specs.Answers.{IsListing, Performs}
 use Rattle.tree_trait.proofs.Finding.{same_name-self}
 use Rattle.laws_crash.proofs.Guarding.{find_same, said}
@@ -21,15 +21,15 @@ use Rattle.job_reports.specs.declared.report.StepResult.{StepResult}
 use Rattle.job_reports.specs.declared.report.Did.{Did}
 use Rattle.job_reports.specs.declared.report.Did.TheVariants.{Began, Chunk, Placed, Removed, Made, Set, Kept, Skipped, Cleaned, Barrier, Asked, Merges, Moved, Troubled, Ended}
 use Rattle.job_reports.proofs.CallAnswers.{done_call, some_log}
-use Rattle.tree_walk.specs.Places.{OpenFolder, Place, opened, without_next}
+use Rattle.tree_walk.specs.Places.{OpenFolder, Place, opened_folder, without_next}
 use Rattle.delete_job.specs.declared.deletion.Depth.{Depth}
 use Rattle.delete_job.specs.declared.deletion.Depth.TheVariants.{Top, Inside}
 use Rattle.delete_job.specs.declared.deletion.Stage.{Stage}
 use Rattle.delete_job.specs.declared.deletion.Stage.TheVariants.{Begin, Going, Sync}
 use Rattle.delete_job.specs.declared.deletion.Deletion.{Deletion}
-use Rattle.delete_job.specs.Standing.{End, Item, Thing, after_item, at_barrier, item, item_at, item_of, worked}
+use Rattle.delete_job.specs.Standing.{End, DeletionItem, Thing, after_item, at_barrier, item, item_at, item_of, worked_folder}
 use Rattle.delete_job.specs.Descending.{Descends, Enters, IsAt, IsOpened, opened_at}
-use Rattle.delete_job.specs.Steps.{IsProgress, KeepsRest, Skips as MachineSkips, Syncs as SyncsOne, TakesOff, WorkCalls, Works, path_of, removal_of}
+use Rattle.delete_job.specs.TreeDeletionSteps.{IsProgress, KeepsRest, Skips as MachineSkips, Syncs as SyncsOne, TakesOff, WorkCalls, Works, path_of, removal_of}
 use Rattle.delete_job.specs.Deletions.{Deleting, Tells, machine_of}
 use Rattle.delete_job.specs.DeletionSteps.{Goes, OrPassedOver, Passes, step_result}
 use Rattle.job_answers.specs.declared.skips.Skips.{Skips}
@@ -53,18 +53,18 @@ at_same passed s old new at k =
 
 -- a folder is gone into
 enters_walk : (log : CallLog) (passed : List Route) (depth : Depth) (top folder : Route) (place : Place) (names : List (List ℕ)) (children : Children) → item_at depth top place ≡ Thing folder
-    → IsListing (current log) (found (current log) folder) children → place.inner.names ≡ names → WalkAt depth top place passed (current log) → WalkAt Inside top (opened_at depth folder children.names place) passed (current log)
+    → IsListing (current log) (found_node (current log) folder) children → place.inner.names ≡ names → WalkAt depth top place passed (current log) → WalkAt Inside top (opened_at depth folder children.names place) passed (current log)
 enters_walk log passed Top top folder place names children takes listing is k =
     let same : top ≡ folder = cc in
-    subst (λ (around : List OpenFolder). IsWalked passed (current log) top (opened folder children.names) around) (sym k)
-    (subst (λ (f : Route). IsWalked passed (current log) top (opened f children.names) []) same
-    (opens_top passed (current log) top children (subst (λ (f : Route). IsListing (current log) (found (current log) f) children) (sym same) listing)))
+    subst (λ (around : List OpenFolder). IsWalked passed (current log) top (opened_folder folder children.names) around) (sym k)
+    (subst (λ (f : Route). IsWalked passed (current log) top (opened_folder f children.names) []) same
+    (opens_top passed (current log) top children (subst (λ (f : Route). IsListing (current log) (found_node (current log) f) children) (sym same) listing)))
 enters_walk log passed Inside top folder place [] children takes listing is k =
-    absurd (let e : item_of [] place.inner.path (worked top place) ≡ Thing folder = subst (λ xs. item_of xs place.inner.path (worked top place) ≡ Thing folder) is takes in let f : ⊥ = cc in f)
+    absurd (let e : item_of [] place.inner.path (worked_folder top place) ≡ Thing folder = subst (λ xs. item_of xs place.inner.path (worked_folder top place) ≡ Thing folder) is takes in let f : ⊥ = cc in f)
 enters_walk log passed Inside top folder place (name ∷ names) children takes listing is k =
-    let same : name ∷ place.inner.path ≡ folder = (let e : item_of (name ∷ names) place.inner.path (worked top place) ≡ Thing folder = subst (λ xs. item_of xs place.inner.path (worked top place) ≡ Thing folder) is takes in cc) in
-    subst (λ f. IsWalked passed (current log) top (opened f children.names) (without_next place.inner ∷ place.around)) same
-    (opens_inside passed (current log) top place.inner place.around name names children is (subst (λ f. IsListing (current log) (found (current log) f) children) (sym same) listing) k)
+    let same : name ∷ place.inner.path ≡ folder = (let e : item_of (name ∷ names) place.inner.path (worked_folder top place) ≡ Thing folder = subst (λ xs. item_of xs place.inner.path (worked_folder top place) ≡ Thing folder) is takes in cc) in
+    subst (λ f. IsWalked passed (current log) top (opened_folder f children.names) (without_next place.inner ∷ place.around)) same
+    (opens_inside passed (current log) top place.inner place.around name names children is (subst (λ f. IsListing (current log) (found_node (current log) f) children) (sym same) listing) k)
 
 enters_done : (log : CallLog) (passed : List Route) (old new : Deletion) (folder : Route) → Enters (Some log) old folder new → MachineDone passed (current log) old → MachineDone passed (current log) new
 enters_done log passed old new folder e k =
@@ -118,11 +118,11 @@ nothing_below log path p i gone within at =
     let none : find (current log) p ≡ None = ap (find (current log)) w.1 ∙ none_below log w.0 path gone in
     let e : (let o : Option ℕ = Some i in o) ≡ None = sym at ∙ none in let x : ⊥ = cc in x
 
-removal_at : (log now : CallLog) → IsTree (current log) → (it : Item) → Performs {A = Unit {0}} log (removal_of it) (Ok tt) (Some now) → IsRemoval log now (path_of it)
+removal_at : (log now : CallLog) → IsTree (current log) → (it : DeletionItem) → Performs {A = Unit {0}} log (removal_of it) (Ok tt) (Some now) → IsRemoval log now (path_of it)
 removal_at log now tree (Thing path) done = removal_done log now path tree done
 removal_at log now tree (End folder) done = folder_removed log now folder tree done
 
-refused_at : (log now : CallLog) (it : Item) (e : TreeError) → Performs {A = Unit {0}} log (removal_of it) (Err e) (Some now) → current now ≡ current log
+refused_at : (log now : CallLog) (it : DeletionItem) (e : TreeError) → Performs {A = Unit {0}} log (removal_of it) (Err e) (Some now) → current now ≡ current log
 refused_at log now (Thing path) e refused = refused_still log now (RemoveFile path) e (λ left. refl) refused
 refused_at log now (End folder) e refused = refused_still log now (RemoveFolder folder) e (λ left. refl) refused
 
@@ -277,7 +277,7 @@ syncs_done : (d : Deletion) (did : Did) (folders folders_after : List Route) (lo
     → Unless did (MachineDone (passed_by did passed) (current now) d)
 syncs_done d Barrier folders folders_after log now passed (folder, own, is, done) k =
     let c = done_call log (SyncFolder folder) now (done log refl) in
-    subst (λ (s : FileSystem). MachineDone passed s d) (sym (still_same log now (Syncs (found (current log) folder), c.is, inr (found (current log) folder, refl)))) k
+    subst (λ (s : FileSystem). MachineDone passed s d) (sym (still_same log now (Syncs (found_node (current log) folder), c.is, inr (found_node (current log) folder, refl)))) k
 syncs_done d (Troubled trouble) folders folders_after log now passed (e, folder, own, trouble_is, is, refused) k =
     subst (λ (s : FileSystem). MachineDone passed s d) (sym (refused_still log now (SyncFolder folder) e (λ left. refl) (refused log refl))) k
 syncs_done d (Ended ending part) folders folders_after log now passed t k = tt

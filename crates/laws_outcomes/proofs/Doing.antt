@@ -6,7 +6,7 @@ use Rattle.mc_text.specs.Routes.{Route, parent_of, same_path}
 use Rattle.tree_trait.specs.declared.file_system.FileSystem.{FileSystem}
 use Rattle.tree_trait.specs.FileSystem.{Spot, Value, View, node, value}
 use Rattle.tree_trait.specs.Calls.{Rename, SetMode as Sets_mode}
-use Rattle.tree_trait.specs.Change.{CallLog, current, found}
+use Rattle.tree_trait.specs.Change.{CallLog, current, found_node}
 use Rattle.laws_crash.specs.Guarded.{Marks}
 use Rattle.job_reports.specs.declared.job.Job.{Job}
 use Rattle.job_reports.specs.declared.job.Job.TheVariants as plan
@@ -24,7 +24,7 @@ use Rattle.session_entries.specs.declared.history.JobOrder.TheVariants.{Answered
 use Rattle.mode_job.specs.Settings.{Setting}
 use Rattle.mode_job.specs.SettingSteps.{SettingCalls}
 use Rattle.job_answers.specs.declared.replies.Replies.{Replies}
-use Rattle.job_reports.specs.Jobs.{Item}
+use Rattle.job_reports.specs.Jobs.{ItemOfJob}
 use Rattle.move_job.specs.Movings.{Moving, MovingCalls}
 use Rattle.make_job.specs.declared.new_thing.NewThing.{NewThing}
 use Rattle.make_job.specs.declared.new_thing.NewThing.TheVariants as thing
@@ -32,14 +32,14 @@ use Rattle.copy_move.specs.declared.run.Course.{Course}
 use Rattle.copy_move.specs.declared.run.Course.TheVariants.{GoesOn, Asking, InTrouble, OwedSyncFailed, Skips, Ends}
 use Rattle.copy_move.specs.declared.work.Work.{Work}
 use Rattle.copy_move.specs.declared.work.Work.TheVariants.{Copy, Delete, Make, Move, SetMode, RemoveEmptied}
-use Rattle.copy_move.specs.Jobs.{Running, CallsOn, PassesOver, TellsOn, WorkCalls, WorkTells, answered, answered_on, begun_work, closed_course, closed_job, course_after, first_work, taken_anew}
+use Rattle.copy_move.specs.Jobs.{Running, CallsOn, PassesOver, TellsOn, WorkCalls, WorkTells, answered_job, answered_on, begun_work, closed_course, closed_job, course_after, first_work, taken_anew}
 use Rattle.copy_move.specs.Jobs as works
-use Rattle.copy_move.specs.Steps.{SkipWalks, Walks, WalksOn}
+use Rattle.copy_move.specs.JobStepReports.{SkipWalks, Walks, WalksOn}
 use Rattle.laws_sessions.specs.Replayed.{replayed_step}
-use Rattle.laws_sessions.specs.Traces.{IsUnclaimed, WorkLeads, before_others, ordered, unless_ended}
+use Rattle.laws_sessions.specs.Traces.{IsUnclaimed, WorkLeads, before_others, ordered_job, unless_ended}
 use Rattle.laws_sessions.proofs.Calming.{mode_finds}
 use Rattle.laws_sessions.proofs.JobKnows.{WorkKnows}
-use Rattle.laws_sessions.proofs.Knowing.{IsKept, Said}
+use Rattle.laws_sessions.proofs.Knowing.{IsKept, HistoryFacts}
 use Rattle.laws_sessions.proofs.Sources.{item_in, making_item}
 use Rattle.laws_sessions.proofs.Turns.{Turned}
 use Rattle.laws_outcomes.specs.Outcomes.{kept_of, passed_by, passed_in}
@@ -152,7 +152,7 @@ skips_work (RemoveEmptied r) (Make new) cause path passed begun v s p w k = absu
 skips_work (Make m) (RemoveEmptied new) cause path passed begun v s p w k = absurd p
 
 -- of a job that keeps nothing of its own what is passed over is what was skipped
-in_plain : (item : Item) (did : Did) (passed : List Route) → kept_of (Some item) passed ≡ passed → passed_in (Some item) did passed ≡ passed_by did passed
+in_plain : (item : ItemOfJob) (did : Did) (passed : List Route) → kept_of (Some item) passed ≡ passed → passed_in (Some item) did passed ≡ passed_by did passed
 in_plain item (Kept path) passed plain = plain
 in_plain item (Skipped path cause) passed plain = refl
 in_plain item (Began part) passed plain = refl
@@ -173,7 +173,7 @@ makes_plain : (new : NewThing) (path : Route) (passed : List Route) → kept_of 
 makes_plain thing.Folder path passed = refl
 makes_plain (thing.Link text) path passed = refl
 
-module _ (told : Said) (dirty dirty_after : List Route) (marks : Marks) (log now : CallLog) (kept : IsKept told dirty marks log) (begun : View) where
+module _ (told : HistoryFacts) (dirty dirty_after : List Route) (marks : Marks) (log now : CallLog) (kept : IsKept told dirty marks log) (begun : View) where
   abbrev Then : List Route → Did → Work → Work → Type 0
   Then passed did old new = Unless did (WorkDone (passed_in (Some (item_in old)) did passed) begun (replayed_step now did (Some (item_in old)) told.tree) (current now) new)
 
@@ -182,7 +182,7 @@ module _ (told : Said) (dirty dirty_after : List Route) (marks : Marks) (log now
   stands s did (name, none) called path is =
       let done : AllDone log (Sets_mode s.path s.mode ∷ []) (Some now) = subst (λ (x : Did). SettingCalls s x log (Some now)) is called in
       let d = one_done log (Sets_mode s.path s.mode) now done in (
-        value (node (current log) (found (current log) s.path)),
+        value (node (current log) (found_node (current log) s.path)),
         ap (λ (x : Spot). x.value) (sym (kept.known.shows s.path (λ part. let e : (let o : Option Route = None in o) ≡ Some s.path = sym none ∙ part in let x : ⊥ = cc in x)))
             ∙ ap (option_map (λ k. value (node (current log) k))) (mode_finds (current log) s.path s.mode d.permits),
       )
@@ -315,7 +315,7 @@ module _ (passed : List Route) (begun v : View) (s : FileSystem) where
   answer_done (Skips cause) answer job is k = k
   answer_done (Ends ending) answer job is k = k
 
-  order_by : (b : Bool) (answer : Answer) (job : Running) → JobDone passed begun v s job → JobDone passed begun v s (if b then answered answer job else job)
+  order_by : (b : Bool) (answer : Answer) (job : Running) → JobDone passed begun v s job → JobDone passed begun v s (if b then answered_job answer job else job)
   order_by true answer job k = answer_done job.course answer job refl k
   order_by false answer job k = k
 
@@ -362,20 +362,20 @@ answered_id GoesOn answer job = refl
 answered_id (Skips cause) answer job = refl
 answered_id (Ends ending) answer job = refl
 
-pub ordered_id : (id : ℕ) (order : JobOrder) (job : Running) → (let x : Running = ordered id order job in x.id) ≡ job.id
+pub ordered_id : (id : ℕ) (order : JobOrder) (job : Running) → (let x : Running = ordered_job id order job in x.id) ≡ job.id
 ordered_id id (Answered answer) job = by (job.id == id)
   where
-    by : (b : Bool) → (let x : Running = if b then answered answer job else job in x.id) ≡ job.id
+    by : (b : Bool) → (let x : Running = if b then answered_job answer job else job in x.id) ≡ job.id
     by true = answered_id job.course answer job
     by false = refl
 
 module _ (passed : ℕ → List Route) (begun : ℕ → View) (v : View) (s : FileSystem) where
-  order_done : (id : ℕ) (order : JobOrder) (job : Running) → JobDone (passed job.id) (begun job.id) v s job → JobDone (passed job.id) (begun job.id) v s (ordered id order job)
+  order_done : (id : ℕ) (order : JobOrder) (job : Running) → JobDone (passed job.id) (begun job.id) v s job → JobDone (passed job.id) (begun job.id) v s (ordered_job id order job)
   order_done id (Answered answer) job k = order_by (passed job.id) (begun job.id) v s (job.id == id) answer job k
 
-  pub orders_done : (id : ℕ) (order : JobOrder) (jobs : List Running) → JobsDone passed begun v s jobs → JobsDone passed begun v s (map (ordered id order) jobs)
+  pub orders_done : (id : ℕ) (order : JobOrder) (jobs : List Running) → JobsDone passed begun v s jobs → JobsDone passed begun v s (map (ordered_job id order) jobs)
   orders_done id order [] k = tt
-  orders_done id order (job ∷ jobs) k = subst (λ n. JobDone (passed n) (begun n) v s (ordered id order job)) (sym (ordered_id id order job)) (order_done id order job k)
+  orders_done id order (job ∷ jobs) k = subst (λ n. JobDone (passed n) (begun n) v s (ordered_job id order job)) (sym (ordered_id id order job)) (order_done id order job k)
 
   pub closed_done : (jobs : List Running) → JobsDone passed begun v s jobs → JobsDone passed begun v s (map closed_job jobs)
   closed_done [] k = tt

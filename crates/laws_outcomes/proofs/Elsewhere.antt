@@ -13,7 +13,7 @@ use Rattle.job_reports.specs.declared.report.Did.{Did}
 use Rattle.job_reports.specs.declared.report.Did.TheVariants.{Ended}
 use Rattle.job_reports.specs.declared.report.Ending.{Ending}
 use Rattle.job_reports.specs.declared.report.Ending.TheVariants.{Finished, Aborted}
-use Rattle.job_reports.specs.Jobs.{Item}
+use Rattle.job_reports.specs.Jobs.{ItemOfJob}
 use Rattle.session_entries.specs.declared.history.Event.{Event}
 use Rattle.session_entries.specs.declared.history.Event.TheVariants.{Key, Look, Sought, Order, Step, Next, Closed}
 use Rattle.session_entries.specs.declared.history.Event.TheVariants as event
@@ -25,7 +25,7 @@ use Rattle.copy_move.specs.declared.run.Course.{Course}
 use Rattle.copy_move.specs.declared.run.Course.TheVariants.{GoesOn, Asking, InTrouble, OwedSyncFailed, Skips, Ends}
 use Rattle.copy_move.specs.declared.work.Work.{Work}
 use Rattle.copy_move.specs.Jobs.{Running, TellsOn, begun_work}
-use Rattle.copy_move.specs.Steps.{SyncsOwed}
+use Rattle.copy_move.specs.JobStepReports.{SyncsOwed}
 use Rattle.copy_move.specs.Told.{running}
 use Rattle.laws_sessions.specs.Replayed.{log_prefix, replayed_event, replayed_step, replayed_tree}
 use Rattle.laws_sessions.specs.Traces.{EventLeads, IsTraced, Stand, StepLeads, WorkLeads, before_others, if_closed, unless_ended, with_job}
@@ -160,7 +160,7 @@ ended_on part job new Asking Holds t aborted k = k
 ended_on part job new (Skips cause) Holds t aborted k = k
 ended_on part job new (Ends ending) Holds (work, winds, new_is) aborted k = absurd (let f : Finished ≡ Aborted = wound_up ending job.work work part winds ∙ aborted ending refl in let x : ⊥ = cc in x)
 
-module _ (opening now : CallLog) (newest : List Entry) (stand : Stand) (tree : IsTree (current opening)) (settled : all_settled opening.changes ≡ true) (e : Entry) (older : List Entry) (id : ℕ) (item : Item) (path : Route)
+module _ (opening now : CallLog) (newest : List Entry) (stand : Stand) (tree : IsTree (current opening)) (settled : all_settled opening.changes ≡ true) (e : Entry) (older : List Entry) (id : ℕ) (item : ItemOfJob) (path : Route)
     (h : Finishes e older id item) (off : touches item path ≡ false) where
   abbrev AsBegun : Type 0
   AsBegun = replayed_tree opening now older path ≡ tree_begun opening now id older path

@@ -11,7 +11,7 @@ use Rattle.tree_trait.specs.declared.file_system.NameEdit.{NameEdit}
 use Rattle.tree_trait.specs.Calls.{RemoveFolder}
 use Rattle.tree_trait.specs.Change.{CallLog, current}
 use Rattle.tree_trait.specs.FileSystem.{Value, View, find, lookup, node, value}
-use Rattle.tree_trait.specs.Refusals.{Place, and_then, denied, first_of, folder_of, has_entries, is_empty, is_folder, is_mount, lacks, last_step, missing, no_folder, reached, refusal_of, step, thing, walk}
+use Rattle.tree_trait.specs.Refusals.{Place, and_then, denied_access, first_of, folder_of, has_entries, is_empty, is_folder, is_mount, lacks, last_step, missing, no_folder, reached_node, refusal_of, step, thing, walk}
 use Rattle.tree_trait.proofs.Walking.{check_passes, passed_walk, some_there, walk-find}
 use Rattle.job_answers.specs.declared.replies.Replies.{Replies}
 use Rattle.job_reports.specs.declared.report.Did.{Did}
@@ -41,17 +41,17 @@ then_way : (A B : Type 0) (next : A → Result B TreeError) (r : Result A TreeEr
 then_way A B next (Ok x) f h = f x
 then_way A B next (Err e) f h = h
 
-reached_way : (s : FileSystem) (path : Route) → OnWay (reached s path)
+reached_way : (s : FileSystem) (path : Route) → OnWay (reached_node s path)
 reached_way s [] = tt
 reached_way s (name ∷ folder) =
-    then_way ℕ ℕ (step s name) (reached s folder)
+    then_way ℕ ℕ (step s name) (reached_node s folder)
     (λ f. checked ℕ (not (is_folder (node s f))) (lacks 0o100 (node s f)) (let r : Result ℕ TreeError = elim (lookup s.names f name) [ None ↦ Err Missing | Some i ↦ Ok i ] in r) (entry_way (lookup s.names f name)))
     (reached_way s folder)
 
 walk_way : (s : FileSystem) (path : Route) → OnWay (walk s path)
 walk_way s [] = tt
 walk_way s (name ∷ folder) =
-    then_way ℕ Place (last_step s name) (reached s folder)
+    then_way ℕ Place (last_step s name) (reached_node s folder)
     (λ f. checked Place (not (is_folder (node s f))) (lacks 0o100 (node s f)) (Ok (record { holder = Some f; there = lookup s.names f name })) tt)
     (reached_way s folder)
 
@@ -65,7 +65,7 @@ record LeadsTo (s : FileSystem) (path : Route) (bare : Bool) : Type 0 where
   pub bare_is : is_bare s i ≡ bare
 
 abbrev checks : FileSystem → Place → Option TreeError
-checks s p = first_of (missing p ∷ no_folder s p ∷ (is_mount s p, Mounted) ∷ (not (is_empty s p), NotEmpty) ∷ denied 0o200 (folder_of s p) ∷ [])
+checks s p = first_of (missing p ∷ no_folder s p ∷ (is_mount s p, Mounted) ∷ (not (is_empty s p), NotEmpty) ∷ denied_access 0o200 (folder_of s p) ∷ [])
 
 leads_to : (s : FileSystem) (path : Route) (p : Place) (bare : Bool) → walk s path ≡ Ok p → is_none p.there ≡ false → is_empty s p ≡ bare → LeadsTo s path bare
 leads_to s path p bare walked there is =

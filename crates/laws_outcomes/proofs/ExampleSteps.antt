@@ -7,10 +7,10 @@ use Rattle.tree_trait.specs.CrashImages.{Among}
 use Rattle.job_answers.specs.declared.replies.Replies.{Replies}
 use Rattle.job_reports.specs.declared.report.Did.{Did}
 use Rattle.job_reports.specs.declared.report.Did.TheVariants.{Began, Chunk, Placed, Removed, Made, Set, Kept, Skipped, Cleaned, Barrier, Asked, Merges, Moved, Troubled, Ended}
-use Rattle.copy_folders.specs.Levels.{passed}
+use Rattle.copy_folders.specs.Levels.{passed_levels}
 use Rattle.copy_tree.specs.Reports.{changes}
 use Rattle.copy_tree.specs.Standing.{Seen, is_fresh}
-use Rattle.copy_tree.specs.Steps.{at_end}
+use Rattle.copy_tree.specs.TreeCopySteps.{at_end}
 use Rattle.copy_job.specs.Merged.{IsOver}
 use Rattle.copy_job.specs.Reporting.{ChangesOwn, MayTell}
 use Rattle.copy_job.specs.Standing.{SubtreeCopying}
@@ -30,7 +30,7 @@ job replies course c = record { id = 1; work = Copy c; course = course; replies 
 
 -- the copy once it is done with its top, and at the end of the folder that holds that
 abbrev pub with_top_passed : SubtreeCopying → SubtreeCopying
-with_top_passed c = record c { at = (let s : Seen = c.at in record s { levels = passed false s.levels }) }
+with_top_passed c = record c { at = (let s : Seen = c.at in record s { levels = passed_levels false s.levels }) }
 
 abbrev pub at_last : SubtreeCopying → SubtreeCopying
 at_last c = record c { at = at_end c.at }

@@ -7,8 +7,8 @@ use Rattle.mc_text.specs.Routes.{Route, is_prefix, same_path}
 use Rattle.mc_text.specs.declared.kind.Kind.{Kind}
 use Rattle.mc_text.specs.declared.kind.Kind.TheVariants as kind
 use Rattle.tree_trait.specs.Calls.{Stat}
-use Rattle.tree_trait.specs.Change.{CallLog, current, found}
-use Rattle.tree_trait.specs.FileSystem.{Value, View, find, node, put, value}
+use Rattle.tree_trait.specs.Change.{CallLog, current, found_node}
+use Rattle.tree_trait.specs.FileSystem.{Value, View, find, node, view_with, value}
 use Rattle.tree_trait.specs.Refusals.{folder_kind, refusal_of}
 use Rattle.tree_trait.specs.Shape.{IsTree}
 use Rattle.tree_trait.proofs.Visible.{same_path-true}
@@ -21,7 +21,7 @@ use Rattle.job_reports.specs.declared.report.Did.{Did}
 use Rattle.job_reports.specs.declared.report.Did.TheVariants.{Began, Chunk, Placed, Removed, Made, Set, Kept, Skipped, Cleaned, Barrier, Asked, Merges, Moved, Troubled, Ended}
 use Rattle.job_reports.specs.declared.report.Ending.TheVariants.{Finished, Aborted, Killed, NoMemory}
 use Rattle.copy_file.specs.CopySteps as file
-use Rattle.copy_file.specs.Copying.{Copying, Tells, after_clean, skipped, taken_anew}
+use Rattle.copy_file.specs.Copying.{Copying, Tells, after_clean, skipped_stage, taken_anew}
 use Rattle.copy_file.specs.declared.stage.Next.{Next}
 use Rattle.copy_file.specs.declared.stage.Next.TheVariants as next
 use Rattle.copy_file.specs.declared.stage.Stage.{Stage}
@@ -61,20 +61,20 @@ module _ (v : View) (log : CallLog) (tree : IsTree (current log)) (shows : Shows
   none_shown p none = sym (shows p) ∙ ap (option_map (λ i. value (node (current log) i))) none
 
   -- what stands at a path that can be told
-  pub some_shown : (p : Route) → refusal_of (current log) (Stat p) ≡ None → (v p).value ≡ Some (value (node (current log) (found (current log) p)))
+  pub some_shown : (p : Route) → refusal_of (current log) (Stat p) ≡ None → (v p).value ≡ Some (value (node (current log) (found_node (current log) p)))
   some_shown p there = sym (shows p) ∙ ap (option_map (λ i. value (node (current log) i))) (stat-found (current log) p there)
 
-  pub plain_source : (source : Route) (k : Kind) → refusal_of (current log) (Stat source) ≡ None → (node (current log) (found (current log) source)).kind ≡ k → folder_kind k ≡ false
+  pub plain_source : (source : Route) (k : Kind) → refusal_of (current log) (Stat source) ≡ None → (node (current log) (found_node (current log) source)).kind ≡ k → folder_kind k ≡ false
       → option_map as_copied (v source).value ≡ option_map placed_copy (v source).value
   plain_source source k there is bare =
-      let n = node (current log) (found (current log) source) in
+      let n = node (current log) (found_node (current log) source) in
       subst (λ o. option_map as_copied o ≡ option_map placed_copy o) (sym (some_shown source there)) (ap Some (plain_by n.kind (value n) (ap folder_kind is ∙ bare)))
 
   -- where no folder stands at the target
-  pub plain_begins : (source target : Route) (k : Kind) → refusal_of (current log) (Stat source) ≡ None → (node (current log) (found (current log) source)).kind ≡ k → folder_kind k ≡ false → NoFolder (current log) target → IsPlain v source target
+  pub plain_begins : (source target : Route) (k : Kind) → refusal_of (current log) (Stat source) ≡ None → (node (current log) (found_node (current log) source)).kind ≡ k → folder_kind k ≡ false → NoFolder (current log) target → IsPlain v source target
   plain_begins source target k there is single bare = record {
     plain = plain_source source k there is single;
-    below = λ name rest. none_shown (name ∷ (rest ++ source)) (none_below_file (current log) tree source (found (current log) source) (stat-found (current log) source there) (ap folder_kind is ∙ single) name rest);
+    below = λ name rest. none_shown (name ∷ (rest ++ source)) (none_below_file (current log) tree source (found_node (current log) source) (stat-found (current log) source there) (ap folder_kind is ∙ single) name rest);
     under = λ name rest. none_shown (name ∷ (rest ++ target)) (none_under name rest (find (current log) target) refl);
   }
     where
@@ -97,7 +97,7 @@ module _ (now : CallLog) (v : View) (passed : List Route) (top : Pair) where
     comes : moved_from top.source top.target target ≡ source
     comes = ap (moved_from top.source top.target) m.to ∙ (moved_below top.source top.target m.rest ∙ sym m.from)
 
-    all : AllCopied (put v target new) top.target source target
+    all : AllCopied (view_with v target new) top.target source target
     all [] off =
         put_value v target new
         ∙ (ap (λ p. option_map placed_copy (v p).value) comes
@@ -147,7 +147,7 @@ module _ (now : CallLog) (v : View) (passed : List Route) (top : Pair) where
 
 -- a file that is skipped is covered
 module _ (v : View) (passed : List Route) (top : Pair) (around : List Level) where
-  pub skipped_done : (source target : Route) (stage : Stage) → FileDone v passed top.target around source target stage → FileDone v (source ∷ passed) top.target around source target (skipped stage)
+  pub skipped_done : (source target : Route) (stage : Stage) → FileDone v passed top.target around source target stage → FileDone v (source ∷ passed) top.target around source target (skipped_stage stage)
   skipped_done source target at.Begin d = inl (covered_now passed source source (self_prefix source))
   skipped_done source target (at.Fill part facts done) d = covered_now passed source source (self_prefix source)
   skipped_done source target (at.Clean part follows) d = covered_now passed source source (self_prefix source)

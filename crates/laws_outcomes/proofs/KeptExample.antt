@@ -23,14 +23,14 @@ use Rattle.job_reports.specs.Questions.{question_on}
 use Rattle.job_answers.specs.declared.replies.Decision.{Decision}
 use Rattle.job_answers.specs.declared.replies.Decision.TheVariants.{Ask, Keep}
 use Rattle.job_answers.specs.declared.replies.Replies.{Replies}
-use Rattle.job_answers.specs.Decisions.{decided, no_replies, with_reply}
+use Rattle.job_answers.specs.Decisions.{decision_on, no_replies, with_reply}
 use Rattle.job_reports.specs.Paths.{folder_of}
 use Rattle.copy_tree.specs.Asking.{IsDecided}
 use Rattle.copy_tree.specs.Taking.{IsTaken}
 use Rattle.copy_tree.specs.declared.looking.Taken.TheVariants as taken
 use Rattle.copy_job.specs.Merged.{IsOver, KeepsTop}
 use Rattle.copy_job.specs.Reporting.{ChangesOwn}
-use Rattle.copy_job.specs.Standing.{SubtreeCopying, is_own, started}
+use Rattle.copy_job.specs.Standing.{SubtreeCopying, is_own, begun_subtree_copy}
 use Rattle.job_unsynced.specs.Folders.{is_of}
 use Rattle.copy_job.specs.SubtreeSteps.{step_result}
 use Rattle.copy_move.specs.TreeCopies.{Tells}
@@ -93,7 +93,7 @@ abbrev pub question : Question
 question = question_on source source_meta target target_meta
 
 -- what is decided of it by these answers
-pub is_decided : (replies : Replies) (decision : Decision) → decided replies question ≡ decision → IsDecided small pair replies question decision
+pub is_decided : (replies : Replies) (decision : Decision) → decision_on replies question ≡ decision → IsDecided small pair replies question decision
 is_decided replies decision is = record {
   both = record {
     source = source_meta;
@@ -111,7 +111,7 @@ is_decided replies decision is = record {
 
 -- the copy as it begins, and once it has kept what stands at its target
 abbrev pub begun : SubtreeCopying
-begun = started 1 pair
+begun = begun_subtree_copy 1 pair
 
 abbrev pub keeping : SubtreeCopying
 keeping = with_top_passed begun

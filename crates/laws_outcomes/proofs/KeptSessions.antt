@@ -27,7 +27,7 @@ use Rattle.copy_move.specs.declared.work.Work.TheVariants.{Copy, Delete, Make, M
 use Rattle.make_job.specs.declared.new_thing.NewThing.{NewThing}
 use Rattle.make_job.specs.declared.new_thing.NewThing.TheVariants as thing
 use Rattle.copy_move.specs.Jobs.{Running, begun_work}
-use Rattle.copy_move.specs.Steps.{SkipWalks, SyncsOwed, Walks, WalksOn}
+use Rattle.copy_move.specs.JobStepReports.{SkipWalks, SyncsOwed, Walks, WalksOn}
 use Rattle.copy_move.specs.Told.{running}
 use Rattle.laws_sessions.specs.Replayed.{log_prefix, replayed_event, replayed_step, replayed_tree}
 use Rattle.laws_sessions.specs.Traces.{EventLeads, IsTraced, IsUnclaimed, Stand, StepLeads, WorkLeads, before_others, if_closed, unless_ended, with_job}

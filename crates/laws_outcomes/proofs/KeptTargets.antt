@@ -20,11 +20,11 @@ use Rattle.copy_move.specs.declared.run.Course.{Course}
 use Rattle.copy_move.specs.declared.run.Course.TheVariants.{GoesOn, Asking, InTrouble, OwedSyncFailed, Skips, Ends}
 use Rattle.copy_move.specs.declared.work.Work.{Work}
 use Rattle.copy_move.specs.declared.work.Work.TheVariants.{Copy, Delete, Make, Move, SetMode, RemoveEmptied}
-use Rattle.copy_move.specs.Jobs.{PassesOver, Running, TellsOn, WorkTells, answered_on, answered, begun_work, closed_job, first_work}
+use Rattle.copy_move.specs.Jobs.{PassesOver, Running, TellsOn, WorkTells, answered_on, answered_job, begun_work, closed_job, first_work}
 use Rattle.copy_move.specs.Jobs as works
-use Rattle.copy_move.specs.Steps.{SkipWalks, Walks}
+use Rattle.copy_move.specs.JobStepReports.{SkipWalks, Walks}
 use Rattle.laws_sessions.specs.Replayed.{replayed_step}
-use Rattle.laws_sessions.specs.Traces.{IsUnclaimed, before_others, ordered, unless_ended}
+use Rattle.laws_sessions.specs.Traces.{IsUnclaimed, before_others, ordered_job, unless_ended}
 use Rattle.laws_sessions.proofs.Sources.{item_in}
 use Rattle.laws_sessions.proofs.Turns.{Turned}
 use Rattle.laws_outcomes.specs.Keeps.{keeps_by}
@@ -233,18 +233,18 @@ module _ (v was : View) (kept : Bool) where
   answer_spares (Skips cause) answer job is k = k
   answer_spares (Ends ending) answer job is k = k
 
-  order_by : (b : Bool) (answer : Answer) (job : Running) → Held job → Held (if b then answered answer job else job)
+  order_by : (b : Bool) (answer : Answer) (job : Running) → Held job → Held (if b then answered_job answer job else job)
   order_by true answer job k = answer_spares job.course answer job refl k
   order_by false answer job k = k
 
 module _ (v : View) (was : ℕ → View) (kept : ℕ → Bool) where
-  order_spares : (id : ℕ) (order : JobOrder) (job : Running) → JobSpares v was kept job → UnlessEnding (let x : Running = ordered id order job in x.course) (let x : Running = ordered id order job in Spares v (was job.id) (kept job.id) x.work)
+  order_spares : (id : ℕ) (order : JobOrder) (job : Running) → JobSpares v was kept job → UnlessEnding (let x : Running = ordered_job id order job in x.course) (let x : Running = ordered_job id order job in Spares v (was job.id) (kept job.id) x.work)
   order_spares id (Answered answer) job k = order_by v (was job.id) (kept job.id) (job.id == id) answer job k
 
-  pub orders_spare : (id : ℕ) (order : JobOrder) (jobs : List Running) → JobsSpare v was kept jobs → JobsSpare v was kept (map (ordered id order) jobs)
+  pub orders_spare : (id : ℕ) (order : JobOrder) (jobs : List Running) → JobsSpare v was kept jobs → JobsSpare v was kept (map (ordered_job id order) jobs)
   orders_spare id order [] k = tt
   orders_spare id order (job ∷ jobs) k =
-      subst (λ n. UnlessEnding (let x : Running = ordered id order job in x.course) (let x : Running = ordered id order job in Spares v (was n) (kept n) x.work)) (sym (ordered_id id order job)) (order_spares id order job k)
+      subst (λ n. UnlessEnding (let x : Running = ordered_job id order job in x.course) (let x : Running = ordered_job id order job in Spares v (was n) (kept n) x.work)) (sym (ordered_id id order job)) (order_spares id order job k)
 
   pub closed_spare : (jobs : List Running) → JobsSpare v was kept jobs → JobsSpare v was kept (map closed_job jobs)
   closed_spare [] k = tt

@@ -6,7 +6,7 @@ use Rattle.mc_text.specs.Routes.{Route, parent_of}
 use Rattle.tree_trait.specs.Change.{CallLog}
 use Rattle.tree_trait.specs.FileSystem.{View}
 use Rattle.job_answers.specs.declared.replies.Replies.{Replies}
-use Rattle.job_reports.specs.Jobs.{Item}
+use Rattle.job_reports.specs.Jobs.{ItemOfJob}
 use Rattle.job_reports.specs.declared.job.Pair.{Pair}
 use Rattle.job_reports.specs.declared.report.Cause.{Cause}
 use Rattle.job_reports.specs.declared.report.Did.{Did}
@@ -17,7 +17,7 @@ use Rattle.copy_tree.specs.Standing.{Seen}
 use Rattle.copy_tree.proofs.InPlaces.{leaves_all, place_law}
 use Rattle.copy_tree.proofs.Staying.{staying_law}
 use Rattle.copy_job.specs.Passing.{OrPassedOver}
-use Rattle.copy_job.specs.Standing.{SubtreeCopying, retries, started}
+use Rattle.copy_job.specs.Standing.{SubtreeCopying, retries, begun_subtree_copy}
 use Rattle.copy_job.specs.SubtreeSteps.{ListSteps, SubtreeSkips, SubtreeSteps, step_result}
 use Rattle.copy_job.proofs.Begun.{begins_held}
 use Rattle.laws_sessions.specs.Replayed.{replayed_step}
@@ -50,7 +50,7 @@ unless_both (Moved pair) P h f = f h
 unless_both (Troubled trouble) P h f = f h
 
 -- a step
-module _ (now : CallLog) (work : Option Item) (v was : View) (kept : Bool) (c new : SubtreeCopying) (did : Did) (free : Route → Bool) (replies : Replies) (count : ℕ) (dirty dirty_after : List Route) (before after : Option CallLog) (f0 f1 : ℕ)
+module _ (now : CallLog) (work : Option ItemOfJob) (v was : View) (kept : Bool) (c new : SubtreeCopying) (did : Did) (free : Route → Bool) (replies : Replies) (count : ℕ) (dirty dirty_after : List Route) (before after : Option CallLog) (f0 f1 : ℕ)
     (s : SubtreeSteps free replies c new did count dirty dirty_after before after f0 f1) (h : TreeSpares v was kept c) where
   abbrev Here : Did → Seen → Type 0
   Here d x = After now v was kept work c.top d x
@@ -115,7 +115,7 @@ tree_retries v was kept c h = record {
 }
 
 -- a copy that begins
-pub tree_begins : (id : ℕ) (top : Pair) (v : View) → is_some (parent_of top.source) ≡ true → is_some (parent_of top.target) ≡ true → TreeSpares v v false (started id top)
+pub tree_begins : (id : ℕ) (top : Pair) (v : View) → is_some (parent_of top.source) ≡ true → is_some (parent_of top.target) ≡ true → TreeSpares v v false (begun_subtree_copy id top)
 tree_begins id top v from to = record {
   in_place = (let held = begins_held id top from to in held.in_place);
   spared = record {

@@ -8,7 +8,7 @@ use Rattle.job_reports.specs.declared.job.Pair.{Pair}
 use Rattle.job_reports.specs.declared.report.Cause.{Cause}
 use Rattle.job_reports.specs.declared.report.Did.{Did}
 use Rattle.job_reports.specs.declared.report.Did.TheVariants.{Began, Chunk, Placed, Removed, Made, Set, Kept, Skipped, Cleaned, Barrier, Asked, Merges, Moved, Troubled, Ended}
-use Rattle.copy_link.specs.LinkCopying.{LinkCopying, Tells, after_clean, skipped, taken_anew}
+use Rattle.copy_link.specs.LinkCopying.{LinkCopying, Tells, after_clean, skipped_stage, taken_anew}
 use Rattle.copy_link.specs.LinkSteps as link
 use Rattle.copy_link.specs.declared.stage.Next.{Next}
 use Rattle.copy_link.specs.declared.stage.Next.TheVariants as next
@@ -54,7 +54,7 @@ module _ (now : CallLog) (v : View) (passed : List Route) (top : Pair) (around :
 
 -- a link that is skipped is covered
 module _ (v : View) (passed : List Route) (top : Pair) (around : List Level) where
-  skipped_done : (source target : Route) (stage : Stage) → LinkDone v passed top.target around source target stage → LinkDone v (source ∷ passed) top.target around source target (skipped stage)
+  skipped_done : (source target : Route) (stage : Stage) → LinkDone v passed top.target around source target stage → LinkDone v (source ∷ passed) top.target around source target (skipped_stage stage)
   skipped_done source target at.Make d = inl (covered_now passed source source (self_prefix source))
   skipped_done source target at.Place d = covered_now passed source source (self_prefix source)
   skipped_done source target (at.Clean follows) d = covered_now passed source source (self_prefix source)

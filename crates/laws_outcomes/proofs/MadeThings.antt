@@ -4,7 +4,7 @@ use Rattle.std.specs.Prelude.{⊤}
 use Rattle.std.specs.Option.{option_map}
 use Rattle.std.proofs.lemmas.Bool.{both_ways}
 use Rattle.mc_text.specs.Routes.{Route}
-use Rattle.tree_trait.specs.FileSystem.{Spot, Value, View, put}
+use Rattle.tree_trait.specs.FileSystem.{Spot, Value, View, view_with}
 use Rattle.tree_trait.specs.Change.{CallLog}
 use Rattle.tree_trait.specs.CrashImages.{Among}
 use Rattle.job_answers.specs.declared.replies.Replies.{Replies}
@@ -88,8 +88,8 @@ made_is (thing.Link text) path made v = refl
 pub making_steps : (m new : Making) (did : Did) (log : CallLog) (passed : List Route) (v : View) → makings.Tells m did new → MakingDone passed v m
     → Unless did (MakingDone (passed_by did passed) (replayed_step log did (Some (making_item m.thing m.path)) v) new)
 making_steps m new (Made path) log passed v (stage, path_is, new_is) k =
-    subst (λ (x : Making). MakingDone passed (put v path (Some (made_by (Some (making_item m.thing m.path)) path v))) x) (sym new_is)
-    (subst (λ (p : Route). (put v p (Some (made_by (Some (making_item m.thing m.path)) p v)) m.path).value ≡ Some (value_of m.thing)) (sym path_is)
+    subst (λ (x : Making). MakingDone passed (view_with v path (Some (made_by (Some (making_item m.thing m.path)) path v))) x) (sym new_is)
+    (subst (λ (p : Route). (view_with v p (Some (made_by (Some (making_item m.thing m.path)) p v)) m.path).value ≡ Some (value_of m.thing)) (sym path_is)
     (ap (λ (s : Spot). s.value) (put_at v m.path (Some (made_by (Some (making_item m.thing m.path)) m.path v))) ∙ ap Some (made_is m.thing m.path m.path v)))
 making_steps m new Barrier log passed v (stage, new_is) k =
     subst (λ (x : Making). MakingDone passed v x) (sym new_is) (subst (λ st. MakingAt st m.thing m.path passed v) stage k)
@@ -107,10 +107,10 @@ making_steps m new (Moved pair) log passed v t k = absurd t
 making_steps m new (Skipped path why) log passed v t k = absurd t
 making_steps m new (Cleaned part) log passed v t k = absurd t
 
-pub making_skips : (m new : Making) (path : Route) (passed : List Route) (v : View) → path ≡ m.path → new ≡ record m { stage = makings.skipped m.stage } → MakingDone passed v m → MakingDone (path ∷ passed) v new
+pub making_skips : (m new : Making) (path : Route) (passed : List Route) (v : View) → path ≡ m.path → new ≡ record m { stage = makings.skipped_stage m.stage } → MakingDone passed v m → MakingDone (path ∷ passed) v new
 making_skips m new path passed v path_is new_is k = subst (λ (x : Making). MakingDone (path ∷ passed) v x) (sym new_is) (by m.stage k)
   where
-    by : (stage : MakingStage) → MakingAt stage m.thing m.path passed v → MakingAt (makings.skipped stage) m.thing m.path (path ∷ passed) v
+    by : (stage : MakingStage) → MakingAt stage m.thing m.path passed v → MakingAt (makings.skipped_stage stage) m.thing m.path (path ∷ passed) v
     by making.Make k = inl (sym path_is)
     by making.Sync k = k
     by making.Finish k = k
@@ -169,10 +169,10 @@ setting_steps replies s new (Skipped path why) log passed v (stage, path_is, pas
     subst (λ (x : Setting). SettingDone (path ∷ passed) v x) (sym new_is) (inr (inl (sym path_is)))
 setting_steps replies s new (Cleaned part) log passed v t stands k = absurd t
 
-pub setting_skips : (s new : Setting) (path : Route) (passed : List Route) (v : View) → path ≡ s.path → new ≡ record s { stage = settings.skipped s.stage } → SettingDone passed v s → SettingDone (path ∷ passed) v new
+pub setting_skips : (s new : Setting) (path : Route) (passed : List Route) (v : View) → path ≡ s.path → new ≡ record s { stage = settings.skipped_stage s.stage } → SettingDone passed v s → SettingDone (path ∷ passed) v new
 setting_skips s new path passed v path_is new_is k = subst (λ (x : Setting). SettingDone (path ∷ passed) v x) (sym new_is) (by s.stage k)
   where
-    by : (stage : Stage) → SettingAt stage s.path s.mode passed v → SettingAt (settings.skipped stage) s.path s.mode (path ∷ passed) v
+    by : (stage : Stage) → SettingAt stage s.path s.mode passed v → SettingAt (settings.skipped_stage stage) s.path s.mode (path ∷ passed) v
     by setting.Give k = inr (inl (sym path_is))
     by setting.Sync k = k
     by setting.Done (inl k) = inl k

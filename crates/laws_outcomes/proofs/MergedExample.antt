@@ -29,7 +29,7 @@ use Rattle.copy_tree.specs.Taking.{AreShort, IsShort, IsTaken}
 use Rattle.copy_tree.specs.declared.looking.Taken.TheVariants.{Merged}
 use Rattle.copy_job.specs.Merged.{IsOver, MergesTop}
 use Rattle.copy_job.specs.Reporting.{ChangesOwn}
-use Rattle.copy_job.specs.Standing.{SubtreeCopying, is_own, started}
+use Rattle.copy_job.specs.Standing.{SubtreeCopying, is_own, begun_subtree_copy}
 use Rattle.copy_job.specs.SubtreeSteps.{step_result}
 use Rattle.copy_move.specs.declared.run.Course.TheVariants.{GoesOn}
 use Rattle.copy_move.specs.Jobs.{Running}
@@ -117,7 +117,7 @@ module _ (name : List ℕ) (from to : Route) (names : List (List ℕ)) where
   pair = record { source = name ∷ from; target = name ∷ to }
 
   abbrev begins : SubtreeCopying
-  begins = started 1 pair
+  begins = begun_subtree_copy 1 pair
 
   abbrev over : SubtreeCopying
   over = merged begins
@@ -223,10 +223,10 @@ module _ (name : List ℕ) (from to : Route) (names : List (List ℕ)) where
 
 -- both copies, as they begin and once their folders are merged
 abbrev pub outer_begins : SubtreeCopying
-outer_begins = started 1 outer
+outer_begins = begun_subtree_copy 1 outer
 
 abbrev pub inner_begins : SubtreeCopying
-inner_begins = started 1 inner
+inner_begins = begun_subtree_copy 1 inner
 
 -- the job begins, and merges the outer folder
 abbrev pub begun_entries : List Entry

@@ -4,7 +4,7 @@ use Rattle.std.specs.Prelude.{is_some, option_and_then}
 use Rattle.std.specs.Option.{option_map}
 use Rattle.mc_text.specs.Routes.{Route}
 use Rattle.tree_trait.specs.Calls.{Stat}
-use Rattle.tree_trait.specs.Change.{CallLog, current, found}
+use Rattle.tree_trait.specs.Change.{CallLog, current, found_node}
 use Rattle.tree_trait.specs.FileSystem.{Value, View, find, lookup, node, value}
 use Rattle.tree_trait.specs.Answers.{IsAscending}
 use Rattle.tree_trait.specs.Refusals.{refusal_of}
@@ -36,8 +36,8 @@ module _ (v : View) (log : CallLog) (shows : ShowsTree v log) where
       record {
         in_order = in_order;
         all = λ name.
-            let same = shown_below pair.source (found (current log) pair.source) at name in
+            let same = shown_below pair.source (found_node (current log) pair.source) at name in
             let both = lists.names name in
             (λ among. same ∙ both.0 among, λ stands. both.1 (sym same ∙ stands));
-        named = ap (option_map (λ (x : Value). x.unnamed)) (shown_at pair.source (found (current log) pair.source) at) ∙ ap Some (sym lists.unnamed);
+        named = ap (option_map (λ (x : Value). x.unnamed)) (shown_at pair.source (found_node (current log) pair.source) at) ∙ ap Some (sym lists.unnamed);
       }

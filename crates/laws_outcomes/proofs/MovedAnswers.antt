@@ -5,7 +5,7 @@ use Rattle.mc_text.specs.Routes.{Route}
 use Rattle.mc_text.specs.declared.kind.Kind.{Kind}
 use Rattle.mc_text.specs.declared.kind.Kind.TheVariants as kind
 use Rattle.tree_trait.specs.declared.calls.Meta.{Meta}
-use Rattle.tree_trait.specs.Change.{CallLog, current, found}
+use Rattle.tree_trait.specs.Change.{CallLog, current, found_node}
 use Rattle.tree_trait.specs.FileSystem.{View, node, value}
 use Rattle.tree_trait.specs.Refusals.{folder_kind}
 use Rattle.tree_trait.specs.Shape.{IsTree}
@@ -19,7 +19,7 @@ use Rattle.job_answers.specs.declared.placing.Placing.TheVariants.{Asks}
 use Rattle.job_answers.specs.declared.replies.Decision.{Decision}
 use Rattle.job_answers.specs.declared.replies.Decision.TheVariants.{Ask, Keep, Replace}
 use Rattle.job_answers.specs.declared.replies.Replies.{Replies}
-use Rattle.job_answers.specs.Decisions.{decided}
+use Rattle.job_answers.specs.Decisions.{decision_on}
 use Rattle.job_answers.specs.Questions.{placing_at}
 use Rattle.move_job.specs.Movings.{Moving, MovingCalls, Tells}
 use Rattle.move_job.specs.Takings.{IsDecided, MayMove, Stands}
@@ -51,10 +51,10 @@ module _ (v : View) (log : CallLog) (tree : IsTree (current log)) (shows : Shows
   sized : (IsOfKind : Kind → Type 0) (path : Route) (meta : Meta) → Stands (current log) path meta → IsOfKind meta.kind → IsSizedAs IsOfKind v path meta.size
   sized IsOfKind path meta stands of_kind =
       let is = stands.is in
-      (value (node (current log) (found (current log) path)), some_shown v log tree shows path stands.there, subst IsOfKind is.kind of_kind, is.size)
+      (value (node (current log) (found_node (current log) path)), some_shown v log tree shows path stands.there, subst IsOfKind is.kind of_kind, is.size)
 
   question_is : (pair : Pair) (replies : Replies) (question : Question) (decision : Decision) → IsDecided (current log) pair replies question decision
-      → IsMoveQuestion v pair.source pair.target question × (decided replies question ≡ decision)
+      → IsMoveQuestion v pair.source pair.target question × (decision_on replies question ≡ decision)
   question_is pair replies question decision d =
       let source = d.source in
       let target = d.target in (
@@ -69,7 +69,7 @@ module _ (v : View) (log : CallLog) (tree : IsTree (current log)) (shows : Shows
 
   -- what is renamed comes onto nothing, or onto what an answer says is replaced
   may_replace : (pair : Pair) (replies : Replies) → MayMove (current log) pair replies → is_some (v pair.target).value ≡ true
-      → (question : Question) × IsMoveQuestion v pair.source pair.target question × (decided replies question ≡ Replace)
+      → (question : Question) × IsMoveQuestion v pair.source pair.target question × (decision_on replies question ≡ Replace)
   may_replace pair replies may some = elim may.free [
     | inl missing ↦ none_there (v pair.target).value (none_shown v log tree shows pair.target (stat_missing (current log) pair.target missing)) some
     | inr (question, d) ↦ (let q = question_is pair replies question Replace d in (question, q.0, q.1))

@@ -15,7 +15,7 @@ use Rattle.job_reports.specs.Paths.{folder_of}
 use Rattle.session_entries.specs.Moves.{is_of_move, moved_from}
 use Rattle.move_job.specs.declared.moving.MovingStage.{MovingStage}
 use Rattle.move_job.specs.declared.moving.MovingStage.TheVariants.{Take, SyncTarget, SyncSource, Finish, PassedOver}
-use Rattle.move_job.specs.Movings.{Moving, Tells, after_sync, at_barrier, is_dirty, is_done, skipped, started}
+use Rattle.move_job.specs.Movings.{Moving, Tells, after_sync, at_barrier, is_dirty, is_done, skipped_stage, begun_move}
 use Rattle.laws_sessions.specs.Replayed.{moved_by, nothing_there, replayed_step}
 use Rattle.laws_sessions.proofs.Moved.{moved_below}
 use Rattle.laws_sessions.proofs.PathsBelow.{below_way, is_below}
@@ -44,7 +44,7 @@ abbrev pub MovingDone : List Route → View → View → Moving → Type 0
 MovingDone passed begun v m = MovingAt m.stage m.pair passed begun v
 
 -- a move that begins
-pub moving_begins : (pair : Pair) (v : View) → MovingDone [] v v (started pair)
+pub moving_begins : (pair : Pair) (v : View) → MovingDone [] v v (begun_move pair)
 moving_begins pair v = (refl, λ rest. (refl, refl))
 
 -- the renaming
@@ -104,11 +104,11 @@ moving_steps replies m new (Placed path) log passed begun v apart t k = absurd t
 moving_steps replies m new (Removed path) log passed begun v apart t k = absurd t
 moving_steps replies m new (Cleaned part) log passed begun v apart t k = absurd t
 
-pub moving_skips : (m new : Moving) (path : Route) (passed : List Route) (begun v : View) → at_barrier m.stage ≡ false → path ≡ m.pair.source → new ≡ record m { stage = skipped m.stage } → MovingDone passed begun v m
+pub moving_skips : (m new : Moving) (path : Route) (passed : List Route) (begun v : View) → at_barrier m.stage ≡ false → path ≡ m.pair.source → new ≡ record m { stage = skipped_stage m.stage } → MovingDone passed begun v m
     → MovingDone (path ∷ passed) begun v new
 moving_skips m new path passed begun v free path_is new_is k = subst (λ (x : Moving). MovingDone (path ∷ passed) begun v x) (sym new_is) (by m.stage refl free)
   where
-    by : (stage : MovingStage) → m.stage ≡ stage → at_barrier stage ≡ false → MovingAt (skipped stage) m.pair (path ∷ passed) begun v
+    by : (stage : MovingStage) → m.stage ≡ stage → at_barrier stage ≡ false → MovingAt (skipped_stage stage) m.pair (path ∷ passed) begun v
     by Take is off = left m path passed begun v is path_is k
     by SyncTarget is off = absurd (let f : ⊥ = cc in f)
     by SyncSource is off = absurd (let f : ⊥ = cc in f)

@@ -14,7 +14,7 @@ use Rattle.job_reports.specs.declared.job.Job.{Job}
 use Rattle.job_reports.specs.declared.report.Did.{Did}
 use Rattle.job_reports.specs.declared.report.Did.TheVariants.{Ended}
 use Rattle.job_reports.specs.declared.report.Ending.TheVariants.{Finished, Aborted}
-use Rattle.job_reports.specs.Jobs.{Item}
+use Rattle.job_reports.specs.Jobs.{ItemOfJob}
 use Rattle.session_entries.specs.declared.history.Event.{Event}
 use Rattle.session_entries.specs.declared.history.Event.TheVariants.{Key, Look, Sought, Order, Step, Next, Closed}
 use Rattle.session_entries.specs.declared.history.Event.TheVariants as event
@@ -27,7 +27,7 @@ use Rattle.copy_move.specs.declared.run.Course.TheVariants.{GoesOn, Asking, InTr
 use Rattle.copy_move.specs.declared.work.Work.{Work}
 use Rattle.copy_move.specs.declared.work.Work.TheVariants.{Copy, Delete, Make, Move, SetMode, RemoveEmptied}
 use Rattle.copy_move.specs.Jobs.{Running, TellsOn, WorkTells, begun_work}
-use Rattle.copy_move.specs.Steps.{SyncsOwed, Walks, WalksOn}
+use Rattle.copy_move.specs.JobStepReports.{SyncsOwed, Walks, WalksOn}
 use Rattle.copy_move.specs.Told.{running}
 use Rattle.laws_sessions.specs.Replayed.{log_prefix, replayed_event, replayed_step, replayed_tree}
 use Rattle.laws_sessions.specs.Traces.{EventLeads, IsTraced, IsUnclaimed, Stand, StepLeads, WorkLeads, before_others, if_closed, unless_ended, with_job}
@@ -201,7 +201,7 @@ module _ (opening : CallLog) (tree : IsTree (current opening)) (settled : all_se
       (event_done older e.calls was before (traced_reached opening tree settled older was before traced) (traced_done older was before traced) e.what f.after now f.counts f.leads))
 
 -- what a job that is finished has left
-module _ (told : Rattle.laws_sessions.proofs.Knowing.Said) (dirty dirty_after : List Route) (marks : Rattle.laws_crash.specs.Guarded.Marks) (log now : CallLog) (kept : Rattle.laws_sessions.proofs.Knowing.IsKept told dirty marks log) (part : Option Route) (passed : List Route) (begun : View) where
+module _ (told : Rattle.laws_sessions.proofs.Knowing.HistoryFacts) (dirty dirty_after : List Route) (marks : Rattle.laws_crash.specs.Guarded.Marks) (log now : CallLog) (kept : Rattle.laws_sessions.proofs.Knowing.IsKept told dirty marks log) (part : Option Route) (passed : List Route) (begun : View) where
   work_ends : (replies : Replies) (old new : Work) (course : Course) → WorkTells replies old (Ended Finished part) new → (calls f0 f1 : ℕ) → Walks IsUnclaimed replies old new (Ended Finished part) calls dirty dirty_after (Some log) (Some now) f0 f1 → WorkKnows told dirty marks log course old → WorkDone passed begun told.tree (current log) old → IsOutcome (item_in old) passed begun told.tree
   work_ends replies (Copy c) (Copy new) course t calls f0 f1 walks knows k =
       tree_ends told dirty dirty_after marks log now kept c new (Ended Finished part) passed course walks.free replies calls walks.since f1 knows.part walks.steps k part refl
@@ -252,7 +252,7 @@ module _ (told : Rattle.laws_sessions.proofs.Knowing.Said) (dirty dirty_after : 
   ends job new (Skips cause) (inr (apart, did_is, new_is)) calls f0 f1 walks aborted knows k = absurd (let f : ⊥ = cc in f)
   ends job new (Ends ending) (work, winds, new_is) calls f0 f1 walks aborted knows k = absurd (let e : Finished ≡ Aborted = wound_up ending job.work work part winds ∙ aborted ending refl in let f : ⊥ = cc in f)
 
-module _ (opening now : CallLog) (newest : List Entry) (stand : Stand) (tree : IsTree (current opening)) (settled : all_settled opening.changes ≡ true) (traced : IsTraced opening newest stand now) (e : Entry) (older : List Entry) (id : ℕ) (item : Item)
+module _ (opening now : CallLog) (newest : List Entry) (stand : Stand) (tree : IsTree (current opening)) (settled : all_settled opening.changes ≡ true) (traced : IsTraced opening newest stand now) (e : Entry) (older : List Entry) (id : ℕ) (item : ItemOfJob)
     (h : Finishes e older id item) where
   abbrev Left : Type 0
   Left = IsOutcome item (passed_over id older) (tree_begun opening now id older) (replayed_tree opening now older)

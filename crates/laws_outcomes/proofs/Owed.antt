@@ -4,7 +4,7 @@ use Rattle.mc_text.specs.Routes.{Route}
 use Rattle.tree_trait.specs.Change.{CallLog, Nothing, Syncs, current}
 use Rattle.job_reports.specs.declared.report.Did.{Did}
 use Rattle.copy_move.specs.Jobs.{Running}
-use Rattle.copy_move.specs.Steps.{SyncsOwed}
+use Rattle.copy_move.specs.JobStepReports.{SyncsOwed}
 use Rattle.laws_sessions.specs.Traces.{SyncLeads}
 use Rattle.laws_sessions.proofs.Calming.{thing_done, thing_stopped}
 use Rattle.laws_sessions.proofs.JobKnows.{still_same}

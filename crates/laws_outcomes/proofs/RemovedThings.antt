@@ -1,7 +1,7 @@
 -- What the removal of an emptied folder knows of what it leaves: before it the folder is as it was where the job began with it, and then nothing stands there.
 use Rattle.std.proofs.Common.{◌≡◌, true, false, List, [], ◌∷◌, refl, sym, ◌∙◌, ap, subst, inl, inr, Some, None}
 use Rattle.mc_text.specs.Routes.{Route, same_path}
-use Rattle.tree_trait.specs.FileSystem.{Spot, View, put}
+use Rattle.tree_trait.specs.FileSystem.{Spot, View, view_with}
 use Rattle.tree_trait.specs.Change.{CallLog}
 use Rattle.tree_trait.specs.CrashImages.{Among}
 use Rattle.tree_trait.proofs.Visible.{same_path-self}
@@ -11,7 +11,7 @@ use Rattle.job_reports.specs.declared.report.Did.TheVariants.{Began, Chunk, Plac
 use Rattle.job_reports.specs.Jobs.{RemovesEmptied}
 use Rattle.emptied_job.specs.declared.removal.RemovalStage.{RemovalStage}
 use Rattle.emptied_job.specs.declared.removal.RemovalStage.TheVariants.{Remove, Sync, Finish, PassedOver}
-use Rattle.emptied_job.specs.Removals.{Removing, Tells, at_barrier, is_done, skipped, started}
+use Rattle.emptied_job.specs.Removals.{Removing, Tells, at_barrier, is_done, skipped_stage, begun_removal}
 use Rattle.laws_sessions.specs.Replayed.{replayed_step}
 use Rattle.laws_sessions.proofs.Deleted.{put_at}
 use Rattle.laws_outcomes.specs.Outcomes.{IsEmptiedGone, passed_in}
@@ -29,7 +29,7 @@ abbrev pub RemovalDone : List Route → View → View → Removing → Type 0
 RemovalDone passed begun v r = RemovalAt r.stage r.path passed begun v
 
 -- a removal that begins
-pub removal_begins : (path : Route) (v : View) → RemovalDone [] v v (started path)
+pub removal_begins : (path : Route) (v : View) → RemovalDone [] v v (begun_removal path)
 removal_begins path v = (refl, refl)
 
 -- a folder that isn't removed yet is kept, or passed over
@@ -40,8 +40,8 @@ pub removal_steps : (replies : Replies) (r new : Removing) (did : Did) (log : Ca
     → Unless did (RemovalDone (passed_in (Some (RemovesEmptied r.path)) did passed) begun (replayed_step log did (Some (RemovesEmptied r.path)) v) new)
 removal_steps replies r new (Removed path) log passed begun v (stage, path_is, new_is) k =
     let before = subst (λ st. RemovalAt st r.path passed begun v) stage k in
-    subst (λ (x : Removing). RemovalDone passed begun (put v path None) x) (sym new_is)
-    (before.0, subst (λ (p : Route). (put v p None r.path).value ≡ None) (sym path_is) (ap (λ (s : Spot). s.value) (put_at v r.path None)))
+    subst (λ (x : Removing). RemovalDone passed begun (view_with v path None) x) (sym new_is)
+    (before.0, subst (λ (p : Route). (view_with v p None r.path).value ≡ None) (sym path_is) (ap (λ (s : Spot). s.value) (put_at v r.path None)))
 removal_steps replies r new (Kept path) log passed begun v (stage, path_is, new_is) k =
     subst (λ (x : Removing). RemovalDone (r.path ∷ passed) begun v x) (sym new_is) (left r r.path passed begun v stage refl k)
 removal_steps replies r new (Skipped path cause) log passed begun v (stage, path_is, holds, new_is) k =
@@ -60,11 +60,11 @@ removal_steps replies r new (Merges transfer pair names) log passed begun v t k 
 removal_steps replies r new (Moved pair) log passed begun v t k = absurd t
 removal_steps replies r new (Cleaned part) log passed begun v t k = absurd t
 
-pub removal_skips : (r new : Removing) (path : Route) (passed : List Route) (begun v : View) → at_barrier r.stage ≡ false → path ≡ r.path → new ≡ record r { stage = skipped r.stage } → RemovalDone passed begun v r
+pub removal_skips : (r new : Removing) (path : Route) (passed : List Route) (begun v : View) → at_barrier r.stage ≡ false → path ≡ r.path → new ≡ record r { stage = skipped_stage r.stage } → RemovalDone passed begun v r
     → RemovalDone (path ∷ passed) begun v new
 removal_skips r new path passed begun v free path_is new_is k = subst (λ (x : Removing). RemovalDone (path ∷ passed) begun v x) (sym new_is) (by r.stage refl free)
   where
-    by : (stage : RemovalStage) → r.stage ≡ stage → at_barrier stage ≡ false → RemovalAt (skipped stage) r.path (path ∷ passed) begun v
+    by : (stage : RemovalStage) → r.stage ≡ stage → at_barrier stage ≡ false → RemovalAt (skipped_stage stage) r.path (path ∷ passed) begun v
     by Remove is off = left r path passed begun v is path_is k
     by Sync is off = absurd (let f : ⊥ = cc in f)
     by Finish is off = absurd (let f : ⊥ = cc in f)

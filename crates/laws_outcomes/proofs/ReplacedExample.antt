@@ -15,7 +15,7 @@ use Rattle.job_reports.specs.declared.report.Ending.TheVariants.{Finished}
 use Rattle.job_reports.specs.Jobs as jobs
 use Rattle.job_answers.specs.declared.replies.Decision.TheVariants.{Replace}
 use Rattle.job_answers.specs.declared.replies.Replies.{Replies}
-use Rattle.job_answers.specs.Decisions.{decided, no_replies, with_reply}
+use Rattle.job_answers.specs.Decisions.{decision_on, no_replies, with_reply}
 use Rattle.copy_file.specs.declared.stage.FolderState.TheVariants.{Dirty, Synced}
 use Rattle.copy_file.specs.declared.stage.SourceFacts.{SourceFacts}
 use Rattle.copy_file.specs.declared.stage.Stage.TheVariants.{Begin, Decided, Fill}
@@ -32,7 +32,7 @@ use Rattle.copy_folders.specs.declared.stage.Stage.TheVariants as folder_stage
 use Rattle.copy_folders.specs.Levels.{with_copy}
 use Rattle.copy_tree.specs.Parts.{IsPartPlace}
 use Rattle.copy_tree.specs.Standing.{Seen, after_report}
-use Rattle.copy_tree.specs.Steps.{after_file, at_end, idle}
+use Rattle.copy_tree.specs.TreeCopySteps.{after_file, at_end, idle}
 use Rattle.copy_tree.specs.Taking.{IsTaken}
 use Rattle.copy_tree.specs.declared.looking.Taken.TheVariants as taken
 use Rattle.copy_job.specs.Reporting.{ChangesOwn}
@@ -390,7 +390,7 @@ target_is_replaced =
     [] refl (λ left among. absurd among)
 
 -- and its part was begun since an answer said so
-pub part_is_answered : (asks : Question) × IsQuestionOf (replayed_tree (log []) done_log yes_entries) source target asks × (decided (replies_said 1 yes_entries) asks ≡ Replace)
+pub part_is_answered : (asks : Question) × IsQuestionOf (replayed_tree (log []) done_log yes_entries) source target asks × (decision_on (replies_said 1 yes_entries) asks ≡ Replace)
 part_is_answered =
     (let law = answered_law (log []) done_log (end ∷ done_entries) (stand [] []) small_tree refl ended_traced in law.copies) (entry 1 (Step 1 (Began part))) yes_entries 1 (Began part) source target refl refl
     (inr (inr (inr (inr (inr (inr (inr (inr (inl (refl, refl, refl)))))))))) refl refl

@@ -9,7 +9,7 @@ use Rattle.tree_trait.specs.Shape.{IsTree}
 use Rattle.tree_trait.specs.Change.{CallLog, current}
 use Rattle.tree_trait.specs.CrashImages.{all_settled}
 use Rattle.tree_trait.proofs.Visible.{same_path-self}
-use Rattle.job_reports.specs.Jobs.{Item, Copies, Moves, Removes, Makes, MakesLink, Sets, RemovesEmptied}
+use Rattle.job_reports.specs.Jobs.{ItemOfJob, Copies, Moves, Removes, Makes, MakesLink, Sets, RemovesEmptied}
 use Rattle.session_entries.specs.declared.history.Event.{Event}
 use Rattle.session_entries.specs.declared.history.Event.TheVariants.{Key, Look, Sought, Order, Step, Next, Closed}
 use Rattle.session_entries.specs.declared.history.Event.TheVariants as event
@@ -28,7 +28,7 @@ use Rattle.laws_outcomes.proofs.Elsewhere.{untouched_law}
 use Rattle.laws_outcomes.proofs.Outcome.{outcome_law}
 
 -- an outcome hangs on what concerns the item alone
-outcome_same : (item : Item) (passed : List Route) (begun v w : View) → ((path : Route) → concerns item path ≡ true → w path ≡ v path) → IsOutcome item passed begun v → IsOutcome item passed begun w
+outcome_same : (item : ItemOfJob) (passed : List Route) (begun v w : View) → ((path : Route) → concerns item path ≡ true → w path ≡ v path) → IsOutcome item passed begun v → IsOutcome item passed begun w
 outcome_same (Copies source target) passed begun v w same k = λ rest off reached.
     ap (λ (s : Spot). s.value) (same (rest ++ target) (or_left _ _ (prefix_append target rest)))
     ∙ (k rest off reached ∙ ap (λ (s : Spot). option_map as_copied s.value) (sym (same (rest ++ source) (or_right (is_prefix target (rest ++ source)) _ (prefix_append source rest)))))
@@ -70,7 +70,7 @@ module _ (opening now : CallLog) (newest : List Entry) (stand : Stand) (tree : I
   elsewhere : (e : Entry) (g : List Entry) → IsMoment newest (e ∷ g) (e ∷ g) e.calls → is_elsewhere id path e.what (live_item id (live_jobs g)) ≡ true → Begun (e ∷ g) path ≡ Begun g path
   elsewhere e g moment left = by e.what (live_item id (live_jobs g)) refl refl left
     where
-      turns : (number : ℕ) (b : Bool) (o : Option Item) → (number == id) ≡ b → (number ≡ id → IsDoneWith id e.what) → live_item id (live_jobs g) ≡ o
+      turns : (number : ℕ) (b : Bool) (o : Option ItemOfJob) → (number == id) ≡ b → (number ≡ id → IsDoneWith id e.what) → live_item id (live_jobs g) ≡ o
           → (if b then option_map_or (λ i. not (touches i path)) o false else true) ≡ true → (let v : View = if b then At g else Begun g in v) path ≡ Begun g path
       turns number true (Some item) same done its off =
           untouched_law opening now newest stand tree settled traced e g id item path (record { ended = done (eqb-true number id same); its = its }) moment (not_true (touches item path) off)
@@ -81,7 +81,7 @@ module _ (opening now : CallLog) (newest : List Entry) (stand : Stand) (tree : I
       begins true off = absurd (false≢true off)
       begins false off = refl
 
-      by : (what : Event) (o : Option Item) → e.what ≡ what → live_item id (live_jobs g) ≡ o → is_elsewhere id path what o ≡ true → begun_after id what (At g) (Begun g) path ≡ Begun g path
+      by : (what : Event) (o : Option ItemOfJob) → e.what ≡ what → live_item id (live_jobs g) ≡ o → is_elsewhere id path what o ≡ true → begun_after id what (At g) (Begun g) path ≡ Begun g path
       by (Next number plan) o is its off = turns number (number == id) o refl (λ same. subst (IsDoneWith id) (sym is) same) its off
       by (event.Began number plan background) o is its off = begins (number == id) off
       by (Step number did) o is its off = refl
@@ -92,7 +92,7 @@ module _ (opening now : CallLog) (newest : List Entry) (stand : Stand) (tree : I
       by Closed o is its off = refl
 
   -- so the job began with its newest source where the path is as it was left
-  begun_since : (first : Entry) (before : List Entry) (item : Item) → GoesOn first before id item → (g : List Entry) (top : Entry) (calls : ℕ) → IsMoment newest (top ∷ g) (top ∷ g) calls
+  begun_since : (first : Entry) (before : List Entry) (item : ItemOfJob) → GoesOn first before id item → (g : List Entry) (top : Entry) (calls : ℕ) → IsMoment newest (top ∷ g) (top ∷ g) calls
       → IsLeftSince id path (first ∷ before) g → Begun g path ≡ At before path
   begun_since first before item t [] top calls moment same = absurd (let f : ⊥ = cc in f)
   begun_since first before item t (e ∷ g) top calls moment (inl same) = subst (λ (l : List Entry). Begun l path ≡ At before path) same

@@ -6,7 +6,7 @@ use Rattle.mc_text.specs.Routes.{Route}
 use Rattle.tree_trait.specs.Change.{CallLog}
 use Rattle.tree_trait.specs.FileSystem.{View}
 use Rattle.job_answers.specs.declared.replies.Replies.{Replies}
-use Rattle.job_reports.specs.Jobs.{Item as WorkItem}
+use Rattle.job_reports.specs.Jobs.{ItemOfJob as WorkItem}
 use Rattle.job_reports.specs.declared.job.Pair.{Pair}
 use Rattle.job_reports.specs.declared.report.Cause.{Cause}
 use Rattle.job_reports.specs.declared.report.Did.{Did}
@@ -25,14 +25,14 @@ use Rattle.copy_folders.specs.declared.stage.Stage.TheVariants as at
 use Rattle.copy_link.specs.LinkCopying as link
 use Rattle.copy_link.specs.LinkCopying.{LinkCopying}
 use Rattle.copy_folders.specs.declared.level.Level.{Level}
-use Rattle.copy_folders.specs.Levels.{made_levels, passed as passed_level}
-use Rattle.tree_walk.specs.Places.{opened}
+use Rattle.copy_folders.specs.Levels.{made_levels, passed_levels as passed_level}
+use Rattle.tree_walk.specs.Places.{opened_folder}
 use Rattle.copy_job.specs.Merged.{IsPassed}
 use Rattle.copy_tree.specs.declared.copy.Stage.{Stage}
 use Rattle.copy_tree.specs.declared.copy.Stage.TheVariants.{Going}
 use Rattle.copy_tree.specs.declared.due.Due.TheVariants.{Thing}
-use Rattle.copy_tree.specs.declared.item.Item.{Item}
-use Rattle.copy_tree.specs.declared.item.Item.TheVariants.{Next, File, Link, Stays}
+use Rattle.copy_tree.specs.declared.item.ItemAtWork.{ItemAtWork}
+use Rattle.copy_tree.specs.declared.item.ItemAtWork.TheVariants.{Next, File, Link, Stays}
 use Rattle.copy_tree.specs.declared.progress.Progress.{Progress}
 use Rattle.copy_tree.specs.declared.progress.Progress.TheVariants.{UnderWay, Decided, Anew}
 use Rattle.copy_tree.specs.InPlace.{AreMoved, HoldsTop, IsInPlace, NoneBeside, owed_of}
@@ -41,7 +41,7 @@ use Rattle.copy_tree.specs.Progress.{link_progress, progress}
 use Rattle.copy_tree.specs.Reports.{IsToldAs, changes}
 use Rattle.copy_tree.specs.Skipping.{NoRoom, SkipsAt, SkipsNamed, SkipsRest, retried_at}
 use Rattle.copy_tree.specs.Standing.{Seen, after_report, due_at, is_fresh}
-use Rattle.copy_tree.specs.Steps.{CopySteps, FolderEnds, FolderMakes, LeavesAll, SyncsAround, TakesNext, WorksOn, at_end, idle, link_begun, noted, settled}
+use Rattle.copy_tree.specs.TreeCopySteps.{CopySteps, FolderEnds, FolderMakes, LeavesAll, SyncsAround, TakesNext, WorksOn, at_end, idle, link_begun, noted_copy, copy_after_progress}
 use Rattle.copy_tree.proofs.InPlaces.{closed_in_place, leaves_all}
 use Rattle.laws_sessions.specs.Replayed.{replayed_step}
 use Rattle.laws_sessions.proofs.TreeMachine.{SaysPassed}
@@ -181,10 +181,10 @@ last_name : (top : Pair) (c : Seen) → IsInPlace top c → c.levels.around ≡ 
 last_name top c place alone = (let holds : HoldsTop top c.levels.inner = subst (AreMoved top c.levels.inner) alone place.levels in one_only c.levels.inner.names.names holds.one)
 
 -- what is at work stands so, or is done with
-settled_on : (p : Progress) (item : Item) (did : Did) (dirty : Bool) (old new : Seen) → (IsPassed old → ⊥) → new ≡ settled p item (noted did dirty (idle old)) → IsOn old new
+settled_on : (p : Progress) (item : ItemAtWork) (did : Did) (dirty : Bool) (old new : Seen) → (IsPassed old → ⊥) → new ≡ copy_after_progress p item (noted_copy did dirty (idle old)) → IsOn old new
 settled_on p item did dirty old new some stands = by p stands
   where
-    by : (p : Progress) → new ≡ settled p item (noted did dirty (idle old)) → IsOn old new
+    by : (p : Progress) → new ≡ copy_after_progress p item (noted_copy did dirty (idle old)) → IsOn old new
     by UnderWay is = record {
       around = ap (λ (x : Seen). x.levels.around) is;
       names = λ none. ap (λ (x : Seen). x.levels.inner.names.names) is ∙ none;
@@ -204,7 +204,7 @@ settled_on p item did dirty old new some stands = by p stands
       item = λ passed. absurd (some passed);
     }
 
-at_work : (c : Seen) (item : Item) → c.item ≡ item → (item ≡ Next → ⊥) → IsPassed c → ⊥
+at_work : (c : Seen) (item : ItemAtWork) → c.item ≡ item → (item ≡ Next → ⊥) → IsPassed c → ⊥
 at_work c item is other passed = other (sym is ∙ passed.none)
 
 module _ (now : CallLog) (v was : View) (kept : Bool) (work : Option WorkItem) (top : Pair) where
@@ -229,10 +229,10 @@ module _ (now : CallLog) (v was : View) (kept : Bool) (work : Option WorkItem) (
   told (Moved pair) new plain s = absurd plain
 
   -- a step at a file or a link
-  item_spared : (p : Progress) (item : Item) (did : Did) (dirty : Bool) (old new : Seen) → IsOfItem did p → (IsPassed old → ⊥) → new ≡ settled p item (noted did dirty (idle old)) → IsInPlace top old → Spared v was kept old → After did new
+  item_spared : (p : Progress) (item : ItemAtWork) (did : Did) (dirty : Bool) (old new : Seen) → IsOfItem did p → (IsPassed old → ⊥) → new ≡ copy_after_progress p item (noted_copy did dirty (idle old)) → IsInPlace top old → Spared v was kept old → After did new
   item_spared p item did dirty old new (inl plain) some stands place s = told did new plain (spared_on v was kept old new (settled_on p item did dirty old new some stands) s)
   item_spared p item did dirty old new (inr (path, did_is, decided)) some stands place s =
-      let is : new ≡ settled Decided item (noted (Placed path) dirty (idle old)) = stands ∙ (ap (λ q. settled q item (noted did dirty (idle old))) decided ∙ ap (λ d. settled Decided item (noted d dirty (idle old))) did_is) in
+      let is : new ≡ copy_after_progress Decided item (noted_copy (Placed path) dirty (idle old)) = stands ∙ (ap (λ q. copy_after_progress q item (noted_copy did dirty (idle old))) decided ∙ ap (λ d. copy_after_progress Decided item (noted_copy d dirty (idle old))) did_is) in
       subst (λ d. After d new) (sym did_is) (record {
         begun = λ fresh. absurd (false≢true (sym (ap (λ (x : Seen). is_fresh x.stage) is) ∙ fresh));
         ahead = λ a. absurd (a.1 (ap (λ (x : Seen). x.levels.inner.names.names) is ∙ last_name top old place (sym (ap (λ (x : Seen). x.levels.around) is) ∙ a.0)));
@@ -266,9 +266,9 @@ module _ (now : CallLog) (v was : View) (kept : Bool) (work : Option WorkItem) (
 
       by : (report : FolderDid) → IsToldAs report did → folder.Tells (copying pair.source pair.target (at.Make mode) Synced) report moved → After did new
       by (folder_did.Made path) says (mode_now, stage, path_is, new_is) =
-          let is : new ≡ record old { stage = after_report (Made path) old.stage; levels = made_levels (at.Fill (folder.owed_mode mode_now)) (opened pair.source names) moved old.levels } =
-          w.stands ∙ (ap (λ (d : Did). (let x : Seen = record old { stage = after_report d old.stage; levels = made_levels moved.stage (opened pair.source names) moved old.levels } in x)) says
-          ∙ ap (λ (t : FolderStage). (let x : Seen = record old { stage = after_report (Made path) old.stage; levels = made_levels t (opened pair.source names) moved old.levels } in x)) (ap (λ (x : FolderCopying). x.stage) new_is)) in
+          let is : new ≡ record old { stage = after_report (Made path) old.stage; levels = made_levels (at.Fill (folder.owed_mode mode_now)) (opened_folder pair.source names) moved old.levels } =
+          w.stands ∙ (ap (λ (d : Did). (let x : Seen = record old { stage = after_report d old.stage; levels = made_levels moved.stage (opened_folder pair.source names) moved old.levels } in x)) says
+          ∙ ap (λ (t : FolderStage). (let x : Seen = record old { stage = after_report (Made path) old.stage; levels = made_levels t (opened_folder pair.source names) moved old.levels } in x)) (ap (λ (x : FolderCopying). x.stage) new_is)) in
           subst (λ d. After d new) (sym says) (record {
             begun = λ fresh. absurd (false≢true (sym (ap (λ (x : Seen). is_fresh x.stage) is) ∙ fresh));
             ahead = λ a. absurd (let e = sym (ap (λ (x : Seen). x.levels.around) is) ∙ a.0 in let f : ⊥ = cc in f);
@@ -276,8 +276,8 @@ module _ (now : CallLog) (v was : View) (kept : Bool) (work : Option WorkItem) (
           })
       by (folder_did.Troubled trouble) says (barrier, new_is) =
           let is : new ≡ record old { stage = after_report (Troubled trouble) old.stage; levels = old.levels } =
-          w.stands ∙ (ap (λ (d : Did). (let x : Seen = record old { stage = after_report d old.stage; levels = made_levels moved.stage (opened pair.source names) moved old.levels } in x)) says
-          ∙ ap (λ (t : FolderStage). (let x : Seen = record old { stage = after_report (Troubled trouble) old.stage; levels = made_levels t (opened pair.source names) moved old.levels } in x)) (ap (λ (x : FolderCopying). x.stage) new_is)) in
+          w.stands ∙ (ap (λ (d : Did). (let x : Seen = record old { stage = after_report d old.stage; levels = made_levels moved.stage (opened_folder pair.source names) moved old.levels } in x)) says
+          ∙ ap (λ (t : FolderStage). (let x : Seen = record old { stage = after_report (Troubled trouble) old.stage; levels = made_levels t (opened_folder pair.source names) moved old.levels } in x)) (ap (λ (x : FolderCopying). x.stage) new_is)) in
           subst (λ d. After d new) (sym says) (spared_on v was kept old new (record {
             around = ap (λ (x : Seen). x.levels.around) is;
             names = λ empty. ap (λ (x : Seen). x.levels.inner.names.names) is ∙ empty;
@@ -348,7 +348,7 @@ module _ (now : CallLog) (v was : View) (kept : Bool) (work : Option WorkItem) (
     takes_spared none (inr (inl t)) =
         let w = t.works in
         let moved = w.moved in
-        item_spared (progress moved.stage) (File moved) did (file.is_dirty moved.folder) old new (inl (of_part t.facts (file.begun old.job (let p = t.pair in p.source) (let p = t.pair in p.target)) moved did w.tells))
+        item_spared (progress moved.stage) (File moved) did (file.is_dirty moved.folder) old new (inl (of_part t.facts (file.begun_copy old.job (let p = t.pair in p.source) (let p = t.pair in p.target)) moved did w.tells))
         (λ passed. some_due old old.levels.inner.names.names t.pair t.next passed.names) w.stands place s
     takes_spared none (inr (inr (inl t))) =
         let w = t.works in
@@ -361,7 +361,7 @@ module _ (now : CallLog) (v was : View) (kept : Bool) (work : Option WorkItem) (
     takes_spared none (inr (inr (inr (inr (inr (inr (inr (next, inl (debt, e))))))))) = ends_spared old new did before after e none (no_name old old.levels.inner.names.names next) place s
     takes_spared none (inr (inr (inr (inr (inr (inr (inr (next, inr (debt, f, same))))))))) = subst (λ d. After d new) (sym f.says) tt
 
-    works_spared : (item : Item) → old.item ≡ item → WorksOn item unclaimed replies old new did before after → After did new
+    works_spared : (item : ItemAtWork) → old.item ≡ item → WorksOn item unclaimed replies old new did before after → After did new
     works_spared Next is (inl w) = syncs_spared old new did before after w s
     works_spared Next is (inr (clean, takes)) = takes_spared is takes
     works_spared (File f) is w =
@@ -404,7 +404,7 @@ module _ (v was : View) (kept : Bool) (old new : Seen) (s : Spared v was kept ol
   same_on : new.levels.around ≡ old.levels.around → (old.levels.inner.names.names ≡ [] → new.levels.inner.names.names ≡ []) → new.stage ≡ old.stage → (IsPassed old → new.item ≡ Next) → Spared v was kept new
   same_on around names stage item = spared_on v was kept old new (record { around = around; names = names; fresh = λ h. sym (ap is_fresh stage) ∙ h; item = item }) s
 
-  put_back : (p : Progress) (item : Item) → (IsPassed old → ⊥) → new ≡ settled p item (idle old) → Spared v was kept new
+  put_back : (p : Progress) (item : ItemAtWork) → (IsPassed old → ⊥) → new ≡ copy_after_progress p item (idle old) → Spared v was kept new
   put_back UnderWay item some is = same_on (ap (λ (x : Seen). x.levels.around) is) (λ none. ap (λ (x : Seen). x.levels.inner.names.names) is ∙ none) (ap (λ (x : Seen). x.stage) is) (λ passed. absurd (some passed))
   put_back Decided item some is =
       same_on (ap (λ (x : Seen). x.levels.around) is) (λ none. ap (λ (x : Seen). x.levels.inner.names.names) is ∙ ap (λ (names : List (List ℕ)). drop 1 names) none) (ap (λ (x : Seen). x.stage) is) (λ passed. absurd (some passed))
@@ -426,13 +426,13 @@ module _ (v was : View) (kept : Bool) (old new : Seen) (s : Spared v was kept ol
     named_spared none (name ∷ names) (inl (did_is, is)) =
         same_on (ap (λ (x : Seen). x.levels.around) is) (λ empty. ap (λ (x : Seen). x.levels.inner.names.names) is ∙ ap (λ (xs : List (List ℕ)). drop 1 xs) empty) (ap (λ (x : Seen). x.stage) is) (λ passed. ap (λ (x : Seen). x.item) is ∙ none)
 
-    pub skips_spared : (item : Item) → old.item ≡ item → SkipsAt item cause old did new → Spared v was kept new
+    pub skips_spared : (item : ItemAtWork) → old.item ≡ item → SkipsAt item cause old did new → Spared v was kept new
     skips_spared Next is skips = named_spared is old.levels.inner.names.names skips
     skips_spared (File f) is (moved, skips, stands) = put_back (progress moved.stage) (File moved) (at_work old (File f) is (λ e. let g : ⊥ = cc in g)) stands
     skips_spared (Link l) is (moved, skips, stands) = put_back (link_progress moved.stage) (Link moved) (at_work old (Link l) is (λ e. let g : ⊥ = cc in g)) stands
     skips_spared (Stays part) is skips = absurd skips
 
-  pub retries_spared : (item : Item) → old.item ≡ item → new ≡ retried_at item old → Spared v was kept new
+  pub retries_spared : (item : ItemAtWork) → old.item ≡ item → new ≡ retried_at item old → Spared v was kept new
   retries_spared Next is stands = subst (Spared v was kept) (sym stands) s
   retries_spared (File f) is stands = put_back _ _ (at_work old (File f) is (λ e. let g : ⊥ = cc in g)) stands
   retries_spared (Link l) is stands = put_back _ _ (at_work old (Link l) is (λ e. let g : ⊥ = cc in g)) stands

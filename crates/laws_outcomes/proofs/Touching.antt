@@ -12,7 +12,7 @@ use Rattle.job_reports.specs.declared.answer.Answer.{Answer}
 use Rattle.job_answers.specs.declared.replies.Replies.{Replies}
 use Rattle.job_reports.specs.declared.report.Did.{Did}
 use Rattle.job_reports.specs.declared.report.Did.TheVariants.{Began, Chunk, Placed, Removed, Made, Set, Kept, Skipped, Cleaned, Barrier, Asked, Merges, Moved, Troubled, Ended}
-use Rattle.job_reports.specs.Jobs.{Item, Copies, Moves, Removes, Makes, MakesLink, Sets, RemovesEmptied}
+use Rattle.job_reports.specs.Jobs.{ItemOfJob, Copies, Moves, Removes, Makes, MakesLink, Sets, RemovesEmptied}
 use Rattle.session_entries.specs.declared.history.JobOrder.{JobOrder}
 use Rattle.session_entries.specs.declared.history.JobOrder.TheVariants.{Answered}
 use Rattle.mode_job.specs.Settings as settings
@@ -27,11 +27,11 @@ use Rattle.delete_job.specs.Deletions as deletions
 use Rattle.delete_job.specs.Deletions.{Deleting}
 use Rattle.make_job.specs.Makings as makings
 use Rattle.make_job.specs.Makings.{Making}
-use Rattle.copy_move.specs.Jobs.{Running, TellsOn, WorkTells, answered, answered_on, closed_course, closed_job}
-use Rattle.copy_move.specs.Steps.{Walks, WalksOn}
+use Rattle.copy_move.specs.Jobs.{Running, TellsOn, WorkTells, answered_job, answered_on, closed_course, closed_job}
+use Rattle.copy_move.specs.JobStepReports.{Walks, WalksOn}
 use Rattle.session_entries.specs.Moves.{moved_from}
 use Rattle.laws_sessions.specs.Replayed.{made_by, placed_by, placed_copy, replayed_step, set_by, with_mode, with_mode_of}
-use Rattle.laws_sessions.specs.Traces.{IsUnclaimed, before_others, ordered, unless_ended}
+use Rattle.laws_sessions.specs.Traces.{IsUnclaimed, before_others, ordered_job, unless_ended}
 use Rattle.laws_sessions.proofs.Deleted.{put_off}
 use Rattle.laws_sessions.proofs.MovedPaths.{moved_off}
 use Rattle.laws_sessions.proofs.Sources.{IsSame, answer_same, item_in, making_item}
@@ -78,7 +78,7 @@ unless_map Barrier A B to a = to a
 unless_map (Troubled trouble) A B to a = to a
 
 -- each path that the item doesn't touch shows what it showed there
-abbrev pub IsAsBegun : View → View → Item → Type 0
+abbrev pub IsAsBegun : View → View → ItemOfJob → Type 0
 IsAsBegun v was item = (path : Route) → touches item path ≡ false → v path ≡ was path
 
 abbrev pub JobKept : View → (ℕ → View) → Running → Type 0
@@ -106,7 +106,7 @@ kept_after Barrier v was new h = h
 kept_after (Troubled trouble) v was new h = h
 
 -- what a report makes of the tree elsewhere than at the path that it changes
-placed_off : (item : Option Item) (path : Route) (v : View) (p : Route) → same_path p path ≡ false → placed_by item path v p ≡ v p
+placed_off : (item : Option ItemOfJob) (path : Route) (v : View) (p : Route) → same_path p path ≡ false → placed_by item path v p ≡ v p
 placed_off (Some (Copies source target)) path v p off = put_off v path (option_map placed_copy (v (moved_from source target path)).value) p off
 placed_off (Some (Moves source target)) path v p off = refl
 placed_off (Some (Removes top)) path v p off = refl
@@ -116,7 +116,7 @@ placed_off (Some (Sets thing mode)) path v p off = refl
 placed_off (Some (RemovesEmptied folder)) path v p off = refl
 placed_off None path v p off = refl
 
-set_off : (item : Option Item) (path : Route) (v : View) (p : Route) → same_path p path ≡ false → set_by item path v p ≡ v p
+set_off : (item : Option ItemOfJob) (path : Route) (v : View) (p : Route) → same_path p path ≡ false → set_by item path v p ≡ v p
 set_off (Some (Copies source target)) path v p off = put_off v path (option_map (with_mode_of (v (moved_from source target path)).value) (v path).value) p off
 set_off (Some (Moves source target)) path v p off = refl
 set_off (Some (Removes top)) path v p off = refl
@@ -126,10 +126,10 @@ set_off (Some (Sets thing mode)) path v p off = put_off v path (option_map (with
 set_off (Some (RemovesEmptied folder)) path v p off = refl
 set_off None path v p off = refl
 
-apart : (item : Item) (path p : Route) → touches item path ≡ true → touches item p ≡ false → same_path p path ≡ false
+apart : (item : ItemOfJob) (path p : Route) → touches item path ≡ true → touches item p ≡ false → same_path p path ≡ false
 apart item path p on off = false_from_ne_true _ (λ same. both_ways _ off (subst (λ q. touches item q ≡ true) (sym (same_path-true p path same)) on))
 
-step_else : (did : Did) (log : CallLog) (item : Item) (v : View) → ((path : Route) → IsChanged did path → touches item path ≡ true) → Unless did (IsAsBegun (replayed_step log did (Some item) v) v item)
+step_else : (did : Did) (log : CallLog) (item : ItemOfJob) (v : View) → ((path : Route) → IsChanged did path → touches item path ≡ true) → Unless did (IsAsBegun (replayed_step log did (Some item) v) v item)
 step_else (Removed path) log item v on = λ p off. put_off v path None p (apart item path p (on path (inl refl)) off)
 step_else (Placed path) log item v on = λ p off. placed_off (Some item) path v p (apart item path p (on path (inl refl)) off)
 step_else (Made path) log item v on = λ p off. put_off v path (Some (made_by (Some item) path v)) p (apart item path p (on path (inl refl)) off)
@@ -287,14 +287,14 @@ module _ (v : View) (was : ℕ → View) where
   answer_kept (Skips cause) answer job is k same = k
   answer_kept (Ends ending) answer job is k same = k
 
-  order_kept : (id : ℕ) (order : JobOrder) (job : Running) → JobKept v was job → JobKept v was (ordered id order job)
+  order_kept : (id : ℕ) (order : JobOrder) (job : Running) → JobKept v was job → JobKept v was (ordered_job id order job)
   order_kept id (Answered answer) job k = by (job.id == id)
     where
-      by : (b : Bool) → JobKept v was (if b then answered answer job else job)
+      by : (b : Bool) → JobKept v was (if b then answered_job answer job else job)
       by true = answer_kept job.course answer job refl k (answer_same answer job)
       by false = k
 
-  pub orders_kept : (id : ℕ) (order : JobOrder) (jobs : List Running) → JobsKept v was jobs → JobsKept v was (map (ordered id order) jobs)
+  pub orders_kept : (id : ℕ) (order : JobOrder) (jobs : List Running) → JobsKept v was jobs → JobsKept v was (map (ordered_job id order) jobs)
   orders_kept id order [] k = tt
   orders_kept id order (job ∷ jobs) k = order_kept id order job k
 

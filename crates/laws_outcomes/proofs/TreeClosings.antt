@@ -17,11 +17,11 @@ use Rattle.copy_folders.specs.declared.stage.NamesState.TheVariants.{Dirty}
 use Rattle.copy_folders.specs.declared.stage.Stage.TheVariants as at
 use Rattle.copy_folders.specs.declared.level.Level.{Level}
 use Rattle.copy_folders.specs.Levels.{level, with_copy}
-use Rattle.copy_tree.specs.declared.item.Item.TheVariants.{Next}
+use Rattle.copy_tree.specs.declared.item.ItemAtWork.TheVariants.{Next}
 use Rattle.copy_tree.specs.InPlace.{AreMoved, IsMoved, owed_of}
 use Rattle.copy_tree.specs.Reports.{IsToldAs}
 use Rattle.copy_tree.specs.Standing.{Seen, after_report}
-use Rattle.copy_tree.specs.Steps.{FolderEnds}
+use Rattle.copy_tree.specs.TreeCopySteps.{FolderEnds}
 use Rattle.session_entries.specs.Moves.{moved_from}
 use Rattle.laws_sessions.specs.Replayed.{new_folder, replayed_step, with_mode_of}
 use Rattle.laws_outcomes.specs.Outcomes.{as_copied}

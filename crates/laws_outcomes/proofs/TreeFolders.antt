@@ -7,7 +7,7 @@ use Rattle.std.proofs.lemmas.List.{append_assoc, append_cancel_right}
 use Rattle.mc_text.specs.Routes.{Route, is_prefix}
 use Rattle.mc_text.specs.declared.kind.Kind.{Kind}
 use Rattle.mc_text.specs.declared.kind.Kind.TheVariants as kind
-use Rattle.tree_trait.specs.Change.{CallLog, current, found}
+use Rattle.tree_trait.specs.Change.{CallLog, current, found_node}
 use Rattle.tree_trait.specs.CrashImages.{Among}
 use Rattle.tree_trait.specs.FileSystem.{Value, View, find, lookup, node, value}
 use Rattle.tree_trait.specs.Shape.{IsTree}
@@ -25,15 +25,15 @@ use Rattle.copy_folders.specs.declared.stage.FolderDid.{FolderDid}
 use Rattle.copy_folders.specs.declared.stage.FolderDid.TheVariants as folder_did
 use Rattle.copy_folders.specs.declared.stage.NamesState.TheVariants.{Synced, Dirty}
 use Rattle.copy_folders.specs.declared.stage.Stage.TheVariants as at
-use Rattle.tree_walk.specs.Places.{opened, without_next}
+use Rattle.tree_walk.specs.Places.{opened_folder, without_next}
 use Rattle.copy_folders.specs.declared.level.Level.{Level}
 use Rattle.copy_folders.specs.Levels.{Levels, level, made_levels}
-use Rattle.copy_tree.specs.declared.item.Item.TheVariants.{Next}
+use Rattle.copy_tree.specs.declared.item.ItemAtWork.TheVariants.{Next}
 use Rattle.copy_tree.specs.declared.looking.Taken.TheVariants as taken
 use Rattle.copy_tree.specs.InPlace.{IsMoved}
 use Rattle.copy_tree.specs.Reports.{IsToldAs}
 use Rattle.copy_tree.specs.Standing.{Seen, after_report}
-use Rattle.copy_tree.specs.Steps.{FolderMakes, SyncsAround}
+use Rattle.copy_tree.specs.TreeCopySteps.{FolderMakes, SyncsAround}
 use Rattle.copy_tree.specs.Taking.{IsTaken}
 use Rattle.session_entries.specs.Moves.{moved_from}
 use Rattle.laws_sessions.specs.Replayed.{copied_folder, new_folder, replayed_step}
@@ -46,13 +46,13 @@ use Rattle.laws_outcomes.proofs.FileWork.{none_shown, self_prefix, some_shown}
 use Rattle.laws_outcomes.proofs.TreeLevels.{IsChanged, copy_changed, opened_changed, opened_inner, pending_map, same_rest, source_of}
 
 -- the last name of a path below another, which stands in that
-last_of : (name : List ℕ) (rest : Route) → (last : List ℕ) × (front : Route) × (name ∷ rest ≡ front ++ last ∷ [])
+last_of : (name : List ℕ) (rest : Route) → (last : List ℕ) × (prefix : Route) × (name ∷ rest ≡ prefix ++ last ∷ [])
 last_of name [] = (name, [], refl)
 last_of name (more ∷ rest) = let r = last_of more rest in (r.0, name ∷ r.1, ap (λ (q : Route). name ∷ q) r.2)
 
-not_empty : (front : Route) (last : List ℕ) → front ++ last ∷ [] ≡ [] → ⊥
+not_empty : (prefix : Route) (last : List ℕ) → prefix ++ last ∷ [] ≡ [] → ⊥
 not_empty [] last e = (let f : ⊥ = cc in f)
-not_empty (name ∷ front) last e = (let f : ⊥ = cc in f)
+not_empty (name ∷ prefix) last e = (let f : ⊥ = cc in f)
 
 -- a folder all names of which can be shown is copied with its mode
 pub folder_copied : (k : Kind) (x : Value) → k ≡ kind.Folder → x.unnamed ≡ 0 → copied_as k x ≡ record new_folder { mode = x.mode }
@@ -78,13 +78,13 @@ module _ (now : CallLog) (v : View) (passed : List Route) (top : Pair) where
     w = Then (common.Made target)
 
     abbrev x : Value
-    x = value (node (current log) (found (current log) source))
+    x = value (node (current log) (found_node (current log) source))
 
     abbrev made : FolderCopying
     made = record { source = source; target = target; stage = at.Fill (owed_mode mode); names = Synced }
 
     abbrev inner : Level
-    inner = level (opened source names) made
+    inner = level (opened_folder source names) made
 
     abbrev outer : Level
     outer = level (without_next old.levels.inner.names) (record old.levels.inner.copy { names = Dirty })
@@ -118,27 +118,27 @@ module _ (now : CallLog) (v : View) (passed : List Route) (top : Pair) where
         ∙ ap (option_map as_copied) (sym (change.same source (apart_from top.target source target off change.on) ∙ stands))))))
 
     -- what lies in it is met, or isn't there
-    within : (last : List ℕ) (front : Route) (o : Option ℕ) → lookup (let s = current log in s.names) (found (current log) source) last ≡ o → (p t : Route) → p ≡ front ++ last ∷ source → t ≡ front ++ last ∷ target → is_prefix top.target p ≡ false
+    within : (last : List ℕ) (prefix : Route) (o : Option ℕ) → lookup (let s = current log in s.names) (found_node (current log) source) last ≡ o → (p t : Route) → p ≡ prefix ++ last ∷ source → t ≡ prefix ++ last ∷ target → is_prefix top.target p ≡ false
         → IsAccounted w passed inner (outer ∷ old.levels.around) p t
-    within last front (Some i) there p t p_is t_is off = inr (inl (inl (inl (
+    within last prefix (Some i) there p t p_is t_is off = inr (inl (inl (inl (
       last,
       (let l = is.2 in let names_of = l.1 in (names_of.names last).1 (subst IsSome (sym there) refl)),
-      subst (λ q. is_prefix (last ∷ source) q ≡ true) (sym p_is) (prefix_append (last ∷ source) front),
+      subst (λ q. is_prefix (last ∷ source) q ≡ true) (sym p_is) (prefix_append (last ∷ source) prefix),
     ))))
-    within last front None there p t p_is t_is off = inr (inr (copy_changed v w top target change p t off other none))
+    within last prefix None there p t p_is t_is off = inr (inr (copy_changed v w top target change p t off other none))
       where
         other : t ≡ target → ⊥
         other same =
-            let shape : front ++ last ∷ target ≡ [] ++ target = sym t_is ∙ same in
-            let lists : (front ++ last ∷ []) ++ target ≡ [] ++ target = append_assoc front (last ∷ []) target ∙ shape in
-            not_empty front last (append_cancel_right (front ++ last ∷ []) [] target lists)
+            let shape : prefix ++ last ∷ target ≡ [] ++ target = sym t_is ∙ same in
+            let lists : (prefix ++ last ∷ []) ++ target ≡ [] ++ target = append_assoc prefix (last ∷ []) target ∙ shape in
+            not_empty prefix last (append_cancel_right (prefix ++ last ∷ []) [] target lists)
 
         none : IsCopy v p t
         none =
             let lost : find (current log) (last ∷ source) ≡ None = ap (option_and_then (λ f. lookup (let s = current log in s.names) f last)) (stat-found (current log) source is.0.0) ∙ there in
-            ap (λ q. (v q).value) (t_is ∙ sym (append_assoc front (last ∷ []) target))
-            ∙ (free (front ++ last ∷ [])
-            ∙ ap (option_map as_copied) (sym (ap (λ q. (v q).value) p_is ∙ none_shown v log tree shows (front ++ last ∷ source) (none_below log front (last ∷ source) lost))))
+            ap (λ q. (v q).value) (t_is ∙ sym (append_assoc prefix (last ∷ []) target))
+            ∙ (free (prefix ++ last ∷ [])
+            ∙ ap (option_map as_copied) (sym (ap (λ q. (v q).value) p_is ∙ none_shown v log tree shows (prefix ++ last ∷ source) (none_below log prefix (last ∷ source) lost))))
 
     below : (q rest : Route) → rest ++ top.source ≡ q ++ source → is_prefix top.target (rest ++ top.source) ≡ false → IsAccounted w passed inner (outer ∷ old.levels.around) (rest ++ top.source) (rest ++ top.target)
     below [] rest p_is off =
@@ -149,7 +149,7 @@ module _ (now : CallLog) (v : View) (passed : List Route) (top : Pair) where
     below (name ∷ q) rest p_is off =
         let r = last_of name q in
         let t_is = same_rest top source target rest (name ∷ q) m p_is in
-        within r.0 r.1 (lookup (let s = current log in s.names) (found (current log) source) r.0) refl (rest ++ top.source) (rest ++ top.target)
+        within r.0 r.1 (lookup (let s = current log in s.names) (found_node (current log) source) r.0) refl (rest ++ top.source) (rest ++ top.target)
         (p_is ∙ (ap (λ (z : Route). z ++ source) r.2 ∙ append_assoc r.1 (r.0 ∷ []) source))
         (t_is ∙ (ap (λ (z : Route). z ++ target) r.2 ∙ append_assoc r.1 (r.0 ∷ []) target)) off
 
@@ -197,17 +197,17 @@ module _ (now : CallLog) (v : View) (passed : List Route) (top : Pair) where
       subst (TreeDone (Then did) (passed_at top did passed) top) (sym w.stands) (by w.report did w.says w.moved w.tells)
     where
       by : (report : FolderDid) (did : Did) → IsToldAs report did → (moved : FolderCopying) → Tells (copying pair.source pair.target (at.Make mode) Synced) report moved
-          → TreeDone (Then did) (passed_at top did passed) top (record old { stage = after_report did old.stage; levels = made_levels moved.stage (opened pair.source names) moved old.levels })
+          → TreeDone (Then did) (passed_at top did passed) top (record old { stage = after_report did old.stage; levels = made_levels moved.stage (opened_folder pair.source names) moved old.levels })
       by (folder_did.Made path) did says moved (mode_now, stage, path_is, new_is) =
           let same : mode ≡ mode_now = (let e : at.Make mode ≡ at.Make mode_now = stage in cc) in
           let moved_is : moved ≡ (let c : FolderCopying = record { source = pair.source; target = pair.target; stage = at.Fill (owed_mode mode); names = Synced } in c) =
           new_is ∙ ap (λ n. (let c : FolderCopying = record { source = pair.source; target = pair.target; stage = at.Fill (owed_mode n); names = Synced } in c)) (sym same) in
-          subst (λ d. TreeDone (Then d) (passed_at top d passed) top (record old { stage = after_report d old.stage; levels = made_levels moved.stage (opened pair.source names) moved old.levels })) (sym (says ∙ ap common.Made path_is))
-          (subst (λ (c : FolderCopying). TreeDone (Then (common.Made pair.target)) passed top (record old { stage = after_report (common.Made pair.target) old.stage; levels = made_levels c.stage (opened pair.source names) c old.levels })) (sym moved_is)
+          subst (λ d. TreeDone (Then d) (passed_at top d passed) top (record old { stage = after_report d old.stage; levels = made_levels moved.stage (opened_folder pair.source names) moved old.levels })) (sym (says ∙ ap common.Made path_is))
+          (subst (λ (c : FolderCopying). TreeDone (Then (common.Made pair.target)) passed top (record old { stage = after_report (common.Made pair.target) old.stage; levels = made_levels c.stage (opened_folder pair.source names) c old.levels })) (sym moved_is)
           (folder_made old h log tree shows pair.source pair.target m next names mode alone replies is _ (after_report (common.Made pair.target) old.stage) none))
       by (folder_did.Troubled trouble) did says moved (barrier, new_is) =
-          subst (λ d. TreeDone (Then d) (passed_at top d passed) top (record old { stage = after_report d old.stage; levels = made_levels moved.stage (opened pair.source names) moved old.levels })) (sym says)
-          (subst (λ (c : FolderCopying). TreeDone v passed top (record old { stage = after_report (common.Troubled trouble) old.stage; levels = made_levels c.stage (opened pair.source names) c old.levels })) (sym new_is)
+          subst (λ d. TreeDone (Then d) (passed_at top d passed) top (record old { stage = after_report d old.stage; levels = made_levels moved.stage (opened_folder pair.source names) moved old.levels })) (sym says)
+          (subst (λ (c : FolderCopying). TreeDone v passed top (record old { stage = after_report (common.Troubled trouble) old.stage; levels = made_levels c.stage (opened_folder pair.source names) c old.levels })) (sym new_is)
           (record { things = h.things; folders = h.folders; item = h.item }))
       by (folder_did.Set path) did says moved (other, stage, path_is, new_is) = absurd (let f : ⊥ = cc in f)
       by folder_did.Barrier did says moved (stage, dirty, new_is) = absurd (let f : ⊥ = cc in f)

@@ -22,15 +22,15 @@ use Rattle.copy_link.specs.LinkCopying.{LinkCopying}
 use Rattle.copy_link.specs.declared.stage.Stage.{Stage as LinkStage}
 use Rattle.copy_link.specs.declared.stage.Stage.TheVariants as link_stage
 use Rattle.copy_folders.specs.declared.level.Level.{Level}
-use Rattle.copy_folders.specs.Levels.{Levels, dirtied, passed as passed_level}
-use Rattle.copy_tree.specs.declared.item.Item.{Item}
-use Rattle.copy_tree.specs.declared.item.Item.TheVariants.{Next, File, Link}
+use Rattle.copy_folders.specs.Levels.{Levels, dirtied_levels, passed_levels as passed_level}
+use Rattle.copy_tree.specs.declared.item.ItemAtWork.{ItemAtWork}
+use Rattle.copy_tree.specs.declared.item.ItemAtWork.TheVariants.{Next, File, Link}
 use Rattle.copy_tree.specs.declared.progress.Progress.{Progress}
 use Rattle.copy_tree.specs.declared.progress.Progress.TheVariants.{UnderWay, Decided, Anew}
 use Rattle.copy_tree.specs.InPlace.{IsMoved}
 use Rattle.copy_tree.specs.Progress.{link_progress, progress}
 use Rattle.copy_tree.specs.Standing.{Seen}
-use Rattle.copy_tree.specs.Steps.{FileBegins, FileWorks, LinkWorks, after_file, idle, noted, settled}
+use Rattle.copy_tree.specs.TreeCopySteps.{FileBegins, FileWorks, LinkWorks, after_file, idle, noted_copy, copy_after_progress}
 use Rattle.laws_sessions.specs.Replayed.{replayed_step}
 use Rattle.laws_sessions.proofs.Intact.{prefix_append, prefix_way}
 use Rattle.laws_outcomes.proofs.Accounts.{AllCopied, AreOpened, CanPlace, FileDone, IsAccounted, IsCopy, IsCovered, IsDue, IsNext, IsRoom, ItemDone, LinkDone, TreeDone, covered_below, passed_at, put_same}
@@ -138,7 +138,7 @@ module _ (v : View) (passed : List Route) (top : Pair) (c : Seen) (source target
   link_decided link_stage.Decided is d = d
 
   -- what is at work stands so, or is passed, or is to be taken up anew
-  settle : (p : Progress) (item : Item) → (p ≡ UnderWay → ItemDone v passed top.target c.levels.inner c.levels.around item) → (p ≡ Decided → IsCovered passed source ⊎ AllCopied v top.target source target) → TreeDone v passed top (settled p item c)
+  settle : (p : Progress) (item : ItemAtWork) → (p ≡ UnderWay → ItemDone v passed top.target c.levels.inner c.levels.around item) → (p ≡ Decided → IsCovered passed source ⊎ AllCopied v top.target source target) → TreeDone v passed top (copy_after_progress p item c)
   settle UnderWay item under decided = record { things = ahead; folders = folders; item = under refl }
   settle Decided item under decided = record {
     things = done_with (decided refl);
@@ -147,26 +147,26 @@ module _ (v : View) (passed : List Route) (top : Pair) (c : Seen) (source target
   }
   settle Anew item under decided = record { things = ahead; folders = folders; item = subst (λ i. ItemDone v passed top.target c.levels.inner c.levels.around i) (sym none) tt }
 
-  pub settled_file : (f : Copying) → f.source ≡ source → f.target ≡ target → FileDone v passed top.target c.levels.around f.source f.target f.stage → TreeDone v passed top (settled (progress f.stage) (File f) c)
+  pub settled_file : (f : Copying) → f.source ≡ source → f.target ≡ target → FileDone v passed top.target c.levels.around f.source f.target f.stage → TreeDone v passed top (copy_after_progress (progress f.stage) (File f) c)
   settled_file f from to d =
       settle (progress f.stage) (File f) (λ under. (under, subst (IsNext c.levels.inner) (sym from) next, d))
       (λ is. file_decided f.stage is (subst (λ p. FileDone v passed top.target c.levels.around source p f.stage) to (subst (λ p. FileDone v passed top.target c.levels.around p f.target f.stage) from d)))
 
-  pub settled_link : (l : LinkCopying) → l.source ≡ source → l.target ≡ target → LinkDone v passed top.target c.levels.around l.source l.target l.stage → TreeDone v passed top (settled (link_progress l.stage) (Link l) c)
+  pub settled_link : (l : LinkCopying) → l.source ≡ source → l.target ≡ target → LinkDone v passed top.target c.levels.around l.source l.target l.stage → TreeDone v passed top (copy_after_progress (link_progress l.stage) (Link l) c)
   settled_link l from to d =
       settle (link_progress l.stage) (Link l) (λ under. (under, subst (IsNext c.levels.inner) (sym from) next, d))
       (λ is. link_decided l.stage is (subst (λ p. LinkDone v passed top.target c.levels.around source p l.stage) to (subst (λ p. LinkDone v passed top.target c.levels.around p l.target l.stage) from d)))
 
 -- a name was changed in the folder that is worked: nothing else of it is another
-pub dirtied_elsewhere : (changed : Bool) (v : View) (passed : List Route) (top : Pair) (l : Levels) (source : Route) → Elsewhere v passed top l.inner l.around source → Elsewhere v passed top (let x = dirtied changed l in x.inner) l.around source
-dirtied_elsewhere true v passed top l source e rest off apart = accounted_map v passed l.inner (let x = dirtied true l in x.inner) l.around (rest ++ top.source) (rest ++ top.target) (λ d. d) (e rest off apart)
-dirtied_elsewhere false v passed top l source e rest off apart = accounted_map v passed l.inner (let x = dirtied false l in x.inner) l.around (rest ++ top.source) (rest ++ top.target) (λ d. d) (e rest off apart)
+pub dirtied_elsewhere : (changed : Bool) (v : View) (passed : List Route) (top : Pair) (l : Levels) (source : Route) → Elsewhere v passed top l.inner l.around source → Elsewhere v passed top (let x = dirtied_levels changed l in x.inner) l.around source
+dirtied_elsewhere true v passed top l source e rest off apart = accounted_map v passed l.inner (let x = dirtied_levels true l in x.inner) l.around (rest ++ top.source) (rest ++ top.target) (λ d. d) (e rest off apart)
+dirtied_elsewhere false v passed top l source e rest off apart = accounted_map v passed l.inner (let x = dirtied_levels false l in x.inner) l.around (rest ++ top.source) (rest ++ top.target) (λ d. d) (e rest off apart)
 
-pub dirtied_opened : (changed : Bool) (v : View) (top : Route) (l : Levels) → AreOpened v top l.inner l.around → AreOpened v top (let x = dirtied changed l in x.inner) l.around
-dirtied_opened true v top l h = opened_inner v top l.inner (let x = dirtied true l in x.inner) l.around (λ o. record { made = o.made; shown = o.shown }) h
-dirtied_opened false v top l h = opened_inner v top l.inner (let x = dirtied false l in x.inner) l.around (λ o. record { made = o.made; shown = o.shown }) h
+pub dirtied_opened : (changed : Bool) (v : View) (top : Route) (l : Levels) → AreOpened v top l.inner l.around → AreOpened v top (let x = dirtied_levels changed l in x.inner) l.around
+dirtied_opened true v top l h = opened_inner v top l.inner (let x = dirtied_levels true l in x.inner) l.around (λ o. record { made = o.made; shown = o.shown }) h
+dirtied_opened false v top l h = opened_inner v top l.inner (let x = dirtied_levels false l in x.inner) l.around (λ o. record { made = o.made; shown = o.shown }) h
 
-pub dirtied_next : (changed : Bool) (l : Levels) (path : Route) → IsNext l.inner path → IsNext (let x = dirtied changed l in x.inner) path
+pub dirtied_next : (changed : Bool) (l : Levels) (path : Route) → IsNext l.inner path → IsNext (let x = dirtied_levels changed l in x.inner) path
 dirtied_next true l path n = n
 dirtied_next false l path n = n
 
@@ -262,7 +262,7 @@ module _ (now : CallLog) (v : View) (passed : List Route) (top : Pair) where
     file_stands f moved m next ch from to d stands =
         let dirty = file.is_dirty moved.folder in
         subst (TreeDone (Then did) (passed_at top did passed) top) (sym stands)
-        (settled_file (Then did) (passed_at top did passed) top (noted did dirty (idle old)) f.source f.target m (dirtied_next dirty old.levels f.source next)
+        (settled_file (Then did) (passed_at top did passed) top (noted_copy did dirty (idle old)) f.source f.target m (dirtied_next dirty old.levels f.source next)
         (dirtied_elsewhere dirty (Then did) (passed_at top did passed) top old.levels f.source (still old did f.source f.target m ch h.things))
         (dirtied_opened dirty (Then did) top.target old.levels (opened_still old did f.source f.target m ch h.folders)) refl
         moved from to d)
@@ -328,7 +328,7 @@ module _ (now : CallLog) (v : View) (passed : List Route) (top : Pair) where
         let paths = link_paths l moved did w.tells in
         let dirty = link.is_dirty moved.folder in
         subst (TreeDone (Then did) (passed_at top did passed) top) (sym w.stands)
-        (settled_link (Then did) (passed_at top did passed) top (noted did dirty (idle old)) l.source l.target m (dirtied_next dirty old.levels l.source next)
+        (settled_link (Then did) (passed_at top did passed) top (noted_copy did dirty (idle old)) l.source l.target m (dirtied_next dirty old.levels l.source next)
         (dirtied_elsewhere dirty (Then did) (passed_at top did passed) top old.levels l.source (still old did l.source l.target m ch h.things))
         (dirtied_opened dirty (Then did) top.target old.levels (opened_still old did l.source l.target m ch h.folders)) refl
         moved paths.0 paths.1 (link_goes now v passed top old.levels.around l moved did m w.tells d))

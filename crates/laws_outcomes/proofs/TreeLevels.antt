@@ -16,10 +16,10 @@ use Rattle.copy_folders.specs.declared.stage.Stage.TheVariants as at
 use Rattle.copy_folders.specs.declared.level.Level.{Level}
 use Rattle.copy_folders.specs.Levels.{owed_at}
 use Rattle.copy_tree.specs.declared.due.Due.TheVariants.{End}
-use Rattle.copy_tree.specs.declared.item.Item.TheVariants.{Next}
+use Rattle.copy_tree.specs.declared.item.ItemAtWork.TheVariants.{Next}
 use Rattle.copy_tree.specs.InPlace.{IsMoved, owed_of}
 use Rattle.copy_tree.specs.Standing.{Seen, due_at}
-use Rattle.copy_tree.specs.Steps.{LeavesAll, at_end}
+use Rattle.copy_tree.specs.TreeCopySteps.{LeavesAll, at_end}
 use Rattle.laws_sessions.specs.Replayed.{new_folder}
 use Rattle.laws_outcomes.specs.Outcomes.{as_copied}
 use Rattle.laws_outcomes.proofs.Accounts.{AreOpened, IsAccounted, IsCopy, IsCovered, IsDue, IsOpened, IsPending, ItemDone, TreeDone, apart_from, covered_more, passed_at}

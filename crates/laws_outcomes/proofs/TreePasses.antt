@@ -9,19 +9,19 @@ use Rattle.job_reports.specs.declared.report.Cause.{Cause}
 use Rattle.job_reports.specs.declared.report.Did.{Did}
 use Rattle.copy_file.specs.Copying.{Copying, taken_anew as file_anew_at}
 use Rattle.copy_file.specs.CopySteps as file
-use Rattle.copy_folders.specs.FolderCopying.{FolderCopying, skipped}
+use Rattle.copy_folders.specs.FolderCopying.{FolderCopying, skipped_stage}
 use Rattle.copy_folders.specs.declared.stage.Stage.{Stage}
 use Rattle.copy_folders.specs.declared.stage.Stage.TheVariants as at
 use Rattle.copy_link.specs.LinkCopying.{LinkCopying, taken_anew as link_anew_at}
 use Rattle.copy_link.specs.LinkSteps as link
 use Rattle.copy_folders.specs.declared.level.Level.{Level}
-use Rattle.copy_folders.specs.Levels.{emptied, level, passed as passed_level, with_copy}
-use Rattle.copy_tree.specs.declared.item.Item.{Item}
-use Rattle.copy_tree.specs.declared.item.Item.TheVariants.{Next, File, Link, Stays}
+use Rattle.copy_folders.specs.Levels.{emptied_levels, level, passed_levels as passed_level, with_copy}
+use Rattle.copy_tree.specs.declared.item.ItemAtWork.{ItemAtWork}
+use Rattle.copy_tree.specs.declared.item.ItemAtWork.TheVariants.{Next, File, Link, Stays}
 use Rattle.copy_tree.specs.InPlace.{ItemMoved, owed_of}
 use Rattle.copy_tree.specs.Skipping.{NoRoom, SkipsAt, SkipsEnd, SkipsNamed, SkipsRest, retried_at}
 use Rattle.copy_tree.specs.Standing.{Seen}
-use Rattle.copy_tree.specs.Steps.{idle}
+use Rattle.copy_tree.specs.TreeCopySteps.{idle}
 use Rattle.laws_outcomes.proofs.Accounts.{AreOpened, IsAccounted, IsDue, IsOpened, IsShown, ItemDone, TreeDone, covered_more, covered_now, passed_at, prefix_through}
 use Rattle.laws_outcomes.proofs.FileWork.{file_anew, file_skips, self_prefix}
 use Rattle.laws_outcomes.proofs.LinkWork.{link_anew, link_skips}
@@ -97,13 +97,13 @@ module _ (v : View) (passed : List Route) (top : Pair) (cause : Cause) (old new 
     rest_passed (inr room) = no_room none room
     rest_passed (inl (did_is, new_is)) =
         subst (λ x. TreeDone v (passed_at top x passed) top new) (sym did_is)
-        (passed_done v passed top old h up (let l = emptied old.levels in l.inner) refl refl (inl refl) goes new (ap (λ (x : Seen). x.levels.inner) new_is) (ap (λ (x : Seen). x.levels.around) new_is) (ap (λ (x : Seen). x.item) new_is ∙ none))
+        (passed_done v passed top old h up (let l = emptied_levels old.levels in l.inner) refl refl (inl refl) goes new (ap (λ (x : Seen). x.levels.inner) new_is) (ap (λ (x : Seen). x.levels.around) new_is) (ap (λ (x : Seen). x.item) new_is ∙ none))
       where
-        goes : (path : Route) → IsDue old.levels.inner path → IsDue (let l = emptied old.levels in l.inner) path ⊎ (is_prefix up path ≡ true)
+        goes : (path : Route) → IsDue old.levels.inner path → IsDue (let l = emptied_levels old.levels in l.inner) path ⊎ (is_prefix up path ≡ true)
         goes path (inl (name, among, below)) = inr (prefix_through up (name ∷ up) path (prefix_append up (name ∷ [])) below)
         goes path (inr owed) = inl (inr owed)
 
-    skipped_none : (stage : Stage) → (skipped stage ≡ stage) ⊎ (owed_of (skipped stage) ≡ None)
+    skipped_none : (stage : Stage) → (skipped_stage stage ≡ stage) ⊎ (owed_of (skipped_stage stage) ≡ None)
     skipped_none (at.Make mode) = inr refl
     skipped_none (at.Fill owed) = inl refl
     skipped_none (at.Close owed) = inr refl
@@ -116,10 +116,10 @@ module _ (v : View) (passed : List Route) (top : Pair) (cause : Cause) (old new 
     end_passed (moved, inl (did_is, moved_is), new_is) =
         subst (λ x. TreeDone v (passed_at top x passed) top new) (sym did_is)
         (subst (TreeDone v (up ∷ passed) top) (sym (new_is ∙ ap (λ (c : FolderCopying). (let x : Seen = record old { levels = with_copy c old.levels } in x)) moved_is))
-        (passed_done v passed top old h up (level old.levels.inner.names (record old.levels.inner.copy { stage = skipped old.levels.inner.copy.stage })) refl refl (skipped_none old.levels.inner.copy.stage) goes
-        (record old { levels = with_copy (record old.levels.inner.copy { stage = skipped old.levels.inner.copy.stage }) old.levels }) refl refl none))
+        (passed_done v passed top old h up (level old.levels.inner.names (record old.levels.inner.copy { stage = skipped_stage old.levels.inner.copy.stage })) refl refl (skipped_none old.levels.inner.copy.stage) goes
+        (record old { levels = with_copy (record old.levels.inner.copy { stage = skipped_stage old.levels.inner.copy.stage }) old.levels }) refl refl none))
       where
-        goes : (path : Route) → IsDue old.levels.inner path → IsDue (level old.levels.inner.names (record old.levels.inner.copy { stage = skipped old.levels.inner.copy.stage })) path ⊎ (is_prefix up path ≡ true)
+        goes : (path : Route) → IsDue old.levels.inner path → IsDue (level old.levels.inner.names (record old.levels.inner.copy { stage = skipped_stage old.levels.inner.copy.stage })) path ⊎ (is_prefix up path ≡ true)
         goes path (inl ahead) = inl (inl ahead)
         goes path (inr (mode, owed, is)) = inr (subst (λ p. is_prefix up p ≡ true) (sym is) (self_prefix up))
 
@@ -129,7 +129,7 @@ module _ (v : View) (passed : List Route) (top : Pair) (cause : Cause) (old new 
     named_passed (name ∷ names) names_is (inr (inr room)) = no_room none room
     named_passed (name ∷ names) names_is (inl (did_is, new_is)) = subst (λ x. TreeDone v (passed_at top x passed) top new) (sym did_is) (name_passed v passed top old h name names names_is true new new_is none)
 
-  pub skips_done : (item : Item) → old.item ≡ item → ItemMoved top item → SkipsAt item cause old did new → TreeDone v (passed_at top did passed) top new
+  pub skips_done : (item : ItemAtWork) → old.item ≡ item → ItemMoved top item → SkipsAt item cause old did new → TreeDone v (passed_at top did passed) top new
   skips_done Next is m s = named_passed is old.levels.inner.names.names refl s
   skips_done (File f) is m (moved, skips, stands) =
       let d = subst (λ i. ItemDone v passed top.target old.levels.inner old.levels.around i) is h.item in
@@ -152,7 +152,7 @@ module _ (v : View) (passed : List Route) (top : Pair) (cause : Cause) (old new 
   skips_done (Stays part) is m s = absurd s
 
 -- what was refused is taken up anew
-pub retries_done : (v : View) (passed : List Route) (top : Pair) (c : Seen) (item : Item) → c.item ≡ item → ItemMoved top item → TreeDone v passed top c → TreeDone v passed top (retried_at item c)
+pub retries_done : (v : View) (passed : List Route) (top : Pair) (c : Seen) (item : ItemAtWork) → c.item ≡ item → ItemMoved top item → TreeDone v passed top c → TreeDone v passed top (retried_at item c)
 retries_done v passed top c Next is m h = h
 retries_done v passed top c (File f) is m h =
     let d = subst (λ i. ItemDone v passed top.target c.levels.inner c.levels.around i) is h.item in

@@ -8,10 +8,10 @@ use Rattle.tree_trait.specs.declared.file_system.FileSystem.{FileSystem}
 use Rattle.tree_trait.specs.declared.calls.Children.{Children}
 use Rattle.tree_trait.specs.FileSystem.{find, lookup}
 use Rattle.tree_trait.specs.Answers.{IsListing}
-use Rattle.tree_trait.specs.Change.{found}
+use Rattle.tree_trait.specs.Change.{found_node}
 use Rattle.tree_trait.specs.CrashImages.{Among}
 use Rattle.tree_trait.proofs.Finding.{and_then-some}
-use Rattle.tree_walk.specs.Places.{OpenFolder, noted, opened, without_next}
+use Rattle.tree_walk.specs.Places.{OpenFolder, noted_folder, opened_folder, without_next}
 use Rattle.laws_sessions.proofs.Intact.{prefix_append, prefix_way}
 
 -- it lies at or below something that was passed over, or something in it was
@@ -66,7 +66,7 @@ below_longer [] q = omega arith
 below_longer (n ∷ rest) q = let h = below_longer rest q in omega (arith, h)
 
 -- what stands below a folder that is listed is that folder, or lies at or below one of the names
-listed_below : (s : FileSystem) (folder p : Route) (i : ℕ) (children : Children) → IsListing s (found s folder) children → is_prefix folder p ≡ true → find s p ≡ Some i
+listed_below : (s : FileSystem) (folder p : Route) (i : ℕ) (children : Children) → IsListing s (found_node s folder) children → is_prefix folder p ≡ true → find s p ≡ Some i
     → (p ≡ folder) ⊎ ((name : List ℕ) × Among children.names name × (is_prefix (name ∷ folder) p ≡ true))
 listed_below s folder p i children listing within at =
     let w = prefix_way folder p within in
@@ -78,12 +78,12 @@ listed_below s folder p i children listing within at =
           let v = prefix_way (name ∷ folder) p under in
           let a = stands_above s v.0 (name ∷ folder) i (ap (find s) (sym v.1) ∙ at) in
           let h = and_then-some (find s folder) (λ g. lookup s.names g name) a.0 a.1 in
-          let leads : lookup s.names (found s folder) name ≡ Some a.0 = ap (λ o. lookup s.names (unwrap_or o 0) name) h.1 ∙ h.2 in
+          let leads : lookup s.names (found_node s folder) name ≡ Some a.0 = ap (λ o. lookup s.names (unwrap_or o 0) name) h.1 ∙ h.2 in
           inr (name, (listing.names name).1 (ap is_some leads), under)
     ]
 
 -- a thing is gone into
-pub opens_top : (passed : List Route) (s : FileSystem) (top : Route) (children : Children) → IsListing s (found s top) children → IsWalked passed s top (opened top children.names) []
+pub opens_top : (passed : List Route) (s : FileSystem) (top : Route) (children : Children) → IsListing s (found_node s top) children → IsWalked passed s top (opened_folder top children.names) []
 opens_top passed s top children listing = record {
   stands = λ p i within at. inr (listed_below s top p i children listing within at);
   nested = refl;
@@ -115,18 +115,18 @@ next_names names more name n is among = by (subst (λ xs. Among xs n) is among)
     by (inl same) = inl same
     by (inr later) = inr (subst (λ xs. Among (drop 1 xs) n) (sym is) later)
 
-pub opens_inside : (passed : List Route) (s : FileSystem) (top : Route) (inner : OpenFolder) (around : List OpenFolder) (name : List ℕ) (names : List (List ℕ)) (children : Children) → inner.names ≡ name ∷ names → IsListing s (found s (name ∷ inner.path)) children
-    → IsWalked passed s top inner around → IsWalked passed s top (opened (name ∷ inner.path) children.names) (without_next inner ∷ around)
+pub opens_inside : (passed : List Route) (s : FileSystem) (top : Route) (inner : OpenFolder) (around : List OpenFolder) (name : List ℕ) (names : List (List ℕ)) (children : Children) → inner.names ≡ name ∷ names → IsListing s (found_node s (name ∷ inner.path)) children
+    → IsWalked passed s top inner around → IsWalked passed s top (opened_folder (name ∷ inner.path) children.names) (without_next inner ∷ around)
 opens_inside passed s top inner around name names children is listing w = record {
   stands = λ p i within at. elim (w.stands p i within at) [
     | inl spared ↦ inl spared
-    | inr pending ↦ inr (pending_as (IsAhead (opened (name ∷ inner.path) children.names) p) inner (without_next inner) around p (ahead p i at) pending)
+    | inr pending ↦ inr (pending_as (IsAhead (opened_folder (name ∷ inner.path) children.names) p) inner (without_next inner) around p (ahead p i at) pending)
   ];
   nested = ((name, refl), nested_as top inner (without_next inner) around refl w.nested);
   honest = (λ spared. absurd (false≢true spared), honest_as passed passed inner (without_next inner) around (λ q among. among) (λ h. h) w.honest);
 }
   where
-    ahead : (p : Route) (i : ℕ) → find s p ≡ Some i → IsAhead inner p → IsAhead (opened (name ∷ inner.path) children.names) p ⊎ IsAhead (without_next inner) p
+    ahead : (p : Route) (i : ℕ) → find s p ≡ Some i → IsAhead inner p → IsAhead (opened_folder (name ∷ inner.path) children.names) p ⊎ IsAhead (without_next inner) p
     ahead p i at (inl same) = inr (inl same)
     ahead p i at (inr (n, among, within)) = elim (next_names inner.names names name n is among) [
       | inl same ↦ inl (listed_below s (name ∷ inner.path) p i children listing (subst (λ (m : List ℕ). is_prefix (m ∷ inner.path) p ≡ true) same within) at)
@@ -135,7 +135,7 @@ opens_inside passed s top inner around name names children is listing w = record
 
 -- What was taken up is gone, or was left: all that stood in it is spared.
 module _ (passed more : List Route) (s after : FileSystem) (top : Route) (grows : (q : Route) → Among passed q → Among more q) (fewer : (p : Route) (i : ℕ) → find after p ≡ Some i → (j : ℕ) × (find s p ≡ Some j)) where
-  noted_honest : (left : Bool) (inner : OpenFolder) → (left ≡ true → (q : Route) × Among more q × (is_prefix inner.path q ≡ true)) → IsHonest passed inner → IsHonest more (noted left inner)
+  noted_honest : (left : Bool) (inner : OpenFolder) → (left ≡ true → (q : Route) × Among more q × (is_prefix inner.path q ≡ true)) → IsHonest passed inner → IsHonest more (noted_folder left inner)
   noted_honest left inner seen h = by inner.spared refl
     where
       by : (b : Bool) → inner.spared ≡ b → (inner.spared || left) ≡ true → (q : Route) × Among more q × (is_prefix inner.path q ≡ true)
@@ -145,17 +145,17 @@ module _ (passed more : List Route) (s after : FileSystem) (top : Route) (grows 
   -- the next name of the folder that is worked
   pub passes_thing : (inner : OpenFolder) (around : List OpenFolder) (name : List ℕ) (names : List (List ℕ)) (left : Bool) → inner.names ≡ name ∷ names
       → ((p : Route) (i : ℕ) → is_prefix (name ∷ inner.path) p ≡ true → find after p ≡ Some i → IsSpared more p) → (left ≡ true → (q : Route) × Among more q × (is_prefix inner.path q ≡ true))
-      → IsWalked passed s top inner around → IsWalked more after top (noted left (without_next inner)) around
+      → IsWalked passed s top inner around → IsWalked more after top (noted_folder left (without_next inner)) around
   passes_thing inner around name names left is gone seen w = record {
     stands = λ p i within at. let before = fewer p i at in elim (w.stands p before.0 within before.1) [
       | inl spared ↦ inl (spared_more passed more p grows spared)
-      | inr pending ↦ pending_as (IsSpared more p) inner (noted left (without_next inner)) around p (ahead p i at) pending
+      | inr pending ↦ pending_as (IsSpared more p) inner (noted_folder left (without_next inner)) around p (ahead p i at) pending
     ];
-    nested = nested_as top inner (noted left (without_next inner)) around refl w.nested;
-    honest = honest_as passed more inner (noted left (without_next inner)) around grows (λ h. noted_honest left (without_next inner) seen h) w.honest;
+    nested = nested_as top inner (noted_folder left (without_next inner)) around refl w.nested;
+    honest = honest_as passed more inner (noted_folder left (without_next inner)) around grows (λ h. noted_honest left (without_next inner) seen h) w.honest;
   }
     where
-      ahead : (p : Route) (i : ℕ) → find after p ≡ Some i → IsAhead inner p → IsSpared more p ⊎ IsAhead (noted left (without_next inner)) p
+      ahead : (p : Route) (i : ℕ) → find after p ≡ Some i → IsAhead inner p → IsSpared more p ⊎ IsAhead (noted_folder left (without_next inner)) p
       ahead p i at (inl same) = inr (inl same)
       ahead p i at (inr (n, among, within)) = elim (next_names inner.names names name n is among) [
         | inl same ↦ inl (gone p i (subst (λ (m : List ℕ). is_prefix (m ∷ inner.path) p ≡ true) same within) at)
@@ -164,17 +164,17 @@ module _ (passed more : List Route) (s after : FileSystem) (top : Route) (grows 
 
   -- the folder that is worked, in another one
   pub passes_folder : (inner outer : OpenFolder) (around : List OpenFolder) (left : Bool) → ((p : Route) (i : ℕ) → IsAhead inner p → find after p ≡ Some i → IsSpared more p)
-      → (left ≡ true → (q : Route) × Among more q × (is_prefix outer.path q ≡ true)) → IsWalked passed s top inner (outer ∷ around) → IsWalked more after top (noted left outer) around
+      → (left ≡ true → (q : Route) × Among more q × (is_prefix outer.path q ≡ true)) → IsWalked passed s top inner (outer ∷ around) → IsWalked more after top (noted_folder left outer) around
   passes_folder inner outer around left gone seen w = record {
     stands = λ p i within at. let before = fewer p i at in elim (w.stands p before.0 within before.1) [
       | inl spared ↦ inl (spared_more passed more p grows spared)
       | inr pending ↦ elim pending [
         | inl ahead ↦ inl (gone p i ahead at)
-        | inr others ↦ pending_as (IsSpared more p) outer (noted left outer) around p (λ a. inr a) others
+        | inr others ↦ pending_as (IsSpared more p) outer (noted_folder left outer) around p (λ a. inr a) others
       ]
     ];
-    nested = nested_as top outer (noted left outer) around refl (w.nested).1;
-    honest = honest_as passed more outer (noted left outer) around grows (λ h. noted_honest left outer seen h) (w.honest).1;
+    nested = nested_as top outer (noted_folder left outer) around refl (w.nested).1;
+    honest = honest_as passed more outer (noted_folder left outer) around grows (λ h. noted_honest left outer seen h) (w.honest).1;
   }
 
   -- the outermost one

@@ -7,7 +7,7 @@ use Rattle.tree_trait.specs.Shape.{IsTree}
 use Rattle.tree_trait.specs.Change.{CallLog, current}
 use Rattle.tree_trait.specs.CrashImages.{all_settled}
 use Rattle.job_reports.specs.declared.job.Job.{Job}
-use Rattle.job_reports.specs.Jobs.{Item, Copies, Moves, Removes, Makes, MakesLink, Sets, RemovesEmptied}
+use Rattle.job_reports.specs.Jobs.{ItemOfJob, Copies, Moves, Removes, Makes, MakesLink, Sets, RemovesEmptied}
 use Rattle.session_entries.specs.declared.history.Event.{Event}
 use Rattle.session_entries.specs.declared.history.Event.TheVariants.{Key, Look, Sought, Order, Step, Next, Closed}
 use Rattle.session_entries.specs.declared.history.Event.TheVariants as event
@@ -21,7 +21,7 @@ use Rattle.laws_outcomes.specs.Outcomes.{Finishes, IsOutcome, passed_over}
 use Rattle.laws_outcomes.specs.Untouched.{touches}
 
 -- what is copied stands here
-abbrev pub is_copied : Item → Route → Bool
+abbrev pub is_copied : ItemOfJob → Route → Bool
 is_copied (Copies source target) path = is_prefix source path
 is_copied (Moves source target) path = false
 is_copied (Removes top) path = false
@@ -31,11 +31,11 @@ is_copied (Sets thing mode) path = false
 is_copied (RemovesEmptied folder) path = false
 
 -- whether a job has done all with the item hangs on this path
-abbrev pub concerns : Item → Route → Bool
+abbrev pub concerns : ItemOfJob → Route → Bool
 concerns item path = touches item path || is_copied item path
 
 -- by this event the job with this number isn't begun, and is done with no source, or with one, this item, that doesn't touch the path
-abbrev pub is_elsewhere : ℕ → Route → Event → Option Item → Bool
+abbrev pub is_elsewhere : ℕ → Route → Event → Option ItemOfJob → Bool
 is_elsewhere id path (event.Began number plan background) item = not (number == id)
 is_elsewhere id path (Next number plan) item = if number == id then option_map_or (λ i. not (touches i path)) item false else true
 is_elsewhere id path (Step number did) item = true
@@ -51,7 +51,7 @@ IsLeftSince id path older [] = older ≡ []
 IsLeftSince id path older (e ∷ entries) = (older ≡ e ∷ entries) ⊎ ((is_elsewhere id path e.what (live_item id (live_jobs entries)) ≡ true) × IsLeftSince id path older entries)
 
 -- Here, after the older entries, the job with this number goes on with its next source, and is done with this item.
-pub record GoesOn (e : Entry) (older : List Entry) (id : ℕ) (item : Item) : Type 0 where
+pub record GoesOn (e : Entry) (older : List Entry) (id : ℕ) (item : ItemOfJob) : Type 0 where
   pub plan : Job
   pub turns : e.what ≡ Next id plan
   pub its : live_item id (live_jobs older) ≡ Some item
@@ -60,7 +60,7 @@ pub record GoesOn (e : Entry) (older : List Entry) (id : ℕ) (item : Item) : Ty
 -- last one and those between touch no path that concerns that.
 abbrev pub LeavesAll : CallLog → CallLog → List Entry → Type 0
 LeavesAll opening now newest =
-    (e first : Entry) (older before : List Entry) (id : ℕ) (last item : Item)
+    (e first : Entry) (older before : List Entry) (id : ℕ) (last item : ItemOfJob)
     → Finishes e older id last → IsMoment newest (e ∷ older) (e ∷ older) e.calls → GoesOn first before id item → IsMoment newest (first ∷ before) (first ∷ before) first.calls
     → ((path : Route) → concerns item path ≡ true → (touches last path ≡ false) × IsLeftSince id path (first ∷ before) older)
     → IsOutcome item (passed_over id before) (tree_begun opening now id before) (replayed_tree opening now older)

@@ -17,11 +17,11 @@ use Rattle.job_reports.specs.declared.question.Question.{Question}
 use Rattle.job_reports.specs.declared.report.Did.{Did}
 use Rattle.job_reports.specs.declared.report.Did.TheVariants.{Began, Chunk, Placed, Removed, Made, Set, Kept, Skipped, Cleaned, Barrier, Asked, Merges, Moved, Troubled, Ended}
 use Rattle.job_reports.specs.declared.report.Transfer.TheVariants.{ByCopy, ByMove}
-use Rattle.job_reports.specs.Jobs.{Item, Copies, Moves, RemovesEmptied}
+use Rattle.job_reports.specs.Jobs.{ItemOfJob, Copies, Moves, RemovesEmptied}
 use Rattle.job_reports.specs.Paths.{folder_of}
 use Rattle.job_answers.specs.declared.replies.Decision.TheVariants.{Ask, Keep, Replace}
 use Rattle.job_answers.specs.declared.replies.Replies.{Replies}
-use Rattle.job_answers.specs.Decisions.{decided, no_replies, with_reply}
+use Rattle.job_answers.specs.Decisions.{decision_on, no_replies, with_reply}
 use Rattle.copy_tree.specs.Asking.{IsReplaceable}
 use Rattle.session_entries.specs.declared.history.Event.{Event}
 use Rattle.session_entries.specs.declared.history.Event.TheVariants.{Key, Look, Sought, Order, Step, Next, Closed}
@@ -125,11 +125,11 @@ pub record IsMergedWhole (v : View) (pair : Pair) (names : List (List ℕ)) : Ty
 -- A move asks where no answer that stands decides; it keeps what stands at its target where one says so; of a folder that is merged all that lies in it is told, to be moved; and it goes there, by
 -- which that is replaced if anything stands there, only where one says that.
 abbrev pub IsMovedAsAnswered : Replies → Route → Route → View → Did → Type 0
-IsMovedAsAnswered replies source target v (Asked question) = IsMoveQuestion v source target question × (decided replies question ≡ Ask)
-IsMovedAsAnswered replies source target v (Kept path) = (path ≡ target) × ((question : Question) × IsMoveQuestion v source target question × (decided replies question ≡ Keep))
+IsMovedAsAnswered replies source target v (Asked question) = IsMoveQuestion v source target question × (decision_on replies question ≡ Ask)
+IsMovedAsAnswered replies source target v (Kept path) = (path ≡ target) × ((question : Question) × IsMoveQuestion v source target question × (decision_on replies question ≡ Keep))
 IsMovedAsAnswered replies source target v (Moved pair) =
     (pair ≡ record { source = source; target = target })
-    × (is_some (v target).value ≡ true → (question : Question) × IsMoveQuestion v source target question × (decided replies question ≡ Replace))
+    × (is_some (v target).value ≡ true → (question : Question) × IsMoveQuestion v source target question × (decision_on replies question ≡ Replace))
 IsMovedAsAnswered replies source target v (Began part) = ⊥
 IsMovedAsAnswered replies source target v (Chunk count) = ⊥
 IsMovedAsAnswered replies source target v (Placed path) = ⊥
@@ -146,10 +146,10 @@ IsMovedAsAnswered replies source target v (Ended ending part) = ⊤
 -- A copy asks where no answer that stands decides; it keeps what stands at its target where one says so; of a folder that is merged all that lies in it is told, to be copied; and it begins a part
 -- beside its target, by which that is replaced if anything stands there, only where one says that.
 abbrev pub IsAsAnswered : Replies → Route → Route → View → Did → Type 0
-IsAsAnswered replies source target v (Asked question) = IsQuestionOf v source target question × (decided replies question ≡ Ask)
-IsAsAnswered replies source target v (Kept path) = (path ≡ target) × ((question : Question) × IsQuestionOf v source target question × (decided replies question ≡ Keep))
+IsAsAnswered replies source target v (Asked question) = IsQuestionOf v source target question × (decision_on replies question ≡ Ask)
+IsAsAnswered replies source target v (Kept path) = (path ≡ target) × ((question : Question) × IsQuestionOf v source target question × (decision_on replies question ≡ Keep))
 IsAsAnswered replies source target v (Began part) =
-    folder_of part ≡ folder_of target → is_some (v target).value ≡ true → (question : Question) × IsQuestionOf v source target question × (decided replies question ≡ Replace)
+    folder_of part ≡ folder_of target → is_some (v target).value ≡ true → (question : Question) × IsQuestionOf v source target question × (decision_on replies question ≡ Replace)
 IsAsAnswered replies source target v (Chunk count) = ⊤
 IsAsAnswered replies source target v (Placed path) = ⊤
 IsAsAnswered replies source target v (Removed path) = ⊤
@@ -186,7 +186,7 @@ IsRemovedIfEmpty path v (Merges transfer pair names) = ⊥
 IsRemovedIfEmpty path v (Moved pair) = ⊥
 
 -- Wherever in a history a job that works on such an item reports something, that is as was answered to it before.
-abbrev pub Follows : (Route → Route → Item) → (Replies → Route → Route → View → Did → Type 0) → CallLog → CallLog → List Entry → Type 0
+abbrev pub Follows : (Route → Route → ItemOfJob) → (Replies → Route → Route → View → Did → Type 0) → CallLog → CallLog → List Entry → Type 0
 Follows item IsAs opening now newest =
     (e : Entry) (older : List Entry) (id : ℕ) (did : Did) (source target : Route)
     → e.what ≡ Step id did → live_item id (live_jobs older) ≡ Some (item source target) → IsMoment newest (e ∷ older) (e ∷ older) e.calls

@@ -11,7 +11,7 @@ use Rattle.tree_trait.specs.Change.{CallLog, current}
 use Rattle.tree_trait.specs.CrashImages.{Among, all_settled}
 use Rattle.job_reports.specs.declared.report.Did.{Did}
 use Rattle.job_reports.specs.declared.report.Did.TheVariants.{Began, Chunk, Placed, Removed, Made, Set, Kept, Skipped, Cleaned, Barrier, Asked, Merges, Moved, Troubled, Ended}
-use Rattle.job_reports.specs.Jobs.{Item, Copies, Moves, Removes, Makes, MakesLink, Sets, RemovesEmptied}
+use Rattle.job_reports.specs.Jobs.{ItemOfJob, Copies, Moves, Removes, Makes, MakesLink, Sets, RemovesEmptied}
 use Rattle.session_entries.specs.declared.history.Event.{Event}
 use Rattle.session_entries.specs.declared.history.Event.TheVariants.{Key, Look, Sought, Order, Step, Next, Closed}
 use Rattle.session_entries.specs.declared.history.Event.TheVariants as event
@@ -44,7 +44,7 @@ passed_by (Ended ending part) before = before
 
 -- a job that copies or moves passes over its source where it keeps what stands at its target, and one that removes an emptied folder that where it keeps it; one that
 -- deletes, or makes, passes over nothing where it keeps a folder
-abbrev pub kept_of : Option Item → List Route → List Route
+abbrev pub kept_of : Option ItemOfJob → List Route → List Route
 kept_of (Some (Copies source target)) before = source ∷ before
 kept_of (Some (Moves source target)) before = source ∷ before
 kept_of (Some (Removes path)) before = before
@@ -55,7 +55,7 @@ kept_of (Some (RemovesEmptied path)) before = path ∷ before
 kept_of None before = before
 
 -- what a job that works on this has passed over once it has reported this, and the source of a copy or a move whose target stays as it was
-abbrev pub passed_in : Option Item → Did → List Route → List Route
+abbrev pub passed_in : Option ItemOfJob → Did → List Route → List Route
 passed_in item (Kept path) before = kept_of item before
 passed_in item (Skipped path cause) before = passed_by (Skipped path cause) before
 passed_in item (Began part) before = before
@@ -72,7 +72,7 @@ passed_in item Barrier before = before
 passed_in item (Troubled trouble) before = before
 passed_in item (Ended ending part) before = before
 
-abbrev pub passed_after : ℕ → Event → Option Item → List Route → List Route
+abbrev pub passed_after : ℕ → Event → Option ItemOfJob → List Route → List Route
 passed_after id (event.Began number plan background) item before = if number == id then [] else before
 passed_after id (Step number did) item before = if number == id then passed_in item did before else before
 passed_after id (Next number plan) item before = if number == id then [] else before
@@ -136,7 +136,7 @@ pub record IsEmptiedGone (path : Route) (passed : List Route) (begun v : View) :
   pub stays : Among passed path → v path ≡ begun path
 
 -- All that a job was to do with its item is done in this tree, which was another one where it began with that; but for what it passed over.
-abbrev pub IsOutcome : Item → List Route → View → View → Type 0
+abbrev pub IsOutcome : ItemOfJob → List Route → View → View → Type 0
 IsOutcome (Copies source target) passed begun v = IsCopied source target passed v
 IsOutcome (Moves source target) passed begun v = IsMoved source target passed begun v
 IsOutcome (Removes path) passed begun v = IsGone path passed v
@@ -146,14 +146,14 @@ IsOutcome (Sets path mode) passed begun v = IsSet path mode passed v
 IsOutcome (RemovesEmptied path) passed begun v = IsEmptiedGone path passed begun v
 
 -- This entry, after the older ones, tells that the job with this number is done with this item: it is finished, or goes on with the next one.
-pub record Finishes (e : Entry) (older : List Entry) (id : ℕ) (item : Item) : Type 0 where
+pub record Finishes (e : Entry) (older : List Entry) (id : ℕ) (item : ItemOfJob) : Type 0 where
   pub ended : IsDoneWith id e.what
   pub its : live_item id (live_jobs older) ≡ Some item
 
 -- Wherever in a history a job is done with an item, the tree that the history makes then is such an outcome.
-abbrev pub Leaves : (Item → List Route → View → View → Type 0) → CallLog → CallLog → List Entry → Type 0
+abbrev pub Leaves : (ItemOfJob → List Route → View → View → Type 0) → CallLog → CallLog → List Entry → Type 0
 Leaves Outcome opening now newest =
-    (e : Entry) (older : List Entry) (id : ℕ) (item : Item)
+    (e : Entry) (older : List Entry) (id : ℕ) (item : ItemOfJob)
     → Finishes e older id item → IsMoment newest (e ∷ older) (e ∷ older) e.calls → Outcome item (passed_over id older) (tree_begun opening now id older) (replayed_tree opening now older)
 
 abbrev pub OutcomeLaw : Type 0

@@ -4,7 +4,7 @@ use Rattle.mc_text.specs.Routes.{Route, is_prefix, same_path}
 use Rattle.tree_trait.specs.Shape.{IsTree}
 use Rattle.tree_trait.specs.Change.{CallLog, current}
 use Rattle.tree_trait.specs.CrashImages.{all_settled}
-use Rattle.job_reports.specs.Jobs.{Item, Copies, Moves, Removes, Makes, MakesLink, Sets, RemovesEmptied}
+use Rattle.job_reports.specs.Jobs.{ItemOfJob, Copies, Moves, Removes, Makes, MakesLink, Sets, RemovesEmptied}
 use Rattle.session_entries.specs.declared.history.Entry.{Entry}
 use Rattle.session_entries.specs.Entries.{IsMoment}
 use Rattle.laws_sessions.specs.Replayed.{replayed_tree}
@@ -13,7 +13,7 @@ use Rattle.laws_outcomes.specs.Begun.{tree_begun}
 use Rattle.laws_outcomes.specs.Outcomes.{Finishes}
 
 -- a path that a job may change: what it makes, removes or gives a mode; where it copies or deletes, also what lies in that; where it moves, so of both its paths
-abbrev pub touches : Item → Route → Bool
+abbrev pub touches : ItemOfJob → Route → Bool
 touches (Copies source target) path = is_prefix target path
 touches (Moves source target) path = is_prefix source path || is_prefix target path
 touches (Removes top) path = is_prefix top path
@@ -25,7 +25,7 @@ touches (RemovesEmptied folder) path = same_path path folder
 -- Wherever in a history a job is done with an item, each path that this doesn't touch shows what it showed where the job began with it.
 abbrev pub LeavesAlone : CallLog → CallLog → List Entry → Type 0
 LeavesAlone opening now newest =
-    (e : Entry) (older : List Entry) (id : ℕ) (item : Item) (path : Route)
+    (e : Entry) (older : List Entry) (id : ℕ) (item : ItemOfJob) (path : Route)
     → Finishes e older id item → IsMoment newest (e ∷ older) (e ∷ older) e.calls → touches item path ≡ false → replayed_tree opening now older path ≡ tree_begun opening now id older path
 
 abbrev pub UntouchedLaw : Type 0

@@ -9,9 +9,9 @@ use Rattle.tree_trait.specs.Refusals.{is_folder}
 use Rattle.job_reports.specs.Paths.{folder_of}
 use Rattle.copy_file.specs.Copying.{part_at}
 use Rattle.copy_link.specs.LinkCopying.{has_part}
-use Rattle.copy_folders.specs.Levels.{Levels, coming, is_around_dirty, passed}
-use Rattle.copy_tree.specs.declared.item.Item.{Item}
-use Rattle.copy_tree.specs.declared.item.Item.TheVariants.{Next, File, Link, Stays}
+use Rattle.copy_folders.specs.Levels.{Levels, coming, is_around_dirty, passed_levels}
+use Rattle.copy_tree.specs.declared.item.ItemAtWork.{ItemAtWork}
+use Rattle.copy_tree.specs.declared.item.ItemAtWork.TheVariants.{Next, File, Link, Stays}
 use Rattle.copy_tree.specs.declared.progress.Progress.TheVariants.{UnderWay}
 use Rattle.copy_tree.specs.Progress.{link_progress, progress}
 use Rattle.copy_tree.specs.Standing.{Seen}
@@ -33,13 +33,13 @@ pub record IsAtWork (s : FileSystem) (up : Route) (rest : List (List ℕ)) (part
 
 -- the part at work, whose name is none of those that are yet to be met, with that of its target, which is met next
 pub record HasItem (log : CallLog) (name : List ℕ) (l : Levels) (part target : Route) : Type 0 where
-  pub work : IsAtWork (current log) l.inner.copy.target (let p : Levels = passed false l in coming name p.inner.names p.around) part target
+  pub work : IsAtWork (current log) l.inner.copy.target (let p : Levels = passed_levels false l in coming name p.inner.names p.around) part target
   pub off : Among (coming name l.inner.names l.around) work.k → ⊥
   -- what stands at the target is replaced only by what is copied itself
   pub free : (find (current log) target ≡ None) ⊎ (l.around ≡ [])
 
 -- what is at work has its part, and comes to a target that is met next
-abbrev pub ItemKnown : CallLog → Seen → Item → Type 0
+abbrev pub ItemKnown : CallLog → Seen → ItemAtWork → Type 0
 ItemKnown log c Next = ⊤
 ItemKnown log c (File f) = (is_around_dirty c.levels.around ≡ false) × (progress f.stage ≡ UnderWay) × (folder_of f.target ≡ c.levels.inner.copy.target)
     × ((part : Route) → part_at f.stage ≡ Some part → HasItem log c.name c.levels part f.target)

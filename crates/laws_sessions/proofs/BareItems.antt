@@ -6,7 +6,7 @@ use Rattle.mc_text.specs.Routes.{Route}
 use Rattle.mc_text.specs.declared.kind.Kind.TheVariants as kind
 use Rattle.tree_trait.specs.declared.file_system.Node.{Node}
 use Rattle.tree_trait.specs.Calls.{MakeLink, RemoveFile, Rename, SyncFolder}
-use Rattle.tree_trait.specs.Change.{Change, Makes, CallLog, change_of, current, found, with_change}
+use Rattle.tree_trait.specs.Change.{Change, Makes, CallLog, change_of, current, found_node, with_change}
 use Rattle.tree_trait.specs.CrashImages.{says}
 use Rattle.tree_trait.specs.FileSystem.{node}
 use Rattle.tree_trait.specs.Refusals.{refusal_of}
@@ -86,7 +86,7 @@ module _ (log now : CallLog) (name : List ℕ) (l : Levels) (p : Route) (h : Sta
     pub file_bare : (moved : Copying) (did : Did) → Tells f did moved → MoveCalls unclaimed f did moved log (Some now) → Then moved
     file_bare moved (Began part) (stage, (facts, new_is)) (looked, began_of, (k, part_is, first, rows)) =
         let d = done_call log (making (current log) (places_of f) k) now (row_done log now (making (current log) (places_of f) k) rows) in
-        let mode : ℕ = part_mode (node (current log) (found (current log) f.source)).mode in
+        let mode : ℕ = part_mode (node (current log) (found_node (current log) f.source)).mode in
         let made : Node = record { kind = kind.File; bytes = []; mode = mode; mtime = d.time; unnamed = 0 } in
         let passes : IsMaking (current log) (part_name f.job k) (folder_of f.target) = making_passes (current log) (part_name f.job k) (folder_of f.target) mode d.permits in (
           subst Bare (sym d.is) (bare_made p log known.tree h (part_name f.job k) (folder_of f.target) made passes),
@@ -152,7 +152,7 @@ module _ (log now : CallLog) (name : List ℕ) (l : Levels) (p : Route) (h : Sta
         let d = done_call log (MakeLink c.part text) now (row_done log now (MakeLink c.part text) rows) in
         let permits : refusal_of (current log) (MakeLink (b.0 ∷ l.inner.copy.target) text) ≡ None = subst (λ r. refusal_of (current log) (MakeLink r text) ≡ None) b.1 d.permits in
         let made : Node = record { kind = kind.Link; bytes = text; mode = 0; mtime = pos 0; unnamed = 0 } in
-        let then : now ≡ with_change log (Makes (found (current log) l.inner.copy.target) b.0 made) = subst (λ r. now ≡ with_change log (change_of (current log) (MakeLink r text) d.time)) b.1 d.is in
+        let then : now ≡ with_change log (Makes (found_node (current log) l.inner.copy.target) b.0 made) = subst (λ r. now ≡ with_change log (change_of (current log) (MakeLink r text) d.time)) b.1 d.is in
         let passes : IsMaking (current log) b.0 l.inner.copy.target = making_passes (current log) b.0 l.inner.copy.target 0 permits in (
           subst Bare (sym then) (bare_made p log known.tree h b.0 l.inner.copy.target made passes),
           λ has is. bare_apart p log known.tree h b.0 l.inner.copy.target made passes (sym b.1 ∙ (sym (ap (λ (m : LinkCopying). m.part) new_is) ∙ is)),

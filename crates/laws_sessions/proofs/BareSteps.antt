@@ -14,12 +14,12 @@ use Rattle.job_reports.specs.declared.report.Did.{Did}
 use Rattle.job_reports.proofs.CallAnswers.{done_call, some_log}
 use Rattle.job_reports.proofs.PermittedCalls.{making_passes}
 use Rattle.copy_file.specs.Copying as file
-use Rattle.copy_file.specs.Copying.{Copying, part_at, skipped as file_skipped, taken_anew as file_anew}
+use Rattle.copy_file.specs.Copying.{Copying, part_at, skipped_stage as file_skipped, taken_anew as file_anew}
 use Rattle.copy_file.specs.declared.stage.Stage.{Stage as FileStage}
 use Rattle.copy_file.specs.declared.stage.Stage.TheVariants as file_stage
 use Rattle.copy_file.specs.CopySteps.{Skips as FileSkips}
 use Rattle.copy_link.specs.LinkCopying as link
-use Rattle.copy_link.specs.LinkCopying.{LinkCopying, has_part, skipped as link_skipped, taken_anew as link_anew}
+use Rattle.copy_link.specs.LinkCopying.{LinkCopying, has_part, skipped_stage as link_skipped, taken_anew as link_anew}
 use Rattle.copy_link.specs.LinkSteps.{Skips as LinkSkips}
 use Rattle.copy_link.specs.declared.stage.Stage.{Stage as LinkStage}
 use Rattle.copy_link.specs.declared.stage.Stage.TheVariants as link_stage
@@ -32,16 +32,16 @@ use Rattle.copy_folders.specs.declared.stage.NamesState.TheVariants.{Synced, Dir
 use Rattle.copy_folders.specs.declared.stage.Stage.{Stage}
 use Rattle.copy_folders.specs.declared.stage.Stage.TheVariants as at
 use Rattle.copy_folders.specs.Levels.{is_around_dirty}
-use Rattle.copy_tree.specs.declared.item.Item.{Item}
-use Rattle.copy_tree.specs.declared.item.Item.TheVariants.{Next, File, Link, Stays}
+use Rattle.copy_tree.specs.declared.item.ItemAtWork.{ItemAtWork}
+use Rattle.copy_tree.specs.declared.item.ItemAtWork.TheVariants.{Next, File, Link, Stays}
 use Rattle.copy_tree.specs.declared.progress.Progress.{Progress}
 use Rattle.copy_tree.specs.declared.progress.Progress.TheVariants.{UnderWay, Decided, Anew}
 use Rattle.copy_tree.specs.Parts.{IsPartPlace}
 use Rattle.copy_tree.specs.Progress.{link_progress, progress}
 use Rattle.copy_tree.specs.Reports.{IsToldAs}
-use Rattle.copy_tree.specs.Skipping.{Skips, SkipsAt, SkipsNamed, SkipsRest, retried, retried_at}
+use Rattle.copy_tree.specs.Skipping.{Skips, SkipsAt, SkipsNamed, SkipsRest, retried_copy, retried_at}
 use Rattle.copy_tree.specs.Standing.{Seen, target_name}
-use Rattle.copy_tree.specs.Steps.{CopySteps, LeavesAll, LinkWorks, TakesNext, WorksOn, at_end, idle, link_begun, noted, settled}
+use Rattle.copy_tree.specs.TreeCopySteps.{CopySteps, LeavesAll, LinkWorks, TakesNext, WorksOn, at_end, idle, link_begun, noted_copy, copy_after_progress}
 use Rattle.laws_sessions.proofs.AtWork.{ItemKnown}
 use Rattle.laws_sessions.proofs.BareItems.{file_bare, link_bare}
 use Rattle.laws_sessions.proofs.BareTargets.{IsApart, StandsBare, bare_made, bare_quiet}
@@ -55,10 +55,10 @@ use Rattle.laws_sessions.proofs.TreeFiles.{FileKnown}
 use Rattle.laws_sessions.proofs.TreeLinks.{LinkKnown}
 use Rattle.laws_sessions.proofs.TreeSteps.{StepKnown, closing_not, next_of, taken_file, taken_link, worked_file, worked_link}
 
-none_apart : (item : Item) (p : Route) → item ≡ Next → IsApart item p
+none_apart : (item : ItemAtWork) (p : Route) → item ≡ Next → IsApart item p
 none_apart item p is = subst (λ i. IsApart i p) (sym is) tt
 
-settled_apart : (pr : Progress) (item : Item) (c : Seen) (p : Route) → c.item ≡ Next → IsApart item p → (let s : Seen = settled pr item c in IsApart s.item p)
+settled_apart : (pr : Progress) (item : ItemAtWork) (c : Seen) (p : Route) → c.item ≡ Next → IsApart item p → (let s : Seen = copy_after_progress pr item c in IsApart s.item p)
 settled_apart UnderWay item c p none apart = apart
 settled_apart Decided item c p none apart = none_apart c.item p none
 settled_apart Anew item c p none apart = none_apart c.item p none
@@ -90,13 +90,13 @@ module _ (p : Route) (free : Route → Bool) (replies : Replies) (old new : Seen
   file_after f about off w =
       let m = w.moved in
       let b = file_bare log now old.name old.levels p h Unclaimed f about off m did w.tells (w.called log refl) in
-      (b.0, subst (λ (c : Seen). IsApart c.item p) (sym w.stands) (settled_apart (progress m.stage) (File m) (noted did (file.is_dirty m.folder) (idle old)) p refl b.1))
+      (b.0, subst (λ (c : Seen). IsApart c.item p) (sym w.stands) (settled_apart (progress m.stage) (File m) (noted_copy did (file.is_dirty m.folder) (idle old)) p refl b.1))
 
   link_after : (l : LinkCopying) → LinkKnown log old.name old.levels l → (has_part l.stage ≡ true → l.part ≡ p → ⊥) → LinkWorks l old new did (Some log) (Some now) → Then
   link_after l about off w =
       let m = w.moved in
       let b = link_bare log now old.name old.levels p h l about off m did w.tells (w.called log refl) in
-      (b.0, subst (λ (c : Seen). IsApart c.item p) (sym w.stands) (settled_apart (link_progress m.stage) (Link m) (noted did (link.is_dirty m.folder) (idle old)) p refl b.1))
+      (b.0, subst (λ (c : Seen). IsApart c.item p) (sym w.stands) (settled_apart (link_progress m.stage) (Link m) (noted_copy did (link.is_dirty m.folder) (idle old)) p refl b.1))
 
   -- the next call of a folder is refused
   next_stops : (target : Route) (stage : Stage) (names : NamesState) (why : Cause) (path : Option Route) → RunStops (next_call target stage names) why path log (Some now) → Bare now
@@ -155,7 +155,7 @@ module _ (p : Route) (free : Route → Bool) (replies : Replies) (old new : Seen
   takes : old.item ≡ Next → is_around_dirty old.levels.around ≡ false → TakesNext Unclaimed replies old new did (Some log) (Some now) → Then
   takes none clean (inl s) = alone none (ap (λ (x : Seen). x.item) s.stands) (same_log (some_log now log s.same))
   takes none clean (inr (inl t)) =
-      file_after (file.begun old.job t.pair.source t.pair.target) (taken_file free replies old new did log now known clean t) (λ part is. absurd (let f : ⊥ = cc in f)) (taken_moves Unclaimed replies old new did (Some log) (Some now) t)
+      file_after (file.begun_copy old.job t.pair.source t.pair.target) (taken_file free replies old new did log now known clean t) (λ part is. absurd (let f : ⊥ = cc in f)) (taken_moves Unclaimed replies old new did (Some log) (Some now) t)
   takes none clean (inr (inr (inl t))) = link_after (link_begun t.pair t.part) (taken_link free replies old new did log now known clean t) (λ has. absurd (let f : ⊥ = cc in f)) t.works
   takes none clean (inr (inr (inr (inl t)))) =
       let n = next_of old old.levels.inner.names.names t.pair t.next in
@@ -167,7 +167,7 @@ module _ (p : Route) (free : Route → Bool) (replies : Replies) (old new : Seen
   takes none clean (inr (inr (inr (inr (inr (inr (inr (next, inl (debt, e))))))))) = alone none (ap (λ (x : Seen). x.item) e.stands) (ends_by e.moved e.report e.says e.tells (e.called log refl))
   takes none clean (inr (inr (inr (inr (inr (inr (inr (next, inr (debt, f, same))))))))) = alone none (ap (λ (x : Seen). x.item) f.stands) (same_log (some_log now log same))
 
-  works_bare : (item : Item) → old.item ≡ item → ItemKnown log old item → IsApart item p → WorksOn item Unclaimed replies old new did (Some log) (Some now) → Then
+  works_bare : (item : ItemAtWork) → old.item ≡ item → ItemKnown log old item → IsApart item p → WorksOn item Unclaimed replies old new did (Some log) (Some now) → Then
   works_bare Next is item apart (inl s) = alone is (ap (λ (x : Seen). x.item) s.stands) (let outer = s.outer in around_by outer.copy s.names s.report s.tells (s.called log refl))
   works_bare Next is item apart (inr (clean, t)) = takes is clean t
   works_bare (File f) is item apart w = file_after f (worked_file free replies old new did log now known f item) apart (worked_moves Unclaimed f old new did (Some log) (Some now) w)
@@ -232,7 +232,7 @@ module _ (p : Route) where
   named_same (first ∷ names) cause old new did (inr (inl rest)) = rest_same cause old new did rest.1
   named_same (first ∷ names) cause old new did (inr (inr room)) = ap (λ (c : Seen). c.item) room.1
 
-  skips_apart : (item : Item) (cause : Cause) (old new : Seen) (did : Did) → old.item ≡ item → SkipsAt item cause old did new → IsApart item p → IsApart new.item p
+  skips_apart : (item : ItemAtWork) (cause : Cause) (old new : Seen) (did : Did) → old.item ≡ item → SkipsAt item cause old did new → IsApart item p → IsApart new.item p
   skips_apart Next cause old new did is s apart = none_apart new.item p (named_same old.levels.inner.names.names cause old new did s ∙ is)
   skips_apart (File f) cause old new did is (moved, skips, stands) apart =
       subst (λ (c : Seen). IsApart c.item p) (sym stands) (settled_apart (progress moved.stage) (File moved) (idle old) p refl (file_skip cause f moved did skips apart))
@@ -243,7 +243,7 @@ module _ (p : Route) where
   pub skip_bare : (cause : Cause) (old new : Seen) (did : Did) → Skips cause old did new → IsApart old.item p → IsApart new.item p
   skip_bare cause old new did s apart = skips_apart old.item cause old new did refl s apart
 
-  retries_apart : (item : Item) (c : Seen) → c.item ≡ item → IsApart item p → (let r : Seen = retried_at item c in IsApart r.item p)
+  retries_apart : (item : ItemAtWork) (c : Seen) → c.item ≡ item → IsApart item p → (let r : Seen = retried_at item c in IsApart r.item p)
   retries_apart Next c is apart = none_apart c.item p is
   retries_apart (File f) c is apart =
       settled_apart (progress (file_anew f.stage)) (File (record f { stage = file_anew f.stage })) (idle c) p refl (λ part at_part. apart part (sym (anew_part f.stage) ∙ at_part))
@@ -251,5 +251,5 @@ module _ (p : Route) where
       settled_apart (link_progress (link_anew l.stage)) (Link (record l { stage = link_anew l.stage })) (idle c) p refl (λ has. apart (anew_has l.stage has))
   retries_apart (Stays part) c is apart = subst (λ i. IsApart i p) (sym is) tt
 
-  pub retry_bare : (c : Seen) → IsApart c.item p → (let r : Seen = retried c in IsApart r.item p)
+  pub retry_bare : (c : Seen) → IsApart c.item p → (let r : Seen = retried_copy c in IsApart r.item p)
   retry_bare c apart = retries_apart c.item c refl apart

@@ -7,7 +7,7 @@ use Rattle.tree_trait.specs.declared.file_system.FileSystem.{FileSystem}
 use Rattle.tree_trait.specs.declared.file_system.Node.{Node}
 use Rattle.tree_trait.specs.Answers.{Performs}
 use Rattle.tree_trait.specs.Calls.{RemoveFile, Rename, SetMode, SyncFile}
-use Rattle.tree_trait.specs.Change.{Change, Makes, Moves, Nothing, Removes, Sets, Syncs, CallLog, change_of, current, found, with_change}
+use Rattle.tree_trait.specs.Change.{Change, Makes, Moves, Nothing, Removes, Sets, Syncs, CallLog, change_of, current, found_node, with_change}
 use Rattle.tree_trait.specs.CrashImages.{says}
 use Rattle.tree_trait.specs.FileSystem.{find, lookup, node}
 use Rattle.tree_trait.specs.Refusals.{after_walk, is_folder, refusal_of, rename_refusal, walk}
@@ -23,9 +23,9 @@ use Rattle.job_reports.proofs.PermittedCalls.{IsMaking}
 use Rattle.copy_file.specs.CopyCalls.{part_mode, placing}
 use Rattle.copy_file.specs.Copying.{part_at}
 use Rattle.copy_link.specs.LinkCopying.{has_part}
-use Rattle.copy_folders.specs.Levels.{Levels, coming, passed}
-use Rattle.copy_tree.specs.declared.item.Item.{Item}
-use Rattle.copy_tree.specs.declared.item.Item.TheVariants.{Next, File, Link, Stays}
+use Rattle.copy_folders.specs.Levels.{Levels, coming, passed_levels}
+use Rattle.copy_tree.specs.declared.item.ItemAtWork.{ItemAtWork}
+use Rattle.copy_tree.specs.declared.item.ItemAtWork.TheVariants.{Next, File, Link, Stays}
 use Rattle.copy_tree.specs.Standing.{Seen}
 use Rattle.laws_sessions.proofs.AtWork.{HasItem, IsAtWork}
 use Rattle.laws_sessions.proofs.Calm.{IsCalm}
@@ -42,7 +42,7 @@ pub record StandsBare (s : FileSystem) (path : Route) : Type 0 where
   pub bare : is_folder (node s i) ≡ false
 
 -- the part of what is at work is another path
-abbrev pub IsApart : Item → Route → Type 0
+abbrev pub IsApart : ItemAtWork → Route → Type 0
 IsApart Next path = ⊤
 IsApart (File f) path = (part : Route) → part_at f.stage ≡ Some part → part ≡ path → ⊥
 IsApart (Link l) path = has_part l.stage ≡ true → l.part ≡ path → ⊥
@@ -89,11 +89,11 @@ module _ (p : Route) where
     pub bare_apart : (k ∷ up) ≡ p → ⊥
     bare_apart same = some_none h.i (sym h.leads ∙ (ap (find (current log)) (sym same) ∙ free))
 
-    pub bare_made : StandsBare (current (with_change log (Makes (found (current log) up) k made))) p
-    bare_made = elim (find_same log (Makes (found (current log) up) k made) p) [
-      | inl same ↦ bare_same log (Makes (found (current log) up) k made) tree same h
+    pub bare_made : StandsBare (current (with_change log (Makes (found_node (current log) up) k made))) p
+    bare_made = elim (find_same log (Makes (found_node (current log) up) k made) p) [
+      | inl same ↦ bare_same log (Makes (found_node (current log) up) k made) tree same h
       | inr under ↦
-          let u = under_made log tree up (found (current log) up) making.folder k made p under in
+          let u = under_made log tree up (found_node (current log) up) making.folder k made p under in
           some_none h.i (sym h.leads ∙ (ap (find (current log)) u.1 ∙ none_below log u.0 (k ∷ up) free))
     ]
 
@@ -114,7 +114,7 @@ module _ (p : Route) where
           let leads_there : find (current log) (r.name ∷ r.up) ≡ Some r.i = rw r.folder r.leads in
           let change : change_of (current log) (RemoveFile part) d.time ≡ Removes r.f r.name r.i =
           ap (λ q. change_of (current log) (RemoveFile q) d.time) r.path_is
-          ∙ (ap (λ g. Removes g r.name (found (current log) (r.name ∷ r.up))) (ap (λ o. unwrap_or o 0) r.folder) ∙ ap (λ k. Removes r.f r.name k) (ap (λ o. unwrap_or o 0) leads_there)) in
+          ∙ (ap (λ g. Removes g r.name (found_node (current log) (r.name ∷ r.up))) (ap (λ o. unwrap_or o 0) r.folder) ∙ ap (λ k. Removes r.f r.name k) (ap (λ o. unwrap_or o 0) leads_there)) in
           subst (λ (x : CallLog). StandsBare (current x) p) (sym (d.is ∙ ap (with_change log) change))
           (elim (find_same log (Removes r.f r.name r.i) p) [
             | inl same ↦ bare_same log (Removes r.f r.name r.i) tree same h
@@ -139,7 +139,7 @@ module _ (p : Route) where
         d : IsDoneCall log (Rename part target) now
         d = done_call log (Rename part target) now done
 
-        w : IsAtWork (current log) folder (let q : Levels = passed false l in coming name q.inner.names q.around) part target
+        w : IsAtWork (current log) folder (let q : Levels = passed_levels false l in coming name q.inner.names q.around) part target
         w = let item = ready.item in item.work
 
         h : StandsBare (current log) p
@@ -156,7 +156,7 @@ module _ (p : Route) where
             let a = passed_walk (walk (current log) (w.k ∷ folder)) (λ a. after_walk (current log) (w.n ∷ folder) (λ b. rename_refusal (current log) (w.k ∷ folder) (w.n ∷ folder) a b)) permits in
             let b = passed_walk (walk (current log) (w.n ∷ folder)) (λ b. rename_refusal (current log) (w.k ∷ folder) (w.n ∷ folder) a.0 b) a.2 in
             let last = last_place (current log) w.n folder b.0 b.1 in
-            let g = found (current log) folder in
+            let g = found_node (current log) folder in
             let leads_here : find (current log) (w.k ∷ folder) ≡ Some w.i = subst (λ q. find (current log) q ≡ Some w.i) w.part_is w.leads in
             let part_there : lookup (let s = current log in s.names) g w.k ≡ Some w.i = sym (ap (option_and_then (λ k. lookup (let s = current log in s.names) k w.k)) last.folder) ∙ leads_here in
             let other : same_path (w.k ∷ folder) (w.n ∷ folder) ≡ false = false_from_ne_true _ (λ same. let e : (w.k ∷ folder) ≡ w.n ∷ folder = same_path-true (w.k ∷ folder) (w.n ∷ folder) same in w.apart cc) in
@@ -164,7 +164,7 @@ module _ (p : Route) where
             let change : change_of (current log) (Rename part target) d.time ≡ Moves g w.k g w.n w.i replaced =
             ap (λ q. change_of (current log) (Rename q target) d.time) w.part_is
             ∙ (ap (λ q. change_of (current log) (Rename (w.k ∷ folder) q) d.time) w.target_is
-            ∙ (ap (λ x. cond x Nothing (Moves g w.k g w.n (found (current log) (w.k ∷ folder)) replaced)) other
+            ∙ (ap (λ x. cond x Nothing (Moves g w.k g w.n (found_node (current log) (w.k ∷ folder)) replaced)) other
             ∙ ap (λ k. Moves g w.k g w.n k replaced) (ap (λ o. unwrap_or o 0) leads_here))) in
             let moves = Moves g w.k g w.n w.i replaced in
             subst (λ (x : CallLog). StandsBare (current x) p) (sym (d.is ∙ ap (with_change log) change))
@@ -189,7 +189,7 @@ module _ (p : Route) where
     then_synced : (from mid : CallLog) → Performs {A = Unit {0}} from (SyncFile part) (Ok tt) (Some mid) → Placing from → Placing mid
     then_synced from mid done r =
         let d = done_call from (SyncFile part) mid done in
-        let i = found (current from) part in
+        let i = found_node (current from) part in
         subst Placing (sym d.is) (record {
           tree = tree_synced from i r.tree;
           item = has_quiet name l part target from (Syncs i) r.tree (λ n g m. refl) r.item;
@@ -199,7 +199,7 @@ module _ (p : Route) where
     then_moded : (from mid : CallLog) (mode : ℕ) → Performs {A = Unit {0}} from (SetMode part mode) (Ok tt) (Some mid) → Placing from → Placing mid
     then_moded from mid mode done r =
         let d = done_call from (SetMode part mode) mid done in
-        let i = found (current from) part in
+        let i = found_node (current from) part in
         subst Placing (sym d.is) (record {
           tree = tree_moded from i mode r.tree;
           item = has_quiet name l part target from (Sets i mode) r.tree (λ n g m. refl) r.item;

@@ -16,13 +16,13 @@ use Rattle.copy_folders.specs.declared.stage.Stage.{Stage}
 use Rattle.copy_folders.specs.declared.stage.Stage.TheVariants.{Make, Fill, Close, Done}
 use Rattle.copy_link.specs.LinkCopying.{has_part}
 use Rattle.copy_folders.specs.declared.level.Level.{Level}
-use Rattle.copy_tree.specs.declared.item.Item.{Item}
-use Rattle.copy_tree.specs.declared.item.Item.TheVariants.{Next, File, Link, Stays}
-use Rattle.copy_tree.specs.Skipping.{Skips, retried}
+use Rattle.copy_tree.specs.declared.item.ItemAtWork.{ItemAtWork}
+use Rattle.copy_tree.specs.declared.item.ItemAtWork.TheVariants.{Next, File, Link, Stays}
+use Rattle.copy_tree.specs.Skipping.{Skips, retried_copy}
 use Rattle.copy_tree.specs.Standing.{Seen}
-use Rattle.copy_tree.specs.Steps.{CopySteps}
+use Rattle.copy_tree.specs.TreeCopySteps.{CopySteps}
 use Rattle.laws_crash.specs.Guarded.{Marks}
-use Rattle.laws_sessions.proofs.Knowing.{IsCalmIn, IsKept, Said}
+use Rattle.laws_sessions.proofs.Knowing.{IsCalmIn, IsKept, HistoryFacts}
 use Rattle.laws_sessions.proofs.Resting.{IsOfFiles}
 use Rattle.laws_sessions.proofs.FoldersEnd.{EndsLast}
 use Rattle.laws_sessions.proofs.CopyLaws.{CopyKnown, FoldersKnown}
@@ -48,7 +48,7 @@ IsSetIn path inner [] = IsSetAt path inner
 IsSetIn path inner (outer ∷ around) = IsSetAt path inner ⊎ IsSetIn path outer around
 
 -- the part of a file, which is written
-abbrev pub filled_part : Item → Option Route
+abbrev pub filled_part : ItemAtWork → Option Route
 filled_part Next = None
 filled_part (File f) = part_at f.stage
 filled_part (Link l) = None
@@ -62,7 +62,7 @@ abbrev pub IsCalm : CallLog → Seen → Route → Type 0
 IsCalm log c path = IsCalmOr path log (MayWait c path)
 
 -- the part of a link is calm: it is made whole
-abbrev pub PartCalm : CallLog → Item → Type 0
+abbrev pub PartCalm : CallLog → ItemAtWork → Type 0
 PartCalm log Next = ⊤
 PartCalm log (File f) = ⊤
 PartCalm log (Link l) = has_part l.stage ≡ true → IsCalmOr l.part log ⊥
@@ -76,11 +76,11 @@ pub record CalmLaw : Type 0 where
       → PartCalm now new.item × ((path : Route) → IsCalm log old path → IsCalm now new path)
   pub skip : (log : CallLog) (cause : Cause) (old new : Seen) (did : Did) → Skips cause old did new → PartCalm log old.item
       → PartCalm log new.item × ((path : Route) → IsCalm log old path → IsCalm log new path)
-  pub retry : (log : CallLog) (c : Seen) → PartCalm log c.item → (let again : Seen = retried c in PartCalm log again.item × ((path : Route) → IsCalm log c path → IsCalm log again path))
+  pub retry : (log : CallLog) (c : Seen) → PartCalm log c.item → (let again : Seen = retried_copy c in PartCalm log again.item × ((path : Route) → IsCalm log c path → IsCalm log again path))
 
 -- So no mode waits of what lies in the folder that is worked; nor of anything that is calm, once the folder at its end that has all of its mode is synced.
 pub record QuietModesLaw : Type 0 where
-  pub within : (told : Said) (dirty : List Route) (marks : Marks) (log : CallLog) (c : Seen) → IsKept told dirty marks log → FoldersKnown log c → filled_part c.item ≡ None
+  pub within : (told : HistoryFacts) (dirty : List Route) (marks : Marks) (log : CallLog) (c : Seen) → IsKept told dirty marks log → FoldersKnown log c → filled_part c.item ≡ None
       → ((name : List ℕ) → IsCalm log c (name ∷ c.levels.inner.copy.target)) → IsCalmIn marks (current log) c.levels.inner.copy.target
-  pub elsewhere : (told : Said) (dirty : List Route) (marks : Marks) (log : CallLog) (c : Seen) (path : Route) (i : ℕ) → IsKept told dirty marks log → EndsLast c → (filled_part c.item ≡ Some path → ⊥)
+  pub elsewhere : (told : HistoryFacts) (dirty : List Route) (marks : Marks) (log : CallLog) (c : Seen) (path : Route) (i : ℕ) → IsKept told dirty marks log → EndsLast c → (filled_part c.item ≡ Some path → ⊥)
       → was_set c.levels.inner.copy.stage c.levels.inner.copy.names ≡ false → IsCalm log c path → find (current log) path ≡ Some i → marks.modes i ≡ None

@@ -4,7 +4,7 @@ use Rattle.std.specs.Prelude.{Result}
 use Rattle.mc_text.specs.Routes.{Route}
 use Rattle.tree_trait.specs.declared.calls.TreeError.{TreeError}
 use Rattle.tree_trait.specs.Calls.{Call, SyncFolder}
-use Rattle.tree_trait.specs.Change.{CallLog, current, found, with_change}
+use Rattle.tree_trait.specs.Change.{CallLog, current, found_node, with_change}
 use Rattle.tree_trait.specs.Change as change
 use Rattle.tree_trait.specs.Answers.{Performs}
 use Rattle.job_reports.specs.CallRuns.{AllDone}
@@ -26,7 +26,7 @@ module _ (log now : CallLog) where
 
   -- the sync of a folder
   pub calm_sync : (path : Route) → Performs {A = Unit {0}} log (SyncFolder path) (Ok tt) (Some now) → IsCalmCall log now
-  calm_sync path done = let d = done_call log (SyncFolder path) now done in inr (_, d.is, inr (found (current log) path, refl))
+  calm_sync path done = let d = done_call log (SyncFolder path) now done in inr (_, d.is, inr (found_node (current log) path, refl))
 
   pub calm_try : (path : Route) (answer : Result (Unit {0}) TreeError) → Performs {A = Unit {0}} log (SyncFolder path) answer (Some now) → IsCalmCall log now
   calm_try path (Ok x) done = calm_sync path done

@@ -4,7 +4,7 @@ use Rattle.std.specs.Prelude.{option_and_then}
 use Rattle.std.proofs.lemmas.Bool.{both_ways, false_from_ne_true}
 use Rattle.mc_text.specs.Routes.{Route}
 use Rattle.tree_trait.specs.declared.file_system.Node.{Node}
-use Rattle.tree_trait.specs.Change.{Change, Makes, Moves, Removes, Syncs, CallLog, current, found, with_change}
+use Rattle.tree_trait.specs.Change.{Change, Makes, Moves, Removes, Syncs, CallLog, current, found_node, with_change}
 use Rattle.tree_trait.specs.CrashImages.{alters, is_clean, same_name, says}
 use Rattle.tree_trait.specs.FileSystem.{find, lookup, node}
 use Rattle.tree_trait.specs.Refusals.{is_folder}
@@ -65,7 +65,7 @@ calm_synced p log q g E F at_q f calm i at = by (calm i here)
 -- a thing is made
 module _ (log : CallLog) (tree : IsTree (current log)) (k : List ℕ) (up : Route) (made : Node) (making : IsMaking (current log) k up) where
   abbrev makes : Change
-  makes = Makes (found (current log) up) k made
+  makes = Makes (found_node (current log) up) k made
 
   abbrev after : CallLog
   after = with_change log makes
@@ -82,12 +82,12 @@ module _ (log : CallLog) (tree : IsTree (current log)) (k : List ℕ) (up : Rout
       by (Some j) is = let there = folder_there (current log).nodes new (tree.in_folders new m j is) in absurd (omega (arith, there))
 
   none_then : (m : List ℕ) → lookup (current after).names new m ≡ None
-  none_then m = unsaid log makes new m (by (same_name (found (current log) up) k new m) refl) ∙ none_new m
+  none_then m = unsaid log makes new m (by (same_name (found_node (current log) up) k new m) refl) ∙ none_new m
     where
-      by : (b : Bool) → same_name (found (current log) up) k new m ≡ b → says makes (length (current log).nodes) new m ≡ None
+      by : (b : Bool) → same_name (found_node (current log) up) k new m ≡ b → says makes (length (current log).nodes) new m ≡ None
       by true is =
-          let e = (same_name-true (found (current log) up) new k m is).0 in
-          let there = folder_there (current log).nodes (found (current log) up) making.holds in absurd (omega (arith, e, there))
+          let e = (same_name-true (found_node (current log) up) new k m is).0 in
+          let there = folder_there (current log).nodes (found_node (current log) up) making.holds in absurd (omega (arith, e, there))
       by false is = ap (λ b. (let o : Option (Option ℕ) = cond b (Some (Some new)) None in o)) is
 
   pub leads : find (current after) (k ∷ up) ≡ Some new
@@ -108,7 +108,7 @@ module _ (log : CallLog) (tree : IsTree (current log)) (k : List ℕ) (up : Rout
     pub calm_made : IsCalmOr p after F
     calm_made i at = elim (find_same log makes p) [
       | inl same ↦ calm_same p log makes E F calm same (λ j here is. absurd (let e : ⊥ = cc in e)) (λ j here e. f e) i at
-      | inr under ↦ let u = under_made log tree up (found (current log) up) making.folder k made p under in at_made u.0 i (ap (find (current after)) (sym u.1) ∙ at)
+      | inr under ↦ let u = under_made log tree up (found_node (current log) up) making.folder k made p under in at_made u.0 i (ap (find (current after)) (sym u.1) ∙ at)
     ]
 
 -- A part goes to a free name beside it, or it is removed.

@@ -4,7 +4,7 @@ use Rattle.mc_text.specs.Routes.{Route}
 use Rattle.mc_text.specs.declared.kind.Kind.TheVariants as kind
 use Rattle.tree_trait.specs.declared.file_system.Node.{Node}
 use Rattle.tree_trait.specs.Calls.{RemoveFile, SyncFolder}
-use Rattle.tree_trait.specs.Change.{CallLog, current, found}
+use Rattle.tree_trait.specs.Change.{CallLog, current, found_node}
 use Rattle.tree_trait.specs.FileSystem.{node}
 use Rattle.job_reports.specs.Paths.{folder_of}
 use Rattle.job_reports.specs.declared.report.Cause.{Cause}
@@ -74,7 +74,7 @@ module _ (unclaimed : Route → Type 0) (log now : CallLog) (files : IsOfFiles l
   pub file_calm : (moved : Copying) (did : Did) → Tells f did moved → MoveCalls unclaimed f did moved log (Some now) → IsCalmOr p now (AtPart moved.stage p S)
   file_calm moved (Began part) (stage, (facts, new_is)) (looked, began_of, (k, part_is, first, rows)) =
       let d = done_call log (making (current log) (places_of f) k) now (row_done log now (making (current log) (places_of f) k) rows) in
-      let mode : ℕ = part_mode (node (current log) (found (current log) f.source)).mode in
+      let mode : ℕ = part_mode (node (current log) (found_node (current log) f.source)).mode in
       let made : Node = record { kind = kind.File; bytes = []; mode = mode; mtime = d.time; unnamed = 0 } in
       let passes : IsMaking (current log) (part_name f.job k) (folder_of f.target) = making_passes (current log) (part_name f.job k) (folder_of f.target) mode d.permits in
       none_left moved.stage (subst (λ (x : CallLog). IsCalmOr p x S) (sym d.is)
@@ -95,7 +95,7 @@ module _ (unclaimed : Route → Type 0) (log now : CallLog) (files : IsOfFiles l
       none_left moved.stage (calm_removing p log now part (AtPart f.stage p S) S known.tree (of_part f.stage part p S (ap part_at stage)) calm (row_done log now (RemoveFile part) rows))
   file_calm moved Barrier (stage, dirty, new_is) rows =
       let d = done_call log (SyncFolder (folder_of f.target)) now (row_done log now (SyncFolder (folder_of f.target)) rows) in
-      as_stage moved f.stage (ap (λ (c : Copying). c.stage) new_is) (subst (λ (x : CallLog). IsCalmOr p x (AtPart f.stage p S)) (sym d.is) (calm_sync p (AtPart f.stage p S) log (found (current log) (folder_of f.target)) calm))
+      as_stage moved f.stage (ap (λ (c : Copying). c.stage) new_is) (subst (λ (x : CallLog). IsCalmOr p x (AtPart f.stage p S)) (sym d.is) (calm_sync p (AtPart f.stage p S) log (found_node (current log) (folder_of f.target)) calm))
   file_calm moved (Troubled trouble) (barrier, new_is) calls = as_stage moved f.stage (ap (λ (c : Copying). c.stage) new_is) (stops f.stage refl trouble.cause trouble.path calls)
   file_calm moved (Ended Finished part) (stage, clean, none, new_is) calls = as_stage moved f.stage (ap (λ (c : Copying). c.stage) new_is) (same (some_log now log calls))
   file_calm moved (Ended Aborted part) tells calls = absurd tells

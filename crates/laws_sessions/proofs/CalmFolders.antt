@@ -3,7 +3,7 @@ use Rattle.std.proofs.Common.{◌≡◌, ◌⊎◌, ℕ, true, false, List, [], 
 use Rattle.std.proofs.lemmas.Bool.{false≢true}
 use Rattle.mc_text.specs.Routes.{Route}
 use Rattle.tree_trait.specs.Calls.{MakeFolder, SetMode, SyncFolder}
-use Rattle.tree_trait.specs.Change.{Sets, CallLog, change_of, current, found, with_change}
+use Rattle.tree_trait.specs.Change.{Sets, CallLog, change_of, current, found_node, with_change}
 use Rattle.tree_trait.specs.FileSystem.{find}
 use Rattle.tree_trait.specs.Refusals.{refusal_of}
 use Rattle.tree_trait.specs.Shape.{IsTree}
@@ -19,7 +19,7 @@ use Rattle.copy_folders.specs.declared.stage.Stage.{Stage}
 use Rattle.copy_folders.specs.declared.stage.Stage.TheVariants as at
 use Rattle.tree_walk.specs.Places.{OpenFolder, without_next}
 use Rattle.copy_folders.specs.declared.level.Level.{Level}
-use Rattle.copy_folders.specs.Levels.{Levels, closed, dirtied, level, made_levels, passed}
+use Rattle.copy_folders.specs.Levels.{Levels, levels_closed, dirtied_levels, level, made_levels, passed_levels}
 use Rattle.laws_sessions.proofs.Resting.{IsOfFiles}
 use Rattle.laws_sessions.proofs.Calm.{IsCalmOr, IsSetAt, IsSetIn, was_set}
 use Rattle.laws_sessions.proofs.CalmChanges.{calm_made, calm_quiet, calm_synced}
@@ -61,14 +61,14 @@ module _ (p : Route) where
   set_dirty : (copy : FolderCopying) (names other : OpenFolder) → IsSetAt p (level names copy) → IsSetAt p (level other (record copy { names = Dirty }))
   set_dirty copy names other (same, is) = (same, dirty_set copy.stage copy.names is)
 
-  pub set_dirtied : (changed : _) (l : Levels) → SetIn l → SetIn (dirtied changed l)
+  pub set_dirtied : (changed : _) (l : Levels) → SetIn l → SetIn (dirtied_levels changed l)
   set_dirtied true l h = set_inner l.inner _ l.around (λ is. set_dirty l.inner.copy l.inner.names l.inner.names is) h
   set_dirtied false l h = set_inner l.inner _ l.around (λ is. is) h
 
-  pub set_passed : (left : _) (l : Levels) → SetIn l → SetIn (passed left l)
+  pub set_passed : (left : _) (l : Levels) → SetIn l → SetIn (passed_levels left l)
   set_passed left l h = set_inner l.inner _ l.around (λ is. is) h
 
-  pub set_closed : (l : Levels) → SetIn l → SetIn (closed l)
+  pub set_closed : (l : Levels) → SetIn l → SetIn (levels_closed l)
   set_closed l h = set_inner l.inner _ l.around (λ is. (is.0, closing_set l.inner.copy.stage l.inner.copy.names is.1)) h
 
   pub set_made : (stage : Stage) (names : OpenFolder) (copy : FolderCopying) (l : Levels) → SetIn l → SetIn (made_levels stage names copy l)
@@ -91,14 +91,14 @@ module _ (p : Route) where
     pub folder_synced : (E F : Type 0) (target : Route) → AllDone log (SyncFolder target ∷ []) (Some now) → (E → (p ≡ target) ⊎ F) → IsCalmOr p log E → IsCalmOr p now F
     folder_synced E F target rows f calm =
         let d = done_call log (SyncFolder target) now (row_done log now (SyncFolder target) rows) in
-        subst (λ (x : CallLog). IsCalmOr p x F) (sym d.is) (calm_synced p log target (found (current log) target) E F (sync_finds (current log) target d.permits) f calm)
+        subst (λ (x : CallLog). IsCalmOr p x F) (sym d.is) (calm_synced p log target (found_node (current log) target) E F (sync_finds (current log) target d.permits) f calm)
 
     -- a folder that stands is given its mode
     pub folder_set : (E F : Type 0) (target : Route) (mode i : ℕ) → find (current log) target ≡ Some i → AllDone log (SetMode target mode ∷ []) (Some now) → (p ≡ target → F) → (E → F) → IsCalmOr p log E → IsCalmOr p now F
     folder_set E F target mode i leads rows here f calm =
         let d = done_call log (SetMode target mode) now (row_done log now (SetMode target mode) rows) in
         subst (λ (x : CallLog). IsCalmOr p x F) (sym d.is)
-        (calm_quiet p log (Sets (found (current log) target) mode) E F calm (λ n g m. refl) (λ j at is. here (only_part log tree p target i j leads at is)) f)
+        (calm_quiet p log (Sets (found_node (current log) target) mode) E F calm (λ n g m. refl) (λ j at is. here (only_part log tree p target i j leads at is)) f)
 
     -- a folder is made
     pub folder_made : (files : IsOfFiles log) (E F : Type 0) (k : List ℕ) (up target : Route) (mode : ℕ) → target ≡ k ∷ up → AllDone log (MakeFolder target mode ∷ []) (Some now) → (E → F) → IsCalmOr p log E → IsCalmOr p now F

@@ -7,31 +7,31 @@ use Rattle.job_answers.specs.declared.replies.Replies.{Replies}
 use Rattle.job_reports.specs.declared.report.Cause.{Cause}
 use Rattle.job_reports.specs.declared.report.Did.{Did}
 use Rattle.copy_file.specs.Copying as file
-use Rattle.copy_file.specs.Copying.{Copying, part_at, skipped as file_skipped, taken_anew as file_anew}
+use Rattle.copy_file.specs.Copying.{Copying, part_at, skipped_stage as file_skipped, taken_anew as file_anew}
 use Rattle.copy_file.specs.CopySteps.{Skips as FileSkips}
 use Rattle.copy_file.specs.declared.stage.Stage.{Stage as FileStage}
 use Rattle.copy_file.specs.declared.stage.Stage.TheVariants as file_stage
-use Rattle.copy_folders.specs.FolderCopying.{FolderCopying, skipped as folder_skipped}
+use Rattle.copy_folders.specs.FolderCopying.{FolderCopying, skipped_stage as folder_skipped}
 use Rattle.copy_folders.specs.FolderSteps as folder
 use Rattle.copy_folders.specs.declared.stage.NamesState.{NamesState}
 use Rattle.copy_folders.specs.declared.stage.Stage.{Stage}
 use Rattle.copy_folders.specs.declared.stage.Stage.TheVariants as at
 use Rattle.copy_link.specs.LinkCopying as link
-use Rattle.copy_link.specs.LinkCopying.{LinkCopying, has_part, skipped as link_skipped, taken_anew as link_anew}
+use Rattle.copy_link.specs.LinkCopying.{LinkCopying, has_part, skipped_stage as link_skipped, taken_anew as link_anew}
 use Rattle.copy_link.specs.LinkSteps.{Skips as LinkSkips}
 use Rattle.copy_link.specs.declared.stage.Stage.{Stage as LinkStage}
 use Rattle.copy_link.specs.declared.stage.Stage.TheVariants as link_stage
 use Rattle.copy_folders.specs.declared.level.Level.{Level}
 use Rattle.copy_folders.specs.Levels.{is_around_dirty, level}
-use Rattle.copy_tree.specs.declared.item.Item.{Item}
-use Rattle.copy_tree.specs.declared.item.Item.TheVariants.{Next, File, Link, Stays}
+use Rattle.copy_tree.specs.declared.item.ItemAtWork.{ItemAtWork}
+use Rattle.copy_tree.specs.declared.item.ItemAtWork.TheVariants.{Next, File, Link, Stays}
 use Rattle.copy_tree.specs.declared.progress.Progress.{Progress}
 use Rattle.copy_tree.specs.declared.progress.Progress.TheVariants.{UnderWay, Decided, Anew}
 use Rattle.copy_tree.specs.Parts.{IsPartPlace}
 use Rattle.copy_tree.specs.Progress.{link_progress, progress}
 use Rattle.copy_tree.specs.Skipping.{SkipsAt, SkipsNamed, SkipsRest, retried_at}
 use Rattle.copy_tree.specs.Standing.{Seen}
-use Rattle.copy_tree.specs.Steps.{LeavesAll, LinkWorks, TakesNext, WorksOn, idle, link_begun, noted, settled}
+use Rattle.copy_tree.specs.TreeCopySteps.{LeavesAll, LinkWorks, TakesNext, WorksOn, idle, link_begun, noted_copy, copy_after_progress}
 use Rattle.laws_sessions.proofs.FileMoves.{FileMoves, taken_moves, worked_moves}
 use Rattle.laws_sessions.proofs.AtWork.{ItemKnown}
 use Rattle.laws_sessions.proofs.Calm.{CalmLaw, IsCalm, IsSetAt, IsSetIn, MayWait, PartCalm, QuietModesLaw, filled_part, was_set}
@@ -47,10 +47,10 @@ use Rattle.laws_sessions.proofs.TreePlaces.{nested_of}
 use Rattle.laws_sessions.proofs.TreeSteps.{StepKnown, taken_link, worked_link}
 
 -- nothing is at work
-none_calm : (log : CallLog) (item : Item) → item ≡ Next → PartCalm log item
+none_calm : (log : CallLog) (item : ItemAtWork) → item ≡ Next → PartCalm log item
 none_calm log item is = subst (PartCalm log) (sym is) tt
 
-settled_calm : (log : CallLog) (p : Progress) (item : Item) (c : Seen) → c.item ≡ Next → PartCalm log item → (let s : Seen = settled p item c in PartCalm log s.item)
+settled_calm : (log : CallLog) (p : Progress) (item : ItemAtWork) (c : Seen) → c.item ≡ Next → PartCalm log item → (let s : Seen = copy_after_progress p item c in PartCalm log s.item)
 settled_calm log UnderWay item c none calm = calm
 settled_calm log Decided item c none calm = none_calm log c.item none
 settled_calm log Anew item c none calm = none_calm log c.item none
@@ -67,13 +67,13 @@ module _ (free : Route → Bool) (replies : Replies) (old new : Seen) (did : Did
   file_part : (f : Copying) → FileMoves Unclaimed f old new did (Some log) (Some now) → PartCalm now new.item
   file_part f w =
       let m = w.moved in
-      subst (λ (c : Seen). PartCalm now c.item) (sym w.stands) (settled_calm now (progress m.stage) (File m) (noted did (file.is_dirty m.folder) (idle old)) refl tt)
+      subst (λ (c : Seen). PartCalm now c.item) (sym w.stands) (settled_calm now (progress m.stage) (File m) (noted_copy did (file.is_dirty m.folder) (idle old)) refl tt)
 
   link_part : (l : LinkCopying) → LinkKnown log old.name old.levels l → PartCalm log (Link l) → LinkWorks l old new did (Some log) (Some now) → PartCalm now new.item
   link_part l about part w =
       let m = w.moved in
       subst (λ (c : Seen). PartCalm now c.item) (sym w.stands)
-      (settled_calm now (link_progress m.stage) (Link m) (noted did (link.is_dirty m.folder) (idle old)) refl (part_calm log now known.files old.name old.levels l about m did w.tells (w.called log refl) part))
+      (settled_calm now (link_progress m.stage) (Link m) (noted_copy did (link.is_dirty m.folder) (idle old)) refl (part_calm log now known.files old.name old.levels l about m did w.tells (w.called log refl) part))
 
   same : old.item ≡ Next → new.item ≡ old.item → PartCalm now new.item
   same none is = none_calm now new.item (is ∙ none)
@@ -89,7 +89,7 @@ module _ (free : Route → Bool) (replies : Replies) (old new : Seen) (did : Did
   next_part none clean (inr (inr (inr (inr (inr (inr (inr (next, inl (debt, ends))))))))) = same none (ap (λ (c : Seen). c.item) ends.stands)
   next_part none clean (inr (inr (inr (inr (inr (inr (inr (next, inr (debt, f, stays))))))))) = same none (ap (λ (c : Seen). c.item) f.stands)
 
-  works_part : (item : Item) → old.item ≡ item → ItemKnown log old item → PartCalm log item → WorksOn item Unclaimed replies old new did (Some log) (Some now) → PartCalm now new.item
+  works_part : (item : ItemAtWork) → old.item ≡ item → ItemKnown log old item → PartCalm log item → WorksOn item Unclaimed replies old new did (Some log) (Some now) → PartCalm now new.item
   works_part Next is item part (inl s) = same is (ap (λ (c : Seen). c.item) s.stands)
   works_part Next is item part (inr (clean, t)) = next_part is clean t
   works_part (File f) is item part w = file_part f (worked_moves Unclaimed f old new did (Some log) (Some now) w)
@@ -154,14 +154,14 @@ module _ (log : CallLog) where
   keeps_inner : (old : Seen) (l : Level) → PartCalm log old.item → ((path : Route) → IsSetAt path old.levels.inner → IsSetAt path l) → Keeps old (record old { levels = record old.levels { inner = l } })
   keeps_inner old l part same = keeps old (record old { levels = record old.levels { inner = l } }) part (λ path e. elim e [ inl at ↦ inl at | inr set ↦ inr (set_inner path old.levels.inner l old.levels.around (same path) set) ])
 
-  keeps_file : (old : Seen) (f moved : Copying) → old.item ≡ File f → part_at moved.stage ≡ part_at f.stage → Keeps old (settled (progress moved.stage) (File moved) (idle old))
+  keeps_file : (old : Seen) (f moved : Copying) → old.item ≡ File f → part_at moved.stage ≡ part_at f.stage → Keeps old (copy_after_progress (progress moved.stage) (File moved) (idle old))
   keeps_file old f moved is same =
-      keeps old (settled (progress moved.stage) (File moved) (idle old)) (settled_calm log (progress moved.stage) (File moved) (idle old) refl tt)
+      keeps old (copy_after_progress (progress moved.stage) (File moved) (idle old)) (settled_calm log (progress moved.stage) (File moved) (idle old) refl tt)
       (λ path e. file_waits path (progress moved.stage) moved (idle old) refl (elim e [ inl at ↦ inl (same ∙ (sym (ap filled_part is) ∙ at)) | inr set ↦ inr set ]))
 
-  keeps_link : (old : Seen) (l moved : LinkCopying) → old.item ≡ Link l → PartCalm log (Link moved) → Keeps old (settled (link_progress moved.stage) (Link moved) (idle old))
+  keeps_link : (old : Seen) (l moved : LinkCopying) → old.item ≡ Link l → PartCalm log (Link moved) → Keeps old (copy_after_progress (link_progress moved.stage) (Link moved) (idle old))
   keeps_link old l moved is part =
-      keeps old (settled (link_progress moved.stage) (Link moved) (idle old)) (settled_calm log (link_progress moved.stage) (Link moved) (idle old) refl part)
+      keeps old (copy_after_progress (link_progress moved.stage) (Link moved) (idle old)) (settled_calm log (link_progress moved.stage) (Link moved) (idle old) refl part)
       (λ path e. link_waits path (link_progress moved.stage) moved (idle old)
       (elim e [ inl at ↦ absurd (let x : (let o : Option Route = None in o) ≡ Some path = sym (ap filled_part is) ∙ at in let f : ⊥ = cc in f) | inr set ↦ set ]))
 
@@ -187,13 +187,13 @@ module _ (log : CallLog) where
   skips_named (name ∷ names) cause old new did part (inr (inl rest)) = skips_rest cause old new did part rest.1
   skips_named (name ∷ names) cause old new did part (inr (inr room)) = keeps_as old new old room.1 (keeps_all old part)
 
-  skips_calm : (item : Item) (cause : Cause) (old new : Seen) (did : Did) → old.item ≡ item → PartCalm log old.item → SkipsAt item cause old did new → Keeps old new
+  skips_calm : (item : ItemAtWork) (cause : Cause) (old new : Seen) (did : Did) → old.item ≡ item → PartCalm log old.item → SkipsAt item cause old did new → Keeps old new
   skips_calm Next cause old new did is part s = skips_named old.levels.inner.names.names cause old new did part s
   skips_calm (File f) cause old new did is part (moved, skips, stands) = keeps_as old new _ stands (keeps_file old f moved is (file_skip cause f moved did skips))
   skips_calm (Link l) cause old new did is part (moved, skips, stands) = keeps_as old new _ stands (keeps_link old l moved is (link_skip log cause l moved did skips (subst (PartCalm log) is part)))
   skips_calm (Stays left) cause old new did is part s = absurd s
 
-  retries_calm : (item : Item) (c : Seen) → c.item ≡ item → PartCalm log c.item → Keeps c (retried_at item c)
+  retries_calm : (item : ItemAtWork) (c : Seen) → c.item ≡ item → PartCalm log c.item → Keeps c (retried_at item c)
   retries_calm Next c is part = keeps_all c part
   retries_calm (File f) c is part = keeps_file c f (record f { stage = file_anew f.stage }) is (anew_part f.stage)
   retries_calm (Link l) c is part = keeps_link c l (record l { stage = link_anew l.stage }) is (λ has. subst (PartCalm log) is part (anew_has l.stage has))
@@ -233,7 +233,7 @@ none_set path inner [] unset filled h = both_ways _ unset h.1
 none_set path inner (outer ∷ around) unset filled (inl h) = both_ways _ unset h.1
 none_set path inner (outer ∷ around) unset filled (inr h) = none_set path outer around (filled_unset outer.copy.stage outer.copy.names filled.0) filled.1 h
 
-no_part : {A : Type 0} (item : Item) (path : Route) → filled_part item ≡ None → filled_part item ≡ Some path → A
+no_part : {A : Type 0} (item : ItemAtWork) (path : Route) → filled_part item ≡ None → filled_part item ≡ Some path → A
 no_part item path none is = absurd (let e : (let o : Option Route = None in o) ≡ Some path = sym none ∙ is in let f : ⊥ = cc in f)
 
 pub quiet_modes_law : QuietModesLaw

@@ -7,7 +7,7 @@ use Rattle.mc_text.specs.Routes.{Route}
 use Rattle.mc_text.specs.declared.kind.Kind.TheVariants as kind
 use Rattle.tree_trait.specs.declared.file_system.Node.{Node}
 use Rattle.tree_trait.specs.Calls.{MakeLink, RemoveFile, Rename, SyncFolder}
-use Rattle.tree_trait.specs.Change.{Makes, CallLog, change_of, current, found, with_change}
+use Rattle.tree_trait.specs.Change.{Makes, CallLog, change_of, current, found_node, with_change}
 use Rattle.tree_trait.specs.CrashImages.{is_clean}
 use Rattle.tree_trait.specs.FileSystem.{find, lookup}
 use Rattle.tree_trait.specs.Refusals.{refusal_of}
@@ -67,7 +67,7 @@ module _ (log now : CallLog) (files : IsOfFiles log) (name : List ℕ) (l : Leve
         let d = done_call log (MakeLink c.part text) now (row_done log now (MakeLink c.part text) rows) in
         let permits : refusal_of (current log) (MakeLink (k ∷ up) text) ≡ None = subst (λ r. refusal_of (current log) (MakeLink r text) ≡ None) is d.permits in
         let made : Node = record { kind = kind.Link; bytes = text; mode = 0; mtime = pos 0; unnamed = 0 } in
-        let then : now ≡ with_change log (Makes (found (current log) up) k made) = subst (λ r. now ≡ with_change log (change_of (current log) (MakeLink r text) d.time)) is d.is in
+        let then : now ≡ with_change log (Makes (found_node (current log) up) k made) = subst (λ r. now ≡ with_change log (change_of (current log) (MakeLink r text) d.time)) is d.is in
         let making : IsMaking (current log) k up = making_passes (current log) k up 0 permits in
         let free : find (current log) c.part ≡ None = ap (find (current log)) is ∙ (ap (option_and_then (λ f. lookup (let s = current log in s.names) f k)) making.folder ∙ making.none) in
         subst (λ (x : CallLog). IsCalmOr p x S) (sym then) (calm_made log known.tree k up made making p files S S (λ s. s) (calm free))
@@ -83,7 +83,7 @@ module _ (log now : CallLog) (files : IsOfFiles log) (name : List ℕ) (l : Leve
     synced : AllDone log (SyncFolder (folder_of c.target) ∷ []) (Some now) → IsCalmOr p log S → IsCalmOr p now S
     synced rows calm =
         let d = done_call log (SyncFolder (folder_of c.target)) now (row_done log now (SyncFolder (folder_of c.target)) rows) in
-        subst (λ (x : CallLog). IsCalmOr p x S) (sym d.is) (calm_sync p S log (found (current log) (folder_of c.target)) calm)
+        subst (λ (x : CallLog). IsCalmOr p x S) (sym d.is) (calm_sync p S log (found_node (current log) (folder_of c.target)) calm)
 
   -- its own part is calm
   abbrev pub PartIs : CallLog → LinkCopying → Type 0

@@ -8,7 +8,7 @@ use Rattle.tree_trait.specs.declared.calls.TreeError.TheVariants.{Fault, Memory}
 use Rattle.tree_trait.specs.declared.file_system.FileSystem.{FileSystem}
 use Rattle.tree_trait.specs.Answers.{Performs}
 use Rattle.tree_trait.specs.Calls.{Call, RemoveFile, Rename, SetMode, SyncFile, WriteAt}
-use Rattle.tree_trait.specs.Change.{Change, Moves, Nothing, Removes, Sets, Syncs, Writes, CallLog, change_of, current, found, torn_write, with_change}
+use Rattle.tree_trait.specs.Change.{Change, Moves, Nothing, Removes, Sets, Syncs, Writes, CallLog, change_of, current, found_node, torn_write, with_change}
 use Rattle.tree_trait.specs.CrashImages.{alters, is_clean}
 use Rattle.tree_trait.specs.FileSystem.{find, lookup}
 use Rattle.tree_trait.specs.Refusals.{after_walk, refusal_of, rename_refusal, walk}
@@ -23,7 +23,7 @@ use Rattle.job_reports.specs.declared.report.Cause.{Cause}
 use Rattle.job_reports.specs.declared.report.Cause.TheVariants as cause
 use Rattle.job_reports.proofs.CallAnswers.{IsDoneCall, done_call, some_log}
 use Rattle.copy_file.specs.CopyCalls.{part_mode, placing}
-use Rattle.copy_folders.specs.Levels.{Levels, coming, passed}
+use Rattle.copy_folders.specs.Levels.{Levels, coming, passed_levels}
 use Rattle.laws_sessions.proofs.AtWork.{HasItem, IsAtWork}
 use Rattle.laws_sessions.proofs.Calm.{IsCalmOr}
 use Rattle.laws_sessions.proofs.CalmChanges.{calm_placed, calm_quiet, calm_removed}
@@ -47,9 +47,9 @@ refused_write log now path offset bytes Memory h = inl (some_log now log h)
 refused_write log now path offset bytes e h = inr (inl (some_log now _ h.1))
 
 -- a part that stands is at no other path
-pub only_part : (log : CallLog) → IsTree (current log) → (p part : Route) (i j : ℕ) → find (current log) part ≡ Some i → find (current log) p ≡ Some j → (found (current log) part == j) ≡ true → p ≡ part
+pub only_part : (log : CallLog) → IsTree (current log) → (p part : Route) (i j : ℕ) → find (current log) part ≡ Some i → find (current log) p ≡ Some j → (found_node (current log) part == j) ≡ true → p ≡ part
 only_part log tree p part i j leads at same =
-    let is : i ≡ j = sym (ap (λ o. unwrap_or o 0) leads) ∙ eqb-true (found (current log) part) j same in
+    let is : i ≡ j = sym (ap (λ o. unwrap_or o 0) leads) ∙ eqb-true (found_node (current log) part) j same in
     find-once (current log) tree p part i (at ∙ ap (λ k. Some k) (sym is)) leads
 
 module _ (p : Route) (E : Type 0) where
@@ -86,7 +86,7 @@ module _ (name : List ℕ) (l : Levels) (part target p : Route) (E : Type 0) whe
   part_leads log r = let item = r.item in let work = item.work in (work.i, work.leads)
 
   -- what alters the part leaves all else calm
-  part_altered : (log : CallLog) (c : Change) → Ready log → ((j : ℕ) → alters j c ≡ true → (found (current log) part == j) ≡ true) → (j : ℕ) → find (current log) p ≡ Some j → alters j c ≡ true → (p ≡ part) ⊎ E
+  part_altered : (log : CallLog) (c : Change) → Ready log → ((j : ℕ) → alters j c ≡ true → (found_node (current log) part == j) ≡ true) → (j : ℕ) → find (current log) p ≡ Some j → alters j c ≡ true → (p ≡ part) ⊎ E
   part_altered log c r it j at is = let there = part_leads log r in inl (only_part log r.tree p part there.0 j there.1 at (it j is))
 
   nothing : (log : CallLog) → Ready log → Ready (with_change log Nothing)
@@ -96,22 +96,22 @@ module _ (name : List ℕ) (l : Levels) (part target p : Route) (E : Type 0) whe
     calm = calm_nothing p ((p ≡ part) ⊎ E) log r.calm;
   }
 
-  synced : (log : CallLog) → Ready log → Ready (with_change log (Syncs (found (current log) part)))
+  synced : (log : CallLog) → Ready log → Ready (with_change log (Syncs (found_node (current log) part)))
   synced log r = record {
-    tree = tree_synced log (found (current log) part) r.tree;
-    item = has_quiet name l part target log (Syncs (found (current log) part)) r.tree (λ n g m. refl) r.item;
-    calm = calm_sync p ((p ≡ part) ⊎ E) log (found (current log) part) r.calm;
+    tree = tree_synced log (found_node (current log) part) r.tree;
+    item = has_quiet name l part target log (Syncs (found_node (current log) part)) r.tree (λ n g m. refl) r.item;
+    calm = calm_sync p ((p ≡ part) ⊎ E) log (found_node (current log) part) r.calm;
   }
 
-  moded : (log : CallLog) (mode : ℕ) → Ready log → Ready (with_change log (Sets (found (current log) part) mode))
+  moded : (log : CallLog) (mode : ℕ) → Ready log → Ready (with_change log (Sets (found_node (current log) part) mode))
   moded log mode r = record {
-    tree = tree_moded log (found (current log) part) mode r.tree;
-    item = has_quiet name l part target log (Sets (found (current log) part) mode) r.tree (λ n g m. refl) r.item;
-    calm = calm_quiet p log (Sets (found (current log) part) mode) _ _ r.calm (λ n g m. refl) (part_altered log (Sets (found (current log) part) mode) r (λ j is. is)) (λ e. e);
+    tree = tree_moded log (found_node (current log) part) mode r.tree;
+    item = has_quiet name l part target log (Sets (found_node (current log) part) mode) r.tree (λ n g m. refl) r.item;
+    calm = calm_quiet p log (Sets (found_node (current log) part) mode) _ _ r.calm (λ n g m. refl) (part_altered log (Sets (found_node (current log) part) mode) r (λ j is. is)) (λ e. e);
   }
 
-  pub written : (log : CallLog) (bytes : List ℕ) (time : _) → Ready log → IsCalmOr p (with_change log (Writes (found (current log) part) bytes time)) ((p ≡ part) ⊎ E)
-  written log bytes time r = calm_quiet p log (Writes (found (current log) part) bytes time) _ _ r.calm (λ n g m. refl) (part_altered log (Writes (found (current log) part) bytes time) r (λ j is. is)) (λ e. e)
+  pub written : (log : CallLog) (bytes : List ℕ) (time : _) → Ready log → IsCalmOr p (with_change log (Writes (found_node (current log) part) bytes time)) ((p ≡ part) ⊎ E)
+  written log bytes time r = calm_quiet p log (Writes (found_node (current log) part) bytes time) _ _ r.calm (λ n g m. refl) (part_altered log (Writes (found_node (current log) part) bytes time) r (λ j is. is)) (λ e. e)
 
   pub write_stops : (log now : CallLog) (offset : ℕ) (bytes : List ℕ) (why : Cause) (path : Option Route) → Ready log → RunStops (WriteAt part offset bytes ∷ []) why path log (Some now) → IsCalmOr p now ((p ≡ part) ⊎ E)
   write_stops log now offset bytes why path r run = elim (row_stops log now (WriteAt part offset bytes) why path run) [
@@ -193,7 +193,7 @@ module _ (name : List ℕ) (l : Levels) (part target p : Route) (E : Type 0) whe
         d : IsDoneCall log (Rename part target) now
         d = done_call log (Rename part target) now h
 
-        w : IsAtWork (current log) up (let q : Levels = passed false l in coming name q.inner.names q.around) part target
+        w : IsAtWork (current log) up (let q : Levels = passed_levels false l in coming name q.inner.names q.around) part target
         w = let item = r.item in item.work
 
         at : refusal_of (current log) (Rename (w.k ∷ up) (w.n ∷ up)) ≡ None → IsCalmOr p now F
@@ -201,14 +201,14 @@ module _ (name : List ℕ) (l : Levels) (part target p : Route) (E : Type 0) whe
             let a = passed_walk (walk (current log) (w.k ∷ up)) (λ a. after_walk (current log) (w.n ∷ up) (λ b. rename_refusal (current log) (w.k ∷ up) (w.n ∷ up) a b)) permits in
             let b = passed_walk (walk (current log) (w.n ∷ up)) (λ b. rename_refusal (current log) (w.k ∷ up) (w.n ∷ up) a.0 b) a.2 in
             let last = last_place (current log) w.n up b.0 b.1 in
-            let g = found (current log) up in
+            let g = found_node (current log) up in
             let leads_here : find (current log) (w.k ∷ up) ≡ Some w.i = subst (λ q. find (current log) q ≡ Some w.i) w.part_is w.leads in
             let part_there : lookup (let s = current log in s.names) g w.k ≡ Some w.i = sym (ap (option_and_then (λ k. lookup (let s = current log in s.names) k w.k)) last.folder) ∙ leads_here in
             let other : same_path (w.k ∷ up) (w.n ∷ up) ≡ false = false_from_ne_true _ (λ same. let e : (w.k ∷ up) ≡ w.n ∷ up = same_path-true (w.k ∷ up) (w.n ∷ up) same in w.apart cc) in
             let change : change_of (current log) (Rename part target) d.time ≡ Moves g w.k g w.n w.i (find (current log) (w.n ∷ up)) =
             ap (λ q. change_of (current log) (Rename q target) d.time) w.part_is
             ∙ (ap (λ q. change_of (current log) (Rename (w.k ∷ up) q) d.time) w.target_is
-            ∙ (ap (λ x. cond x Nothing (Moves g w.k g w.n (found (current log) (w.k ∷ up)) (find (current log) (w.n ∷ up)))) other
+            ∙ (ap (λ x. cond x Nothing (Moves g w.k g w.n (found_node (current log) (w.k ∷ up)) (find (current log) (w.n ∷ up)))) other
             ∙ ap (λ k. Moves g w.k g w.n k (find (current log) (w.n ∷ up))) (ap (λ o. unwrap_or o 0) leads_here))) in
             subst (λ (x : CallLog). IsCalmOr p x F) (sym (d.is ∙ ap (with_change log) change))
             (calm_placed log r.tree up g last.folder w.k w.i part_there w.file p ((p ≡ part) ⊎ E) F (λ e. subst (λ q. (p ≡ q) ⊎ F) w.part_is (f e)) r.calm w.n (find (current log) (w.n ∷ up)) w.apart (clean w.i w.leads))
@@ -226,8 +226,8 @@ module _ (name : List ℕ) (l : Levels) (part target p : Route) (E : Type 0) whe
             (subst (λ j. is_clean i (with_change from (Syncs j)).changes ≡ true) (sym (ap (λ o. unwrap_or o 0) (at_before from mid d.is at))) (firm_law from i)) in
             renamed mid E (λ e. e) clean (then_synced from mid sync r) (row_done mid now (Rename part target) moved)
           where
-            at_before : (from mid : CallLog) → mid ≡ with_change from (Syncs (found (current from) part)) → {i : ℕ} → find (current mid) part ≡ Some i → find (current from) part ≡ Some i
-            at_before from mid is at = sym (ap (λ (x : CallLog). find (current x) part) is ∙ Rattle.laws_crash.proofs.Guarding.same_quiet from (Syncs (found (current from) part)) (λ n m. refl) part) ∙ at
+            at_before : (from mid : CallLog) → mid ≡ with_change from (Syncs (found_node (current from) part)) → {i : ℕ} → find (current mid) part ≡ Some i → find (current from) part ≡ Some i
+            at_before from mid is at = sym (ap (λ (x : CallLog). find (current x) part) is ∙ Rattle.laws_crash.proofs.Guarding.same_quiet from (Syncs (found_node (current from) part)) (λ n m. refl) part) ∙ at
 
         by : (b : Bool) → AllDone log (if◌then◌else◌ b [] (SetMode part mode ∷ []) ++ SyncFile part ∷ Rename part target ∷ []) (Some now) → IsCalmOr p now E
         by true rows = tail_done log r rows
@@ -245,6 +245,6 @@ calm_removing p log now part E F tree f calm h = at (removable (current log) par
         let leads_there : find (current log) (r.name ∷ r.up) ≡ Some r.i = rw r.folder r.leads in
         let change : change_of (current log) (RemoveFile part) d.time ≡ Removes r.f r.name r.i =
         ap (λ q. change_of (current log) (RemoveFile q) d.time) r.path_is
-        ∙ (ap (λ g. Removes g r.name (found (current log) (r.name ∷ r.up))) (ap (λ o. unwrap_or o 0) r.folder) ∙ ap (λ k. Removes r.f r.name k) (ap (λ o. unwrap_or o 0) leads_there)) in
+        ∙ (ap (λ g. Removes g r.name (found_node (current log) (r.name ∷ r.up))) (ap (λ o. unwrap_or o 0) r.folder) ∙ ap (λ k. Removes r.f r.name k) (ap (λ o. unwrap_or o 0) leads_there)) in
         subst (λ (x : CallLog). IsCalmOr p x F) (sym (d.is ∙ ap (with_change log) change))
         (calm_removed log tree r.up r.f r.folder r.name r.i r.leads r.no_folder p E F (λ e. subst (λ q. (p ≡ q) ⊎ F) r.path_is (f e)) calm)

@@ -22,18 +22,18 @@ use Rattle.copy_folders.specs.declared.stage.NamesState.{NamesState}
 use Rattle.copy_folders.specs.declared.stage.NamesState.TheVariants.{Synced, Dirty}
 use Rattle.copy_folders.specs.declared.stage.Stage.{Stage}
 use Rattle.copy_folders.specs.declared.stage.Stage.TheVariants as at
-use Rattle.tree_walk.specs.Places.{opened}
+use Rattle.tree_walk.specs.Places.{opened_folder}
 use Rattle.copy_folders.specs.declared.level.Level.{Level}
-use Rattle.copy_folders.specs.Levels.{IsLeft, Levels, closed, is_around_dirty, level, made_levels, owes, passed, with_copy}
-use Rattle.copy_tree.specs.declared.item.Item.{Item}
-use Rattle.copy_tree.specs.declared.item.Item.TheVariants.{Next, File, Link, Stays}
+use Rattle.copy_folders.specs.Levels.{IsLeft, Levels, levels_closed, is_around_dirty, level, made_levels, owes, passed_levels, with_copy}
+use Rattle.copy_tree.specs.declared.item.ItemAtWork.{ItemAtWork}
+use Rattle.copy_tree.specs.declared.item.ItemAtWork.TheVariants.{Next, File, Link, Stays}
 use Rattle.copy_tree.specs.declared.progress.Progress.{Progress}
 use Rattle.copy_tree.specs.declared.progress.Progress.TheVariants.{UnderWay, Decided, Anew}
 use Rattle.copy_tree.specs.Parts.{IsPartPlace}
 use Rattle.copy_tree.specs.Progress.{link_progress, progress}
 use Rattle.copy_tree.specs.Reports.{IsToldAs}
 use Rattle.copy_tree.specs.Standing.{Seen, after_report, target_name}
-use Rattle.copy_tree.specs.Steps.{FolderEnds, FolderMakes, LeavesAll, LinkWorks, SyncsAround, TakesNext, WorksOn, at_end, idle, link_begun, noted, settled}
+use Rattle.copy_tree.specs.TreeCopySteps.{FolderEnds, FolderMakes, LeavesAll, LinkWorks, SyncsAround, TakesNext, WorksOn, at_end, idle, link_begun, noted_copy, copy_after_progress}
 use Rattle.laws_sessions.proofs.FileMoves.{FileMoves, taken_moves, worked_moves}
 use Rattle.laws_sessions.proofs.Resting.{stands_at}
 use Rattle.laws_sessions.proofs.AtWork.{ItemKnown}
@@ -62,7 +62,7 @@ none_anew (file_stage.Left part) p is at = (let f : ⊥ = cc in f)
 none_anew file_stage.Decided p is at = (let f : ⊥ = cc in f)
 none_anew file_stage.Begin p is at = (let f : ⊥ = cc in f)
 
-nothing_filled : {A : Type 0} (item : Item) (p : Route) → item ≡ Next → filled_part item ≡ Some p → A
+nothing_filled : {A : Type 0} (item : ItemAtWork) (p : Route) → item ≡ Next → filled_part item ≡ Some p → A
 nothing_filled item p none is = absurd (let e : (let o : Option Route = None in o) ≡ Some p = sym (ap filled_part none) ∙ is in let f : ⊥ = cc in f)
 
 module _ (p : Route) where
@@ -74,11 +74,11 @@ module _ (p : Route) where
   sets_alone c none (inl is) = nothing_filled c.item p none is
   sets_alone c none (inr set) = set
 
-  noted_sets : (did : Did) (changed : Bool) (c : Seen) → Sets c → Sets (noted did changed c)
+  noted_sets : (did : Did) (changed : Bool) (c : Seen) → Sets c → Sets (noted_copy did changed c)
   noted_sets did changed c set = set_dirtied p changed c.levels set
 
   -- a file goes on, or is done with
-  pub file_waits : (pr : Progress) (f : Copying) (c : Seen) → progress f.stage ≡ pr → AtPart f.stage p (Sets c) → MayWait (settled pr (File f) c) p
+  pub file_waits : (pr : Progress) (f : Copying) (c : Seen) → progress f.stage ≡ pr → AtPart f.stage p (Sets c) → MayWait (copy_after_progress pr (File f) c) p
   file_waits UnderWay f c is (inl at) = inl at
   file_waits UnderWay f c is (inr set) = inr set
   file_waits Decided f c is (inl at) = absurd (none_decided f.stage p is at)
@@ -86,7 +86,7 @@ module _ (p : Route) where
   file_waits Anew f c is (inl at) = absurd (none_anew f.stage p is at)
   file_waits Anew f c is (inr set) = inr set
 
-  pub link_waits : (pr : Progress) (l : LinkCopying) (c : Seen) → Sets c → MayWait (settled pr (Link l) c) p
+  pub link_waits : (pr : Progress) (l : LinkCopying) (c : Seen) → Sets c → MayWait (copy_after_progress pr (Link l) c) p
   link_waits UnderWay l c set = inr set
   link_waits Decided l c set = inr (set_passed p false c.levels set)
   link_waits Anew l c set = inr set
@@ -110,7 +110,7 @@ module _ (p : Route) where
   leaves_wait zero old mid is waits = subst (λ (c : Seen). MayWait c p) (sym is) waits
   leaves_wait (suc n) old mid (last, all, none, one) waits =
       let r = one.returns in
-      inr (left_sets (closed last.levels) mid.levels r.left one.done (set_closed p last.levels (sets_alone last none (leaves_wait n old last all waits))))
+      inr (left_sets (levels_closed last.levels) mid.levels r.left one.done (set_closed p last.levels (sets_alone last none (leaves_wait n old last all waits))))
 
   module _ (free : Route → Bool) (replies : Replies) (old new : Seen) (did : Did) (log now : CallLog) (known : StepKnown log old) (calm : IsCalm log old p) where
     abbrev Unclaimed : Route → Type 0
@@ -128,18 +128,18 @@ module _ (p : Route) where
     file_works : (f : Copying) → FileKnown Unclaimed log old.name old.levels f → (filled_part old.item ≡ Some p → part_at f.stage ≡ Some p) → FileMoves Unclaimed f old new did (Some log) (Some now) → Then
     file_works f about same w =
         let m = w.moved in
-        let c = noted did (file.is_dirty m.folder) (idle old) in
+        let c = noted_copy did (file.is_dirty m.folder) (idle old) in
         let before : IsCalmOr p log (AtPart f.stage p (Sets old)) = calm_map p log (MayWait old p) _ (λ e. elim e [ inl at ↦ inl (same at) | inr set ↦ inr set ]) calm in
         let after : IsCalmOr p now (AtPart m.stage p (Sets old)) = file_calm Unclaimed log now known.files old.name old.levels f about p (Sets old) before m did w.tells (w.called log refl) in
-        as_new (settled (progress m.stage) (File m) c) w.stands
+        as_new (copy_after_progress (progress m.stage) (File m) c) w.stands
         (calm_map p now (AtPart m.stage p (Sets old)) _ (λ e. file_waits (progress m.stage) m c refl (elim e [ inl at ↦ inl at | inr set ↦ inr (noted_sets did (file.is_dirty m.folder) (idle old) set) ])) after)
 
     link_works : (l : LinkCopying) → LinkKnown log old.name old.levels l → PartCalm log (Link l) → (filled_part old.item ≡ Some p → ⊥) → LinkWorks l old new did (Some log) (Some now) → Then
     link_works l about part none w =
         let m = w.moved in
-        let c = noted did (link.is_dirty m.folder) (idle old) in
+        let c = noted_copy did (link.is_dirty m.folder) (idle old) in
         let before : IsCalmOr p log (Sets old) = calm_map p log (MayWait old p) (Sets old) (λ e. elim e [ inl at ↦ absurd (none at) | inr set ↦ set ]) calm in
-        as_new (settled (link_progress m.stage) (Link m) c) w.stands
+        as_new (copy_after_progress (link_progress m.stage) (Link m) c) w.stands
         (calm_map p now (Sets old) _ (λ set. link_waits (link_progress m.stage) m c (noted_sets did (link.is_dirty m.folder) (idle old) set))
         (link_calm log now known.files old.name old.levels l about p (Sets old) m did w.tells (w.called log refl) part before))
 
@@ -156,11 +156,11 @@ module _ (p : Route) where
 
       -- a folder is made, or that is refused
       made_by : (pair : Pair) (names : List (List ℕ)) (mode : ℕ) (n : List ℕ) → pair.target ≡ n ∷ up → (moved : FolderCopying) (report : FolderDid) → Tells (copying pair.source pair.target (at.Make mode) Synced) report moved
-          → FolderCalls (copying pair.source pair.target (at.Make mode) Synced) report log (Some now) → IsCalmOr p now (SetIn p (made_levels moved.stage (opened pair.source names) moved old.levels))
+          → FolderCalls (copying pair.source pair.target (at.Make mode) Synced) report log (Some now) → IsCalmOr p now (SetIn p (made_levels moved.stage (opened_folder pair.source names) moved old.levels))
       made_by pair names mode n target_is moved (folder_did.Made path) tells rows =
-          folder_made p log now known.tree known.files (Sets old) _ n up pair.target _ target_is rows (set_made p moved.stage (opened pair.source names) moved old.levels) alone
+          folder_made p log now known.tree known.files (Sets old) _ n up pair.target _ target_is rows (set_made p moved.stage (opened_folder pair.source names) moved old.levels) alone
       made_by pair names mode n target_is moved (folder_did.Troubled trouble) tells run =
-          calm_map p now (Sets old) _ (set_made p moved.stage (opened pair.source names) moved old.levels) (next_stops p log now known.tree (Sets old) pair.target (at.Make mode) Synced trouble.cause trouble.path run alone)
+          calm_map p now (Sets old) _ (set_made p moved.stage (opened_folder pair.source names) moved old.levels) (next_stops p log now known.tree (Sets old) pair.target (at.Make mode) Synced trouble.cause trouble.path run alone)
       made_by pair names mode n target_is moved (folder_did.Set path) (mode_now, stage, path_is, new_is) rows = absurd (let f : ⊥ = cc in f)
       made_by pair names mode n target_is moved folder_did.Barrier (stage, dirty, new_is) rows = absurd (let f : ⊥ = cc in f)
       made_by pair names mode n target_is moved folder_did.Closed (stage, clean, new_is) rows = absurd (let f : ⊥ = cc in f)
@@ -230,27 +230,27 @@ module _ (p : Route) where
 
       makes : (pair : Pair) (names : List (List ℕ)) (mode : ℕ) (n : List ℕ) → pair.target ≡ n ∷ up → FolderMakes pair names mode old new did (Some log) (Some now) → Then
       makes pair names mode n target_is w =
-          with_levels (after_report did old.stage) (let m = w.moved in made_levels m.stage (opened pair.source names) m old.levels) w.stands (made_by pair names mode n target_is w.moved w.report w.tells (w.called log refl))
+          with_levels (after_report did old.stage) (let m = w.moved in made_levels m.stage (opened_folder pair.source names) m old.levels) w.stands (made_by pair names mode n target_is w.moved w.report w.tells (w.called log refl))
 
       ends : is_around_dirty old.levels.around ≡ false → FolderEnds (at_end old) new did (Some log) (Some now) → Then
       ends clean e = with_levels (after_report did old.stage) (with_copy e.moved old.levels) e.stands (ends_by clean e.moved e.report e.says e.tells (e.called log refl))
 
       takes : is_around_dirty old.levels.around ≡ false → TakesNext Unclaimed replies old new did (Some log) (Some now) → Then
       takes clean (inl s) = as_new old s.stands (same_log (MayWait old p) (some_log now log s.same) calm)
-      takes clean (inr (inl t)) = file_works (file.begun old.job t.pair.source t.pair.target) (taken_file free replies old new did log now known clean t) (λ at. nothing_filled old.item p none at) (taken_moves Unclaimed replies old new did (Some log) (Some now) t)
+      takes clean (inr (inl t)) = file_works (file.begun_copy old.job t.pair.source t.pair.target) (taken_file free replies old new did log now known clean t) (λ at. nothing_filled old.item p none at) (taken_moves Unclaimed replies old new did (Some log) (Some now) t)
       takes clean (inr (inr (inl t))) =
           link_works (link_begun t.pair t.part) (taken_link free replies old new did log now known clean t) (λ has. absurd (false≢true has)) (λ at. nothing_filled old.item p none at) t.works
       takes clean (inr (inr (inr (inl t)))) = let n = next_of old old.levels.inner.names.names t.pair t.next in makes t.pair t.names t.mode (target_name old n.name) n.target_is t.works
       takes clean (inr (inr (inr (inr (inl t))))) =
-          as_new (record old { levels = passed false old.levels }) t.stands (calm_map p now (Sets old) _ (λ set. inr (set_passed p false old.levels set)) (same_log (Sets old) (some_log now log t.same) alone))
+          as_new (record old { levels = passed_levels false old.levels }) t.stands (calm_map p now (Sets old) _ (λ set. inr (set_passed p false old.levels set)) (same_log (Sets old) (some_log now log t.same) alone))
       takes clean (inr (inr (inr (inr (inr (inl t)))))) =
-          as_new (record old { levels = passed false old.levels }) t.stands (calm_map p now (Sets old) _ (λ set. inr (set_passed p false old.levels set)) (same_log (Sets old) (some_log now log t.same) alone))
+          as_new (record old { levels = passed_levels false old.levels }) t.stands (calm_map p now (Sets old) _ (λ set. inr (set_passed p false old.levels set)) (same_log (Sets old) (some_log now log t.same) alone))
       takes clean (inr (inr (inr (inr (inr (inr (inl t))))))) = as_new old t.stands (same_log (MayWait old p) (some_log now log t.same) calm)
       takes clean (inr (inr (inr (inr (inr (inr (inr (next, inl (debt, e))))))))) = ends clean e
       takes clean (inr (inr (inr (inr (inr (inr (inr (next, inr (debt, f, same))))))))) =
           as_new (at_end old) f.stands (calm_map p now (Sets old) _ (λ set. inr (set_closed p old.levels set)) (same_log (Sets old) (some_log now log same) alone))
 
-    pub works_calm : (item : Item) → old.item ≡ item → ItemKnown log old item → PartCalm log item → WorksOn item Unclaimed replies old new did (Some log) (Some now) → Then
+    pub works_calm : (item : ItemAtWork) → old.item ≡ item → ItemKnown log old item → PartCalm log item → WorksOn item Unclaimed replies old new did (Some log) (Some now) → Then
     works_calm Next is item part (inl s) = around_calm is s
     works_calm Next is item part (inr (clean, t)) = takes is clean t
     works_calm (File f) is item part w = file_works f (worked_file free replies old new did log now known f item) (λ at. sym (ap filled_part is) ∙ at) (worked_moves Unclaimed f old new did (Some log) (Some now) w)

@@ -28,7 +28,7 @@ use Rattle.emptied_job.specs.Removals as removals
 use Rattle.mode_job.specs.Settings as settings
 use Rattle.copy_move.specs.Jobs.{Running, WorkTells, is_fresh}
 use Rattle.copy_move.specs.Settling.{NoneOwed, changed_folder}
-use Rattle.copy_move.specs.Steps.{SyncsOwed}
+use Rattle.copy_move.specs.JobStepReports.{SyncsOwed}
 use Rattle.laws_sessions.specs.Calmed.{CalmLaw, HasBegun, changes_name, changes_thing}
 use Rattle.laws_sessions.specs.Doubt.{name_waits, node_waits}
 use Rattle.session_entries.specs.LiveJobs.{live_jobs, live_item}
@@ -47,7 +47,7 @@ use Rattle.laws_sessions.proofs.Going.{only_job}
 use Rattle.laws_sessions.proofs.Histories.{traced_reached}
 use Rattle.laws_sessions.proofs.JobKnows.{WorkKnows}
 use Rattle.laws_sessions.proofs.JobLeads.{work_leads}
-use Rattle.laws_sessions.proofs.Knowing.{IsKept, Said, mode_waits}
+use Rattle.laws_sessions.proofs.Knowing.{IsKept, HistoryFacts, mode_waits}
 use Rattle.laws_sessions.proofs.Moments.{prefix_is, log_of, traced_count}
 use Rattle.laws_sessions.proofs.ModesStay.{event_still as mode_still}
 use Rattle.laws_sessions.proofs.Owing.{apart_from, owed_apart, owed_modes, owed_names}
@@ -55,7 +55,7 @@ use Rattle.laws_sessions.proofs.Unchanged.{has_begun, is_going}
 use Rattle.laws_sessions.proofs.Reports.{HasLive, JobsKnow}
 use Rattle.laws_sessions.proofs.TreeKnown.{ItemHas, TreeKnown, is_over}
 use Rattle.laws_sessions.proofs.Staying.{doubting, event_still, kept_doubting, unsaid, work_doubting}
-use Rattle.laws_sessions.proofs.Stepped.{Comes, said_after}
+use Rattle.laws_sessions.proofs.Stepped.{StepRan, said_after}
 
 fresh_stage : (stage : Stage) → at_barrier stage ≡ false → is_going stage ≡ false → is_fresh_stage stage ≡ true
 fresh_stage Begin going none = refl
@@ -63,7 +63,7 @@ fresh_stage Going going none = absurd (false≢true (sym none))
 fresh_stage Sync going none = absurd (false≢true (sym going))
 
 -- work that begins a change, and has begun none, has changed nothing yet, and no part of it stands
-module _ (told : Said) (dirty : List Route) (marks : Marks) (log : CallLog) (course : Course) (going : is_over course ≡ false) where
+module _ (told : HistoryFacts) (dirty : List Route) (marks : Marks) (log : CallLog) (course : Course) (going : is_over course ≡ false) where
   abbrev IsStart : Work → Type 0
   IsStart work = (is_fresh work ≡ true) × (told.part ≡ None)
 
@@ -129,7 +129,7 @@ neither_is true b sure off = absurd (true≢false sure)
 neither_is false b sure off = off
 
 -- a mode that waits, of a path of which none is said to, is that of a part
-part_waits : (said : Said) (path : Route) → said.modes path ≡ false → (dirty : List Route) (marks : Marks) (log : CallLog) → IsKept said dirty marks log → node_waits log path ≡ true → Among said.named path
+part_waits : (said : HistoryFacts) (path : Route) → said.modes path ≡ false → (dirty : List Route) (marks : Marks) (log : CallLog) → IsKept said dirty marks log → node_waits log path ≡ true → Among said.named path
 part_waits said path sure dirty marks log kept waits = by (marks.aside path) refl
   where
     by : (b : Bool) → marks.aside path ≡ b → Among said.named path
@@ -141,7 +141,7 @@ module _ (opening : CallLog) (tree : IsTree (current opening)) (settled : all_se
   r : Rattle.laws_sessions.proofs.Histories.IsReached opening older f.was f.before
   r = traced_reached opening tree settled older f.was f.before f.traced
 
-  abbrev told : Said
+  abbrev told : HistoryFacts
   told = told_of opening f.before older r.part
 
   -- the job whose report it is: nothing was owed by it then, and no part of it stood
@@ -206,15 +206,15 @@ module _ (opening : CallLog) (tree : IsTree (current opening)) (settled : all_se
 
   -- After the report of a move only its two names wait that didn't before, and of modes only those of parts.
   module _ (pair : Pair) (did_is : h.did ≡ Moved pair) where
-    abbrev doubts : Said
+    abbrev doubts : HistoryFacts
     doubts = doubting told f.before
 
-    come : Comes doubts (said_after f.now (Moved pair) (let b = begins in b.job.work) doubts) f.after.dirty f.before f.now (λ marks. Unit {0})
+    come : StepRan doubts (said_after f.now (Moved pair) (let b = begins in b.job.work) doubts) f.after.dirty f.before f.now (λ marks. Unit {0})
     come =
         let b = begins in
         let c = work_leads doubts f.was.dirty f.after.dirty r.marks f.before f.now (kept_doubting told f.before f.was.dirty r.marks r.kept) b.job b.new h.did
         (work_doubting told f.before f.was.dirty r.marks f.before b.job.course b.job.work b.knows) b.works in
-        subst (λ did. Comes doubts (said_after f.now did b.job.work doubts) f.after.dirty f.before f.now (λ marks. Unit {0})) did_is
+        subst (λ did. StepRan doubts (said_after f.now did b.job.work doubts) f.after.dirty f.before f.now (λ marks. Unit {0})) did_is
         (record { made = c.made; now_is = c.now_is; mids = c.mids; marks = c.marks; kept = c.kept; known_of = tt })
 
     moved_names : (path : Route) → name_waits f.before path ≡ false → (same_path path pair.source || same_path path pair.target) ≡ false → name_waits f.now path ≡ false

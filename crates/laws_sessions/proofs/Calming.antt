@@ -14,7 +14,7 @@ use Rattle.tree_trait.specs.Shape.{IsTree}
 use Rattle.tree_trait.specs.Calls.{Call, SetMode}
 use Rattle.tree_trait.specs.Refusals.{Place, a_folder, a_special, after_walk, first_of, missing, refusal_of, walk}
 use Rattle.tree_trait.proofs.Walking.{check_passes, passed_walk, some_there, walk-find}
-use Rattle.tree_trait.specs.Change.{Nothing, Sets, Writes, Syncs, CallLog, change_of, current, with_change, found, torn_write}
+use Rattle.tree_trait.specs.Change.{Nothing, Sets, Writes, Syncs, CallLog, change_of, current, with_change, found_node, torn_write}
 use Rattle.tree_trait.specs.CrashImages.{Among, is_clean}
 use Rattle.tree_trait.specs.Answers.{Performs}
 use Rattle.tree_trait.proofs.Ending as ending
@@ -30,14 +30,14 @@ use Rattle.job_reports.specs.CallRuns.{RunStops}
 use Rattle.job_reports.specs.declared.report.Cause.{Cause}
 use Rattle.job_reports.proofs.PermittedCalls.{sync_finds}
 use Rattle.mode_job.specs.SettingSteps.{SyncStops, sync_by, sync_of}
-use Rattle.laws_sessions.proofs.Knowing.{Said, HasMode, IsKnown}
+use Rattle.laws_sessions.proofs.Knowing.{HistoryFacts, HasMode, IsKnown}
 use Rattle.laws_sessions.proofs.Quiet.{calm_known}
 use Rattle.laws_sessions.proofs.Restless.{is_restless, restless_synced}
 
 some_route : (p q : Route) → (let o : Option Route = Some p in o) ≡ Some q → q ≡ p
 some_route p q h = cc
 
-module _ (said : Said) (dirty : List Route) (marks : Marks) (log : CallLog) (known : IsKnown said dirty marks log) where
+module _ (said : HistoryFacts) (dirty : List Route) (marks : Marks) (log : CallLog) (known : IsKnown said dirty marks log) where
   pub nothing_known : IsKnown said dirty marks (with_change log Nothing)
   nothing_known = calm_known said dirty marks log Nothing known (record {
     quiet = record {
@@ -145,24 +145,24 @@ stopped_is log now call why path no_write stops = let q = calm_stops call why pa
 ]
 
 -- what a call doesn't miss is there
-not_missed : (s : FileSystem) (path : Route) (checks : Place → List (Bool × TreeError)) → after_walk s path (λ p. first_of (missing p ∷ checks p)) ≡ None → find s path ≡ Some (found s path)
+not_missed : (s : FileSystem) (path : Route) (checks : Place → List (Bool × TreeError)) → after_walk s path (λ p. first_of (missing p ∷ checks p)) ≡ None → find s path ≡ Some (found_node s path)
 not_missed s path checks h =
     let w = passed_walk (walk s path) (λ p. first_of (missing p ∷ checks p)) h in
     let t = some_there w.0.there (check_passes (is_none w.0.there) Missing _ w.2).0 in
     let at : find s path ≡ Some t.0 = walk-find s path w.0 w.1 ∙ t.1 in
     rw at refl
 
-pub mode_finds : (s : FileSystem) (path : Route) (mode : ℕ) → refusal_of s (SetMode path mode) ≡ None → find s path ≡ Some (found s path)
+pub mode_finds : (s : FileSystem) (path : Route) (mode : ℕ) → refusal_of s (SetMode path mode) ≡ None → find s path ≡ Some (found_node s path)
 mode_finds s path mode h = not_missed s path (λ p. a_special s p ∷ []) h
 
 -- the sync of a thing, by its kind: what it finds and does, and that it is no write
-thing_finds : (s : FileSystem) (path : Route) (kind : Kind) → refusal_of s (sync_by kind path) ≡ None → find s path ≡ Some (found s path)
+thing_finds : (s : FileSystem) (path : Route) (kind : Kind) → refusal_of s (sync_by kind path) ≡ None → find s path ≡ Some (found_node s path)
 thing_finds s path Folder h = sync_finds s path h
 thing_finds s path File h = not_missed s path (λ p. a_folder s p ∷ a_special s p ∷ []) h
 thing_finds s path Link h = not_missed s path (λ p. a_folder s p ∷ a_special s p ∷ []) h
 thing_finds s path Other h = not_missed s path (λ p. a_folder s p ∷ a_special s p ∷ []) h
 
-thing_syncs : (s : FileSystem) (path : Route) (kind : Kind) (time : ℤ) → change_of s (sync_by kind path) time ≡ Syncs (found s path)
+thing_syncs : (s : FileSystem) (path : Route) (kind : Kind) (time : ℤ) → change_of s (sync_by kind path) time ≡ Syncs (found_node s path)
 thing_syncs s path Folder time = refl
 thing_syncs s path File time = refl
 thing_syncs s path Link time = refl
@@ -177,20 +177,20 @@ thing_calm Other path s left = refl
 -- it was done
 pub thing_done : (log now : CallLog) (path : Route) → Performs {A = Unit {0}} log (sync_of (current log) path) (Ok tt) (Some now) → (f : ℕ) × (find (current log) path ≡ Some f) × (now ≡ with_change log (Syncs f))
 thing_done log now path done =
-    let kind : Kind = (node (current log) (found (current log) path)).kind in
+    let kind : Kind = (node (current log) (found_node (current log) path)).kind in
     let d = done_call log (sync_by kind path) now done in
-    (found (current log) path, thing_finds (current log) path kind d.permits, d.is ∙ ap (with_change log) (thing_syncs (current log) path kind d.time))
+    (found_node (current log) path, thing_finds (current log) path kind d.permits, d.is ∙ ap (with_change log) (thing_syncs (current log) path kind d.time))
 
 -- or it was refused, or the look before it
 pub thing_refused : (log now : CallLog) (path : Route) (e : TreeError) → Performs {A = Unit {0}} log (sync_of (current log) path) (Err e) (Some now) → (now ≡ log) ⊎ (now ≡ with_change log Nothing)
-thing_refused log now path e refused = let kind : Kind = (node (current log) (found (current log) path)).kind in refused_is log now (sync_by kind path) e (thing_calm kind path) refused
+thing_refused log now path e refused = let kind : Kind = (node (current log) (found_node (current log) path)).kind in refused_is log now (sync_by kind path) e (thing_calm kind path) refused
 
 pub thing_stopped : (log now : CallLog) (path : Route) (why : Cause) (named : Option Route) → SyncStops path why named log (Some now) → (now ≡ log) ⊎ (now ≡ with_change log Nothing)
 thing_stopped log now path why named (inl look) = inl (some_log now log look.1)
 thing_stopped log now path why named (inr stops) =
-    let kind : Kind = (node (current log) (found (current log) path)).kind in stopped_is log now (sync_by kind path) why named (thing_calm kind path) stops
+    let kind : Kind = (node (current log) (found_node (current log) path)).kind in stopped_is log now (sync_by kind path) why named (thing_calm kind path) stops
 
-module _ (said : Said) (dirty : List Route) (marks : Marks) (log : CallLog) (known : IsKnown said dirty marks log) (up : Route) where
+module _ (said : HistoryFacts) (dirty : List Route) (marks : Marks) (log : CallLog) (known : IsKnown said dirty marks log) (up : Route) where
   -- a folder that was synced is dirty no more
   pub cleared_known : (f : ℕ) → find (current log) up ≡ Some f → IsKnown said (without up dirty) marks (with_change log (Syncs f))
   cleared_known f at = record {

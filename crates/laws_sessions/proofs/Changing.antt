@@ -13,7 +13,7 @@ use Rattle.tree_trait.proofs.Kept.{folder_there}
 use Rattle.tree_trait.proofs.Finding.{and_then-some, find-once}
 use Rattle.tree_trait.proofs.Visible.{same_path-true}
 use Rattle.laws_crash.specs.Guarded.{Marks, IsNaming, with_mode}
-use Rattle.laws_crash.specs.Steps.{IsAnchored}
+use Rattle.laws_crash.specs.NameKnowledge.{IsAnchored}
 use Rattle.laws_crash.proofs.Guarding.{found_at, naming_law}
 use Rattle.laws_crash.proofs.Leading.{current_more}
 use Rattle.laws_crash.proofs.Removing.{removal_law}
@@ -23,7 +23,7 @@ use Rattle.laws_sessions.proofs.Pending.{pending_less}
 use Rattle.laws_sessions.proofs.InTransit.{transit_waits}
 pub use Rattle.laws_sessions.proofs.HollowThings.{IsHollow, hollow_file, holds_none, none_below_file, none_below_hollow, off_itself, said_one, some_is, some_none}
 use Rattle.laws_sessions.proofs.HollowThings.{folder_before, folder_stands, found_elsewhere, found_or_gone, leads_as_before, path_gone, says_name, sure_elsewhere}
-use Rattle.laws_sessions.proofs.Knowing.{HasMode, HasNoMode, IsCalmFolder, IsKnown, IsUnreached, RoamInTransit, Said, held, nowhere}
+use Rattle.laws_sessions.proofs.Knowing.{HasMode, HasNoMode, IsCalmFolder, IsKnown, IsUnreached, RoamInTransit, HistoryFacts, held, nowhere}
 use Rattle.laws_sessions.proofs.Quiet.{held_same, kind_same, shows_same, starts_same, unclean_before, was_bare}
 use Rattle.laws_sessions.proofs.Resting.{IsBeside, IsSureFolder, joint_still, unborn_more, unjoined_still}
 use Rattle.laws_sessions.proofs.Restless.{is_restless, restless_less}
@@ -38,7 +38,7 @@ neither : (a b : Bool) → (a || b) ≡ false → (a ≡ false) × (b ≡ false)
 neither true b h = absurd (true≢false h)
 neither false b h = (refl, h)
 
-module _ (said : Said) (dirty : List Route) (marks : Marks) (log : CallLog) (known : IsKnown said dirty marks log) (in_transit : RoamInTransit marks log) where
+module _ (said : HistoryFacts) (dirty : List Route) (marks : Marks) (log : CallLog) (known : IsKnown said dirty marks log) (in_transit : RoamInTransit marks log) where
   -- a folder whose name doesn't wait roams nowhere
   pub folder_stays : (p : Route) (i : ℕ) → find (current log) p ≡ Some i → is_folder (node (current log) i) ≡ true → name_waits log p ≡ false → marks.roams i ≡ false
   folder_stays p i at folder sure = by (marks.roams i) refl
@@ -65,7 +65,7 @@ said_two true b x y h = inl refl
 said_two false b x y h = inr (said_one b y h)
 
 -- What a history says once a path has nothing any more: elsewhere it says what it said.
-pub record SaysGone (said after : Said) (marks : Marks) (log : CallLog) (path : Route) : Type 0 where
+pub record SaysGone (said after : HistoryFacts) (marks : Marks) (log : CallLog) (path : Route) : Type 0 where
   pub named : (p : Route) → marks.aside p ≡ true → Among after.named p
   pub off : (p : Route) → same_path p path ≡ false → (after.tree p ≡ said.tree p) × (after.earlier p ≡ said.earlier p) × (said.part ≡ Some p → ⊥)
   pub left : (p : Route) → same_path p path ≡ false → Among said.left p → Among after.left p
@@ -85,7 +85,7 @@ pub other_mode : {A : Type 0} (marks : Marks) (i before : ℕ) → marks.modes i
 other_mode marks i before none some = absurd (let e : (let o : Option ℕ = None in o) ≡ Some before = sym none ∙ some in let f : ⊥ = cc in f)
 
 -- Its removal keeps what is known, where nothing waits on the way to the folder that holds it, no mode of it waits, nor a renaming for it and another folder. The folder that holds it is dirty then, and it is no longer one itself.
-module _ (told after : Said) (dirty dirty_after : List Route) (marks : Marks) (log : CallLog) (known : IsKnown told dirty marks log) (path : Route) (r : IsHollow (current log) path) (k : ℕ)
+module _ (told after : HistoryFacts) (dirty dirty_after : List Route) (marks : Marks) (log : CallLog) (known : IsKnown told dirty marks log) (path : Route) (r : IsHollow (current log) path) (k : ℕ)
     (says : SaysGone told after marks log path) (was : marks.aside path ≡ false → marks.was path ≡ find (current log) path)
     (in_transit : RoamInTransit marks log) (sure : way_waits log r.up ≡ false) (no_mode : marks.modes r.i ≡ None) (apart : (g : ℕ) → is_joint r.i g log.changes ≡ false) (listed : Among dirty_after r.up) (more : (q : Route) → Among dirty q → same_path q path ≡ false → Among dirty_after q) where
   abbrev removes : Change

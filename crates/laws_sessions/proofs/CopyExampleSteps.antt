@@ -27,18 +27,18 @@ use Rattle.copy_folders.specs.FolderSteps.{FolderCalls}
 use Rattle.copy_folders.specs.declared.stage.FolderDid.TheVariants as folder_did
 use Rattle.copy_folders.specs.declared.stage.NamesState.TheVariants.{Dirty, Synced}
 use Rattle.copy_folders.specs.declared.stage.Stage.TheVariants as folder_stage
-use Rattle.copy_folders.specs.Levels.{Levels, closed, level, made_levels, with_copy}
+use Rattle.copy_folders.specs.Levels.{Levels, levels_closed, level, made_levels, with_copy}
 use Rattle.copy_folders.specs.declared.level.Level.{Level}
-use Rattle.tree_walk.specs.Places.{opened}
+use Rattle.tree_walk.specs.Places.{opened_folder}
 use Rattle.copy_tree.specs.Reports.{changes}
 use Rattle.copy_tree.specs.Standing.{Seen, is_fresh}
-use Rattle.copy_tree.specs.Steps.{Counts, at_end}
+use Rattle.copy_tree.specs.TreeCopySteps.{Counts, at_end}
 use Rattle.copy_tree.specs.Taking.{IsTaken}
 use Rattle.copy_tree.specs.declared.copy.Stage.TheVariants.{Going}
 use Rattle.copy_tree.specs.declared.looking.Taken.TheVariants as taken
 use Rattle.copy_job.specs.Merged.{IsOver, KeepsTop, MergesTop}
 use Rattle.copy_job.specs.Reporting.{ChangesOwn, MayTell}
-use Rattle.copy_job.specs.Standing.{SubtreeCopying, started}
+use Rattle.copy_job.specs.Standing.{SubtreeCopying, begun_subtree_copy}
 use Rattle.copy_job.specs.SubtreeSteps.{SubtreeSteps, step_result}
 use Rattle.copy_job.specs.Told.{IsAfter}
 use Rattle.copy_job.specs.Unbegun.{MayBegin}
@@ -90,7 +90,7 @@ synced_log = log (Makes 0 (2 ∷ []) made ∷ Syncs 0 ∷ Sets 2 0o555 ∷ Syncs
 
 -- how the copy goes on: it begins, has made the folder, has brought it onto the disk, has given it its mode, and has synced it
 abbrev pub begins : SubtreeCopying
-begins = started 1 pair
+begins = begun_subtree_copy 1 pair
 
 abbrev pub going : Levels → SubtreeCopying
 going levels = record begins { at = (let c : Seen = begins.at in record c { stage = Going; levels = levels }) }
@@ -99,22 +99,22 @@ abbrev pub fills : FolderCopying
 fills = copying source target (folder_stage.Fill (Some 0o555)) Synced
 
 abbrev pub made_levels_now : Levels
-made_levels_now = made_levels (folder_stage.Fill (Some 0o555)) (opened source []) fills begins.at.levels
+made_levels_now = made_levels (folder_stage.Fill (Some 0o555)) (opened_folder source []) fills begins.at.levels
 
 abbrev pub has_made : SubtreeCopying
 has_made = going made_levels_now
 
 abbrev pub outside : Level
-outside = level (opened [] []) (copying [] [] (folder_stage.Fill None) Synced)
+outside = level (opened_folder [] []) (copying [] [] (folder_stage.Fill None) Synced)
 
 abbrev pub brought_in : SubtreeCopying
 brought_in = going (record made_levels_now { around = outside ∷ [] })
 
 abbrev pub given : SubtreeCopying
-given = going (with_copy (copying source target (folder_stage.Close None) Dirty) (closed brought_in.at.levels))
+given = going (with_copy (copying source target (folder_stage.Close None) Dirty) (levels_closed brought_in.at.levels))
 
 abbrev pub synced : SubtreeCopying
-synced = going (with_copy (copying source target (folder_stage.Close None) Synced) (closed brought_in.at.levels))
+synced = going (with_copy (copying source target (folder_stage.Close None) Synced) (levels_closed brought_in.at.levels))
 
 -- the folder is left
 abbrev pub around : SubtreeCopying
@@ -203,7 +203,7 @@ brings_in = record {
       leaves = refl;
       works = inl (record {
         dirty = refl;
-        outer = level (opened [] []) (copying [] [] (folder_stage.Fill None) Dirty);
+        outer = level (opened_folder [] []) (copying [] [] (folder_stage.Fill None) Dirty);
         around = [];
         was = refl;
         names = Synced;

@@ -52,7 +52,7 @@ use Rattle.laws_sessions.proofs.Changing.{off_itself, removed_known}
 use Rattle.laws_sessions.proofs.Deleted.{IsRemoval, file_unjoined, removal_done, removal_leads}
 use Rattle.laws_sessions.proofs.Resting.{IsSureFolder, folder_at}
 use Rattle.laws_sessions.proofs.Filling.{begun, filled_more}
-use Rattle.laws_sessions.proofs.Knowing.{IsCalmFolder, Said, IsKnown, IsKept, settled_marks}
+use Rattle.laws_sessions.proofs.Knowing.{IsCalmFolder, HistoryFacts, IsKnown, IsKept, settled_marks}
 use Rattle.laws_sessions.proofs.JobKnows.{FileKnows, HasName, HasPart, IsAsFound, StageKnows, found_settled, may_fill, none_of_part, part_settled}
 use Rattle.laws_sessions.proofs.MakingParts.{with_part}
 use Rattle.laws_sessions.proofs.Moved.{moved_below}
@@ -60,15 +60,15 @@ use Rattle.laws_sessions.proofs.OpenTargets.{IsOpen}
 use Rattle.laws_sessions.proofs.Quiet.{kind_same}
 use Rattle.laws_sessions.proofs.PartNodes.{part_on, part_there, written_node}
 use Rattle.laws_sessions.proofs.PlacingSteps.{part_placed, part_refused, placing_stops, said_placed}
-use Rattle.laws_sessions.proofs.Stepped.{Comes, comes_map, comes_one, said_after}
+use Rattle.laws_sessions.proofs.Stepped.{StepRan, comes_map, comes_one, said_after}
 
 some_route : (p q : Route) → (let o : Option Route = Some p in o) ≡ Some q → p ≡ q
 some_route p q h = cc
 
 -- the part is removed
-pub part_cleaned : (told : Said) (dirty : List Route) (marks : Marks) (log now : CallLog) (work : Work) (target part : Route) (i : ℕ) → IsKept told dirty marks log → HasPart told marks (current log) target part i
+pub part_cleaned : (told : HistoryFacts) (dirty : List Route) (marks : Marks) (log now : CallLog) (work : Work) (target part : Route) (i : ℕ) → IsKept told dirty marks log → HasPart told marks (current log) target part i
     → Among dirty (folder_of target) → told.folders (folder_of target) ≡ true → Performs {A = Unit {0}} log (RemoveFile part) (Ok tt) (Some now)
-    → Comes told (said_after now (Cleaned part) work told) dirty log now (λ m. IsAsFound m (current now) target)
+    → StepRan told (said_after now (Cleaned part) work told) dirty log now (λ m. IsAsFound m (current now) target)
 part_cleaned told dirty marks log now work target part i kept has listed firm done = at (removal_done log now part kept.known.guarded.tree done)
   where
     aside : marks.aside part ≡ true
@@ -102,7 +102,7 @@ part_cleaned told dirty marks log now work target part i kept has listed firm do
     way : (it : IsRemoval log now part) → way_waits log it.r.up ≡ false
     way it = (let sure = kept.known.stand (folder_of target) firm in ap (way_waits log) (sym (ap folder_of it.r.path_is) ∙ folder_is) ∙ sure.sure)
 
-    at : IsRemoval log now part → Comes told (said_after now (Cleaned part) work told) dirty log now (λ m. IsAsFound m (current now) target)
+    at : IsRemoval log now part → StepRan told (said_after now (Cleaned part) work told) dirty log now (λ m. IsAsFound m (current now) target)
     at it =
         let known = removed_known told (said_after now (Cleaned part) work told) dirty dirty marks log kept.known part it.r it.k (record {
           named = kept.known.aside;
@@ -140,22 +140,22 @@ pub not_decided : {A : Type 0} (stage : Stage) → progress stage ≡ UnderWay �
 not_decided stage going is = absurd (let e : IsDecided ≡ UnderWay = sym (ap progress is) ∙ going in let f : ⊥ = cc in f)
 
 -- a part is made where nothing stands at the target, or what may be replaced
-pub copy_begins : (told : Said) (dirty dirty_after : List Route) (marks : Marks) (log now : CallLog) → IsKept told dirty marks log → (c new : Copying) (part : Route) (unclaimed : Route → Type 0) (around : Route) (own : Route → Bool) → HasName c.target → told.part ≡ None
+pub copy_begins : (told : HistoryFacts) (dirty dirty_after : List Route) (marks : Marks) (log now : CallLog) → IsKept told dirty marks log → (c new : Copying) (part : Route) (unclaimed : Route → Type 0) (around : Route) (own : Route → Bool) → HasName c.target → told.part ≡ None
     → Tells c (Began part) new → IsOpen (current log) (places_of c)
     → BeganOf (current log) (places_of c) new.stage × ((k : ℕ) × (part ≡ part_path (places_of c) k) × IsFirstFree (current log) unclaimed (places_of c) k × AllDone log (making (current log) (places_of c) k ∷ []) (Some now))
     → IsAsFound marks (current log) c.target → IsSureFolder log (folder_of c.target) → IsSureFolder log around → own (folder_of c.target) ≡ true → ((p : Route) → own p ≡ true → IsCalmFolder marks log p)
     → Among dirty_after (folder_of c.target) → ((q : Route) → Among dirty q → Among dirty_after q)
-    → Comes told (with_part told around own part) dirty_after log now (λ m. FileKnows (with_part told around own part) dirty_after m (current now) GoesOn new)
+    → StepRan told (with_part told around own part) dirty_after log now (λ m. FileKnows (with_part told around own part) dirty_after m (current now) GoesOn new)
 copy_begins told dirty dirty_after marks log now kept c new part unclaimed around own name none (stage, (said, new_is)) ready (began_of, (k, part_is, free, rows)) found firm around_firm own_here calm listed more =
     let is_said = subst (λ (x : Copying). BeganOf (current log) (places_of c) x.stage) new_is began_of in
-    subst (λ (x : Copying). Comes told (with_part told around own part) dirty_after log now (λ m. FileKnows (with_part told around own part) dirty_after m (current now) GoesOn x)) (sym new_is)
-    (subst (λ q. Comes told (with_part told around own q) dirty_after log now (λ m. FileKnows (with_part told around own q) dirty_after m (current now) GoesOn (record c { stage = Fill q said 0; folder = Dirty }))) (sym part_is)
+    subst (λ (x : Copying). StepRan told (with_part told around own part) dirty_after log now (λ m. FileKnows (with_part told around own part) dirty_after m (current now) GoesOn x)) (sym new_is)
+    (subst (λ q. StepRan told (with_part told around own q) dirty_after log now (λ m. FileKnows (with_part told around own q) dirty_after m (current now) GoesOn (record c { stage = Fill q said 0; folder = Dirty }))) (sym part_is)
     (begun told dirty dirty_after marks log now kept c unclaimed said k name ready is_said free none found (one_done log (making (current log) (places_of c) k) now rows) firm around around_firm own own_here calm listed more))
 
-module _ (told : Said) (dirty : List Route) (marks : Marks) (log now : CallLog) (kept : IsKept told dirty marks log) (t : SubtreeCopying) (c : Copying) (lies : IsMoved t.top c.source c.target) (unclaimed : Route → Type 0) where
+module _ (told : HistoryFacts) (dirty : List Route) (marks : Marks) (log now : CallLog) (kept : IsKept told dirty marks log) (t : SubtreeCopying) (c : Copying) (lies : IsMoved t.top c.source c.target) (unclaimed : Route → Type 0) where
   -- a write stops, and leaves the part with any bytes
   write_refused : (part : Route) (i done : ℕ) (bytes : List ℕ) (e : TreeError) → HasPart told marks (current log) c.target part i → Performs {A = Unit {0}} log (WriteAt part done bytes) (Err e) (Some now)
-      → Comes told told dirty log now (λ m. HasPart told m (current now) c.target part i)
+      → StepRan told told dirty log now (λ m. HasPart told m (current now) c.target part i)
   write_refused part i done bytes Fault has stop =
       let is : now ≡ with_change log (Writes i stop.1.0 (pos 0)) = some_log now _ stop.1.1 ∙ ap (λ j. with_change log (Writes j stop.1.0 (pos 0))) (ap (λ o. unwrap_or o 0) has.leads) in
       let node_is = written_node log i stop.1.0 (pos 0) (part_there told dirty marks log kept.known c.target part i has) in
@@ -168,7 +168,7 @@ module _ (told : Said) (dirty : List Route) (marks : Marks) (log now : CallLog) 
   write_refused part i done bytes e has stop = part_refused told dirty c.target part i marks log now kept has (inr (some_log now _ stop.1))
 
   write_stops : (part : Route) (i done : ℕ) (bytes : List ℕ) (why : Cause) (path : Option Route) → HasPart told marks (current log) c.target part i → RunStops (WriteAt part done bytes ∷ []) why path log (Some now)
-      → Comes told told dirty log now (λ m. HasPart told m (current now) c.target part i)
+      → StepRan told told dirty log now (λ m. HasPart told m (current now) c.target part i)
   write_stops part i done bytes (cause.Tree e) path has (call, named, inl (is, stop)) = write_refused part i done bytes e has stop
   write_stops part i done bytes (cause.Tree e) path has (call, named, inr (mid, did, none)) = absurd none
   write_stops part i done bytes cause.Memory path has (none, (zero, few, end)) = part_refused told dirty c.target part i marks log now kept has (inl (some_log now log end))
@@ -183,11 +183,11 @@ module _ (told : Said) (dirty : List Route) (marks : Marks) (log now : CallLog) 
 
   -- what a step comes to
   abbrev Known : Did → Course → Copying → Type 0
-  Known did course new = Comes told (said_after now did (Copy t) told) dirty log now (λ m. FileKnows (said_after now did (Copy t) told) dirty m (current now) course new)
+  Known did course new = StepRan told (said_after now did (Copy t) told) dirty log now (λ m. FileKnows (said_after now did (Copy t) told) dirty m (current now) course new)
 
   -- a step stops
   stops : (why : Cause) (path : Option Route) (course : Course) → (may_fill course ≡ true → ⊥) → FileKnows told dirty marks (current log) GoesOn c → (stage : Stage) → progress stage ≡ UnderWay → c.stage ≡ stage
-      → CopyStops unclaimed (places_of c) stage why path log (Some now) → Comes told told dirty log now (λ m. FileKnows told dirty m (current now) course c)
+      → CopyStops unclaimed (places_of c) stage why path log (Some now) → StepRan told told dirty log now (λ m. FileKnows told dirty m (current now) course c)
   stops why path course off knows Begin going is stop = not_begun Begin going refl
   stops why path course off (name, listed, knows) (Fill part said done) going is stop =
       comes_map told told dirty log now (λ m. HasPart told m (current now) c.target part i) (λ m. FileKnows told dirty m (current now) course c)
@@ -200,7 +200,7 @@ module _ (told : Said) (dirty : List Route) (marks : Marks) (log now : CallLog) 
       i : ℕ
       i = at_fill.1.0
 
-      how : CopyStops unclaimed (places_of c) (Fill part said done) why path log (Some now) → Comes told told dirty log now (λ m. HasPart told m (current now) c.target part i)
+      how : CopyStops unclaimed (places_of c) (Fill part said done) why path log (Some now) → StepRan told told dirty log now (λ m. HasPart told m (current now) c.target part i)
       how (inl (less, inl read)) = part_refused told dirty c.target part i marks log now kept at_fill.1.1 (inl (some_log now log read.1))
       how (inl (less, inr write)) = write_stops part i done (next_bytes (current log) c.source said done) why path at_fill.1.1 write
       how (inr (full, run)) = placing_stops told dirty c.target part i marks log now said.mode why path kept at_fill.1.1 run
@@ -212,7 +212,7 @@ module _ (told : Said) (dirty : List Route) (marks : Marks) (log now : CallLog) 
   stops why path course off knows (Left part) going is stop = absurd stop
   stops why path course off knows Decided going is stop = not_decided Decided going refl
 
-  cleaned_knows : (follows : Next) (after : Said) (m : Marks) (s : FileSystem) → after.part ≡ None → IsAsFound m s c.target
+  cleaned_knows : (follows : Next) (after : HistoryFacts) (m : Marks) (s : FileSystem) → after.part ≡ None → IsAsFound m s c.target
       → StageKnows after m s GoesOn (record c { stage = after_clean follows }) (after_clean follows)
   cleaned_knows next.Begin after m s none found = (none, λ e. found)
   cleaned_knows next.Decided after m s none found = none

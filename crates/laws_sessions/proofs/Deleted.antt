@@ -3,12 +3,12 @@ use Rattle.std.proofs.Common.{◌≡◌, ◌⊎◌, ℕ, Bool, true, false, not,
 use Rattle.std.proofs.lemmas.Bool.{both_ways, false≢true, false_from_ne_true, or_left, or_right}
 use Rattle.mc_text.specs.Routes.{Route, same_path}
 use Rattle.tree_trait.specs.declared.file_system.FileSystem.{FileSystem}
-use Rattle.tree_trait.specs.FileSystem.{Value, Spot, View, find, node, starts_mount, put, visible_tree}
+use Rattle.tree_trait.specs.FileSystem.{Value, Spot, View, find, node, starts_mount, view_with, visible_tree}
 use Rattle.tree_trait.specs.Shape.{IsTree, IsRemovable}
 use Rattle.tree_trait.specs.declared.calls.TreeError.TheVariants.{NotFolder, Mounted}
 use Rattle.tree_trait.specs.Refusals.{is_folder, refusal_of}
 use Rattle.tree_trait.specs.Calls.{RemoveFile, RemoveFolder}
-use Rattle.tree_trait.specs.Change.{Nothing, Removes, CallLog, current, with_change, change_of, found}
+use Rattle.tree_trait.specs.Change.{Nothing, Removes, CallLog, current, with_change, change_of, found_node}
 use Rattle.tree_trait.specs.CrashImages.{Among}
 use Rattle.tree_trait.specs.Answers.{Performs}
 use Rattle.tree_trait.proofs.Visible.{same_path-self, same_path-true}
@@ -25,26 +25,26 @@ use Rattle.laws_sessions.specs.Doubt.{is_joint, way_waits}
 use Rattle.laws_sessions.proofs.Calming.{nothing_known}
 use Rattle.laws_sessions.proofs.Changing.{IsHollow, hollow_file, removed_known}
 use Rattle.laws_sessions.proofs.Emptied.{IsEmptied, emptied}
-use Rattle.laws_sessions.proofs.Knowing.{IsCalmFolder, IsKept, IsKnown, Said, held, settled_marks}
+use Rattle.laws_sessions.proofs.Knowing.{IsCalmFolder, IsKept, IsKnown, HistoryFacts, held, settled_marks}
 use Rattle.laws_sessions.proofs.JobKnows.{WorkKnows, work_settled, work_still}
 use Rattle.laws_sessions.proofs.Resting.{IsOfFiles, IsSureFolder, bare_unjoined, folder_at}
 use Rattle.laws_sessions.proofs.Restless.{IsUnjoined}
 use Rattle.laws_sessions.proofs.Sources.{item_in}
-use Rattle.laws_sessions.proofs.Stepped.{Comes, comes_none, comes_one, folders_by, said_after}
+use Rattle.laws_sessions.proofs.Stepped.{StepRan, comes_none, comes_one, folders_by, said_after}
 
 -- no mount begins at what is no folder
 pub file_no_mount : (s : FileSystem) → IsTree s → (i : ℕ) → is_folder (node s i) ≡ false → starts_mount s i ≡ false
 file_no_mount s tree i bare = false_from_ne_true _ (λ on. both_ways _ bare (tree.mounts i on))
 
-pub put_off : (v : View) (path : Route) (new : Option Value) (p : Route) → same_path p path ≡ false → put v path new p ≡ v p
+pub put_off : (v : View) (path : Route) (new : Option Value) (p : Route) → same_path p path ≡ false → view_with v path new p ≡ v p
 put_off v path new p off = ap (λ b. cond b (record (v p) { value = new }) (v p)) off
 
-pub put_at : (v : View) (path : Route) (new : Option Value) → put v path new path ≡ record (v path) { value = new }
+pub put_at : (v : View) (path : Route) (new : Option Value) → view_with v path new path ≡ record (v path) { value = new }
 put_at v path new = ap (λ b. cond b (record (v path) { value = new }) (v path)) (same_path-self path)
 
 -- a call that changed nothing: what is known holds on
-pub comes_refused : (told : Said) (dirty : List Route) (marks : Marks) (log now : CallLog) (course : Course) (work : Work) → IsKept told dirty marks log → WorkKnows told dirty marks log course work
-    → (now ≡ log) ⊎ (now ≡ with_change log Nothing) → Comes told told dirty log now (λ m. WorkKnows told dirty m now course work)
+pub comes_refused : (told : HistoryFacts) (dirty : List Route) (marks : Marks) (log now : CallLog) (course : Course) (work : Work) → IsKept told dirty marks log → WorkKnows told dirty marks log course work
+    → (now ≡ log) ⊎ (now ≡ with_change log Nothing) → StepRan told told dirty log now (λ m. WorkKnows told dirty m now course work)
 comes_refused told dirty marks log now course work kept knows (inl same) =
     comes_none told told dirty log now (λ m. WorkKnows told dirty m now course work) marks same kept (subst (λ (l : CallLog). WorkKnows told dirty marks l course work) (sym same) knows)
 comes_refused told dirty marks log now course work kept knows (inr more) =
@@ -85,12 +85,12 @@ removal_done log now path tree done =
     at : IsRemovable (current log) path → IsDoneCall log (RemoveFile path) now → IsRemoval log now path
     at r d = record {
       r = hollow_file (current log) path tree r;
-      k = found (current log) path;
+      k = found_node (current log) path;
       mountless = file_no_mount (current log) tree r.i r.no_folder;
       now_is = d.is ∙ ap (with_change log) (
           ap (λ p. change_of (current log) (RemoveFile p) d.time) r.path_is
-          ∙ (ap (λ f. Removes f r.name (found (current log) (r.name ∷ r.up))) (ap (λ o. Rattle.std.specs.Prelude.unwrap_or o 0) r.folder)
-          ∙ ap (λ p. Removes r.f r.name (found (current log) p)) (sym r.path_is))
+          ∙ (ap (λ f. Removes f r.name (found_node (current log) (r.name ∷ r.up))) (ap (λ o. Rattle.std.specs.Prelude.unwrap_or o 0) r.folder)
+          ∙ ap (λ p. Removes r.f r.name (found_node (current log) p)) (sym r.path_is))
           );
     }
 
@@ -108,12 +108,12 @@ folder_removed log now (name ∷ up) tree done =
         let h = e.hollow in
         record {
           r = h;
-          k = found (current log) (name ∷ up);
+          k = found_node (current log) (name ∷ up);
           mountless = e.no_mount;
           now_is = d.is ∙ ap (with_change log) (
               ap (λ p. change_of (current log) (RemoveFolder p) d.time) h.path_is
-              ∙ (ap (λ f. Removes f h.name (found (current log) (h.name ∷ h.up))) (ap (λ o. Rattle.std.specs.Prelude.unwrap_or o 0) h.folder)
-              ∙ ap (λ p. Removes h.f h.name (found (current log) p)) (sym h.path_is))
+              ∙ (ap (λ f. Removes f h.name (found_node (current log) (h.name ∷ h.up))) (ap (λ o. Rattle.std.specs.Prelude.unwrap_or o 0) h.folder)
+              ∙ ap (λ p. Removes h.f h.name (found_node (current log) p)) (sym h.path_is))
               );
         }
 
@@ -129,11 +129,11 @@ file_unjoined log now path it tree files bare g =
 
 -- A thing is removed, of which a job knows that nothing was done there yet, that the folder in which it changes names is on the disk, and that which holds the thing, and that no
 -- mode waits in its folders, nor of the thing, and no renaming waits for a folder of them and another one.
-pub removes_thing : (told : Said) (dirty dirty_after : List Route) (marks : Marks) (log now : CallLog) (path : Route) (work : Work) (knows : Marks → Type 0) → IsKept told dirty marks log → told.part ≡ None
+pub removes_thing : (told : HistoryFacts) (dirty dirty_after : List Route) (marks : Marks) (log now : CallLog) (path : Route) (work : Work) (knows : Marks → Type 0) → IsKept told dirty marks log → told.part ≡ None
     → (marks.aside path ≡ false → marks.was path ≡ find (current log) path) → IsSureFolder log (folder_changed (item_in work)) → way_waits log (folder_of path) ≡ false → ((p : Route) → may_change (item_in work) p ≡ true → IsCalmFolder marks log p)
     → ((i : ℕ) → find (current log) path ≡ Some i → starts_mount (current log) i ≡ false → marks.modes i ≡ None) → IsUnjoined log path → Among dirty_after (folder_of path)
     → ((q : Route) → Among dirty q → same_path q path ≡ false → Among dirty_after q)
-    → IsRemoval log now path → knows (settled_marks now marks) → Comes told (said_after now (Removed path) work told) dirty_after log now knows
+    → IsRemoval log now path → knows (settled_marks now marks) → StepRan told (said_after now (Removed path) work told) dirty_after log now knows
 removes_thing told dirty dirty_after marks log now path work knows kept none was firm sure calm no_mode apart listed more it known_of =
     comes_one told (said_after now (Removed path) work told) dirty dirty_after marks marks log now (Removes it.r.f it.r.name it.k) knows kept it.now_is
     (subst (λ (l : CallLog). IsKnown (said_after now (Removed path) work told) dirty_after marks l) (sym it.now_is)

@@ -7,7 +7,7 @@ use Rattle.mc_text.proofs.Prefixes.{same_path-lengths}
 use Rattle.tree_trait.specs.declared.calls.TreeError.{TreeError}
 use Rattle.tree_trait.specs.FileSystem.{find, starts_mount}
 use Rattle.tree_trait.specs.Calls.{RemoveFile, RemoveFolder, SyncFolder}
-use Rattle.tree_trait.specs.Change.{Syncs, CallLog, current, found, with_change}
+use Rattle.tree_trait.specs.Change.{Syncs, CallLog, current, found_node, with_change}
 use Rattle.tree_trait.specs.CrashImages.{Among}
 use Rattle.tree_trait.specs.Answers.{Performs}
 use Rattle.tree_trait.proofs.Visible.{same_path-self, same_path-true}
@@ -24,7 +24,7 @@ use Rattle.job_reports.proofs.PermittedCalls.{sync_finds}
 use Rattle.mode_job.specs.SettingSteps.{sync_of}
 use Rattle.delete_job.specs.declared.deletion.Stage.{Stage}
 use Rattle.delete_job.specs.declared.deletion.Stage.TheVariants.{Begin, Going, Sync}
-use Rattle.job_unsynced.specs.Folders.{is_of, is_one_of, joined}
+use Rattle.job_unsynced.specs.Folders.{is_of, is_one_of, joined_folders}
 use Rattle.delete_job.specs.Standing.{after_item, at_barrier, is_fresh}
 use Rattle.copy_move.specs.declared.work.Work.{Work}
 use Rattle.copy_move.specs.declared.work.Work.TheVariants.{Delete}
@@ -35,10 +35,10 @@ use Rattle.delete_job.specs.DeletionSteps.{after_try}
 use Rattle.copy_move.specs.Jobs.{course_after}
 use Rattle.copy_move.specs.Settling.{NoneOwed, is_own, with_change as moves_dirty}
 use Rattle.laws_sessions.proofs.Calming.{cleared_known, refused_is, still_listed, thing_done}
-use Rattle.laws_sessions.proofs.Knowing.{IsCalmFolder, IsKept, IsKnown, Said, settled_marks}
+use Rattle.laws_sessions.proofs.Knowing.{IsCalmFolder, IsKept, IsKnown, HistoryFacts, settled_marks}
 use Rattle.laws_sessions.specs.Doubt.{way_waits}
 use Rattle.laws_sessions.proofs.JobKnows.{AreSureWithin, HasName, IsIntact, KnowsAfter, KnowsWithin, WorkKnows, work_settled, work_still}
-use Rattle.laws_sessions.proofs.Stepped.{Comes, comes_none, comes_one, folders_by, said_after}
+use Rattle.laws_sessions.proofs.Stepped.{StepRan, comes_none, comes_one, folders_by, said_after}
 use Rattle.laws_sessions.proofs.Deleted.{IsRemoval, comes_refused, folder_removed, removal_done, removal_leads, removes_thing}
 use Rattle.laws_sessions.proofs.Intact.{calm_begins, folder_apart, folder_firm, intact_after, intact_begins, intact_was, own_folder, removed_in, removed_sure, within_after, within_begins}
 use Rattle.laws_sessions.proofs.Resting.{IsSureFolder}
@@ -57,14 +57,14 @@ is_among up [] h = absurd (false≢true h)
 is_among up (first ∷ dirty) h = elim (or_cases (same_path first up) (is_one_of up dirty) h) [ inl same ↦ inl (sym (same_path-true first up same)) | inr more ↦ inr (is_among up dirty more) ]
 
 -- a folder that joined is listed, and so is what was listed
-pub joined_holds : (up : Route) (dirty : List Route) → Among (joined up dirty) up
+pub joined_holds : (up : Route) (dirty : List Route) → Among (joined_folders up dirty) up
 joined_holds up dirty = by (is_one_of up dirty) refl
   where
     by : (b : Bool) → is_one_of up dirty ≡ b → Among (if b then dirty else dirty ++ up ∷ []) up
     by true is = is_among up dirty is
     by false is = last_among up dirty
 
-pub joined_more : (up q : Route) (dirty : List Route) → Among dirty q → Among (joined up dirty) q
+pub joined_more : (up q : Route) (dirty : List Route) → Among dirty q → Among (joined_folders up dirty) q
 joined_more up q dirty among = by (is_one_of up dirty)
   where
     by : (b : Bool) → Among (if b then dirty else dirty ++ up ∷ []) q
@@ -72,26 +72,26 @@ joined_more up q dirty among = by (is_one_of up dirty)
     by false = among_more up q dirty among
 
 -- the sync of what stands at a path, after which the job stands so
-pub comes_synced_at : (told : Said) (dirty : List Route) (marks : Marks) (log now : CallLog) (up : Route) (course : Course) (work : Work) (f : ℕ) → IsKept told dirty marks log
+pub comes_synced_at : (told : HistoryFacts) (dirty : List Route) (marks : Marks) (log now : CallLog) (up : Route) (course : Course) (work : Work) (f : ℕ) → IsKept told dirty marks log
     → WorkKnows told (without up dirty) marks log course work → find (current log) up ≡ Some f → now ≡ with_change log (Syncs f)
-    → Comes told told (without up dirty) log now (λ m. WorkKnows told (without up dirty) m now course work)
+    → StepRan told told (without up dirty) log now (λ m. WorkKnows told (without up dirty) m now course work)
 comes_synced_at told dirty marks log now up course work f kept knows at is =
     comes_one told told dirty (without up dirty) marks marks log now (Syncs f) (λ m. WorkKnows told (without up dirty) m now course work) kept is
     (subst (λ (l : CallLog). IsKnown told (without up dirty) marks l) (sym is) (cleared_known told dirty marks log kept.known up f at))
     (work_settled now marks told (without up dirty) course work (work_still told (without up dirty) marks log now course work kept.known.guarded.tree (Syncs f, is, inr (f, refl)) knows))
 
 -- the sync of a folder that was done, after which the job stands so
-comes_synced : (told : Said) (dirty : List Route) (marks : Marks) (log now : CallLog) (up : Route) (course : Course) (work : Work) → IsKept told dirty marks log
+comes_synced : (told : HistoryFacts) (dirty : List Route) (marks : Marks) (log now : CallLog) (up : Route) (course : Course) (work : Work) → IsKept told dirty marks log
     → WorkKnows told (without up dirty) marks log course work → Performs {A = Unit {0}} log (SyncFolder up) (Ok tt) (Some now)
-    → Comes told told (without up dirty) log now (λ m. WorkKnows told (without up dirty) m now course work)
+    → StepRan told told (without up dirty) log now (λ m. WorkKnows told (without up dirty) m now course work)
 comes_synced told dirty marks log now up course work kept knows done =
     let d = done_call log (SyncFolder up) now done in
-    comes_synced_at told dirty marks log now up course work (found (current log) up) kept knows (sync_finds (current log) up d.permits) d.is
+    comes_synced_at told dirty marks log now up course work (found_node (current log) up) kept knows (sync_finds (current log) up d.permits) d.is
 
 -- the sync of a thing, by its kind
-pub comes_thing_synced : (told : Said) (dirty : List Route) (marks : Marks) (log now : CallLog) (up : Route) (course : Course) (work : Work) → IsKept told dirty marks log
+pub comes_thing_synced : (told : HistoryFacts) (dirty : List Route) (marks : Marks) (log now : CallLog) (up : Route) (course : Course) (work : Work) → IsKept told dirty marks log
     → WorkKnows told (without up dirty) marks log course work → Performs {A = Unit {0}} log (sync_of (current log) up) (Ok tt) (Some now)
-    → Comes told told (without up dirty) log now (λ m. WorkKnows told (without up dirty) m now course work)
+    → StepRan told told (without up dirty) log now (λ m. WorkKnows told (without up dirty) m now course work)
 comes_thing_synced told dirty marks log now up course work kept knows done =
     let d = thing_done log now up done in comes_synced_at told dirty marks log now up course work d.0 kept knows d.1 d.2
 
@@ -99,32 +99,32 @@ pub same_dirty : (b : Bool) (up : Route) (dirty : List Route) → moves_dirty b 
 same_dirty true up dirty = refl
 same_dirty false up dirty = refl
 
-module _ (told : Said) (dirty dirty_after : List Route) (marks : Marks) (log now : CallLog) (kept : IsKept told dirty marks log) where
+module _ (told : HistoryFacts) (dirty dirty_after : List Route) (marks : Marks) (log now : CallLog) (kept : IsKept told dirty marks log) where
   abbrev pub Steps : Did → Course → Work → Work → Type 0
-  Steps did course work new = Comes told (said_after now did work told) dirty_after log now (KnowsAfter did (said_after now did work told) dirty_after now course new)
+  Steps did course work new = StepRan told (said_after now did work told) dirty_after log now (KnowsAfter did (said_after now did work told) dirty_after now course new)
 
   -- a folder whose sync was tried
   pub tried : (up : Route) (left : Option TreeError) (course : Course) (work : Work) → ((routes : List Route) → WorkKnows told routes marks log course work)
       → Performs {A = Unit {0}} log (SyncFolder up) (sync_answer left) (Some now) → dirty_after ≡ after_try Barrier left up dirty
-      → Comes told told dirty_after log now (λ m. WorkKnows told dirty_after m now course work)
+      → StepRan told told dirty_after log now (λ m. WorkKnows told dirty_after m now course work)
   tried up None course work knows answer is =
-      subst (λ routes. Comes told told routes log now (λ m. WorkKnows told routes m now course work)) (sym is) (comes_synced told dirty marks log now up course work kept (knows (without up dirty)) answer)
+      subst (λ routes. StepRan told told routes log now (λ m. WorkKnows told routes m now course work)) (sym is) (comes_synced told dirty marks log now up course work kept (knows (without up dirty)) answer)
   tried up (Some e) course work knows answer is =
-      subst (λ routes. Comes told told routes log now (λ m. WorkKnows told routes m now course work)) (sym is)
+      subst (λ routes. StepRan told told routes log now (λ m. WorkKnows told routes m now course work)) (sym is)
       (comes_refused told dirty marks log now course work kept (knows dirty) (refused_is log now (SyncFolder up) e (λ s left. refl) answer))
 
   -- nothing was called
   pub stands : (course : Course) (work : Work) → WorkKnows told dirty marks log course work → dirty_after ≡ dirty → now ≡ log
-      → Comes told told dirty_after log now (λ m. WorkKnows told dirty_after m now course work)
+      → StepRan told told dirty_after log now (λ m. WorkKnows told dirty_after m now course work)
   stands course work knows same is =
-      subst (λ routes. Comes told told routes log now (λ m. WorkKnows told routes m now course work)) (sym same)
+      subst (λ routes. StepRan told told routes log now (λ m. WorkKnows told routes m now course work)) (sym same)
       (comes_none told told dirty log now (λ m. WorkKnows told dirty m now course work) marks is kept (subst (λ (l : CallLog). WorkKnows told dirty marks l course work) (sym is) knows))
 
   -- a job without a part ends
-  pub ends : (work : Work) → told.part ≡ None → dirty_after ≡ dirty → now ≡ log → Comes told (record told { part = None }) dirty_after log now (λ m. (let o : Option Route = None in o) ≡ None)
+  pub ends : (work : Work) → told.part ≡ None → dirty_after ≡ dirty → now ≡ log → StepRan told (record told { part = None }) dirty_after log now (λ m. (let o : Option Route = None in o) ≡ None)
   ends work none same is =
-      subst (λ routes. Comes told (record told { part = None }) routes log now (λ m. (let o : Option Route = None in o) ≡ None)) (sym same)
-      (subst (λ o. Comes told (record told { part = o }) dirty log now (λ m. (let o : Option Route = None in o) ≡ None)) none
+      subst (λ routes. StepRan told (record told { part = None }) routes log now (λ m. (let o : Option Route = None in o) ≡ None)) (sym same)
+      (subst (λ o. StepRan told (record told { part = o }) dirty log now (λ m. (let o : Option Route = None in o) ≡ None)) none
       (comes_none told told dirty log now (λ m. (let o : Option Route = None in o) ≡ None) marks is kept refl))
 
   -- what a deletion knows that goes on, of the same path
@@ -231,15 +231,15 @@ module _ (told : Said) (dirty dirty_after : List Route) (marks : Marks) (log now
   deletion_tells replies d new (Removed path) knows (going, within, at) done settled (inr (leaves, called)) =
       let it = folder_removed log now path kept.known.guarded.tree (called log refl) in
       removes d new path _ knows (intact_now d knows going settled) (within_now d knows going settled) (firm_now d path knows going settled within it) (calm_now d knows going settled) within at
-      (subst (λ xs. Among xs (folder_of path)) (sym leaves) (still_listed path (folder_of path) (joined (folder_of path) dirty) (joined_holds (folder_of path) dirty) (above_it path it)))
-      (λ q among off. subst (λ xs. Among xs q) (sym leaves) (still_listed path q (joined (folder_of path) dirty) (joined_more (folder_of path) q dirty among) off)) it
+      (subst (λ xs. Among xs (folder_of path)) (sym leaves) (still_listed path (folder_of path) (joined_folders (folder_of path) dirty) (joined_holds (folder_of path) dirty) (above_it path it)))
+      (λ q among off. subst (λ xs. Among xs q) (sym leaves) (still_listed path q (joined_folders (folder_of path) dirty) (joined_more (folder_of path) q dirty among) off)) it
   deletion_tells replies d new (Kept path) knows (going, at) done settled leaves = stands GoesOn (Delete new) (stays GoesOn GoesOn d new _ knows at (still_going path d) dirty) leaves (some_log now log done)
   deletion_tells replies d new (Asked question) knows tells done settled leaves = absurd tells
   deletion_tells replies d new (Merges transfer pair names) knows tells done settled leaves = absurd tells
   deletion_tells replies d new (Moved pair) knows tells done settled leaves = absurd tells
   deletion_tells replies d new Barrier knows (stage, at) done settled (folder, own, left, called) = tried folder None GoesOn (Delete new) (stays GoesOn GoesOn d new d.stage knows at (λ is. is)) (called log refl) left
   deletion_tells replies d new (Troubled trouble) knows (barrier, at) done settled leaves =
-      subst (λ routes. Comes told told routes log now (λ m. WorkKnows told routes m now (course_after (Troubled trouble)) (Delete new))) (sym leaves)
+      subst (λ routes. StepRan told told routes log now (λ m. WorkKnows told routes m now (course_after (Troubled trouble)) (Delete new))) (sym leaves)
       (comes_refused told dirty marks log now (course_after (Troubled trouble)) (Delete new) kept (stays GoesOn (course_after (Troubled trouble)) d new d.stage knows at (λ is. is) dirty) (by done))
     where
       by : DeletionCalls (Troubled trouble) log (Some now) → (now ≡ log) ⊎ (now ≡ with_change log Rattle.tree_trait.specs.Change.Nothing)
@@ -256,7 +256,7 @@ module _ (told : Said) (dirty dirty_after : List Route) (marks : Marks) (log now
   deletion_tells replies d new (Placed path) knows tells done settled leaves = absurd tells
   deletion_tells replies d new (Made made) knows tells done settled leaves = absurd tells
   deletion_tells replies d new (Skipped path cause) knows (going, passes, at) done settled leaves =
-      subst (λ routes. Comes told told routes log now (λ m. WorkKnows told routes m now GoesOn (Delete new))) (sym leaves)
+      subst (λ routes. StepRan told told routes log now (λ m. WorkKnows told routes m now GoesOn (Delete new))) (sym leaves)
       (comes_refused told dirty marks log now GoesOn (Delete new) kept (stays GoesOn GoesOn d new _ knows at (still_going path d) dirty) (by done))
     where
       by : DeletionCalls (Skipped path cause) log (Some now) → (now ≡ log) ⊎ (now ≡ with_change log Rattle.tree_trait.specs.Change.Nothing)

@@ -10,7 +10,7 @@ use Rattle.job_reports.specs.declared.report.Did.{Did}
 use Rattle.copy_folders.specs.FolderCopying.{is_dirty}
 use Rattle.copy_folders.specs.declared.level.Level.{Level}
 use Rattle.copy_tree.specs.Standing.{Seen}
-use Rattle.copy_job.specs.Standing.{SubtreeCopying, retries, started}
+use Rattle.copy_job.specs.Standing.{SubtreeCopying, retries, begun_subtree_copy}
 use Rattle.copy_job.specs.SubtreeSteps.{SubtreeSkips, SubtreeSteps}
 use Rattle.laws_sessions.proofs.FoldersLie.{AreNested}
 
@@ -29,7 +29,7 @@ AreApart c = AreNested c.levels.inner.copy.target c.levels.around
 
 -- It is so of a copy that begins, and each step, skip and retry keeps it.
 pub record ListLaw : Type 0 where
-  pub begins : (job : ℕ) (top : Pair) (dirty : List Route) → (let copy : SubtreeCopying = started job top in MarksListed dirty copy.at)
+  pub begins : (job : ℕ) (top : Pair) (dirty : List Route) → (let copy : SubtreeCopying = begun_subtree_copy job top in MarksListed dirty copy.at)
   pub step : (free : Route → Bool) (replies : Replies) (old new : SubtreeCopying) (did : Did) (calls : ℕ) (dirty dirty_after : List Route) (before after : Option CallLog) (faults faults_after : ℕ)
       → SubtreeSteps free replies old new did calls dirty dirty_after before after faults faults_after → AreApart old.at → MarksListed dirty old.at → MarksListed dirty_after new.at
   pub skip : (cause : Cause) (old new : SubtreeCopying) (did : Did) (dirty : List Route) → SubtreeSkips cause old did new → MarksListed dirty old.at → MarksListed dirty new.at

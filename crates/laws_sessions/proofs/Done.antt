@@ -12,13 +12,13 @@ use Rattle.job_reports.specs.declared.report.Ending.TheVariants.{Finished}
 use Rattle.job_reports.specs.declared.report.Did.TheVariants.{Ended}
 use Rattle.job_reports.specs.declared.job.Job.{Job}
 use Rattle.job_reports.specs.Paths.{folder_of}
-use Rattle.job_reports.specs.Jobs.{Item}
+use Rattle.job_reports.specs.Jobs.{ItemOfJob}
 use Rattle.session_entries.specs.declared.history.Event.TheVariants.{Next, Step}
 use Rattle.session_entries.specs.declared.history.Entry.{Entry}
 use Rattle.copy_move.specs.Jobs.{Running}
 use Rattle.copy_move.specs.declared.work.Work.{Work}
 use Rattle.copy_move.specs.declared.work.Work.TheVariants.{Copy, Delete, Make, Move, SetMode, RemoveEmptied}
-use Rattle.copy_move.specs.Steps.{SyncsOwed}
+use Rattle.copy_move.specs.JobStepReports.{SyncsOwed}
 use Rattle.laws_sessions.specs.Doubt.{is_unsettled}
 use Rattle.laws_sessions.specs.Owed.{IsNoMatter, is_own_path}
 use Rattle.session_entries.specs.LiveJobs.{LiveJob, live_item, live_jobs}
@@ -114,7 +114,7 @@ module _ (opening : CallLog) (tree : IsTree (current opening)) (settled : all_se
       found_moment path g standing coming was calls before (n.made ++ rest) traced (end_is ∙ (ap (λ (l : CallLog). more l rest) n.now_is ∙ ap (log_of before) (append_assoc before.changes n.made rest))) earlier since
 
   -- the job that is done with a source
-  pub record IsEnder (was after : Stand) (before now : CallLog) (id : ℕ) (item : Item) : Type 0 where
+  pub record IsEnder (was after : Stand) (before now : CallLog) (id : ℕ) (item : ItemOfJob) : Type 0 where
     pub part : Option Route
     pub job : Running
     pub new : Running
@@ -124,7 +124,7 @@ module _ (opening : CallLog) (tree : IsTree (current opening)) (settled : all_se
     pub same : item_in job.work ≡ item
 
   -- the item that the history tells of is that of the live job
-  pub same_item : (job : Running) (live : List LiveJob) (part : Option Route) (item : Item) → HasLive live (job ∷ []) part → live_item job.id live ≡ Some item → item_in job.work ≡ item
+  pub same_item : (job : Running) (live : List LiveJob) (part : Option Route) (item : ItemOfJob) → HasLive live (job ∷ []) part → live_item job.id live ≡ Some item → item_in job.work ≡ item
   same_item job live part item is its =
       let first : Some (item_in job.work) ≡ Some item =
       sym (ap (λ b. if b then Some (item_in job.work) else None) (eq-eqb job.id job.id refl)) ∙ (sym (ap (live_item job.id) is) ∙ its) in cc
@@ -155,7 +155,7 @@ module _ (opening : CallLog) (tree : IsTree (current opening)) (settled : all_se
   no_matter (SetMode s) log path h = absurd h
   no_matter (RemoveEmptied r) log path h = h
 
-  pub ender : (id : ℕ) (item : Item) → IsDoneWith id e.what → live_item id (live_jobs older) ≡ Some item → (f : IsFound) → IsEnder f.was f.after f.before f.now id item
+  pub ender : (id : ℕ) (item : ItemOfJob) → IsDoneWith id e.what → live_item id (live_jobs older) ≡ Some item → (f : IsFound) → IsEnder f.was f.after f.before f.now id item
   ender id item done tells f = by (done_with id e.what done)
     where
       of_job : (part : Option Route) (job new : Running) → WorkLeads job (Ended Finished part) new f.was.dirty f.after.dirty f.before f.now → IsJob id f.was.jobs job → IsEnder f.was f.after f.before f.now id item

@@ -10,7 +10,7 @@ use Rattle.tree_trait.specs.declared.file_system.NameEdit.{NameEdit}
 use Rattle.tree_trait.specs.declared.calls.TreeError.TheVariants.{Missing, NotFolder, Denied, Mounted, NotEmpty}
 use Rattle.tree_trait.specs.FileSystem.{is_of, lookup, node, starts_mount}
 use Rattle.tree_trait.specs.Calls.{RemoveFolder}
-use Rattle.tree_trait.specs.Refusals.{denied, first_of, folder_of, has_entries, is_empty, is_folder, is_mount, lacks, last_step, missing, no_folder, reached, refusal_of, walk}
+use Rattle.tree_trait.specs.Refusals.{denied_access, first_of, folder_of, has_entries, is_empty, is_folder, is_mount, lacks, last_step, missing, no_folder, reached_node, refusal_of, walk}
 use Rattle.tree_trait.proofs.Walking.{and_then-ok, check_passed, check_passes, ok_same, passed_walk, reached-find, some_there}
 use Rattle.laws_sessions.proofs.Changing.{IsHollow}
 
@@ -46,10 +46,10 @@ pub record IsEmptied (s : FileSystem) (path : Route) : Type 0 where
 
 pub emptied : (s : FileSystem) (name : List ℕ) (up : Route) → refusal_of s (RemoveFolder (name ∷ up)) ≡ None → IsEmptied s (name ∷ up)
 emptied s name up h =
-    let w = passed_walk (walk s (name ∷ up)) (λ p. first_of (missing p ∷ no_folder s p ∷ (is_mount s p, Mounted) ∷ (not (is_empty s p), NotEmpty) ∷ denied 0o200 (folder_of s p) ∷ [])) h in
-    let r = and_then-ok (last_step s name) (reached s up) w.0 w.1 in
+    let w = passed_walk (walk s (name ∷ up)) (λ p. first_of (missing p ∷ no_folder s p ∷ (is_mount s p, Mounted) ∷ (not (is_empty s p), NotEmpty) ∷ denied_access 0o200 (folder_of s p) ∷ [])) h in
+    let r = and_then-ok (last_step s name) (reached_node s up) w.0 w.1 in
     let q = ok_same ((check_passed (lacks 0o100 (node s r.0)) Denied _ w.0 (check_passed (not (is_folder (node s r.0))) NotFolder _ w.0 r.2).1).1) in
-    let checks = subst (λ p. first_of (missing p ∷ no_folder s p ∷ (is_mount s p, Mounted) ∷ (not (is_empty s p), NotEmpty) ∷ denied 0o200 (folder_of s p) ∷ []) ≡ None) q w.2 in
+    let checks = subst (λ p. first_of (missing p ∷ no_folder s p ∷ (is_mount s p, Mounted) ∷ (not (is_empty s p), NotEmpty) ∷ denied_access 0o200 (folder_of s p) ∷ []) ≡ None) q w.2 in
     let a = check_passes (is_none (lookup s.names r.0 name)) Missing _ checks in
     let there = some_there (lookup s.names r.0 name) a.0 in
     let i : ℕ = unwrap_or (lookup s.names r.0 name) (length s.nodes) in

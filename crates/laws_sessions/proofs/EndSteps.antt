@@ -10,17 +10,17 @@ use Rattle.copy_file.specs.Copying as file
 use Rattle.copy_file.specs.Copying.{Copying}
 use Rattle.copy_link.specs.LinkCopying as link
 use Rattle.copy_link.specs.LinkCopying.{LinkCopying}
-use Rattle.copy_folders.specs.FolderCopying.{FolderCopying, Tells, closing, skipped as folder_skipped}
+use Rattle.copy_folders.specs.FolderCopying.{FolderCopying, Tells, closing, skipped_stage as folder_skipped}
 use Rattle.copy_folders.specs.FolderSteps.{Skips as FolderSkips}
 use Rattle.copy_folders.specs.declared.stage.FolderDid.{FolderDid}
 use Rattle.copy_folders.specs.declared.stage.FolderDid.TheVariants as folder_did
 use Rattle.copy_folders.specs.declared.stage.Stage.{Stage}
 use Rattle.copy_folders.specs.declared.stage.Stage.TheVariants as at
-use Rattle.tree_walk.specs.Places.{opened}
-use Rattle.copy_folders.specs.Levels.{Levels, made_levels, passed}
+use Rattle.tree_walk.specs.Places.{opened_folder}
+use Rattle.copy_folders.specs.Levels.{Levels, made_levels, passed_levels}
 use Rattle.copy_tree.specs.declared.due.Due.TheVariants.{End, Thing}
-use Rattle.copy_tree.specs.declared.item.Item.{Item}
-use Rattle.copy_tree.specs.declared.item.Item.TheVariants.{Next, File, Link, Stays}
+use Rattle.copy_tree.specs.declared.item.ItemAtWork.{ItemAtWork}
+use Rattle.copy_tree.specs.declared.item.ItemAtWork.TheVariants.{Next, File, Link, Stays}
 use Rattle.copy_tree.specs.declared.progress.Progress.{Progress}
 use Rattle.copy_tree.specs.declared.progress.Progress.TheVariants.{UnderWay, Decided, Anew}
 use Rattle.copy_tree.specs.Parts.{IsPartPlace}
@@ -28,7 +28,7 @@ use Rattle.copy_tree.specs.Progress.{link_progress, progress}
 use Rattle.copy_tree.specs.Skipping.{SkipsAt, SkipsNamed, retried_at}
 use Rattle.copy_tree.specs.Reports.{IsToldAs}
 use Rattle.copy_tree.specs.Standing.{Seen, after_report, due_at}
-use Rattle.copy_tree.specs.Steps.{FolderMakes, LeavesAll, LinkWorks, SyncsAround, TakesNext, WorksOn, at_end, idle, link_begun, noted, settled}
+use Rattle.copy_tree.specs.TreeCopySteps.{FolderMakes, LeavesAll, LinkWorks, SyncsAround, TakesNext, WorksOn, at_end, idle, link_begun, noted_copy, copy_after_progress}
 use Rattle.job_answers.specs.declared.replies.Replies.{Replies}
 use Rattle.laws_sessions.proofs.FileMoves.{FileMoves, taken_moves, worked_moves}
 use Rattle.laws_sessions.proofs.FoldersEnd.{AllFilled, EndLaw, EndsLast, IsOver, is_filled, is_open}
@@ -79,12 +79,12 @@ same_ends old new filled around s = record {
 over_ends : (old new : Seen) → is_open new.levels.inner.copy.stage ≡ true → new.item ≡ Next → new.levels.inner.names.names ≡ [] → new.levels.around ≡ old.levels.around → AllFilled old.levels.around → EndsLast new
 over_ends old new still none last same around = record { open_still = still; inner = λ ended. record { none = none; last = last }; around = subst AllFilled (sym same) around }
 
-settled_ends : (p : Progress) (item : Item) (c : Seen) → SameEnds c.levels (let s : Seen = settled p item c in s.levels)
+settled_ends : (p : Progress) (item : ItemAtWork) (c : Seen) → SameEnds c.levels (let s : Seen = copy_after_progress p item c in s.levels)
 settled_ends UnderWay item c = record { stage = refl; around = refl }
 settled_ends Decided item c = record { stage = refl; around = refl }
 settled_ends Anew item c = record { stage = refl; around = refl }
 
-noted_ends : (p : Progress) (item : Item) (did : Did) (changed : Bool) (c : Seen) → SameEnds c.levels (let s : Seen = settled p item (noted did changed c) in s.levels)
+noted_ends : (p : Progress) (item : ItemAtWork) (did : Did) (changed : Bool) (c : Seen) → SameEnds c.levels (let s : Seen = copy_after_progress p item (noted_copy did changed c) in s.levels)
 noted_ends UnderWay item did true c = record { stage = refl; around = refl }
 noted_ends UnderWay item did false c = record { stage = refl; around = refl }
 noted_ends Decided item did true c = record { stage = refl; around = refl }
@@ -132,7 +132,7 @@ module _ (unclaimed : Route → Type 0) (replies : Replies) (old new : Seen) (di
 
   -- where the copy stands, once the machine of a folder to be made stands at a stage
   made_ends : (pair : Pair) (names : List (List ℕ)) (moved : FolderCopying) (stage : Stage) → moved.stage ≡ stage → is_filled old.levels.inner.copy.stage ≡ true
-      → EndsLast (record old { stage = after_report did old.stage; levels = made_levels stage (opened pair.source names) moved old.levels })
+      → EndsLast (record old { stage = after_report did old.stage; levels = made_levels stage (opened_folder pair.source names) moved old.levels })
   made_ends pair names moved (at.Fill owed) is filled =
       record { open_still = ap is_open is; inner = λ over. absurd (true≢false (sym (ap is_filled is) ∙ over)); around = (filled, ends.around) }
   made_ends pair names moved (at.Make mode) is filled = record { open_still = ends.open_still; inner = λ over. absurd (true≢false (sym filled ∙ over)); around = ends.around }
@@ -144,13 +144,13 @@ module _ (unclaimed : Route → Type 0) (replies : Replies) (old new : Seen) (di
 
   takes_ends : old.item ≡ Next → TakesNext unclaimed replies old new did before after → EndsLast new
   takes_ends none (inl s) = subst EndsLast (sym s.stands) ends
-  takes_ends none (inr (inl t)) = file_ends (file.begun old.job t.pair.source t.pair.target) (λ over. met_not old.levels.inner.names.names old t.pair t.next over.last) (taken_moves unclaimed replies old new did before after t)
+  takes_ends none (inr (inl t)) = file_ends (file.begun_copy old.job t.pair.source t.pair.target) (λ over. met_not old.levels.inner.names.names old t.pair t.next over.last) (taken_moves unclaimed replies old new did before after t)
   takes_ends none (inr (inr (inl t))) = link_ends (link_begun t.pair t.part) (λ over. met_not old.levels.inner.names.names old t.pair t.next over.last) t.works
   takes_ends none (inr (inr (inr (inl t)))) = makes_ends t.pair t.names t.mode (λ over. met_not old.levels.inner.names.names old t.pair t.next over.last) t.works
   takes_ends none (inr (inr (inr (inr (inl t))))) =
-      kept (λ over. met_not old.levels.inner.names.names old t.pair t.next over.last) (as_new old (record old { levels = passed false old.levels }) new t.stands (record { stage = refl; around = refl }))
+      kept (λ over. met_not old.levels.inner.names.names old t.pair t.next over.last) (as_new old (record old { levels = passed_levels false old.levels }) new t.stands (record { stage = refl; around = refl }))
   takes_ends none (inr (inr (inr (inr (inr (inl t)))))) =
-      kept (λ over. met_not old.levels.inner.names.names old t.pair t.next over.last) (as_new old (record old { levels = passed false old.levels }) new t.stands (record { stage = refl; around = refl }))
+      kept (λ over. met_not old.levels.inner.names.names old t.pair t.next over.last) (as_new old (record old { levels = passed_levels false old.levels }) new t.stands (record { stage = refl; around = refl }))
   takes_ends none (inr (inr (inr (inr (inr (inr (inl t))))))) = subst EndsLast (sym t.stands) ends
   takes_ends none (inr (inr (inr (inr (inr (inr (inr (next, inl (debt, e))))))))) =
       over_ends old new (ap (λ (c : Seen). is_open c.levels.inner.copy.stage) e.stands ∙ end_open (let c = at_end old in c.levels.inner.copy) e.moved e.report did e.tells e.says (closing_open old.levels.inner.copy.stage ends.open_still)) (ap (λ (c : Seen). c.item) e.stands ∙ none) (ap (λ (c : Seen). c.levels.inner.names.names) e.stands ∙ end_last old.levels.inner.names.names old next) (ap (λ (c : Seen). c.levels.around) e.stands) ends.around
@@ -162,7 +162,7 @@ module _ (unclaimed : Route → Type 0) (replies : Replies) (old new : Seen) (di
       let was : AllFilled (s.outer ∷ s.around) = subst AllFilled s.was ends.around in
       subst EndsLast (sym s.stands) (record { open_still = ends.open_still; inner = λ ended. (let over = ends.inner ended in record { none = over.none; last = over.last }); around = was })
 
-  works_ends : (item : Item) → old.item ≡ item → WorksOn item unclaimed replies old new did before after → EndsLast new
+  works_ends : (item : ItemAtWork) → old.item ≡ item → WorksOn item unclaimed replies old new did before after → EndsLast new
   works_ends Next is (inl s) = syncs_ends is s
   works_ends Next is (inr takes) = takes_ends is takes.1
   works_ends (File f) is w = file_ends f (λ over. let e : File f ≡ Next = sym is ∙ over.none in let x : ⊥ = cc in x) (worked_moves unclaimed f old new did before after w)
@@ -184,7 +184,7 @@ module _ (cause : Cause) (old new : Seen) (did : Did) (ends : EndsLast old) wher
       by (inr (inl (long, inr room))) = subst EndsLast (sym room.1) ends
       by (inr (inr room)) = subst EndsLast (sym room.1) ends
 
-  skips_end : (item : Item) → old.item ≡ item → SkipsAt item cause old did new → EndsLast new
+  skips_end : (item : ItemAtWork) → old.item ≡ item → SkipsAt item cause old did new → EndsLast new
   skips_end Next is s = named_ends old.levels.inner.names.names refl is s
   skips_end (File f) is (moved, skips, stands) =
       same_ends old new (filled_if old ends (λ over. let e : File f ≡ Next = sym is ∙ over.none in let x : ⊥ = cc in x)) ends.around (as_new old _ new stands (settled_ends (progress moved.stage) (File moved) (idle old)))
@@ -192,7 +192,7 @@ module _ (cause : Cause) (old new : Seen) (did : Did) (ends : EndsLast old) wher
       same_ends old new (filled_if old ends (λ over. let e : Link l ≡ Next = sym is ∙ over.none in let x : ⊥ = cc in x)) ends.around (as_new old _ new stands (settled_ends (link_progress moved.stage) (Link moved) (idle old)))
   skips_end (Stays part) is s = absurd s
 
-retries_end : (item : Item) (c : Seen) → c.item ≡ item → EndsLast c → EndsLast (retried_at item c)
+retries_end : (item : ItemAtWork) (c : Seen) → c.item ≡ item → EndsLast c → EndsLast (retried_at item c)
 retries_end Next c is ends = ends
 retries_end (File f) c is ends = same_ends c _ (filled_if c ends (λ over. let e : File f ≡ Next = sym is ∙ over.none in let x : ⊥ = cc in x)) ends.around (settled_ends (progress (file.taken_anew f.stage)) (File (record f { stage = file.taken_anew f.stage })) (idle c))
 retries_end (Link l) c is ends = same_ends c _ (filled_if c ends (λ over. let e : Link l ≡ Next = sym is ∙ over.none in let x : ⊥ = cc in x)) ends.around (settled_ends (link_progress (link.taken_anew l.stage)) (Link (record l { stage = link.taken_anew l.stage })) (idle c))

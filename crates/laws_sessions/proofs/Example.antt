@@ -16,12 +16,12 @@ use Rattle.tree_trait.proofs.Kept.{tree_made}
 use Rattle.job_answers.specs.Decisions.{no_replies}
 use Rattle.job_reports.specs.declared.report.Ending.TheVariants.{Aborted}
 use Rattle.job_reports.specs.declared.report.Did.TheVariants.{Removed, Barrier, Troubled, Ended}
-use Rattle.tree_walk.specs.Places.{unopened}
+use Rattle.tree_walk.specs.Places.{unopened_walk}
 use Rattle.delete_job.specs.declared.deletion.Depth.TheVariants.{Top}
 use Rattle.delete_job.specs.declared.deletion.Stage.{Stage}
 use Rattle.delete_job.specs.declared.deletion.Stage.TheVariants.{Begin, Sync}
 use Rattle.delete_job.specs.declared.deletion.Deletion.{Deletion}
-use Rattle.delete_job.specs.Steps.{LastSteps, WorkCalls}
+use Rattle.delete_job.specs.TreeDeletionSteps.{LastSteps, WorkCalls}
 use Rattle.delete_job.specs.Deletions.{Deleting, RefusedSync, machine_of}
 use Rattle.delete_job.specs.DeletionSteps.{Goes}
 use Rattle.session_entries.specs.declared.history.Event.TheVariants.{Began, Step, Closed}
@@ -69,7 +69,7 @@ removal = Removes 0 (1 ∷ []) 1
 
 -- the deletion of this file, which has tried so many folders in its last steps
 abbrev pub deletion : Route → Stage → ℕ → Deleting
-deletion path stage tried = record { path = path; stage = stage; depth = Top; place = unopened; tried = tried }
+deletion path stage tried = record { path = path; stage = stage; depth = Top; place = unopened_walk; tried = tried }
 
 -- the job with this number that deletes this file
 abbrev pub job : ℕ → Route → Stage → ℕ → Course → Running

@@ -15,9 +15,9 @@ use Rattle.job_unsynced.specs.Folders.{with_change}
 use Rattle.copy_tree.specs.InPlace.{IsMoved}
 use Rattle.copy_tree.specs.Progress.{progress}
 use Rattle.copy_tree.specs.Standing.{Seen}
-use Rattle.copy_tree.specs.Steps.{FileWorks, idle, noted, settled}
-use Rattle.copy_tree.specs.declared.item.Item.{Item}
-use Rattle.copy_tree.specs.declared.item.Item.TheVariants.{File}
+use Rattle.copy_tree.specs.TreeCopySteps.{FileWorks, idle, noted_copy, copy_after_progress}
+use Rattle.copy_tree.specs.declared.item.ItemAtWork.{ItemAtWork}
+use Rattle.copy_tree.specs.declared.item.ItemAtWork.TheVariants.{File}
 use Rattle.copy_tree.specs.declared.progress.Progress.{Progress}
 use Rattle.copy_tree.specs.declared.progress.Progress.TheVariants.{UnderWay, Decided, Anew}
 use Rattle.copy_job.specs.Marks.{brings_in, folder_worked, is_dirty_after, is_left_dirty, was_dirty}
@@ -27,20 +27,20 @@ use Rattle.copy_move.specs.declared.work.Work.TheVariants.{Copy}
 use Rattle.copy_move.specs.Jobs.{course_after}
 use Rattle.laws_sessions.proofs.CopySteps.{copy_tells}
 use Rattle.laws_sessions.proofs.KnownParts.{FileKnows}
-use Rattle.laws_sessions.proofs.Knowing.{IsKept, Said}
+use Rattle.laws_sessions.proofs.Knowing.{IsKept, HistoryFacts}
 use Rattle.laws_sessions.proofs.ListSteps.{left_marks}
 use Rattle.laws_sessions.proofs.NameMarks.{dirty_stays}
-use Rattle.laws_sessions.proofs.Stepped.{Comes, comes_map, said_after}
+use Rattle.laws_sessions.proofs.Stepped.{StepRan, comes_map, said_after}
 use Rattle.laws_sessions.proofs.TreeKnown.{AroundKnows, ItemHas}
 use Rattle.laws_sessions.proofs.TreeSkipped.{file_has}
 
 -- a mark stays where a file is passed
-pub settled_dirty : (p : Progress) (item : Item) (c : Seen) → folder.is_dirty c.levels.inner.copy.names ≡ true → (let n : Seen = settled p item c in folder.is_dirty n.levels.inner.copy.names) ≡ true
+pub settled_dirty : (p : Progress) (item : ItemAtWork) (c : Seen) → folder.is_dirty c.levels.inner.copy.names ≡ true → (let n : Seen = copy_after_progress p item c in folder.is_dirty n.levels.inner.copy.names) ≡ true
 settled_dirty UnderWay item c dirty = dirty
 settled_dirty Decided item c dirty = dirty
 settled_dirty Anew item c dirty = dirty
 
-module _ (told : Said) (dirty dirty_after : List Route) (marks : Marks) (log now : CallLog) (kept : IsKept told dirty marks log) (c : SubtreeCopying) (f : Copying) (old new : Seen) (did : Did) (unclaimed : Route → Type 0) (item : old.item ≡ File f)
+module _ (told : HistoryFacts) (dirty dirty_after : List Route) (marks : Marks) (log now : CallLog) (kept : IsKept told dirty marks log) (c : SubtreeCopying) (f : Copying) (old new : Seen) (did : Did) (unclaimed : Route → Type 0) (item : old.item ≡ File f)
     (going : progress f.stage ≡ UnderWay) (lies : IsMoved c.top f.source f.target) (marked : folder.is_dirty old.levels.inner.copy.names ≡ true) (calm : told.calm (folder_of c.top.target) ≡ true)
     (known : FileKnows told dirty marks (current log) GoesOn f) (list : dirty_after ≡ with_change (was_dirty old) (is_dirty_after old did new) (folder_worked old) dirty) (w : FileWorks unclaimed f old new did (Some log) (Some now)) where
   abbrev moved : Copying
@@ -48,7 +48,7 @@ module _ (told : Said) (dirty dirty_after : List Route) (marks : Marks) (log now
 
   new_marked : folder.is_dirty new.levels.inner.copy.names ≡ true
   new_marked = ap (λ (x : Seen). folder.is_dirty x.levels.inner.copy.names) w.stands
-      ∙ settled_dirty (progress moved.stage) (File moved) (noted did (is_dirty moved.folder) (idle old)) (dirty_stays (is_dirty moved.folder) old.levels marked)
+      ∙ settled_dirty (progress moved.stage) (File moved) (noted_copy did (is_dirty moved.folder) (idle old)) (dirty_stays (is_dirty moved.folder) old.levels marked)
 
   -- so the list of dirty folders does
   list_same : dirty_after ≡ dirty
@@ -58,7 +58,7 @@ module _ (told : Said) (dirty dirty_after : List Route) (marks : Marks) (log now
       (if b then target_around old.levels.around else old.levels.inner.copy.target) dirty) (ap (λ i. brings_in i old.levels) item)
       ∙ (ap (λ b. with_change b (is_left_dirty did new) old.levels.inner.copy.target dirty) marked ∙ ap (λ b. with_change true b old.levels.inner.copy.target dirty) (left_marks did new new_marked)))
 
-  abbrev after : Said
+  abbrev after : HistoryFacts
   after = said_after now did (Copy c) told
 
   -- what is known then of the copy of folders
@@ -66,7 +66,7 @@ module _ (told : Said) (dirty dirty_after : List Route) (marks : Marks) (log now
   KnownThen m = ItemHas after dirty_after m (current now) (course_after did) new.item × AroundKnows after m (current now) (record c { at = new })
 
   -- no mode of another thing in the folder around waits
-  calm_then : (d : Did) → Tells f d moved → (let s : Said = said_after now d (Copy c) told in s.calm (folder_of c.top.target)) ≡ true
+  calm_then : (d : Did) → Tells f d moved → (let s : HistoryFacts = said_after now d (Copy c) told in s.calm (folder_of c.top.target)) ≡ true
   calm_then (Began part) t = or_right _ _ calm
   calm_then (Chunk count) t = calm
   calm_then (Cleaned part) t = calm
@@ -84,12 +84,12 @@ module _ (told : Said) (dirty dirty_after : List Route) (marks : Marks) (log now
   calm_then (Skipped path cause) t = absurd t
 
   -- a step of the file at work
-  pub file_comes : Comes told after dirty_after log now KnownThen
+  pub file_comes : StepRan told after dirty_after log now KnownThen
   file_comes = comes_map told after dirty_after log now (λ m. FileKnows after dirty_after m (current now) (course_after did) moved) KnownThen
       (λ m k file. (
         subst (λ (x : Seen). ItemHas after dirty_after m (current now) (course_after did) x.item) (sym w.stands)
-            (file_has after dirty_after m (current now) (course_after did) moved (noted did (is_dirty moved.folder) old) moved.stage refl file),
+            (file_has after dirty_after m (current now) (course_after did) moved (noted_copy did (is_dirty moved.folder) old) moved.stage refl file),
         inl (calm_then did w.tells),
       ))
-      (subst (λ routes. Comes told after routes log now (λ m. FileKnows after routes m (current now) (course_after did) moved)) (sym list_same)
+      (subst (λ routes. StepRan told after routes log now (λ m. FileKnows after routes m (current now) (course_after did) moved)) (sym list_same)
       (copy_tells told dirty marks log now kept c f lies unclaimed moved did going known w.tells (w.called log refl)))

@@ -20,7 +20,7 @@ use Rattle.copy_file.specs.declared.stage.Stage.{Stage}
 use Rattle.copy_file.specs.declared.stage.Stage.TheVariants as at
 use Rattle.copy_tree.specs.Parts.{IsShortPart}
 use Rattle.copy_tree.specs.Standing.{Seen}
-use Rattle.copy_tree.specs.Steps.{FileWorks, TakesFile, after_file, idle, is_top}
+use Rattle.copy_tree.specs.TreeCopySteps.{FileWorks, TakesFile, after_file, idle, is_top}
 use Rattle.copy_tree.specs.Taking.{IsTaken}
 use Rattle.copy_tree.specs.declared.looking.Taken.TheVariants as taken
 use Rattle.laws_sessions.proofs.OpenTargets.{IsOpen, open_free, taken_bare}
@@ -117,7 +117,7 @@ tells_made facts f moved (Ended ending part) begin is = absurd is
 
 module _ (unclaimed : Route → Type 0) (replies : Replies) (facts : SourceFacts) (job : ℕ) (pair : Pair) (moved : Copying) (log : CallLog) (after : Option CallLog) where
   abbrev f : Copying
-  f = file.begun job pair.source pair.target
+  f = file.begun_copy job pair.source pair.target
 
   abbrev p : Places
   p = places_of f
@@ -148,12 +148,12 @@ module _ (unclaimed : Route → Type 0) (replies : Replies) (facts : SourceFacts
   calls_made (Ended ending part) top is calls taken = absurd is
 
 pub taken_moves : (unclaimed : Route → Type 0) (replies : Replies) (old new : Seen) (did : Did) (before after : Option CallLog) (t : TakesFile unclaimed replies old new did before after)
-    → FileMoves unclaimed (file.begun old.job t.pair.source t.pair.target) old new did before after
+    → FileMoves unclaimed (file.begun_copy old.job t.pair.source t.pair.target) old new did before after
 taken_moves unclaimed replies old new did before after t =
     let w = t.works in
     record {
       moved = w.moved;
-      tells = tells_made t.facts (file.begun old.job t.pair.source t.pair.target) w.moved did refl w.tells;
+      tells = tells_made t.facts (file.begun_copy old.job t.pair.source t.pair.target) w.moved did refl w.tells;
       called = λ log is. calls_made unclaimed replies t.facts old.job t.pair w.moved log after did (is_top old) w.tells (w.called log is) (t.is log is);
       short = w.short;
       stands = w.stands;

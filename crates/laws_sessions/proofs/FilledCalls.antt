@@ -8,7 +8,7 @@ use Rattle.tree_trait.specs.declared.calls.TreeError.TheVariants.{Fault, Memory}
 use Rattle.tree_trait.specs.declared.file_system.FileSystem.{FileSystem}
 use Rattle.tree_trait.specs.Answers.{Performs}
 use Rattle.tree_trait.specs.Calls.{Call, Stat, ListFolder, ReadAt, ReadLink, MakeFile, WriteAt, SetMode, MakeFolder, MakeLink, Rename, RemoveFile, RemoveFolder, SyncFile, SyncFolder}
-use Rattle.tree_trait.specs.Change.{Change, Makes, Moves, Nothing, Removes, CallLog, change_of, current, found, of_name, torn_write, with_change}
+use Rattle.tree_trait.specs.Change.{Change, Makes, Moves, Nothing, Removes, CallLog, change_of, current, found_node, of_name, torn_write, with_change}
 use Rattle.tree_trait.specs.CrashImages.{Among, says}
 use Rattle.tree_trait.specs.FileSystem.{find, lookup, node}
 use Rattle.tree_trait.specs.Refusals.{after_walk, is_folder, refusal_of, rename_refusal, walk}
@@ -96,7 +96,7 @@ module _ (log now : CallLog) (tree : IsTree (current log)) (up : Route) (coming 
   made_in (k ∷ q) mode made permits is off =
       let passes = making_passes (current log) k q mode permits in
       subst (λ (l : CallLog). IsFilling l up coming) (sym is)
-      (filling_made log tree q (found (current log) q) passes.folder k made passes.none up coming (off_of q up k coming (k ∷ q) refl off) filling)
+      (filling_made log tree q (found_node (current log) q) passes.folder k made passes.none up coming (off_of q up k coming (k ∷ q) refl off) filling)
 
   removed_in : (path : Route) → IsDoneCall log (RemoveFile path) now → IsNoneOf up coming path → IsFilling now up coming
   removed_in path d off = at (removable (current log) path tree d.permits) d.time d.is
@@ -106,7 +106,7 @@ module _ (log now : CallLog) (tree : IsTree (current log)) (up : Route) (coming 
           let leads_there : find (current log) (r.name ∷ r.up) ≡ Some r.i = rw r.folder r.leads in
           let change : change_of (current log) (RemoveFile path) time ≡ Removes r.f r.name r.i =
           ap (λ p. change_of (current log) (RemoveFile p) time) r.path_is
-          ∙ (ap (λ f. Removes f r.name (found (current log) (r.name ∷ r.up))) (ap (λ o. unwrap_or o 0) r.folder) ∙ ap (λ k. Removes r.f r.name k) (ap (λ o. unwrap_or o 0) leads_there)) in
+          ∙ (ap (λ f. Removes f r.name (found_node (current log) (r.name ∷ r.up))) (ap (λ o. unwrap_or o 0) r.folder) ∙ ap (λ k. Removes r.f r.name k) (ap (λ o. unwrap_or o 0) leads_there)) in
           subst (λ (l : CallLog). IsFilling l up coming) (sym (is ∙ ap (with_change log) change))
           (filling_removed log tree r.up r.f r.folder r.name r.i r.leads r.no_folder up coming (off_of r.up up r.name coming path r.path_is off) filling)
 
@@ -118,14 +118,14 @@ module _ (log now : CallLog) (tree : IsTree (current log)) (up : Route) (coming 
           let w = passed_walk (walk (current log) (p.part ∷ p.folder)) (λ a. after_walk (current log) (p.target ∷ p.folder) (λ b. rename_refusal (current log) (p.part ∷ p.folder) (p.target ∷ p.folder) a b)) permits in
           let v = passed_walk (walk (current log) (p.target ∷ p.folder)) (λ b. rename_refusal (current log) (p.part ∷ p.folder) (p.target ∷ p.folder) w.0 b) w.2 in
           let l = last_place (current log) p.target p.folder v.0 v.1 in
-          let f = found (current log) p.folder in
+          let f = found_node (current log) p.folder in
           let part_leads = sym (ap (option_and_then (λ k. lookup (current log).names k p.part)) l.folder) ∙ p.leads in
           let target_bare : (j : ℕ) → lookup (current log).names f p.target ≡ Some j → is_folder (node (current log) j) ≡ false =
           λ j leads. p.bare j (ap (option_and_then (λ k. lookup (current log).names k p.target)) l.folder ∙ leads) in
           let change : change_of (current log) (Rename from to) d.time ≡ Moves f p.part f p.target p.i (find (current log) (p.target ∷ p.folder)) =
           ap (λ r. change_of (current log) (Rename r to) d.time) p.from_is
           ∙ (ap (λ r. change_of (current log) (Rename (p.part ∷ p.folder) r) d.time) p.to_is
-          ∙ (ap (λ b. cond b Nothing (Moves f p.part f p.target (found (current log) (p.part ∷ p.folder)) (find (current log) (p.target ∷ p.folder)))) (other_path p.part p.target p.folder p.apart)
+          ∙ (ap (λ b. cond b Nothing (Moves f p.part f p.target (found_node (current log) (p.part ∷ p.folder)) (find (current log) (p.target ∷ p.folder)))) (other_path p.part p.target p.folder p.apart)
           ∙ ap (λ k. Moves f p.part f p.target k (find (current log) (p.target ∷ p.folder))) (ap (λ o. unwrap_or o 0) p.leads))) in
           subst (λ (l : CallLog). IsFilling l up coming) (sym (d.is ∙ ap (with_change log) change))
           (filling_placed log tree p.folder f l.folder p.part p.i part_leads p.file p.target (find (current log) (p.target ∷ p.folder)) target_bare up coming

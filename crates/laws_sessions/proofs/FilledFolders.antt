@@ -22,7 +22,7 @@ use Rattle.laws_crash.proofs.Tops.{none_below, under_made, under_moved, under_re
 use Rattle.laws_sessions.specs.Doubt.{is_pending, name_waits, is_joint}
 use Rattle.laws_sessions.proofs.Changing.{none_below_file, said_one, said_two, some_is, some_none}
 use Rattle.laws_sessions.proofs.Untouched.{IsAsFound, IsBare, found_bare, IsUntouched, NoneOver, none_joint, none_waits, over_it, untouched_free, way_sure}
-use Rattle.laws_sessions.proofs.Knowing.{IsKept, Said}
+use Rattle.laws_sessions.proofs.Knowing.{IsKept, HistoryFacts}
 use Rattle.laws_sessions.proofs.Pending.{is_within, pending_less, quiet_within}
 use Rattle.laws_sessions.proofs.Resting.{IsOfFiles, IsSureFolder, bare_unjoined, folder_at, folder_at_of, stands_at, sure_path, sure_still, unjoined_at}
 use Rattle.laws_sessions.proofs.Restless.{IsUnjoined, joint_before}
@@ -45,7 +45,7 @@ pub record IsNew (log : CallLog) (up : Route) (coming : List (List ℕ)) : Type 
   pub apart : IsUnjoined log up
 
 -- It begins where no dirty folder lies on its mount, nor on that of a folder on the way to it.
-pub filling_begins : (told : Said) (dirty : List Route) (marks : Marks) (log : CallLog) (up : Route) (f : ℕ) (coming : List (List ℕ)) → IsKept told dirty marks log → find (current log) up ≡ Some f → is_folder (node (current log) f) ≡ true
+pub filling_begins : (told : HistoryFacts) (dirty : List Route) (marks : Marks) (log : CallLog) (up : Route) (f : ℕ) (coming : List (List ℕ)) → IsKept told dirty marks log → find (current log) up ≡ Some f → is_folder (node (current log) f) ≡ true
     → NoneOver (current log) up dirty → IsFilling log up coming
 filling_begins told dirty marks log up f coming kept at folder owed = record {
   firm = record { stands = folder_at_of (current log) up f at folder; sure = way_sure told dirty marks log up kept.known owed };
@@ -54,14 +54,14 @@ filling_begins told dirty marks log up f coming kept at folder owed = record {
 }
 
 -- What is met next, where nothing stands, is untouched.
-pub met_untouched : (told : Said) (dirty : List Route) (marks : Marks) (log : CallLog) (up : Route) (coming : List (List ℕ)) (name : List ℕ) → IsKept told dirty marks log → IsFilling log up coming → Among coming name
+pub met_untouched : (told : HistoryFacts) (dirty : List Route) (marks : Marks) (log : CallLog) (up : Route) (coming : List (List ℕ)) (name : List ℕ) → IsKept told dirty marks log → IsFilling log up coming → Among coming name
     → find (current log) (name ∷ up) ≡ None → IsUntouched marks (current log) (name ∷ up)
 met_untouched told dirty marks log up coming name kept filling among free =
     let firm = filling.firm in
     untouched_free told dirty marks log (name ∷ up) kept (sure_path log (name ∷ up) firm.sure (filling.calm name among)) free
 
 -- and where no folder stands, it is as it was found
-pub met_found : (told : Said) (dirty : List Route) (marks : Marks) (log : CallLog) (up : Route) (coming : List (List ℕ)) (name : List ℕ) → IsKept told dirty marks log → IsFilling log up coming → Among coming name
+pub met_found : (told : HistoryFacts) (dirty : List Route) (marks : Marks) (log : CallLog) (up : Route) (coming : List (List ℕ)) (name : List ℕ) → IsKept told dirty marks log → IsFilling log up coming → Among coming name
     → IsBare (current log) (name ∷ up) → IsAsFound marks (current log) (name ∷ up)
 met_found told dirty marks log up coming name kept filling among bare =
     let firm = filling.firm in

@@ -12,7 +12,7 @@ use Rattle.job_reports.specs.declared.report.Ending.{Ending}
 use Rattle.job_reports.specs.declared.report.Ending.TheVariants.{Aborted}
 use Rattle.job_reports.specs.declared.report.Did.{Did}
 use Rattle.job_reports.specs.declared.report.Did.TheVariants.{Began, Chunk, Placed, Removed, Made, Set, Kept, Skipped, Cleaned, Barrier, Asked, Merges, Moved, Troubled, Ended}
-use Rattle.job_reports.specs.Jobs.{Item, folder_changed}
+use Rattle.job_reports.specs.Jobs.{ItemOfJob, folder_changed}
 use Rattle.job_reports.specs.declared.job.Job.{Job}
 use Rattle.job_reports.specs.declared.answer.Answer.{Answer}
 use Rattle.job_reports.specs.declared.answer.Answer.TheVariants.{Yes, No, All, Update, Nothing, SizeDiffers, Retry, Skip, SkipAll, Abort}
@@ -25,19 +25,19 @@ use Rattle.session_entries.specs.declared.history.Entry.{Entry}
 use Rattle.copy_move.specs.declared.run.Course.{Course}
 use Rattle.copy_move.specs.declared.run.Course.TheVariants.{GoesOn, Asking, InTrouble, OwedSyncFailed, Skips, Ends}
 use Rattle.copy_move.specs.declared.work.Work.{Work}
-use Rattle.copy_tree.specs.declared.item.Item.{Item as CopyItem}
-use Rattle.copy_tree.specs.declared.item.Item.TheVariants.{Next, File, Link, Stays}
+use Rattle.copy_tree.specs.declared.item.ItemAtWork.{ItemAtWork as CopyItem}
+use Rattle.copy_tree.specs.declared.item.ItemAtWork.TheVariants.{Next, File, Link, Stays}
 use Rattle.copy_tree.specs.declared.progress.Progress.{Progress}
 use Rattle.copy_tree.specs.declared.progress.Progress.TheVariants.{UnderWay, Decided, Anew}
 use Rattle.copy_tree.specs.Skipping.{retried_at}
 use Rattle.copy_tree.specs.Standing.{Seen, is_fresh}
-use Rattle.copy_tree.specs.Steps.{idle, settled}
+use Rattle.copy_tree.specs.TreeCopySteps.{idle, copy_after_progress}
 use Rattle.copy_move.specs.declared.work.Work.TheVariants.{Copy, Delete, Make, Move, SetMode, RemoveEmptied}
-use Rattle.copy_move.specs.Jobs.{replied, Running, TellsOn, answered_on, begun_work, closed_course, closed_job, course_after, taken_anew, unreported_skip}
+use Rattle.copy_move.specs.Jobs.{replied_job, Running, TellsOn, answered_on, begun_work, closed_course, closed_job, course_after, taken_anew, unreported_skip}
 use Rattle.job_reports.specs.Reports.{ends}
 use Rattle.copy_move.specs.Settling.{changed_folder}
 use Rattle.job_reports.specs.Paths.{folder_of, without}
-use Rattle.copy_move.specs.Steps.{SyncsOwed}
+use Rattle.copy_move.specs.JobStepReports.{SyncsOwed}
 use Rattle.laws_sessions.specs.Doubt.{name_waits}
 use Rattle.laws_sessions.specs.Staying.{may_change}
 use Rattle.session_entries.specs.Named.{begins_change, changed_after, has_changed, names}
@@ -45,7 +45,7 @@ use Rattle.session_entries.specs.LiveJobs.{live_item, live_jobs}
 use Rattle.session_entries.specs.Entries.{is_closed}
 use Rattle.session_entries.specs.Sources.{sources_of}
 use Rattle.copy_move.specs.Told.{running}
-use Rattle.laws_sessions.specs.Traces.{EventLeads, IsTraced, Stand, SyncLeads, WorkLeads, before_others, if_closed, ordered, with_job}
+use Rattle.laws_sessions.specs.Traces.{EventLeads, IsTraced, Stand, SyncLeads, WorkLeads, before_others, if_closed, ordered_job, with_job}
 use Rattle.laws_sessions.proofs.Beginnings.{calm_stays, folder_stays}
 use Rattle.laws_sessions.proofs.Going.{only_job}
 use Rattle.laws_sessions.proofs.Histories.{IsReached, traced_reached}
@@ -117,7 +117,7 @@ kept_tidy opening g dirty log job new id_is begun_is (folder_is, item_is, tree_i
 }
 
 -- a retry of a copy leaves its stage
-settled_stage : (p : Progress) (item : CopyItem) (c : Seen) → (let s : Seen = settled p item c in s.stage) ≡ c.stage
+settled_stage : (p : Progress) (item : CopyItem) (c : Seen) → (let s : Seen = copy_after_progress p item c in s.stage) ≡ c.stage
 settled_stage UnderWay item c = refl
 settled_stage Decided item c = refl
 settled_stage Anew item c = refl
@@ -172,17 +172,17 @@ answer_tidy opening g dirty log job (OwedSyncFailed why) is Update t = t
 answer_tidy opening g dirty log job (OwedSyncFailed why) is Nothing t = t
 answer_tidy opening g dirty log job (OwedSyncFailed why) is SizeDiffers t = t
 answer_tidy opening g dirty log job Asking is Yes t =
-    kept_tidy opening g dirty log job (replied Yes job) refl refl (refl, refl, refl) (λ t. t) (λ going. subst IsGoing (sym is) tt) (λ ending e. no_end GoesOn ending tt e) t
+    kept_tidy opening g dirty log job (replied_job Yes job) refl refl (refl, refl, refl) (λ t. t) (λ going. subst IsGoing (sym is) tt) (λ ending e. no_end GoesOn ending tt e) t
 answer_tidy opening g dirty log job Asking is No t =
-    kept_tidy opening g dirty log job (replied No job) refl refl (refl, refl, refl) (λ t. t) (λ going. subst IsGoing (sym is) tt) (λ ending e. no_end GoesOn ending tt e) t
+    kept_tidy opening g dirty log job (replied_job No job) refl refl (refl, refl, refl) (λ t. t) (λ going. subst IsGoing (sym is) tt) (λ ending e. no_end GoesOn ending tt e) t
 answer_tidy opening g dirty log job Asking is All t =
-    kept_tidy opening g dirty log job (replied All job) refl refl (refl, refl, refl) (λ t. t) (λ going. subst IsGoing (sym is) tt) (λ ending e. no_end GoesOn ending tt e) t
+    kept_tidy opening g dirty log job (replied_job All job) refl refl (refl, refl, refl) (λ t. t) (λ going. subst IsGoing (sym is) tt) (λ ending e. no_end GoesOn ending tt e) t
 answer_tidy opening g dirty log job Asking is Update t =
-    kept_tidy opening g dirty log job (replied Update job) refl refl (refl, refl, refl) (λ t. t) (λ going. subst IsGoing (sym is) tt) (λ ending e. no_end GoesOn ending tt e) t
+    kept_tidy opening g dirty log job (replied_job Update job) refl refl (refl, refl, refl) (λ t. t) (λ going. subst IsGoing (sym is) tt) (λ ending e. no_end GoesOn ending tt e) t
 answer_tidy opening g dirty log job Asking is Nothing t =
-    kept_tidy opening g dirty log job (replied Nothing job) refl refl (refl, refl, refl) (λ t. t) (λ going. subst IsGoing (sym is) tt) (λ ending e. no_end GoesOn ending tt e) t
+    kept_tidy opening g dirty log job (replied_job Nothing job) refl refl (refl, refl, refl) (λ t. t) (λ going. subst IsGoing (sym is) tt) (λ ending e. no_end GoesOn ending tt e) t
 answer_tidy opening g dirty log job Asking is SizeDiffers t =
-    kept_tidy opening g dirty log job (replied SizeDiffers job) refl refl (refl, refl, refl) (λ t. t) (λ going. subst IsGoing (sym is) tt) (λ ending e. no_end GoesOn ending tt e) t
+    kept_tidy opening g dirty log job (replied_job SizeDiffers job) refl refl (refl, refl, refl) (λ t. t) (λ going. subst IsGoing (sym is) tt) (λ ending e. no_end GoesOn ending tt e) t
 answer_tidy opening g dirty log job Asking is Retry t = t
 answer_tidy opening g dirty log job Asking is Skip t = t
 answer_tidy opening g dirty log job Asking is SkipAll t = t
@@ -200,7 +200,7 @@ close_tidy opening g dirty log job (Skips why) is t = kept_tidy opening g dirty 
 close_tidy opening g dirty log job (Ends first) is t = kept_tidy opening g dirty log job (record job { course = Ends first }) refl refl (refl, refl, refl) (λ t. t) (λ going. absurd going) (λ ending e. t.aborted ending (is ∙ e)) t
 
 module _ (opening : CallLog) (tree : IsTree (current opening)) (settled : all_settled opening.changes ≡ true) where
-  order_tidy : (g : List Entry) (dirty : List Route) (log : CallLog) (id : ℕ) (order : JobOrder) (jobs : List Running) → AreTidy opening g dirty log jobs → AreTidy opening g dirty log (map (ordered id order) jobs)
+  order_tidy : (g : List Entry) (dirty : List Route) (log : CallLog) (id : ℕ) (order : JobOrder) (jobs : List Running) → AreTidy opening g dirty log jobs → AreTidy opening g dirty log (map (ordered_job id order) jobs)
   order_tidy g dirty log id order [] t = tt
   order_tidy g dirty log id (Answered answer) (job ∷ jobs) t = by (job.id == id)
     where
@@ -312,7 +312,7 @@ module _ (opening : CallLog) (tree : IsTree (current opening)) (settled : all_se
           ∙ (ap (λ x. folders_by x (changed_folder job.work) (folders_told opening older) (changed_folder job.work)) did_is
           ∙ ap (λ (f : Route → Bool). f (changed_folder job.work)) (same (changed_folder job.work) (folders_told opening older)))
 
-      still_calm : (d : Did) → did ≡ d → (q : Route) → ((item : Item) (before : Route → Bool) → calm_by d item before ≡ before) → calm_told (e ∷ older) q ≡ calm_told older q
+      still_calm : (d : Did) → did ≡ d → (q : Route) → ((item : ItemOfJob) (before : Route → Bool) → calm_by d item before ≡ before) → calm_told (e ∷ older) q ≡ calm_told older q
       still_calm d did_is q same =
           step_calm e older id did job.work item_is what_is q
           ∙ (ap (λ x. calm_by x (item_in job.work) (calm_told older) q) did_is ∙ ap (λ (f : Route → Bool). f q) (same (item_in job.work) (calm_told older)))

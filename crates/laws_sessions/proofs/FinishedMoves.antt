@@ -20,7 +20,7 @@ use Rattle.laws_sessions.specs.Traces.{IsTraced, Stand}
 use Rattle.laws_sessions.proofs.Histories.{IsReached, traced_reached}
 use Rattle.laws_sessions.proofs.Owing.{calm_at}
 use Rattle.laws_sessions.proofs.Intact.{prefix_way}
-use Rattle.laws_sessions.proofs.Knowing.{IsCalmIn, Said}
+use Rattle.laws_sessions.proofs.Knowing.{IsCalmIn, HistoryFacts}
 use Rattle.laws_sessions.proofs.KnownParts.{HasName}
 use Rattle.laws_sessions.proofs.MoveKnown.{IsMovedIn, none_left, none_waits_below, none_waits_from, none_waits_to}
 use Rattle.laws_sessions.proofs.Resting.{sure_path}
@@ -40,7 +40,7 @@ module _ (opening now : CallLog) (newest : List Entry) (stand : Stand) (path : R
 
   -- both folders are at rest, and joined with each other alone
   module _ (m : Moving) (source_name : HasName m.pair.source) (target_name : HasName m.pair.target) (stage : (movings.owes_target m.stage ≡ false) × (movings.is_dirty m.stage ≡ false)) (left : IsMovedIn (told_of opening now newest seen.part) seen.marks now m) where
-    abbrev told : Said
+    abbrev told : HistoryFacts
     told = told_of opening now newest seen.part
 
     -- a path in the folder at this one

@@ -19,7 +19,7 @@ use Rattle.job_reports.specs.declared.report.Did.TheVariants.{Ended}
 use Rattle.session_entries.specs.declared.history.Entry.{Entry}
 use Rattle.copy_move.specs.declared.run.Course.{Course}
 use Rattle.copy_move.specs.declared.run.Course.TheVariants.{GoesOn, Asking, InTrouble, OwedSyncFailed, Skips, Ends}
-use Rattle.delete_job.specs.Deletions.{started}
+use Rattle.delete_job.specs.Deletions.{begun_deletion}
 use Rattle.copy_move.specs.declared.work.Work.{Work}
 use Rattle.make_job.specs.declared.making.MakingStage.{MakingStage}
 use Rattle.make_job.specs.declared.making.MakingStage.TheVariants as making
@@ -38,7 +38,7 @@ use Rattle.mode_job.specs.Settings as settings
 use Rattle.copy_move.specs.Jobs.{Running, TellsOn, WorkTells}
 use Rattle.copy_move.specs.Settling.{WorkLeaves, changed_folder, is_own}
 use Rattle.job_reports.specs.Paths.{folder_of}
-use Rattle.copy_move.specs.Steps.{LeavesDirty, Walks, WalksOn}
+use Rattle.copy_move.specs.JobStepReports.{LeavesDirty, Walks, WalksOn}
 use Rattle.laws_sessions.specs.Doubt.{IsMountInDoubt, is_unsettled, name_waits, node_waits, way_waits}
 use Rattle.laws_sessions.specs.Owed.{FinishedLaw, IsNoMatter, is_own_path}
 use Rattle.laws_sessions.specs.Staying.{may_change}
@@ -49,7 +49,7 @@ use Rattle.laws_sessions.proofs.Histories.{IsReached, traced_reached}
 use Rattle.laws_sessions.proofs.Owing.{calm_at, calm_there, owed_modes, owed_names}
 use Rattle.laws_sessions.proofs.Intact.{own_folder, prefix_way}
 use Rattle.laws_sessions.proofs.JobKnows.{WorkKnows}
-use Rattle.laws_sessions.proofs.Knowing.{Said}
+use Rattle.laws_sessions.proofs.Knowing.{HistoryFacts}
 use Rattle.laws_sessions.proofs.KnownParts.{HasName}
 use Rattle.laws_sessions.proofs.MoveKnown.{IsMovedIn, MoveKnown, is_moved}
 use Rattle.laws_sessions.proofs.Reports.{JobsKnow}
@@ -137,7 +137,7 @@ may_above (Make m) up names own = inl (same_path-true up (folder_of m.path) (mak
 may_above (Move m) up names own = absurd names
 may_above (Copy c) up names own = elim (or_cases (same_path up (folder_of c.top.target)) (is_prefix c.top.target up) own) [
   | inl here ↦ inl (same_path-true up (folder_of c.top.target) here)
-  | inr within ↦ inr (own_folder (started c.top.target) up (folder_of up) within refl)
+  | inr within ↦ inr (own_folder (begun_deletion c.top.target) up (folder_of up) within refl)
 ]
 may_above (RemoveEmptied r) up names own = inl (same_path-true up (folder_of r.path) own)
 may_above (Delete d) up names own = elim (or_cases (same_path up (folder_of d.path)) (is_prefix d.path up) own) [
@@ -269,7 +269,7 @@ module _ (opening now : CallLog) (newest : List Entry) (stand : Stand) (path : R
   left_by (RemoveEmptied r) firm off named calm whole own = names_left (RemoveEmptied r) tt firm (unlisted (is_own (RemoveEmptied r)) (off refl) (calm refl)) (calm refl) own
 
 -- so it is of a copy, where it tells its end
-whole_left : (told : Said) (dirty dirty_after : List Route) (marks : Marks) (log now : CallLog) (job new : Running) (part : Option Route) (c : SubtreeCopying) → job.work ≡ Copy c → job.course ≡ GoesOn → WorkKnows told dirty marks log job.course job.work
+whole_left : (told : HistoryFacts) (dirty dirty_after : List Route) (marks : Marks) (log now : CallLog) (job new : Running) (part : Option Route) (c : SubtreeCopying) → job.work ≡ Copy c → job.course ≡ GoesOn → WorkKnows told dirty marks log job.course job.work
     → TidyFolder job.work dirty → WorkLeads job (Ended Finished part) new dirty dirty_after log now → TreeLeft told marks log c
 whole_left told dirty dirty_after marks log now job new part c is on knows tidy works =
     let w = works.walks in
@@ -294,7 +294,7 @@ move_done : (replies : Replies) (m : Moving) (work : Work) (part : Option Route)
 move_done replies m (Move new) part (is_done, part_is, new_is) = is_done
 move_done replies m work part t = absurd t
 
-moved_left : (told : Said) (dirty dirty_after : List Route) (marks : Marks) (log now : CallLog) (job new : Running) (part : Option Route) (m : Moving) → job.work ≡ Move m → job.course ≡ GoesOn → WorkKnows told dirty marks log job.course job.work
+moved_left : (told : HistoryFacts) (dirty dirty_after : List Route) (marks : Marks) (log now : CallLog) (job new : Running) (part : Option Route) (m : Moving) → job.work ≡ Move m → job.course ≡ GoesOn → WorkKnows told dirty marks log job.course job.work
     → TidyFolder job.work dirty → WorkLeads job (Ended Finished part) new dirty dirty_after log now → HasName m.pair.source × (HasName m.pair.target × (((movings.owes_target m.stage ≡ false) × (movings.is_dirty m.stage ≡ false)) × IsMovedIn told marks log m))
 moved_left told dirty dirty_after marks log now job new part m is on knows tidy works =
     let known : MoveKnown told marks log GoesOn m = subst (λ x. WorkKnows told dirty marks log GoesOn x) is (subst (λ x. WorkKnows told dirty marks log x job.work) on knows) in

@@ -8,7 +8,7 @@ use Rattle.tree_trait.specs.Shape.{IsTree}
 use Rattle.tree_trait.specs.Answers.{mount_number}
 use Rattle.tree_trait.specs.Calls.{SetMode as Sets_mode}
 use Rattle.tree_trait.specs.FileSystem.{find}
-use Rattle.tree_trait.specs.Change.{Sets, CallLog, current, found}
+use Rattle.tree_trait.specs.Change.{Sets, CallLog, current, found_node}
 use Rattle.tree_trait.specs.CrashImages.{Among, all_settled}
 use Rattle.tree_trait.specs.Refusals.{mount_of}
 use Rattle.tree_trait.proofs.Visible.{same_path-self, same_path-true}
@@ -17,7 +17,7 @@ use Rattle.laws_crash.proofs.Guarding.{same_quiet}
 use Rattle.job_reports.specs.declared.job.Pair.{Pair}
 use Rattle.job_reports.specs.declared.report.Did.{Did}
 use Rattle.job_reports.specs.declared.report.Did.TheVariants.{Began, Chunk, Placed, Removed, Made, Set, Kept, Skipped, Cleaned, Barrier, Asked, Merges, Moved, Troubled, Ended}
-use Rattle.job_reports.specs.Jobs.{Item}
+use Rattle.job_reports.specs.Jobs.{ItemOfJob}
 use Rattle.job_reports.specs.Paths.{folder_of}
 use Rattle.job_reports.proofs.CallAnswers.{one_done}
 use Rattle.job_answers.specs.declared.replies.Replies.{Replies}
@@ -34,13 +34,13 @@ use Rattle.copy_move.specs.declared.work.Work.{Work}
 use Rattle.copy_move.specs.declared.work.Work.TheVariants.{Copy, Delete, Make, Move, SetMode, RemoveEmptied}
 use Rattle.copy_move.specs.Jobs.{CallsOn, Running, TellsOn, WorkCalls, WorkTells, course_after, is_fresh}
 use Rattle.copy_move.specs.Settling.{NoneOwed, WorkLeaves, changed_folder}
-use Rattle.copy_move.specs.Steps.{LeavesDirty}
+use Rattle.copy_move.specs.JobStepReports.{LeavesDirty}
 use Rattle.laws_sessions.specs.Owed.{FirstChangeLaw, IsApart, IsOwed, waits_in}
 use Rattle.laws_sessions.specs.Traces.{IsTraced, IsUnclaimed, Stand, WorkLeads}
 use Rattle.laws_sessions.proofs.Histories.{IsReached, traced_reached}
 use Rattle.laws_sessions.proofs.JobKnows.{KnowsAfter, WorkKnows, calm_in, none_on}
 use Rattle.laws_sessions.proofs.JobLeads.{work_leads}
-use Rattle.laws_sessions.proofs.Knowing.{IsCalmFolder, IsKept, Said}
+use Rattle.laws_sessions.proofs.Knowing.{IsCalmFolder, IsKept, HistoryFacts}
 use Rattle.laws_sessions.proofs.MoveKnown.{IsMovedIn, MoveKnown, move_said, none_left}
 use Rattle.laws_sessions.proofs.Owing.{apart_from, own_or_before, owed_modes, owed_names}
 use Rattle.laws_sessions.proofs.PathsBelow.{below_way}
@@ -54,10 +54,10 @@ use Rattle.laws_sessions.proofs.TreeKnown.{ItemHas, TreeKnown}
 use Rattle.laws_sessions.proofs.Untouched.{NoneOn}
 
 -- what a history says, where this folder is calm, too
-abbrev calming : Route → Said → Said
+abbrev calming : Route → HistoryFacts → HistoryFacts
 calming up told = record told { calm = λ p. told.calm p || same_path p up }
 
-module _ (up : Route) (told : Said) (dirty : List Route) (marks : Marks) (log : CallLog) where
+module _ (up : Route) (told : HistoryFacts) (dirty : List Route) (marks : Marks) (log : CallLog) where
   -- what is known of a job that has changed nothing doesn't hang on that
   knows_calming : (work : Work) → is_fresh work ≡ true → WorkKnows told dirty marks log GoesOn work → WorkKnows (calming up told) dirty marks log GoesOn work
   knows_calming (Copy c) fresh k = of_copy c fresh k
@@ -109,7 +109,7 @@ data Calms (did : Did) (up : Route) (then : Bool) : Type 0 where
   Sets_in : (path : Route) → (is : did ≡ Set path) → Calms did up then
   Moves_in : (pair : Pair) → (is : did ≡ Moved pair) → (here : (is_of_move pair up || (same_path up (folder_of pair.source) || same_path up (folder_of pair.target))) ≡ true) → Calms did up then
 
-calms : (did : Did) (item : Item) (before : Route → Bool) (up : Route) → before up ≡ true → Calms did up (calm_by did item before up)
+calms : (did : Did) (item : ItemOfJob) (before : Route → Bool) (up : Route) → before up ≡ true → Calms did up (calm_by did item before up)
 calms (Moved pair) item before up was = by (is_of_move pair up || (same_path up (folder_of pair.source) || same_path up (folder_of pair.target))) refl
   where
     by : (b : Bool) → (is_of_move pair up || (same_path up (folder_of pair.source) || same_path up (folder_of pair.target))) ≡ b → Calms (Moved pair) up (calm_by (Moved pair) item before up)
@@ -147,7 +147,7 @@ moved_in replies (RemoveEmptied r) (RemoveEmptied new) pair t = absurd t
 moved_in replies old new pair t = absurd t
 
 -- Below the two paths of a move no folder is joined with another after it: nothing waits of what was moved, and where it was nothing stands.
-moved_unjoined : (told : Said) (marks : Marks) (log : CallLog) (m : Moving) (up : Route) → IsMovedIn told marks log m → is_of_move m.pair up ≡ true → IsUnjoined log up
+moved_unjoined : (told : HistoryFacts) (marks : Marks) (log : CallLog) (m : Moving) (up : Route) → IsMovedIn told marks log m → is_of_move m.pair up ≡ true → IsUnjoined log up
 moved_unjoined told marks log m up h of_move f g at = elim (or_cases (is_prefix m.pair.source up) (is_prefix m.pair.target up) of_move) [
   | inl left ↦
       let w = below_way m.pair.source up left in
@@ -161,7 +161,7 @@ set_unjoined : (replies : Replies) (log now : CallLog) (old work new : Work) (pa
 set_unjoined replies log now (SetMode s) (SetMode work) new path up fresh t calls apart =
     let d = one_done log (Sets_mode s.path s.mode) now calls in
     subst (λ (l : CallLog). IsUnjoined l up) (sym d.is)
-    (unjoined_at log (Sets (found (current log) s.path) s.mode) up refl (λ f at. sym (same_quiet log (Sets (found (current log) s.path) s.mode) (λ g m. refl) up) ∙ at) apart)
+    (unjoined_at log (Sets (found_node (current log) s.path) s.mode) up refl (λ f at. sym (same_quiet log (Sets (found_node (current log) s.path) s.mode) (λ g m. refl) up) ∙ at) apart)
 set_unjoined replies log now (Copy c) (Copy work) new path up fresh t calls apart = absurd (t.first fresh)
 set_unjoined replies log now (Delete d) (Delete work) new path up fresh t calls apart = absurd t
 set_unjoined replies log now (Make m) (Make work) new path up fresh t calls apart = absurd t
@@ -191,7 +191,7 @@ module _ (opening log now : CallLog) (older newest : List Entry) (was stand : St
   reached : IsReached opening older was log
   reached = traced_reached opening tree settled older was log before
 
-  abbrev told : Said
+  abbrev told : HistoryFacts
   told = let r = reached in told_of opening log older r.part
 
   abbrev marks : Marks

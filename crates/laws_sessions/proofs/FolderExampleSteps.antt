@@ -8,7 +8,7 @@ use Rattle.tree_trait.specs.declared.calls.TreeError.TheVariants as refused
 use Rattle.tree_trait.specs.declared.file_system.FileSystem.{FileSystem}
 use Rattle.tree_trait.specs.Answers.{IsListing, Performs}
 use Rattle.tree_trait.specs.Calls.{ListFolder, SyncFolder}
-use Rattle.tree_trait.specs.Change.{Change, Nothing, Makes, Removes, Syncs, CallLog, after_change, current, found}
+use Rattle.tree_trait.specs.Change.{Change, Nothing, Makes, Removes, Syncs, CallLog, after_change, current, found_node}
 use Rattle.tree_trait.specs.CrashImages.{Among}
 use Rattle.tree_trait.specs.FileSystem.{lookup}
 use Rattle.tree_trait.specs.Refusals.{refusal_of}
@@ -20,10 +20,10 @@ use Rattle.job_answers.specs.Decisions.{no_replies}
 use Rattle.job_reports.specs.Stops.{cause_of, trouble_at}
 use Rattle.job_reports.specs.declared.report.Did.TheVariants.{Removed, Kept, Skipped, Barrier, Troubled, Ended}
 use Rattle.job_reports.specs.declared.report.Ending.TheVariants.{Finished}
-use Rattle.tree_walk.specs.Places.{Place, unopened}
+use Rattle.tree_walk.specs.Places.{Place, unopened_walk}
 use Rattle.tree_walk.specs.Ranks.{weight}
 use Rattle.delete_job.specs.Descending.{Enters}
-use Rattle.delete_job.specs.Steps.{WorkCalls}
+use Rattle.delete_job.specs.TreeDeletionSteps.{WorkCalls}
 use Rattle.delete_job.specs.declared.deletion.Deletion.{Deletion}
 use Rattle.delete_job.specs.declared.deletion.Depth.{Depth}
 use Rattle.delete_job.specs.declared.deletion.Depth.TheVariants.{Inside, Top}
@@ -68,7 +68,7 @@ removal = Removes 1 (1 ∷ []) 2
 
 -- the walk in the folder, which has these names yet
 abbrev in_top : List (List ℕ) → Bool → Place
-in_top names spared = record unopened { inner = record { path = top; names = names; spared = spared } }
+in_top names spared = record unopened_walk { inner = record { path = top; names = names; spared = spared } }
 
 abbrev deletion : Stage → Depth → Place → Deleting
 deletion stage depth place = record { path = top; stage = stage; depth = depth; place = place; tried = 0 }
@@ -78,7 +78,7 @@ machine d = machine_of d 0
 
 -- how it goes on: it begins, has removed the first file, has left the second, and has decided on all
 abbrev pub begins : Deleting
-begins = deletion Begin Top unopened
+begins = deletion Begin Top unopened_walk
 
 abbrev pub half_way : Deleting
 half_way = deletion Going Inside (in_top ((2 ∷ []) ∷ []) false)
@@ -137,7 +137,7 @@ enters = record {
   children = children;
   takes = refl;
   may = tt;
-  lists = known_is (log []) (λ l. (refusal_of (current l) (ListFolder top) ≡ None) × IsListing (current l) (found (current l) top) children) (refl, lists);
+  lists = known_is (log []) (λ l. (refusal_of (current l) (ListFolder top) ≡ None) × IsListing (current l) (found_node (current l) top) children) (refl, lists);
   all = refl;
   in_order = ((refl, tt), (tt, tt));
   opened_is = record { place = refl; depth_is = refl; stage_is = refl; path_is = refl; folder_is = refl };

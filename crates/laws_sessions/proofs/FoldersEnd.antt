@@ -10,10 +10,10 @@ use Rattle.copy_folders.specs.declared.stage.Stage.{Stage}
 use Rattle.copy_folders.specs.declared.stage.Stage.TheVariants.{Make, Fill, Close, Done}
 use Rattle.copy_folders.specs.declared.level.Level.{Level}
 use Rattle.copy_tree.specs.declared.copy.Named.{Named}
-use Rattle.copy_tree.specs.declared.item.Item.TheVariants.{Next}
-use Rattle.copy_tree.specs.Skipping.{Skips, retried}
-use Rattle.copy_tree.specs.Standing.{Seen, begun}
-use Rattle.copy_tree.specs.Steps.{CopySteps}
+use Rattle.copy_tree.specs.declared.item.ItemAtWork.TheVariants.{Next}
+use Rattle.copy_tree.specs.Skipping.{Skips, retried_copy}
+use Rattle.copy_tree.specs.Standing.{Seen, begun_tree_copy}
+use Rattle.copy_tree.specs.TreeCopySteps.{CopySteps}
 
 abbrev pub is_filled : Stage → Bool
 is_filled (Fill owed) = true
@@ -44,8 +44,8 @@ pub record EndsLast (c : Seen) : Type 0 where
 
 -- It is so of a copy that begins, and each step, skip and retry keeps it.
 pub record EndLaw : Type 0 where
-  pub begins : (job : ℕ) (source target : Named) → EndsLast (begun job source target)
+  pub begins : (job : ℕ) (source target : Named) → EndsLast (begun_tree_copy job source target)
   pub step : (free : Route → Bool) (replies : Replies) (old new : Seen) (did : Did) (calls : ℕ) (before after : Option CallLog) (faults faults_after : ℕ)
       → CopySteps free replies old new did calls before after faults faults_after → EndsLast old → EndsLast new
   pub skip : (cause : Cause) (old new : Seen) (did : Did) → Skips cause old did new → EndsLast old → EndsLast new
-  pub retry : (c : Seen) → EndsLast c → EndsLast (retried c)
+  pub retry : (c : Seen) → EndsLast c → EndsLast (retried_copy c)

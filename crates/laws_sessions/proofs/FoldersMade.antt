@@ -10,7 +10,7 @@ use Rattle.job_reports.specs.declared.job.Pair.{Pair}
 use Rattle.job_reports.specs.declared.report.Did.TheVariants.{Made}
 use Rattle.copy_tree.specs.InPlace.{IsInPlace}
 use Rattle.copy_tree.specs.Standing.{Seen}
-use Rattle.copy_tree.specs.Steps.{CopySteps}
+use Rattle.copy_tree.specs.TreeCopySteps.{CopySteps}
 use Rattle.laws_sessions.specs.Replayed.{made_by}
 use Rattle.laws_sessions.proofs.Resting.{IsOfFiles}
 use Rattle.laws_sessions.proofs.CopyLaws.{CopyKnown}

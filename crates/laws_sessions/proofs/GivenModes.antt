@@ -3,7 +3,7 @@ use Rattle.std.proofs.Common.{◌≡◌, ◌++◌, ℕ, suc, zero, Bool, true, f
 use Rattle.std.specs.Prelude.{◌==◌, if◌then◌else◌}
 use Rattle.std.specs.Option.{option_map}
 use Rattle.mc_text.specs.Routes.{Route}
-use Rattle.tree_trait.specs.Change.{CallLog, current, found}
+use Rattle.tree_trait.specs.Change.{CallLog, current, found_node}
 use Rattle.tree_trait.specs.FileSystem.{Value, View, node, value}
 use Rattle.tree_trait.proofs.Walking.{stat-found}
 use Rattle.job_reports.specs.declared.job.Pair.{Pair}
@@ -13,25 +13,25 @@ use Rattle.copy_file.specs.Copying as file
 use Rattle.copy_file.specs.Copying.{Copying}
 use Rattle.copy_link.specs.LinkCopying as link
 use Rattle.copy_link.specs.LinkCopying.{LinkCopying}
-use Rattle.copy_folders.specs.FolderCopying.{FolderCopying, Tells, closing, copying, folder_mode, owed_mode, skipped}
+use Rattle.copy_folders.specs.FolderCopying.{FolderCopying, Tells, closing, copying, folder_mode, owed_mode, skipped_stage}
 use Rattle.copy_folders.specs.FolderSteps as folder
 use Rattle.copy_folders.specs.declared.stage.FolderDid.{FolderDid}
 use Rattle.copy_folders.specs.declared.stage.FolderDid.TheVariants as folder_did
 use Rattle.copy_folders.specs.declared.stage.NamesState.TheVariants.{Synced}
 use Rattle.copy_folders.specs.declared.stage.Stage.{Stage}
 use Rattle.copy_folders.specs.declared.stage.Stage.TheVariants as at
-use Rattle.tree_walk.specs.Places.{opened}
+use Rattle.tree_walk.specs.Places.{opened_folder}
 use Rattle.copy_folders.specs.declared.level.Level.{Level}
-use Rattle.copy_folders.specs.Levels.{Levels, dirtied, level, made_levels, passed}
-use Rattle.copy_tree.specs.declared.item.Item.{Item}
-use Rattle.copy_tree.specs.declared.item.Item.TheVariants.{Next, File, Link, Stays}
+use Rattle.copy_folders.specs.Levels.{Levels, dirtied_levels, level, made_levels, passed_levels}
+use Rattle.copy_tree.specs.declared.item.ItemAtWork.{ItemAtWork}
+use Rattle.copy_tree.specs.declared.item.ItemAtWork.TheVariants.{Next, File, Link, Stays}
 use Rattle.copy_tree.specs.declared.progress.Progress.{Progress}
 use Rattle.copy_tree.specs.declared.progress.Progress.TheVariants.{UnderWay, Decided, Anew}
 use Rattle.copy_tree.specs.InPlace.{AreMoved, owed_of}
 use Rattle.copy_tree.specs.Progress.{link_progress, progress}
 use Rattle.copy_tree.specs.Skipping.{SkipsAt, SkipsNamed, SkipsRest, retried_at}
 use Rattle.copy_tree.specs.Standing.{Seen}
-use Rattle.copy_tree.specs.Steps.{FolderEnds, LeavesAll, LinkWorks, SyncsAround, TakesFolder, TakesNext, WorksOn, at_end, idle, link_begun, noted, settled}
+use Rattle.copy_tree.specs.TreeCopySteps.{FolderEnds, LeavesAll, LinkWorks, SyncsAround, TakesFolder, TakesNext, WorksOn, at_end, idle, link_begun, noted_copy, copy_after_progress}
 use Rattle.job_answers.specs.declared.replies.Replies.{Replies}
 use Rattle.laws_sessions.proofs.FileMoves.{FileMoves, taken_moves, worked_moves}
 use Rattle.laws_sessions.proofs.TreeSteps.{closing_not}
@@ -53,14 +53,14 @@ module _ (v : View) where
   as_owed : (old new : Level) → new.copy.source ≡ old.copy.source → ((mode : ℕ) → owed_of new.copy.stage ≡ Some mode → owed_of old.copy.stage ≡ Some mode) → OwesSource v old → OwesSource v new
   as_owed old new same owed h mode is = subst (λ q. (x : Value) × ((v q).value ≡ Some x) × (x.mode ≡ mode)) (sym same) (h mode (owed mode is))
 
-  owe_dirtied : (changed : Bool) (l : Levels) → Owe l → Owe (dirtied changed l)
+  owe_dirtied : (changed : Bool) (l : Levels) → Owe l → Owe (dirtied_levels changed l)
   owe_dirtied true l h = owe_inner l.inner _ l.around (λ o. o) h
   owe_dirtied false l h = owe_inner l.inner _ l.around (λ o. o) h
 
-  owe_passed : (left : Bool) (l : Levels) → Owe l → Owe (passed left l)
+  owe_passed : (left : Bool) (l : Levels) → Owe l → Owe (passed_levels left l)
   owe_passed left l h = owe_inner l.inner _ l.around (λ o. o) h
 
-  settled_owe : (p : Progress) (item : Item) (c : Seen) → OwedModes v c → OwedModes v (settled p item c)
+  settled_owe : (p : Progress) (item : ItemAtWork) (c : Seen) → OwedModes v c → OwedModes v (copy_after_progress p item c)
   settled_owe UnderWay item c h = h
   settled_owe Decided item c h = owe_passed false c.levels h
   settled_owe Anew item c h = h
@@ -74,7 +74,7 @@ module _ (v : View) where
   pub closed_owe : (c : Seen) → OwedModes v c → OwedModes v (at_end c)
   closed_owe c h = owe_inner c.levels.inner _ c.levels.around (λ o mode is. o mode (sym (closing_same c.levels.inner.copy.stage) ∙ is)) h
 
-  skipped_owed : (stage : Stage) (mode : ℕ) → owed_of (skipped stage) ≡ Some mode → owed_of stage ≡ Some mode
+  skipped_owed : (stage : Stage) (mode : ℕ) → owed_of (skipped_stage stage) ≡ Some mode → owed_of stage ≡ Some mode
   skipped_owed (at.Make other) mode is = absurd (let f : ⊥ = cc in f)
   skipped_owed (at.Fill owed) mode is = is
   skipped_owed (at.Close owed) mode is = absurd (let f : ⊥ = cc in f)
@@ -124,17 +124,17 @@ module _ (v : View) where
   -- the copy of a file or a link at work is no folder's
   module _ (unclaimed : Route → Type 0) (old new : Seen) (did : Did) (before after : Option CallLog) (h : OwedModes v old) where
     pub file_owes : (f : Copying) → FileMoves unclaimed f old new did before after → OwedModes v new
-    file_owes f w = let m = w.moved in subst (OwedModes v) (sym w.stands) (settled_owe (progress m.stage) (File m) (noted did (file.is_dirty m.folder) (idle old)) (owe_dirtied (file.is_dirty m.folder) old.levels h))
+    file_owes f w = let m = w.moved in subst (OwedModes v) (sym w.stands) (settled_owe (progress m.stage) (File m) (noted_copy did (file.is_dirty m.folder) (idle old)) (owe_dirtied (file.is_dirty m.folder) old.levels h))
 
     pub link_owes : (l : LinkCopying) → LinkWorks l old new did before after → OwedModes v new
-    link_owes l w = let m = w.moved in subst (OwedModes v) (sym w.stands) (settled_owe (link_progress m.stage) (Link m) (noted did (link.is_dirty m.folder) (idle old)) (owe_dirtied (link.is_dirty m.folder) old.levels h))
+    link_owes l w = let m = w.moved in subst (OwedModes v) (sym w.stands) (settled_owe (link_progress m.stage) (Link m) (noted_copy did (link.is_dirty m.folder) (idle old)) (owe_dirtied (link.is_dirty m.folder) old.levels h))
 
   module _ (unclaimed : Route → Type 0) (replies : Replies) (old new : Seen) (did : Did) (log now : CallLog) (shows : ShowsTree v log) (h : OwedModes v old) where
     stays : new ≡ old → OwedModes v new
     stays is = subst (OwedModes v) (sym is) h
 
     made_at : (pair : Pair) (names : List (List ℕ)) (mode : ℕ) (moved : FolderCopying) (report : FolderDid) → Tells (copying pair.source pair.target (at.Make mode) Synced) report moved → OwesNew pair mode → (stage : Stage) → moved.stage ≡ stage
-        → Owe (made_levels stage (opened pair.source names) moved old.levels)
+        → Owe (made_levels stage (opened_folder pair.source names) moved old.levels)
     made_at pair names mode moved report tells source (at.Fill owed) is =
         let m = made_owes pair.source pair.target mode moved report tells owed is in (
           λ other owes.
@@ -151,7 +151,7 @@ module _ (v : View) where
         let w = t.works in
         let is = t.is log refl in
         let source = is.0 in
-        let node_is = node (current log) (found (current log) t.pair.source) in
+        let node_is = node (current log) (found_node (current log) t.pair.source) in
         let shown : (v t.pair.source).value ≡ Some (value node_is) = sym (shows t.pair.source) ∙ ap (option_map (λ i. value (node (current log) i))) (stat-found (current log) t.pair.source source.0) in
         subst (OwedModes v) (sym w.stands) (let m = w.moved in made_at t.pair t.names t.mode m w.report w.tells (value node_is, shown, sym is.3) m.stage refl)
 
@@ -162,7 +162,7 @@ module _ (v : View) where
 
     takes_owe : ((other : ℕ) → old.levels.inner.copy.stage ≡ at.Make other → ⊥) → TakesNext unclaimed replies old new did (Some log) (Some now) → OwedModes v new
     takes_owe made (inl s) = stays s.stands
-    takes_owe made (inr (inl t)) = file_owes unclaimed old new did (Some log) (Some now) h (file.begun old.job t.pair.source t.pair.target) (taken_moves unclaimed replies old new did (Some log) (Some now) t)
+    takes_owe made (inr (inl t)) = file_owes unclaimed old new did (Some log) (Some now) h (file.begun_copy old.job t.pair.source t.pair.target) (taken_moves unclaimed replies old new did (Some log) (Some now) t)
     takes_owe made (inr (inr (inl t))) = link_owes unclaimed old new did (Some log) (Some now) h (link_begun t.pair t.part) t.works
     takes_owe made (inr (inr (inr (inl t)))) = makes_owe t
     takes_owe made (inr (inr (inr (inr (inl t))))) = subst (OwedModes v) (sym t.stands) (owe_passed false old.levels h)
@@ -176,7 +176,7 @@ module _ (v : View) where
         let was : AllOwe v old.levels.inner (s.outer ∷ s.around) = subst (AllOwe v old.levels.inner) s.was h in
         subst (OwedModes v) (sym s.stands) (was.0, owe_inner s.outer (level s.outer.names (record s.outer.copy { names = s.names })) s.around (λ o. o) was.1)
 
-    pub works_owe : ((other : ℕ) → old.levels.inner.copy.stage ≡ at.Make other → ⊥) → (item : Item) → WorksOn item unclaimed replies old new did (Some log) (Some now) → OwedModes v new
+    pub works_owe : ((other : ℕ) → old.levels.inner.copy.stage ≡ at.Make other → ⊥) → (item : ItemAtWork) → WorksOn item unclaimed replies old new did (Some log) (Some now) → OwedModes v new
     works_owe made Next (inl s) = syncs_owe s
     works_owe made Next (inr takes) = takes_owe made takes.1
     works_owe made (File f) w = file_owes unclaimed old new did (Some log) (Some now) h f (worked_moves unclaimed f old new did (Some log) (Some now) w)
@@ -200,13 +200,13 @@ module _ (v : View) where
     named_owe (name ∷ names) (inr (inl rest)) = rest_owe rest.1
     named_owe (name ∷ names) (inr (inr room)) = subst (OwedModes v) (sym room.1) h
 
-    pub skips_owe : (item : Item) → SkipsAt item cause old did new → OwedModes v new
+    pub skips_owe : (item : ItemAtWork) → SkipsAt item cause old did new → OwedModes v new
     skips_owe Next s = named_owe old.levels.inner.names.names s
     skips_owe (File f) (moved, skips, stands) = subst (OwedModes v) (sym stands) (settled_owe (progress moved.stage) (File moved) (idle old) h)
     skips_owe (Link l) (moved, skips, stands) = subst (OwedModes v) (sym stands) (settled_owe (link_progress moved.stage) (Link moved) (idle old) h)
     skips_owe (Stays part) s = absurd s
 
-  pub retries_owe : (item : Item) (c : Seen) → OwedModes v c → OwedModes v (retried_at item c)
+  pub retries_owe : (item : ItemAtWork) (c : Seen) → OwedModes v c → OwedModes v (retried_at item c)
   retries_owe Next c h = h
   retries_owe (File f) c h = settled_owe _ _ (idle c) h
   retries_owe (Link l) c h = settled_owe _ _ (idle c) h

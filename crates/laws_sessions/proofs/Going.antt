@@ -21,27 +21,27 @@ use Rattle.copy_move.specs.declared.run.Course.{Course}
 use Rattle.copy_move.specs.declared.run.Course.TheVariants.{GoesOn, Asking, InTrouble, OwedSyncFailed, Skips, Ends}
 use Rattle.copy_move.specs.declared.work.Work.{Work}
 use Rattle.copy_move.specs.declared.work.Work.TheVariants.{Copy, Delete, Make, Move, SetMode, RemoveEmptied}
-use Rattle.copy_move.specs.Jobs.{Running, answered, answered_on, begun_work, closed_course, closed_job, taken_anew}
+use Rattle.copy_move.specs.Jobs.{Running, answered_job, answered_on, begun_work, closed_course, closed_job, taken_anew}
 use Rattle.copy_move.specs.Told.{running}
-use Rattle.session_entries.specs.LiveJobs.{LiveJob, after_event, after_report, live, turned}
+use Rattle.session_entries.specs.LiveJobs.{LiveJob, after_event, after_report, live, turned_live_job}
 use Rattle.session_entries.specs.Sources.{sources_of}
-use Rattle.laws_sessions.specs.Traces.{EventLeads, IsJob, Stand, StepLeads, WorkLeads, begun, ordered, unless_ended, with_job}
+use Rattle.laws_sessions.specs.Traces.{EventLeads, IsJob, Stand, StepLeads, WorkLeads, begun_jobs, ordered_job, unless_ended, with_job}
 use Rattle.laws_sessions.proofs.JobKnows.{KnowsAfter, WorkKnows, may_fill, work_course}
 use Rattle.laws_sessions.proofs.TreeKnown.{is_over}
 use Rattle.laws_sessions.proofs.TreeSkipped.{retries_tree}
 use Rattle.laws_sessions.proofs.JobLeads.{sync_leads, work_leads}
 use Rattle.laws_sessions.proofs.JobSteps.{gives_up}
-use Rattle.laws_sessions.proofs.Knowing.{Said, IsKept}
+use Rattle.laws_sessions.proofs.Knowing.{HistoryFacts, IsKept}
 use Rattle.laws_sessions.proofs.MoveKnown.{move_course}
 use Rattle.laws_sessions.proofs.Reports.{HasLive, JobsKnow, knows_after, live_after, with_one}
 use Rattle.laws_sessions.proofs.Sources.{IsSame, answer_same, item_in, tells_same}
-use Rattle.laws_sessions.proofs.Stepped.{AreMids, Comes, more, part_after, said_after}
+use Rattle.laws_sessions.proofs.Stepped.{AreMids, StepRan, more, part_after, said_after}
 use Rattle.laws_sessions.proofs.Turns.{Turned, begun_item, begun_knows, one_turned, turned_id, turned_item, turned_knows, turned_to}
 
 no_more : (log : CallLog) → log ≡ more log []
 no_more log = ap (λ xs. (let l : CallLog = record log { changes = xs } in l)) (sym (append-nil log.changes))
 
-anew_knows : (told : Said) (dirty : List Route) (m : Marks) (log : CallLog) (course : Course) (work : Work) → is_over course ≡ false → WorkKnows told dirty m log course work → WorkKnows told dirty m log GoesOn (taken_anew work)
+anew_knows : (told : HistoryFacts) (dirty : List Route) (m : Marks) (log : CallLog) (course : Course) (work : Work) → is_over course ≡ false → WorkKnows told dirty m log course work → WorkKnows told dirty m log GoesOn (taken_anew work)
 anew_knows told dirty m log course (Copy c) going k = retries_tree told dirty m log c course GoesOn going k
 anew_knows told dirty m log course (Delete d) going k = k
 anew_knows told dirty m log course (Make w) going k = k
@@ -49,7 +49,7 @@ anew_knows told dirty m log course (Move w) going k = move_course told m log cou
 anew_knows told dirty m log course (SetMode s) going k = k
 anew_knows told dirty m log course (RemoveEmptied w) going k = k
 
-module _ (told : Said) (dirty : List Route) (marks : Marks) (log : CallLog) where
+module _ (told : HistoryFacts) (dirty : List Route) (marks : Marks) (log : CallLog) where
   abbrev Knows : Running → Type 0
   Knows job = WorkKnows told dirty marks log job.course job.work
 
@@ -91,14 +91,14 @@ module _ (told : Said) (dirty : List Route) (marks : Marks) (log : CallLog) wher
   answer_knows (Skips why) answer job is k = k
   answer_knows (Ends ending) answer job is k = k
 
-  order_by : (b : Bool) (answer : Answer) (job : Running) → Knows job → Knows (if◌then◌else◌ b (answered answer job) job)
+  order_by : (b : Bool) (answer : Answer) (job : Running) → Knows job → Knows (if◌then◌else◌ b (answered_job answer job) job)
   order_by true answer job k = answer_knows job.course answer job refl k
   order_by false answer job k = k
 
-  order_knows : (id : ℕ) (order : JobOrder) (job : Running) → Knows job → Knows (ordered id order job)
+  order_knows : (id : ℕ) (order : JobOrder) (job : Running) → Knows job → Knows (ordered_job id order job)
   order_knows id (Answered answer) job k = order_by (job.id == id) answer job k
 
-  orders_know : (id : ℕ) (order : JobOrder) (jobs : List Running) → JobsKnow told dirty marks log jobs → JobsKnow told dirty marks log (map (ordered id order) jobs)
+  orders_know : (id : ℕ) (order : JobOrder) (jobs : List Running) → JobsKnow told dirty marks log jobs → JobsKnow told dirty marks log (map (ordered_job id order) jobs)
   orders_know id order [] k = k
   orders_know id order (job ∷ []) k = order_knows id order job k
   orders_know id order (job ∷ other ∷ jobs) k = absurd k
@@ -124,10 +124,10 @@ module _ (told : Said) (dirty : List Route) (marks : Marks) (log : CallLog) wher
   closed_know (job ∷ []) k = work_course told dirty marks log job.course (closed_course job.course) job.work (closed_by job.course) (closed_over job.course) k
   closed_know (job ∷ other ∷ jobs) k = absurd k
 
-order_same : (id : ℕ) (order : JobOrder) (job : Running) → IsSame job (ordered id order job)
+order_same : (id : ℕ) (order : JobOrder) (job : Running) → IsSame job (ordered_job id order job)
 order_same id (Answered answer) job = by (job.id == id)
   where
-    by : (b : Bool) → IsSame job (if◌then◌else◌ b (answered answer job) job)
+    by : (b : Bool) → IsSame job (if◌then◌else◌ b (answered_job answer job) job)
     by true = answer_same answer job
     by false = (refl, refl)
 
@@ -136,9 +136,9 @@ same_live live part job new same is =
     is ∙ (ap (λ n. (let l : LiveJob = record { id = n; item = item_in job.work; part = part } in l) ∷ []) (sym same.0)
     ∙ ap (λ i. (let l : LiveJob = record { id = new.id; item = i; part = part } in l) ∷ []) (sym same.1))
 
-orders_live : (live : List LiveJob) (part : Option Route) (id : ℕ) (order : JobOrder) (jobs : List Running) → HasLive live jobs part → HasLive live (map (ordered id order) jobs) part
+orders_live : (live : List LiveJob) (part : Option Route) (id : ℕ) (order : JobOrder) (jobs : List Running) → HasLive live jobs part → HasLive live (map (ordered_job id order) jobs) part
 orders_live live part id order [] h = h
-orders_live live part id order (job ∷ []) h = same_live live part job (ordered id order job) (order_same id order job) h
+orders_live live part id order (job ∷ []) h = same_live live part job (ordered_job id order job) (order_same id order job) h
 orders_live live part id order (job ∷ other ∷ jobs) h = absurd h
 
 pub closed_live : (live : List LiveJob) (part : Option Route) (jobs : List Running) → HasLive live jobs part → HasLive live (map closed_job jobs) part
@@ -147,16 +147,16 @@ closed_live live part (job ∷ []) h = h
 closed_live live part (job ∷ other ∷ jobs) h = absurd h
 
 -- the one job that is live
-pub only_job : (id : ℕ) (jobs : List Running) (job : Running) (told : Said) (dirty : List Route) (marks : Marks) (log : CallLog) → IsJob id jobs job → JobsKnow told dirty marks log jobs → (jobs ≡ job ∷ []) × (job.id ≡ id)
+pub only_job : (id : ℕ) (jobs : List Running) (job : Running) (told : HistoryFacts) (dirty : List Route) (marks : Marks) (log : CallLog) → IsJob id jobs job → JobsKnow told dirty marks log jobs → (jobs ≡ job ∷ []) × (job.id ≡ id)
 only_job id [] job told dirty marks log is k = absurd is
 only_job id (first ∷ []) job told dirty marks log (inl here) k = (ap (λ j. j ∷ []) (sym here.1), ap (λ (j : Running). j.id) here.1 ∙ here.0)
 only_job id (first ∷ []) job told dirty marks log (inr none) k = absurd none
 only_job id (first ∷ other ∷ jobs) job told dirty marks log is k = absurd k
 
-module _ (said : Said) (listed : List LiveJob) (was : Stand) (before : CallLog) (marks : Marks) (kept : IsKept said was.dirty marks before) (knows : JobsKnow said was.dirty marks before was.jobs)
+module _ (said : HistoryFacts) (listed : List LiveJob) (was : Stand) (before : CallLog) (marks : Marks) (kept : IsKept said was.dirty marks before) (knows : JobsKnow said was.dirty marks before was.jobs)
     (is_live : HasLive listed was.jobs said.part) where
   -- a step says what its report says of the item of the one live job, and so does a job's turn to its next source, as the end of the one before; other events say nothing
-  abbrev pub SaidThen : Event → CallLog → Said → Type 0
+  abbrev pub SaidThen : Event → CallLog → HistoryFacts → Type 0
   SaidThen (Step id did) now said_then = (job : Running) × (was.jobs ≡ job ∷ []) × (job.id ≡ id) × (said_then ≡ said_after now did job.work said)
   SaidThen (Next id plan) now said_then = (job : Running) × (was.jobs ≡ job ∷ []) × (job.id ≡ id) × (said_then ≡ said_after now (Ended Finished None) job.work said)
   SaidThen (Key key time refusals lost) now said_then = said_then ≡ said
@@ -171,7 +171,7 @@ module _ (said : Said) (listed : List LiveJob) (was : Stand) (before : CallLog) 
     pub made : List Change
     pub now_is : now ≡ more before made
     pub mids : AreMids said before made
-    pub said_then : Said
+    pub said_then : HistoryFacts
     pub then_is : SaidThen what now said_then
     pub marks_then : Marks
     pub kept_then : IsKept said_then after.dirty marks_then now
@@ -201,7 +201,7 @@ module _ (said : Said) (listed : List LiveJob) (was : Stand) (before : CallLog) 
     job_knows : WorkKnows said was.dirty marks before job.course job.work
     job_knows = subst (λ js. JobsKnow said was.dirty marks before js) jobs_is knows
 
-    entered : (dirty_after : List Route) (jobs : List Running) (known : Marks → Type 0) → Comes said (said_after now did job.work said) dirty_after before now known
+    entered : (dirty_after : List Route) (jobs : List Running) (known : Marks → Type 0) → StepRan said (said_after now did job.work said) dirty_after before now known
         → ((m : Marks) → known m → JobsKnow (said_after now did job.work said) dirty_after m now jobs) → HasLive (after_report id did listed) jobs (part_after did said.part)
         → Goes (Step id did) (let st : Stand = record { jobs = jobs; dirty = dirty_after } in st) now
     entered dirty_after jobs known come known_of live_is = record {
@@ -237,7 +237,7 @@ module _ (said : Said) (listed : List LiveJob) (was : Stand) (before : CallLog) 
         (entered dirty_after _ _ (sync_leads said was.dirty dirty_after marks before now kept job new did job_knows syncs)
         (λ m k. knows_after (said_after now did job.work said) dirty_after m now new did k) (still_live new (settled_same syncs.synced)))
       where
-        settled_same : Rattle.copy_move.specs.Steps.SyncsOwed job syncs.path did new was.dirty dirty_after (Some before) (Some now) → IsSame job new
+        settled_same : Rattle.copy_move.specs.JobStepReports.SyncsOwed job syncs.path did new was.dirty dirty_after (Some before) (Some now) → IsSame job new
         settled_same (inl s) = (ap (λ (x : Running). x.id) s.new_is, ap (λ (x : Running). item_in x.work) s.new_is)
         settled_same (inr s) = (ap (λ (x : Running). x.id) s.new_is, ap (λ (x : Running). item_in x.work) s.new_is)
     stepped dirty_after jobs after (inr (gives, after_is)) is =
@@ -263,21 +263,21 @@ module _ (said : Said) (listed : List LiveJob) (was : Stand) (before : CallLog) 
         marks_then = come.marks;
         kept_then = come.kept;
         knows_then = turned_knows ended dirty_after come.marks now plan job next refl turn;
-        live_then = ap (λ o. option_map_or (λ item. map (turned id item) listed) o listed) (turned_item plan job next turn)
-            ∙ (ap (map (turned id (item_in next.work))) (job_live now id (Ended Finished None) job jobs_is id_is)
+        live_then = ap (λ o. option_map_or (λ item. map (turned_live_job id item) listed) o listed) (turned_item plan job next turn)
+            ∙ (ap (map (turned_live_job id (item_in next.work))) (job_live now id (Ended Finished None) job jobs_is id_is)
             ∙ (ap (λ b. (if◌then◌else◌ b (live id (item_in next.work)) (let l : LiveJob = record { id = job.id; item = item_in job.work; part = said.part } in l)) ∷ []) (eq-eqb job.id id id_is)
             ∙ ap (λ n. live n (item_in next.work) ∷ []) (sym (turned_id plan job next turn ∙ id_is))));
       })
     where
-      ended : Said
+      ended : HistoryFacts
       ended = said_after now (Ended Finished None) job.work said
 
-      come : Comes said ended dirty_after before now (KnowsAfter (Ended Finished None) ended dirty_after now over.course over.work)
+      come : StepRan said ended dirty_after before now (KnowsAfter (Ended Finished None) ended dirty_after now over.course over.work)
       come = work_leads said was.dirty dirty_after marks before now kept job over (Ended Finished None) (job_knows now id (Ended Finished None) job jobs_is id_is) done
 
   -- a job begins
   begins : (id : ℕ) (plan : Job) (background : Bool) → was.jobs ≡ [] → (o : Option Work) → begun_work id (sources_of plan) ≡ o
-      → Goes (Began id plan background) (record was { jobs = begun id plan }) before
+      → Goes (Began id plan background) (record was { jobs = begun_jobs id plan }) before
   begins id plan background none o is = record {
     made = [];
     now_is = no_more before;
@@ -287,7 +287,7 @@ module _ (said : Said) (listed : List LiveJob) (was : Stand) (before : CallLog) 
     marks_then = marks;
     kept_then = kept;
     knows_then = subst (λ x. JobsKnow said was.dirty marks before (option_map_or (λ w. running id w ∷ []) x [])) (sym is) (knows_of o is);
-    live_then = subst (λ x. HasLive (option_map_or (λ i. live id i ∷ listed) x listed) (begun id plan) said.part) (sym (begun_item id (sources_of plan)))
+    live_then = subst (λ x. HasLive (option_map_or (λ i. live id i ∷ listed) x listed) (begun_jobs id plan) said.part) (sym (begun_item id (sources_of plan)))
         (subst (λ x. HasLive (option_map_or (λ i. live id i ∷ listed) (option_map item_in x) listed) (option_map_or (λ w. running id w ∷ []) x []) said.part) (sym is) (live_of o));
   }
     where
@@ -318,7 +318,7 @@ module _ (said : Said) (listed : List LiveJob) (was : Stand) (before : CallLog) 
   event_goes (Order id order) after now s =
       subst (λ (l : CallLog). Goes (Order id order) after l) (sym s.now_is)
       (subst (λ (x : Stand). Goes (Order id order) x before) (sym s.after_is)
-      (quiet (Order id order) (record was { jobs = map (ordered id order) was.jobs }) refl refl refl (orders_know said was.dirty marks before id order was.jobs knows)
+      (quiet (Order id order) (record was { jobs = map (ordered_job id order) was.jobs }) refl refl refl (orders_know said was.dirty marks before id order was.jobs knows)
       (orders_live listed said.part id order was.jobs is_live)))
   event_goes (Key key time refusals lost) after now s =
       subst (λ (l : CallLog). Goes (Key key time refusals lost) after l) (sym s.now_is)

@@ -9,7 +9,7 @@ use Rattle.tree_trait.specs.Shape.{IsTree}
 use Rattle.tree_trait.specs.Change.{Change, CallLog, current}
 use Rattle.tree_trait.specs.CrashImages.{all_settled}
 use Rattle.laws_crash.specs.Guarded.{Marks}
-use Rattle.laws_crash.specs.Steps.{as_it_stands}
+use Rattle.laws_crash.specs.NameKnowledge.{as_it_stands}
 use Rattle.laws_crash.proofs.Others.{opening_law}
 use Rattle.laws_crash.proofs.Guarding.{found_there}
 use Rattle.job_reports.specs.Jobs.{folder_changed}
@@ -30,7 +30,7 @@ use Rattle.laws_sessions.specs.Replayed.{earlier_tree, log_prefix, replayed_even
 use Rattle.laws_sessions.specs.Traces.{EventLeads, Follows, IsTraced, Stand, if_closed}
 use Rattle.laws_sessions.proofs.Prefixes.{AreWithin, calm_event, calm_told, earlier_more, folders_event, folders_told, replayed_more, said_by, told_more, told_of, told_with, within_more}
 use Rattle.laws_sessions.proofs.Going.{Goes, closed_know, closed_live, event_goes}
-use Rattle.laws_sessions.proofs.Knowing.{Said, IsKept, anywhere}
+use Rattle.laws_sessions.proofs.Knowing.{HistoryFacts, IsKept, anywhere}
 use Rattle.laws_sessions.proofs.Pending.{pending_settled}
 use Rattle.laws_sessions.proofs.WaitsFor.{joint_settled, restless_settled}
 use Rattle.laws_sessions.proofs.Reports.{HasLive, JobsKnow}
@@ -83,7 +83,7 @@ modes_anywhere reported.Barrier = refl
 modes_anywhere (reported.Troubled trouble) = refl
 
 -- what an event makes of it
-pub record IsEntered (opening : CallLog) (older : List Entry) (calls : ℕ) (what : Event) (told : Said) (before : CallLog) (after : Stand) (now : CallLog) : Type 0 where
+pub record IsEntered (opening : CallLog) (older : List Entry) (calls : ℕ) (what : Event) (told : HistoryFacts) (before : CallLog) (after : Stand) (now : CallLog) : Type 0 where
   pub made : List Change
   pub now_is : now ≡ more before made
   pub mids : AreMids told before made
@@ -94,7 +94,7 @@ pub record IsEntered (opening : CallLog) (older : List Entry) (calls : ℕ) (wha
   pub live : HasLive (after_event what (live_jobs older)) after.jobs part
 
 module _ (opening : CallLog) (older : List Entry) (calls : ℕ) (was : Stand) (before : CallLog) (r : IsReached opening older was before) where
-  abbrev told : Said
+  abbrev told : HistoryFacts
   told = told_of opening before older r.part
 
   abbrev Entered : Event → Stand → CallLog → Type 0
@@ -121,7 +121,7 @@ module _ (opening : CallLog) (older : List Entry) (calls : ℕ) (was : Stand) (b
   quiet : (what : Event) (after : Stand) (now : CallLog) → now ≡ before → (n : Led what after now) → (let x : Led what after now = n in x.said_then) ≡ told
       → told_with opening before older calls what r.part ≡ told → Entered what after now
   quiet what after now none n then_is same =
-      entered what after now r.part n (sym (ap (λ (s : Said). s.part) then_is)) (ap (λ (l : CallLog). told_with opening l older calls what r.part) none ∙ (same ∙ sym then_is))
+      entered what after now r.part n (sym (ap (λ (s : HistoryFacts). s.part) then_is)) (ap (λ (l : CallLog). told_with opening l older calls what r.part) none ∙ (same ∙ sym then_is))
 
   -- a job steps
   module _ (now : CallLog) (id : ℕ) (did : Did) (counts : length now.changes ≡ length opening.changes + calls) (job : Running) (jobs_is : was.jobs ≡ job ∷ []) (id_is : job.id ≡ id) where
@@ -153,18 +153,18 @@ module _ (opening : CallLog) (older : List Entry) (calls : ℕ) (was : Stand) (b
         (ap (λ v. Rattle.laws_sessions.specs.Replayed.earlier_step did v (earlier_tree opening now older)) tree
         ∙ ap (Rattle.laws_sessions.specs.Replayed.earlier_step did (replayed_tree opening before older)) earlier)
         ∙ (ap (λ o. said_by (option_map_or (λ item. folders_by did (folder_changed item) (folders_told opening older)) o (folders_told opening older)) (option_map_or (λ item. calm_by did item (calm_told older)) o (calm_told older)) (replayed_step now did (Some (item_in job.work)) (replayed_tree opening before older)) (Rattle.laws_sessions.specs.Replayed.earlier_step did (replayed_tree opening before older) (earlier_tree opening before older)) (Rattle.session_entries.specs.Named.named_by did (Rattle.session_entries.specs.Named.left_parts older) (Rattle.session_entries.specs.Named.named_parts older)) (Rattle.session_entries.specs.Named.left_by did (Rattle.session_entries.specs.Named.left_parts older)) (part_after did r.part)) item_is
-        ∙ (ap (λ d. (let t : Said = record (said_after now did job.work told) { doubt = d; modes = anywhere } in t)) (sym (doubt_anywhere did r.part))
-        ∙ ap (λ m. (let t : Said = record (said_after now did job.work told) { modes = m } in t)) (sym (modes_anywhere did))))
+        ∙ (ap (λ d. (let t : HistoryFacts = record (said_after now did job.work told) { doubt = d; modes = anywhere } in t)) (sym (doubt_anywhere did r.part))
+        ∙ ap (λ m. (let t : HistoryFacts = record (said_after now did job.work told) { modes = m } in t)) (sym (modes_anywhere did))))
 
     stepped : (after : Stand) (n : Led (Step id did) after now) → (let x : Led (Step id did) after now = n in x.said_then) ≡ said_after now did job.work told → Entered (Step id did) after now
     stepped after n then_is =
-        entered (Step id did) after now (part_after did r.part) n (sym (ap (λ (s : Said). s.part) then_is)) (told_is n.made n.now_is ∙ sym then_is)
+        entered (Step id did) after now (part_after did r.part) n (sym (ap (λ (s : HistoryFacts). s.part) then_is)) (told_is n.made n.now_is ∙ sym then_is)
 
   -- a job goes on with its next source
   turns : (now : CallLog) (id : ℕ) (plan : Job) (job : Running) (after : Stand) (n : Led (Next id plan) after now) → (let x : Led (Next id plan) after now = n in x.said_then) ≡ said_after now (Ended Finished None) job.work told
       → Entered (Next id plan) after now
   turns now id plan job after n then_is =
-      entered (Next id plan) after now None n (sym (ap (λ (s : Said). s.part) then_is)) ((ap (λ (l : CallLog). told_of opening l older None) n.now_is ∙ told_more opening before n.made older None r.within) ∙ sym then_is)
+      entered (Next id plan) after now None n (sym (ap (λ (s : HistoryFacts). s.part) then_is)) ((ap (λ (l : CallLog). told_of opening l older None) n.now_is ∙ told_more opening before n.made older None r.within) ∙ sym then_is)
 
   pub enters : (what : Event) (after : Stand) (now : CallLog) → EventLeads was what after before now → length now.changes ≡ length opening.changes + calls → Entered what after now
   enters what after now leads counts = by what leads (event_goes told (live_jobs older) was before r.marks r.kept r.knows r.live what after now leads)

@@ -5,7 +5,7 @@ use Rattle.std.specs.Prelude.{is_some}
 use Rattle.std.proofs.lemmas.Bool.{both_ways, false_from_ne_true, true≢false}
 use Rattle.mc_text.specs.Routes.{Route, same_path}
 use Rattle.tree_trait.specs.declared.file_system.FileSystem.{FileSystem}
-use Rattle.tree_trait.specs.FileSystem.{Spot, Value, find, put, value_at}
+use Rattle.tree_trait.specs.FileSystem.{Spot, Value, find, view_with, value_at}
 use Rattle.tree_trait.specs.Shape.{IsTree}
 use Rattle.tree_trait.specs.Change.{Change, CallLog, current}
 use Rattle.tree_trait.specs.CrashImages.{Among, IsCrashImage, all_settled, is_clean}
@@ -32,7 +32,7 @@ use Rattle.laws_sessions.proofs.Tidy.{not_listed}
 use Rattle.laws_sessions.proofs.Going.{Goes, SaidThen, closed_know, closed_live, event_goes}
 use Rattle.laws_sessions.proofs.Histories.{IsReached, enters, traced_reached}
 use Rattle.laws_sessions.proofs.JobKnows.{WorkKnows, work_said}
-use Rattle.laws_sessions.proofs.Knowing.{HasMode, HasNoMode, IsKept, Said, held, safe_path, waits_there}
+use Rattle.laws_sessions.proofs.Knowing.{HasMode, HasNoMode, IsKept, HistoryFacts, held, safe_path, waits_there}
 use Rattle.laws_sessions.proofs.Moments.{log_of, prefix_cut, prefix_is, traced_count}
 use Rattle.laws_sessions.proofs.Prefixes.{replayed_more, told_of}
 use Rattle.laws_sessions.proofs.Reports.{HasLive, JobsKnow}
@@ -45,16 +45,16 @@ neither true b h = absurd (true≢false h)
 neither false b h = (refl, h)
 
 -- what a history says, where a path held this before, too, and was no part
-abbrev holding : Route → Option Value → Said → Said
-holding path v told = record told { earlier = put told.earlier path v; named = without path told.named }
+abbrev holding : Route → Option Value → HistoryFacts → HistoryFacts
+holding path v told = record told { earlier = view_with told.earlier path v; named = without path told.named }
 
 -- a path shows this, showed it before, and was no part
-abbrev Keeps : Route → Option Value → Said → Type 0
+abbrev Keeps : Route → Option Value → HistoryFacts → Type 0
 Keeps path v said = ((said.tree path).value ≡ v) × ((said.earlier path).value ≡ v) × (Among said.named path → ⊥)
 
 -- so much is known of a path that holds this, whichever way a crash leaves it
 pub record IsHeld (listed : List LiveJob) (stand : Stand) (now : CallLog) (path : Route) (v : Option Value) : Type 0 where
-  pub said : Said
+  pub said : HistoryFacts
   pub marks : Marks
   pub kept : IsKept said stand.dirty marks now
   pub knows : JobsKnow said stand.dirty marks now stand.jobs
@@ -62,13 +62,13 @@ pub record IsHeld (listed : List LiveJob) (stand : Stand) (now : CallLog) (path 
   pub keeps : Keeps path v said
 
 -- and so each image has it
-held_image : (said : Said) (dirty : List Route) (marks : Marks) (log : CallLog) (path : Route) (v : Option Value) (image : FileSystem) → Keeps path v said → IsKept said dirty marks log → IsImage log image → value_at image path ≡ v
+held_image : (said : HistoryFacts) (dirty : List Route) (marks : Marks) (log : CallLog) (path : Route) (v : Option Value) (image : FileSystem) → Keeps path v said → IsKept said dirty marks log → IsImage log image → value_at image path ≡ v
 held_image said dirty marks log path v image (shows, before, unnamed) kept left = elim (safe_path said dirty marks log kept image left path (λ named stays. unnamed named)) [
   | inl told ↦ told ∙ shows
   | inr doubt ↦ doubt.1 ∙ before
 ]
 
-module _ (path : Route) (v : Option Value) (told : Said) where
+module _ (path : Route) (v : Option Value) (told : HistoryFacts) where
   work_holding : (dirty : List Route) (marks : Marks) (log : CallLog) (course : Course) (work : Work) → WorkKnows told dirty marks log course work → WorkKnows (holding path v told) dirty marks log course work
   work_holding dirty marks log course work k = work_said told (holding path v told) refl refl refl refl dirty marks log course work k
 
@@ -115,7 +115,7 @@ module _ (path : Route) (v : Option Value) (told : Said) where
       }
 
       shown : (p : Route) → marks.aside p ≡ false → (b : Bool) → same_path p path ≡ b
-          → (marks.was p ≡ find (current log) p) ⊎ ((held (current log) (marks.was p) ≡ (let t : Said = holding path v told in t.earlier p).value) × HasNoMode marks (marks.was p))
+          → (marks.was p ≡ find (current log) p) ⊎ ((held (current log) (marks.was p) ≡ (let t : HistoryFacts = holding path v told in t.earlier p).value) × HasNoMode marks (marks.was p))
       shown p out_p true same = inl (subst (λ q. marks.was q ≡ find (current log) q) (sym (same_path-true p path same)) (kept.was path out (neither (way_waits log path) (node_waits log path) sure).0))
       shown p out_p false off = elim (kept.known.was_shown p out_p) [
         | inl now ↦ inl now
@@ -134,7 +134,7 @@ held_here opening g stand now path r sure bare = record {
   keeps = (refl, ap (λ (s : Spot). s.value) (put_at told.earlier path v), not_listed path told.named);
 }
   where
-    told : Said
+    told : HistoryFacts
     told = told_of opening now g r.part
 
     v : Option Value
@@ -147,16 +147,16 @@ held_here opening g stand now path r sure bare = record {
 
 -- an event that doesn't name it
 module _ (listed : List LiveJob) (was : Stand) (before : CallLog) (path : Route) (v : Option Value) (h : IsHeld listed was before path v) where
-  abbrev said : Said
+  abbrev said : HistoryFacts
   said = h.said
 
   abbrev Led : Event → Stand → CallLog → Type 0
   Led what after now = Goes said listed was before h.marks h.kept h.knows h.live what after now
 
-  abbrev Then : Event → CallLog → Said → Type 0
+  abbrev Then : Event → CallLog → HistoryFacts → Type 0
   Then what now said_then = SaidThen said listed was before h.marks h.kept h.knows h.live what now said_then
 
-  keeps_then : (what : Event) (now : CallLog) (said_then : Said) → names_path what path ≡ false → Then what now said_then → Keeps path v said_then
+  keeps_then : (what : Event) (now : CallLog) (said_then : HistoryFacts) → names_path what path ≡ false → Then what now said_then → Keeps path v said_then
   keeps_then (Step id did) now said_then unnamed (job, jobs_is, id_is, is) = let k = h.keeps in subst (Keeps path v) (sym is) (
     ap (λ (s : Spot). s.value) (step_unnamed now did (Some (Rattle.laws_sessions.proofs.Sources.item_in job.work)) said.tree path unnamed) ∙ k.0,
     ap (λ (s : Spot). s.value) (earlier_unnamed did said.tree said.earlier path unnamed) ∙ k.1,

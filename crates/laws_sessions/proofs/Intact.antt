@@ -20,7 +20,7 @@ use Rattle.laws_sessions.proofs.Changing.{folder_anchored}
 use Rattle.laws_sessions.proofs.Deleted.{IsRemoval, removal_leads}
 use Rattle.laws_sessions.proofs.HollowThings.{folder_stood, sure_elsewhere}
 use Rattle.laws_sessions.proofs.JobKnows.{AreSureWithin, HasName, IsIntact, calm_in, intact_settled, none_on}
-use Rattle.laws_sessions.proofs.Knowing.{IsCalmFolder, IsCalmIn, IsKept, Said, settled_marks}
+use Rattle.laws_sessions.proofs.Knowing.{IsCalmFolder, IsCalmIn, IsKept, HistoryFacts, settled_marks}
 use Rattle.laws_sessions.proofs.Resting.{IsSureFolder, folder_at, folder_at_of}
 use Rattle.laws_sessions.proofs.Restless.{IsUnjoined}
 use Rattle.laws_sessions.proofs.ThingRests.{NoneWithin, around_sure, modes_within, none_in_deleted, sure_within, unjoined, unjoined_around}
@@ -34,7 +34,7 @@ own_folder d path q within same = let w = prefix_way d.path path within in by w.
     by [] e = or_left (same_path q (folder_of d.path)) (is_prefix d.path q) (subst (λ p. same_path p (folder_of d.path) ≡ true) (sym e) (same_path-self (folder_of d.path)))
     by (name ∷ rest) e = or_right (same_path q (folder_of d.path)) (is_prefix d.path q) (subst (λ p. is_prefix d.path p ≡ true) (sym e) (prefix_append d.path rest))
 
-module _ (told : Said) (dirty : List Route) (marks : Marks) (log : CallLog) (kept : IsKept told dirty marks log) (d : Deleting) (has : HasName d.path) (none : NoneOwed (current log) (Delete d) dirty) where
+module _ (told : HistoryFacts) (dirty : List Route) (marks : Marks) (log : CallLog) (kept : IsKept told dirty marks log) (d : Deleting) (has : HasName d.path) (none : NoneOwed (current log) (Delete d) dirty) where
   none_in : NoneWithin (current log) d.path dirty
   none_in = none_in_deleted (current log) d dirty none
 
@@ -121,7 +121,7 @@ pub within_after : (log now : CallLog) (path top : Route) → IsTree (current lo
 within_after log now path top tree it sure = subst (λ (l : CallLog). AreSureWithin l top) (sym it.now_is) (λ rest stands.
     let before = folder_stood log tree path it.r it.k (rest ++ top) stands in sure_elsewhere log tree path it.r it.k (rest ++ top) before.0 (sure rest before.1))
 
-pub intact_after : (told : Said) (dirty : List Route) (marks : Marks) (log now : CallLog) (path top : Route) → IsKept told dirty marks log → (it : IsRemoval log now path) → way_waits log (folder_of path) ≡ false → IsIntact marks (current log) top
+pub intact_after : (told : HistoryFacts) (dirty : List Route) (marks : Marks) (log now : CallLog) (path top : Route) → IsKept told dirty marks log → (it : IsRemoval log now path) → way_waits log (folder_of path) ≡ false → IsIntact marks (current log) top
     → IsIntact (settled_marks now marks) (current now) top
 intact_after told dirty marks log now path top kept it sure intact =
     intact_settled now marks top (subst (λ (l : CallLog). IsIntact marks (current l) top) (sym it.now_is)

@@ -4,7 +4,7 @@ use Rattle.mc_text.specs.Routes.{Route}
 use Rattle.mc_text.specs.declared.kind.Kind.TheVariants as kind
 use Rattle.tree_trait.specs.declared.file_system.Node.{Node}
 use Rattle.tree_trait.specs.Calls.{RemoveFile}
-use Rattle.tree_trait.specs.Change.{Change, Makes, CallLog, current, found, with_change}
+use Rattle.tree_trait.specs.Change.{Change, Makes, CallLog, current, found_node, with_change}
 use Rattle.tree_trait.specs.CrashImages.{says}
 use Rattle.tree_trait.specs.FileSystem.{node, find}
 use Rattle.tree_trait.specs.Shape.{IsTree}
@@ -66,13 +66,13 @@ module _ (unclaimed : Route → Type 0) (log now : CallLog) (name : List ℕ) (l
       let p_is : p ≡ part = (let e : part ≡ p = cc in sym e) in
       let begun_short : IsShort (part_name f.job k ∷ folder_of f.target) = subst IsShort part_is (subst (λ (c : Copying). IsShortPart (part_at c.stage)) new_is short) in
       let d = done_call log (making (current log) (places_of f) k) now (row_done log now (making (current log) (places_of f) k) rows) in
-      let mode : ℕ = part_mode (node (current log) (found (current log) f.source)).mode in
+      let mode : ℕ = part_mode (node (current log) (found_node (current log) f.source)).mode in
       let made : Node = record { kind = kind.File; bytes = []; mode = mode; mtime = d.time; unnamed = 0 } in
       let passes : IsMaking (current log) (part_name f.job k) (folder_of f.target) = making_passes (current log) (part_name f.job k) (folder_of f.target) mode d.permits in
       let open_to = first.free in
       subst (Has now) (sym (p_is ∙ part_is)) (subst (λ r. Has now (part_name f.job k ∷ r)) (sym known.within)
       (has_made name l log now (part_name f.job k) made f.target known.tree (subst (λ r. IsMaking (current log) (part_name f.job k) r) known.within passes)
-      (subst (λ r. now ≡ with_change log (Makes (found (current log) r) (part_name f.job k) made)) known.within d.is) refl (known.begins stage k first begun_short) (met stage).0
+      (subst (λ r. now ≡ with_change log (Makes (found_node (current log) r) (part_name f.job k) made)) known.within d.is) refl (known.begins stage k first begun_short) (met stage).0
       (λ same. open_to.apart (ap (λ r. part_name f.job k ∷ r) known.within ∙ same)) looked.bare (met stage).1))
   file_item moved (Chunk count) met short (part, facts, done, stage, least, most, fits, new_is) (part_now, facts_now, done_now, stage_now, count_is, rows) going p stands =
       let call = writing (current log) (places_of f) part_now facts_now done_now in

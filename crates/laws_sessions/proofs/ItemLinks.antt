@@ -5,7 +5,7 @@ use Rattle.mc_text.specs.Routes.{Route}
 use Rattle.mc_text.specs.declared.kind.Kind.TheVariants as kind
 use Rattle.tree_trait.specs.declared.file_system.Node.{Node}
 use Rattle.tree_trait.specs.Calls.{MakeLink, RemoveFile, Rename}
-use Rattle.tree_trait.specs.Change.{Change, Makes, CallLog, change_of, current, found, with_change}
+use Rattle.tree_trait.specs.Change.{Change, Makes, CallLog, change_of, current, found_node, with_change}
 use Rattle.tree_trait.specs.CrashImages.{says}
 use Rattle.tree_trait.specs.FileSystem.{find}
 use Rattle.tree_trait.specs.Refusals.{refusal_of}
@@ -81,7 +81,7 @@ module _ (log now : CallLog) (name : List ℕ) (l : Levels) (c : LinkCopying) (k
       let b = known.begins stage in
       let permits : refusal_of (current log) (MakeLink (b.0 ∷ l.inner.copy.target) text) ≡ None = subst (λ r. refusal_of (current log) (MakeLink r text) ≡ None) b.1 d.permits in
       let made : Node = record { kind = kind.Link; bytes = text; mode = 0; mtime = pos 0; unnamed = 0 } in
-      let is : now ≡ with_change log (Makes (found (current log) l.inner.copy.target) b.0 made) = subst (λ r. now ≡ with_change log (change_of (current log) (MakeLink r text) d.time)) b.1 d.is in
+      let is : now ≡ with_change log (Makes (found_node (current log) l.inner.copy.target) b.0 made) = subst (λ r. now ≡ with_change log (change_of (current log) (MakeLink r text) d.time)) b.1 d.is in
       subst (λ r. HasItem now name l r c.target) (sym b.1)
       (has_made name l log now b.0 made c.target known.tree (making_passes (current log) b.0 l.inner.copy.target 0 permits) is refl b.2 open_to.met (λ same. open_to.apart (b.1 ∙ same)) open_to.bare open_to.free)
 

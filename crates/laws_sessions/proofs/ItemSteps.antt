@@ -8,26 +8,26 @@ use Rattle.job_reports.specs.declared.job.Pair.{Pair}
 use Rattle.job_reports.specs.declared.report.Cause.{Cause}
 use Rattle.job_reports.specs.declared.report.Did.{Did}
 use Rattle.copy_file.specs.Copying as file
-use Rattle.copy_file.specs.Copying.{Copying, part_at, skipped as file_skipped, taken_anew as file_anew}
+use Rattle.copy_file.specs.Copying.{Copying, part_at, skipped_stage as file_skipped, taken_anew as file_anew}
 use Rattle.copy_file.specs.CopySteps.{Skips as FileSkips}
 use Rattle.copy_file.specs.declared.stage.Stage.{Stage as FileStage}
 use Rattle.copy_file.specs.declared.stage.Stage.TheVariants as file_stage
 use Rattle.copy_link.specs.LinkCopying as link
-use Rattle.copy_link.specs.LinkCopying.{LinkCopying, has_part, skipped as link_skipped, taken_anew as link_anew}
+use Rattle.copy_link.specs.LinkCopying.{LinkCopying, has_part, skipped_stage as link_skipped, taken_anew as link_anew}
 use Rattle.copy_link.specs.LinkSteps.{Skips as LinkSkips}
 use Rattle.copy_link.specs.declared.stage.Stage.{Stage as LinkStage}
 use Rattle.copy_link.specs.declared.stage.Stage.TheVariants as link_stage
-use Rattle.copy_folders.specs.Levels.{Levels, dirtied, is_around_dirty}
+use Rattle.copy_folders.specs.Levels.{Levels, dirtied_levels, is_around_dirty}
 use Rattle.copy_tree.specs.declared.due.Due.TheVariants.{Thing}
-use Rattle.copy_tree.specs.declared.item.Item.{Item}
-use Rattle.copy_tree.specs.declared.item.Item.TheVariants.{Next, File, Link, Stays}
+use Rattle.copy_tree.specs.declared.item.ItemAtWork.{ItemAtWork}
+use Rattle.copy_tree.specs.declared.item.ItemAtWork.TheVariants.{Next, File, Link, Stays}
 use Rattle.copy_tree.specs.declared.progress.Progress.{Progress}
 use Rattle.copy_tree.specs.declared.progress.Progress.TheVariants.{UnderWay, Decided, Anew}
 use Rattle.copy_tree.specs.Parts.{IsPartPlace}
 use Rattle.copy_tree.specs.Progress.{link_progress, progress}
-use Rattle.copy_tree.specs.Skipping.{Skips, SkipsAt, SkipsNamed, SkipsRest, retried, retried_at}
+use Rattle.copy_tree.specs.Skipping.{Skips, SkipsAt, SkipsNamed, SkipsRest, retried_copy, retried_at}
 use Rattle.copy_tree.specs.Standing.{Seen, due_at, target_name}
-use Rattle.copy_tree.specs.Steps.{GoesOn, LinkWorks, TakesFile, TakesLink, TakesNext, WorksOn, idle, is_top, link_begun, noted, settled}
+use Rattle.copy_tree.specs.TreeCopySteps.{GoesOn, LinkWorks, TakesFile, TakesLink, TakesNext, WorksOn, idle, is_top, link_begun, noted_copy, copy_after_progress}
 use Rattle.copy_tree.proofs.InPlaces.{file_paths, link_paths}
 use Rattle.tree_trait.specs.FileSystem.{find}
 use Rattle.laws_sessions.proofs.OpenTargets.{taken_bare, taken_free}
@@ -45,24 +45,24 @@ none_known : (log : CallLog) (c : Seen) → c.item ≡ Next → ItemKnown log c 
 none_known log c is = subst (ItemKnown log c) (sym is) tt
 
 -- it is known where the folder that is worked gets dirty
-dirty_item : (now : CallLog) (name : List ℕ) (changed : Bool) (l : Levels) (part target : Route) → HasItem now name l part target → HasItem now name (dirtied changed l) part target
+dirty_item : (now : CallLog) (name : List ℕ) (changed : Bool) (l : Levels) (part target : Route) → HasItem now name l part target → HasItem now name (dirtied_levels changed l) part target
 dirty_item now name true l part target h = record { work = h.work; off = h.off; free = h.free }
 dirty_item now name false l part target h = record { work = h.work; off = h.off; free = h.free }
 
-dirty_folder : (changed : Bool) (l : Levels) → (let d : Levels = dirtied changed l in d.inner.copy.target) ≡ l.inner.copy.target
+dirty_folder : (changed : Bool) (l : Levels) → (let d : Levels = dirtied_levels changed l in d.inner.copy.target) ≡ l.inner.copy.target
 dirty_folder true l = refl
 dirty_folder false l = refl
 
-noted_item : (now : CallLog) (did : Did) (changed : Bool) (c : Seen) (item : Item) → ItemKnown now c item → ItemKnown now (noted did changed c) item
+noted_item : (now : CallLog) (did : Did) (changed : Bool) (c : Seen) (item : ItemAtWork) → ItemKnown now c item → ItemKnown now (noted_copy did changed c) item
 noted_item now did changed c Next known = tt
 noted_item now did changed c (File f) (clean, going, within, item) = (clean, going, within ∙ sym (dirty_folder changed c.levels), λ part is. dirty_item now c.name changed c.levels part f.target (item part is))
 noted_item now did changed c (Link l) (clean, going, within, item) = (clean, going, within ∙ sym (dirty_folder changed c.levels), λ is. dirty_item now c.name changed c.levels l.part l.target (item is))
 noted_item now did changed c (Stays part) known = tt
 
 -- what goes on is known, and what is decided or taken up anew isn't at work
-settled_item : (now : CallLog) (p : Progress) (item : Item) (c : Seen) → c.item ≡ Next → (p ≡ UnderWay → ItemKnown now c item) → (let s : Seen = settled p item c in ItemKnown now s s.item)
+settled_item : (now : CallLog) (p : Progress) (item : ItemAtWork) (c : Seen) → c.item ≡ Next → (p ≡ UnderWay → ItemKnown now c item) → (let s : Seen = copy_after_progress p item c in ItemKnown now s s.item)
 settled_item now UnderWay item c none known = known refl
-settled_item now Decided item c none known = none_known now (settled Decided item c) none
+settled_item now Decided item c none known = none_known now (copy_after_progress Decided item c) none
 settled_item now Anew item c none known = none_known now c none
 
 module _ (free : Route → Bool) (replies : Replies) (old new : Seen) (did : Did) (log now : CallLog) (known : StepKnown log old) where
@@ -74,7 +74,7 @@ module _ (free : Route → Bool) (replies : Replies) (old new : Seen) (did : Did
       let moved = w.moved in
       let same = file_paths f moved did w.tells in
       let changed = file.is_dirty moved.folder in
-      subst (λ (s : Seen). ItemKnown now s s.item) (sym w.stands) (settled_item now (progress moved.stage) (File moved) (noted did changed (idle old)) refl (λ going.
+      subst (λ (s : Seen). ItemKnown now s s.item) (sym w.stands) (settled_item now (progress moved.stage) (File moved) (noted_copy did changed (idle old)) refl (λ going.
       noted_item now did changed (idle old) (File moved) (
         about.clean,
         going,
@@ -89,7 +89,7 @@ module _ (free : Route → Bool) (replies : Replies) (old new : Seen) (did : Did
       let moved = w.moved in
       let same = link_paths l moved did w.tells in
       let changed = link.is_dirty moved.folder in
-      subst (λ (s : Seen). ItemKnown now s s.item) (sym w.stands) (settled_item now (link_progress moved.stage) (Link moved) (noted did changed (idle old)) refl (λ going.
+      subst (λ (s : Seen). ItemKnown now s s.item) (sym w.stands) (settled_item now (link_progress moved.stage) (Link moved) (noted_copy did changed (idle old)) refl (λ going.
       noted_item now did changed (idle old) (Link moved) (
         link_known.clean,
         going,
@@ -104,7 +104,7 @@ module _ (free : Route → Bool) (replies : Replies) (old new : Seen) (did : Did
       record { n = target_name old n.name; is = n.target_is; once = known.once n.name n.rest n.names_are }
 
   takes_file : is_around_dirty old.levels.around ≡ false → TakesFile Unclaimed replies old new did (Some log) (Some now) → ItemKnown now new new.item
-  takes_file clean t = file_after (file.begun old.job t.pair.source t.pair.target) (taken_file free replies old new did log now known clean t) (λ is. (met_next t.pair t.next, taken_free (current log) old.levels.around replies t.pair (t.is log refl).2)) (taken_moves Unclaimed replies old new did (Some log) (Some now) t)
+  takes_file clean t = file_after (file.begun_copy old.job t.pair.source t.pair.target) (taken_file free replies old new did log now known clean t) (λ is. (met_next t.pair t.next, taken_free (current log) old.levels.around replies t.pair (t.is log refl).2)) (taken_moves Unclaimed replies old new did (Some log) (Some now) t)
 
   takes_link : is_around_dirty old.levels.around ≡ false → TakesLink Unclaimed replies old new did (Some log) (Some now) → ItemKnown now new new.item
   takes_link clean t =
@@ -131,7 +131,7 @@ module _ (free : Route → Bool) (replies : Replies) (old new : Seen) (did : Did
   goes_on none (inl s) = none_known now new (ap (λ (c : Seen). c.item) s.stands ∙ none)
   goes_on none (inr (clean, takes)) = takes_next none clean takes
 
-  pub works_item : (item : Item) → old.item ≡ item → ItemKnown log old item → WorksOn item Unclaimed replies old new did (Some log) (Some now) → ItemKnown now new new.item
+  pub works_item : (item : ItemAtWork) → old.item ≡ item → ItemKnown log old item → WorksOn item Unclaimed replies old new did (Some log) (Some now) → ItemKnown now new new.item
   works_item Next none item w = goes_on none w
   works_item (File f) is item w = file_after f (worked_file free replies old new did log now known f item) (λ begin. absurd (begun_not f.stage item.1 begin)) (worked_moves Unclaimed f old new did (Some log) (Some now) w)
   works_item (Link l) is item w = link_after l (worked_link free replies old new did log now known l item) item.2 (λ make. absurd (made_not l.stage item.1 make)) w
@@ -171,22 +171,22 @@ anew_has link_stage.Decided is = (let f : ⊥ = cc in absurd f)
 module _ (log : CallLog) (c : Seen) where
   -- the same file, at a stage whose part stands where it stood
   file_stays : (f moved : Copying) → moved.target ≡ f.target → ((part : Route) → part_at moved.stage ≡ Some part → part_at f.stage ≡ Some part) → ItemKnown log c (File f)
-      → (let s : Seen = settled (progress moved.stage) (File moved) (idle c) in ItemKnown log s s.item)
+      → (let s : Seen = copy_after_progress (progress moved.stage) (File moved) (idle c) in ItemKnown log s s.item)
   file_stays f moved same part_same (clean, going, within, item) =
       settled_item log (progress moved.stage) (File moved) (idle c) refl (λ on. (clean, on, ap folder_of same ∙ within, λ part is. subst (λ r. HasItem log c.name c.levels part r) (sym same) (item part (part_same part is))))
 
   link_stays : (l moved : LinkCopying) → moved.target ≡ l.target → moved.part ≡ l.part → (has_part moved.stage ≡ true → has_part l.stage ≡ true) → ItemKnown log c (Link l)
-      → (let s : Seen = settled (link_progress moved.stage) (Link moved) (idle c) in ItemKnown log s s.item)
+      → (let s : Seen = copy_after_progress (link_progress moved.stage) (Link moved) (idle c) in ItemKnown log s s.item)
   link_stays l moved same part_same has (clean, going, within, item) =
       settled_item log (link_progress moved.stage) (Link moved) (idle c) refl
       (λ on. (clean, on, ap folder_of same ∙ within, λ is. subst (λ p. HasItem log c.name c.levels p moved.target) (sym part_same) (subst (λ r. HasItem log c.name c.levels l.part r) (sym same) (item (has is)))))
 
-  skipped_file : (cause : Cause) (f moved : Copying) (did : Did) → FileSkips cause f did moved → ItemKnown log c (File f) → (let s : Seen = settled (progress moved.stage) (File moved) (idle c) in ItemKnown log s s.item)
+  skipped_file : (cause : Cause) (f moved : Copying) (did : Did) → FileSkips cause f did moved → ItemKnown log c (File f) → (let s : Seen = copy_after_progress (progress moved.stage) (File moved) (idle c) in ItemKnown log s s.item)
   skipped_file cause f moved did (inl done) known =
       file_stays f moved (ap (λ (x : Copying). x.target) done.1) (λ part is. same_part f.stage part (sym (ap (λ (x : Copying). part_at x.stage) done.1) ∙ is)) known
   skipped_file cause f moved did (inr room) known = file_stays f moved (ap (λ (x : Copying). x.target) room.1) (λ part is. sym (ap (λ (x : Copying). part_at x.stage) room.1) ∙ is) known
 
-  skipped_link : (cause : Cause) (l moved : LinkCopying) (did : Did) → LinkSkips cause l did moved → ItemKnown log c (Link l) → (let s : Seen = settled (link_progress moved.stage) (Link moved) (idle c) in ItemKnown log s s.item)
+  skipped_link : (cause : Cause) (l moved : LinkCopying) (did : Did) → LinkSkips cause l did moved → ItemKnown log c (Link l) → (let s : Seen = copy_after_progress (link_progress moved.stage) (Link moved) (idle c) in ItemKnown log s s.item)
   skipped_link cause l moved did (inl done) known =
       link_stays l moved (ap (λ (x : LinkCopying). x.target) done.1) (ap (λ (x : LinkCopying). x.part) done.1) (λ is. skipped_has l.stage (sym (ap (λ (x : LinkCopying). has_part x.stage) done.1) ∙ is)) known
   skipped_link cause l moved did (inr room) known =
@@ -202,7 +202,7 @@ named_item (first ∷ names) cause old new did (inl done) = ap (λ (c : Seen). c
 named_item (first ∷ names) cause old new did (inr (inl rest)) = rest_item cause old new did rest.1
 named_item (first ∷ names) cause old new did (inr (inr room)) = ap (λ (c : Seen). c.item) room.1
 
-skips_item_at : (item : Item) (log : CallLog) (cause : Cause) (old new : Seen) (did : Did) → old.item ≡ item → SkipsAt item cause old did new → ItemKnown log old item → ItemKnown log new new.item
+skips_item_at : (item : ItemAtWork) (log : CallLog) (cause : Cause) (old new : Seen) (did : Did) → old.item ≡ item → SkipsAt item cause old did new → ItemKnown log old item → ItemKnown log new new.item
 skips_item_at Next log cause old new did is skips known = none_known log new (named_item old.levels.inner.names.names cause old new did skips ∙ is)
 skips_item_at (File f) log cause old new did is (moved, skips, stands) known = subst (λ (s : Seen). ItemKnown log s s.item) (sym stands) (skipped_file log old cause f moved did skips known)
 skips_item_at (Link l) log cause old new did is (moved, skips, stands) known = subst (λ (s : Seen). ItemKnown log s s.item) (sym stands) (skipped_link log old cause l moved did skips known)
@@ -211,11 +211,11 @@ skips_item_at (Stays part) log cause old new did is skips known = absurd skips
 pub skips_item : (log : CallLog) (cause : Cause) (old new : Seen) (did : Did) → Skips cause old did new → ItemKnown log old old.item → ItemKnown log new new.item
 skips_item log cause old new did skips known = skips_item_at old.item log cause old new did refl skips known
 
-retries_at : (item : Item) (log : CallLog) (c : Seen) → c.item ≡ item → ItemKnown log c item → (let r : Seen = retried_at item c in ItemKnown log r r.item)
+retries_at : (item : ItemAtWork) (log : CallLog) (c : Seen) → c.item ≡ item → ItemKnown log c item → (let r : Seen = retried_at item c in ItemKnown log r r.item)
 retries_at Next log c is known = none_known log c is
 retries_at (File f) log c is known = file_stays log c f (record f { stage = file_anew f.stage }) refl (λ part at. anew_part f.stage part at) known
 retries_at (Link l) log c is known = link_stays log c l (record l { stage = link_anew l.stage }) refl refl (λ at. anew_has l.stage at) known
 retries_at (Stays part) log c is known = subst (ItemKnown log c) (sym is) known
 
-pub retries_item : (log : CallLog) (c : Seen) → ItemKnown log c c.item → (let r : Seen = retried c in ItemKnown log r r.item)
+pub retries_item : (log : CallLog) (c : Seen) → ItemKnown log c c.item → (let r : Seen = retried_copy c in ItemKnown log r r.item)
 retries_item log c known = retries_at c.item log c refl known

@@ -22,7 +22,7 @@ use Rattle.job_unsynced.specs.Folders.{is_of}
 use Rattle.laws_crash.proofs.Unworked.{unworked_law}
 use Rattle.laws_sessions.specs.Doubt.{way_waits}
 use Rattle.laws_sessions.proofs.FilledFolders.{sure_quiet}
-use Rattle.laws_sessions.proofs.Knowing.{HasMode, IsCalmFolder, IsCalmIn, IsKept, Said, settled_marks}
+use Rattle.laws_sessions.proofs.Knowing.{HasMode, IsCalmFolder, IsCalmIn, IsKept, HistoryFacts, settled_marks}
 use Rattle.laws_sessions.proofs.MoveKnown.{MoveKnown, move_course, move_said, move_settled, move_still}
 use Rattle.laws_sessions.proofs.Resting.{IsSureFolder, folder_at}
 use Rattle.job_reports.specs.Paths.{folder_of}
@@ -42,13 +42,13 @@ abbrev pub AreSureWithin : CallLog → Route → Type 0
 AreSureWithin log top = (rest : Route) → folder_at (current log) (rest ++ top) ≡ true → IsSureFolder log (rest ++ top)
 
 -- of a deletion that goes on: the folder that holds the thing is on the disk, too, and in it, and within the thing, no mode waits
-pub record KnowsWithin (told : Said) (marks : Marks) (log : CallLog) (top : Route) : Type 0 where
+pub record KnowsWithin (told : HistoryFacts) (marks : Marks) (log : CallLog) (top : Route) : Type 0 where
   pub intact : IsIntact marks (current log) top
   pub sure : AreSureWithin log top
   pub folder : told.folders (folder_of top) ≡ true
   pub calm : (q : Route) → is_of (folder_of top) top q ≡ true → told.calm q ≡ true
 
-abbrev pub WorkKnows : Said → List Route → Marks → CallLog → Course → Work → Type 0
+abbrev pub WorkKnows : HistoryFacts → List Route → Marks → CallLog → Course → Work → Type 0
 WorkKnows told dirty marks log course (Copy c) = TreeKnown told dirty marks log course c
 WorkKnows told dirty marks log course (Delete d) =
     HasName d.path × (told.part ≡ None) × (d.stage ≡ Going → KnowsWithin told marks log d.path)
@@ -58,7 +58,7 @@ WorkKnows told dirty marks log course (SetMode s) = HasName s.path × (told.part
 WorkKnows told dirty marks log course (RemoveEmptied r) = HasName r.path × (told.part ≡ None)
 
 -- a mode that waits is of a path at which something stands, which is listed
-module _ (told : Said) (dirty : List Route) (marks : Marks) (log : CallLog) (kept : IsKept told dirty marks log) where
+module _ (told : HistoryFacts) (dirty : List Route) (marks : Marks) (log : CallLog) (kept : IsKept told dirty marks log) where
   pub mode_listed : (p : Route) (i before : ℕ) → find (current log) p ≡ Some i → marks.modes i ≡ Some before → Among dirty p
   mode_listed p i before at is = by (is_clean i log.changes) refl
     where
@@ -118,7 +118,7 @@ module _ (log : CallLog) (marks : Marks) where
   pub intact_settled : (top : Route) → IsIntact marks (current log) top → IsIntact (settled_marks log marks) (current log) top
   intact_settled top known = unworked_law.remarked marks (settled_marks log marks) log top (λ p out. remarked p out (way_waits log p) refl) known
 
-  pub work_settled : (told : Said) (dirty : List Route) (course : Course) (work : Work) → WorkKnows told dirty marks log course work → WorkKnows told dirty (settled_marks log marks) log course work
+  pub work_settled : (told : HistoryFacts) (dirty : List Route) (course : Course) (work : Work) → WorkKnows told dirty marks log course work → WorkKnows told dirty (settled_marks log marks) log course work
   work_settled told dirty course (Copy c) k = tree_settled log marks told dirty course c k
   work_settled told dirty course (Delete d) (name, none, known) = (name, none, λ is. let k = known is in record { intact = intact_settled d.path k.intact; sure = k.sure; folder = k.folder; calm = k.calm })
   work_settled told dirty course (Make w) k = k
@@ -127,7 +127,7 @@ module _ (log : CallLog) (marks : Marks) where
   work_settled told dirty course (RemoveEmptied w) k = k
 
 -- A job that goes on only where it went on, and isn't in its last steps where it wasn't, knows what it knew.
-pub work_course : (told : Said) (dirty : List Route) (marks : Marks) (log : CallLog) (course other : Course) (work : Work) → (may_fill other ≡ true → may_fill course ≡ true) → (is_over other ≡ false → is_over course ≡ false)
+pub work_course : (told : HistoryFacts) (dirty : List Route) (marks : Marks) (log : CallLog) (course other : Course) (work : Work) → (may_fill other ≡ true → may_fill course ≡ true) → (is_over other ≡ false → is_over course ≡ false)
     → WorkKnows told dirty marks log course work → WorkKnows told dirty marks log other work
 work_course told dirty marks log course other (Copy c) on over k = tree_course told dirty marks log course other c on over k
 work_course told dirty marks log course other (Delete d) on over k = k
@@ -158,7 +158,7 @@ within_still log now top tree still sure rest stands = by still
         subst (λ (l : CallLog). IsSureFolder l (rest ++ top)) (sym (is ∙ ap (with_change log) sync)) (sure_quiet log (Syncs f) tree (λ n g m. refl) (rest ++ top) before)
 
 -- so what is known holds on
-pub work_still : (told : Said) (dirty : List Route) (marks : Marks) (log now : CallLog) (course : Course) (work : Work) → IsTree (current log) → IsStill log now → WorkKnows told dirty marks log course work
+pub work_still : (told : HistoryFacts) (dirty : List Route) (marks : Marks) (log now : CallLog) (course : Course) (work : Work) → IsTree (current log) → IsStill log now → WorkKnows told dirty marks log course work
     → WorkKnows told dirty marks now course work
 work_still told dirty marks log now course (Copy c) tree still k = tree_still told dirty marks log now course c tree still k
 work_still told dirty marks log now course (Delete d) tree still (name, none, known) = (
@@ -177,7 +177,7 @@ work_still told dirty marks log now course (SetMode s) tree still k = k
 work_still told dirty marks log now course (RemoveEmptied r) tree still k = k
 
 -- What is known of a job hangs on the tree, the part, the folders on the disk and the calm folders of what a history says.
-pub work_said : (told other : Said) → other.tree ≡ told.tree → other.part ≡ told.part → other.folders ≡ told.folders → other.calm ≡ told.calm → (dirty : List Route) (marks : Marks) (log : CallLog) (course : Course) (work : Work)
+pub work_said : (told other : HistoryFacts) → other.tree ≡ told.tree → other.part ≡ told.part → other.folders ≡ told.folders → other.calm ≡ told.calm → (dirty : List Route) (marks : Marks) (log : CallLog) (course : Course) (work : Work)
     → WorkKnows told dirty marks log course work → WorkKnows other dirty marks log course work
 work_said told other tree part folders calm dirty marks log course (Copy c) k = tree_said told other tree part folders calm dirty marks log course c k
 work_said told other tree part folders calm dirty marks log course (Delete d) (name, none, known) = (
@@ -191,6 +191,6 @@ work_said told other tree part folders calm dirty marks log course (SetMode s) (
 work_said told other tree part folders calm dirty marks log course (RemoveEmptied r) (name, none) = (name, part ∙ none)
 
 -- what is known after a report: of a job that has ended no part stands
-abbrev pub KnowsAfter : Did → Said → List Route → CallLog → Course → Work → Marks → Type 0
+abbrev pub KnowsAfter : Did → HistoryFacts → List Route → CallLog → Course → Work → Marks → Type 0
 KnowsAfter (Ended ending part) told dirty log course work marks = told.part ≡ None
 KnowsAfter did told dirty log course work marks = WorkKnows told dirty marks log course work

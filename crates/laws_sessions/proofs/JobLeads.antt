@@ -20,7 +20,7 @@ use Rattle.emptied_job.specs.Removals.{Removing}
 use Rattle.copy_move.specs.Jobs.{Running, CallsOn, TellsOn, WorkCalls, WorkLastCalls, WorkTells, PassesOver, WorkWinds, course_after, is_fresh, unreported_skip}
 use Rattle.delete_job.specs.DeletionSteps.{after_try}
 use Rattle.copy_move.specs.Settling.{NoneOwed, WorkLeaves}
-use Rattle.copy_move.specs.Steps.{LeavesDirty, SkipWalks, WalksOn}
+use Rattle.copy_move.specs.JobStepReports.{LeavesDirty, SkipWalks, WalksOn}
 use Rattle.laws_sessions.specs.Traces.{IsUnclaimed, SyncLeads, WorkLeads}
 use Rattle.mode_job.specs.Settings.{Setting}
 use Rattle.laws_sessions.proofs.Calming.{thing_stopped}
@@ -31,15 +31,15 @@ use Rattle.laws_sessions.proofs.MakingSteps.{making_tells, making_winds}
 use Rattle.laws_sessions.proofs.MovingSteps.{moving_skipped, moving_tells, moving_winds}
 use Rattle.laws_sessions.proofs.RemovalSteps.{removal_tells, removal_winds}
 use Rattle.laws_sessions.proofs.JobSteps.{fresh_knows}
-use Rattle.laws_sessions.proofs.Knowing.{Said, IsKept}
+use Rattle.laws_sessions.proofs.Knowing.{HistoryFacts, IsKept}
 use Rattle.laws_sessions.proofs.JobKnows.{KnowsAfter, WorkKnows, none_over, work_course}
-use Rattle.laws_sessions.proofs.Stepped.{Comes, said_after}
+use Rattle.laws_sessions.proofs.Stepped.{StepRan, said_after}
 use Rattle.laws_sessions.proofs.TreeKnown.{is_over}
 use Rattle.laws_sessions.proofs.TreeSkipped.{skips_tree}
 use Rattle.laws_sessions.proofs.TreeTells.{tree_tells}
 use Rattle.laws_sessions.proofs.TreeWinds.{tree_winds}
 
-module _ (told : Said) (dirty dirty_after : List Route) (marks : Marks) (log now : CallLog) (kept : IsKept told dirty marks log) where
+module _ (told : HistoryFacts) (dirty dirty_after : List Route) (marks : Marks) (log now : CallLog) (kept : IsKept told dirty marks log) where
   skip_knows : (course : Course) (work new : Work) (path : Route) (cause : Cause) → is_over course ≡ false → PassesOver work path new → SkipWalks cause work (Skipped path cause) new → WorkKnows told dirty marks log course work
       → WorkKnows told dirty marks log GoesOn new
   skip_knows course (SetMode s) (SetMode new) path cause going (path_is, new_is) walks k = subst (λ (n : Setting). WorkKnows told dirty marks log GoesOn (SetMode n)) (sym new_is) k
@@ -85,7 +85,7 @@ module _ (told : Said) (dirty dirty_after : List Route) (marks : Marks) (log now
   work_winds replies ending old new did knows winds calls leaves walks = absurd winds
 
   abbrev pub Leads : Running → Did → Running → Type 0
-  Leads job did new = Comes told (said_after now did job.work told) dirty_after log now (KnowsAfter did (said_after now did job.work told) dirty_after now new.course new.work)
+  Leads job did new = StepRan told (said_after now did job.work told) dirty_after log now (KnowsAfter did (said_after now did job.work told) dirty_after now new.course new.work)
 
   by_course : (job new : Running) (did : Did) (course : Course) → job.course ≡ course → WorkKnows told dirty marks log course job.work → TellsOn course job did new
       → CallsOn IsUnclaimed course job did new log (Some now) → (course ≡ GoesOn → is_fresh job.work ≡ true → NoneOwed (current log) job.work dirty)
@@ -117,15 +117,15 @@ module _ (told : Said) (dirty dirty_after : List Route) (marks : Marks) (log now
   pub sync_leads : (job new : Running) (did : Did) → WorkKnows told dirty marks log job.course job.work → SyncLeads job did new dirty dirty_after log now → Leads job did new
   sync_leads job new did knows s = by s.synced
     where
-      by : Rattle.copy_move.specs.Steps.SyncsOwed job s.path did new dirty dirty_after (Some log) (Some now) → Leads job did new
+      by : Rattle.copy_move.specs.JobStepReports.SyncsOwed job s.path did new dirty dirty_after (Some log) (Some now) → Leads job did new
       by (inl f) =
           subst (λ x. Leads job x new) (sym f.did_is) (subst (λ (x : Running). Leads job Barrier x) (sym f.new_is)
-          (subst (λ xs. Comes told told xs log now (λ m. WorkKnows told xs m now job.course job.work)) (sym f.dirty_is)
+          (subst (λ xs. StepRan told told xs log now (λ m. WorkKnows told xs m now job.course job.work)) (sym f.dirty_is)
           (comes_thing_synced told dirty marks log now s.path job.course job.work kept
           (fresh_knows told dirty (Rattle.job_reports.specs.Paths.without s.path dirty) marks log job.course job.work (ap is_over s.goes) s.fresh knows) (f.called log refl))))
       by (inr f) =
           subst (λ x. Leads job x new) (sym f.did_is) (subst (λ (x : Running). Leads job (Troubled f.trouble) x) (sym f.new_is)
-          (subst (λ xs. Comes told told xs log now (λ m. WorkKnows told xs m now (OwedSyncFailed f.trouble.cause) job.work)) (sym f.dirty_is)
+          (subst (λ xs. StepRan told told xs log now (λ m. WorkKnows told xs m now (OwedSyncFailed f.trouble.cause) job.work)) (sym f.dirty_is)
           (comes_refused told dirty marks log now (OwedSyncFailed f.trouble.cause) job.work kept
           (work_course told dirty marks log job.course (OwedSyncFailed f.trouble.cause) job.work (λ x. absurd (let f : ⊥ = cc in f)) (λ on. ap is_over s.goes) knows)
           (thing_stopped log now s.path f.trouble.cause f.trouble.path (f.called log refl)))))

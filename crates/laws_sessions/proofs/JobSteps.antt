@@ -27,18 +27,18 @@ use Rattle.copy_move.specs.Jobs.{part_of}
 use Rattle.copy_move.specs.Jobs as jobs
 use Rattle.laws_sessions.proofs.Deleted.{file_no_mount, put_at, put_off}
 use Rattle.laws_sessions.proofs.DeletionSteps.{ends}
-use Rattle.laws_sessions.proofs.Knowing.{Said, IsKept}
+use Rattle.laws_sessions.proofs.Knowing.{HistoryFacts, IsKept}
 use Rattle.laws_sessions.proofs.DirtyListed.{AreListed}
 use Rattle.laws_sessions.proofs.JobKnows.{HasPart, StageKnows, WorkKnows}
 use Rattle.laws_sessions.proofs.KnownParts.{IsLeftPart}
 use Rattle.laws_sessions.proofs.TreeKnown.{ItemHas, LeavesPart, TreeKnown, is_over, leaves_part}
-use Rattle.laws_sessions.proofs.Stepped.{Comes, comes_none, said_after}
+use Rattle.laws_sessions.proofs.Stepped.{StepRan, comes_none, said_after}
 
 some_route : (p q : Route) → (let o : Option Route = Some p in o) ≡ Some q → p ≡ q
 some_route p q h = cc
 
 -- nothing is at work in a copy of folders that has changed nothing, and it has marked no folder
-fresh_tree : (told : Said) (dirty other : List Route) (marks : Marks) (log : CallLog) (course : Course) (c : SubtreeCopying) → is_over course ≡ false → tree_fresh c.at.stage ≡ true → TreeKnown told dirty marks log course c
+fresh_tree : (told : HistoryFacts) (dirty other : List Route) (marks : Marks) (log : CallLog) (course : Course) (c : SubtreeCopying) → is_over course ≡ false → tree_fresh c.at.stage ≡ true → TreeKnown told dirty marks log course c
     → TreeKnown told other marks log course c
 fresh_tree told dirty other marks log course c going fresh k =
     let g = k.goes going in
@@ -61,7 +61,7 @@ fresh_tree told dirty other marks log course c going fresh k =
     }
 
 -- a job that has changed nothing knows the same, whatever is dirty
-pub fresh_knows : (told : Said) (dirty other : List Route) (marks : Marks) (log : CallLog) (course : Course) (work : Work) → is_over course ≡ false → jobs.is_fresh work ≡ true → WorkKnows told dirty marks log course work
+pub fresh_knows : (told : HistoryFacts) (dirty other : List Route) (marks : Marks) (log : CallLog) (course : Course) (work : Work) → is_over course ≡ false → jobs.is_fresh work ≡ true → WorkKnows told dirty marks log course work
     → WorkKnows told other marks log course work
 fresh_knows told dirty other marks log course (Copy c) going fresh k = fresh_tree told dirty other marks log course c going fresh k
 fresh_knows told dirty other marks log course (Delete d) going fresh k = k
@@ -70,12 +70,12 @@ fresh_knows told dirty other marks log course (Move w) going fresh k = k
 fresh_knows told dirty other marks log course (SetMode s) going fresh k = k
 fresh_knows told dirty other marks log course (RemoveEmptied w) going fresh k = k
 
-module _ (told : Said) (dirty dirty_after : List Route) (marks : Marks) (log now : CallLog) (kept : IsKept told dirty marks log) where
+module _ (told : HistoryFacts) (dirty dirty_after : List Route) (marks : Marks) (log now : CallLog) (kept : IsKept told dirty marks log) where
   -- an end names the part that stays
   pub ends_with_part : (ending : Ending) (part : Route) (work : Work) → IsLeftPart told (current log) part → dirty_after ≡ dirty → now ≡ log
-      → Comes told (said_after now (Ended ending (Some part)) work told) dirty_after log now (λ m. (let o : Option Route = None in o) ≡ None)
+      → StepRan told (said_after now (Ended ending (Some part)) work told) dirty_after log now (λ m. (let o : Option Route = None in o) ≡ None)
   ends_with_part ending part work has same is =
-      subst (λ routes. Comes told (said_after now (Ended ending (Some part)) work told) routes log now (λ m. (let o : Option Route = None in o) ≡ None)) (sym same)
+      subst (λ routes. StepRan told (said_after now (Ended ending (Some part)) work told) routes log now (λ m. (let o : Option Route = None in o) ≡ None)) (sym same)
       (comes_none told (said_after now (Ended ending (Some part)) work told) dirty log now (λ m. (let o : Option Route = None in o) ≡ None) marks is
       (subst (λ (l : CallLog). IsKept (said_after l (Ended ending (Some part)) work told) dirty marks log) (sym is) (record {
         known = record {
@@ -104,39 +104,39 @@ module _ (told : Said) (dirty dirty_after : List Route) (marks : Marks) (log now
       mountless : option_map_or (starts_mount (current log)) (find (current log) part) false ≡ false
       mountless = ap (λ o. option_map_or (starts_mount (current log)) o false) has.leads ∙ file_no_mount (current log) kept.known.guarded.tree has.i has.bare
 
-      at_part : visible_tree (current log) part ≡ Rattle.tree_trait.specs.FileSystem.put told.tree part (value_at (current log) part) part
+      at_part : visible_tree (current log) part ≡ Rattle.tree_trait.specs.FileSystem.view_with told.tree part (value_at (current log) part) part
       at_part =
           ap (λ b. (let s : Spot = record { value = value_at (current log) part; is_mount = b } in s)) mountless
           ∙ (sym (ap (λ (s : Spot). (let t : Spot = record s { value = value_at (current log) part } in t)) (kept.known.part part has.part_is).1) ∙ sym (put_at told.tree part (value_at (current log) part)))
 
-      by : (p : Route) (b : Bool) → same_path p part ≡ b → visible_tree (current log) p ≡ Rattle.tree_trait.specs.FileSystem.put told.tree part (value_at (current log) part) p
-      by p true same_is = let e = same_path-true p part same_is in subst (λ q. visible_tree (current log) q ≡ Rattle.tree_trait.specs.FileSystem.put told.tree part (value_at (current log) part) q) (sym e) at_part
+      by : (p : Route) (b : Bool) → same_path p part ≡ b → visible_tree (current log) p ≡ Rattle.tree_trait.specs.FileSystem.view_with told.tree part (value_at (current log) part) p
+      by p true same_is = let e = same_path-true p part same_is in subst (λ q. visible_tree (current log) q ≡ Rattle.tree_trait.specs.FileSystem.view_with told.tree part (value_at (current log) part) q) (sym e) at_part
       by p false off =
           kept.known.shows p (λ e. both_ways _ off (subst (λ q. same_path q part ≡ true) (some_route part p (sym has.part_is ∙ e)) (Rattle.tree_trait.proofs.Visible.same_path-self part)))
           ∙ sym (put_off told.tree part (value_at (current log) part) p off)
 
   -- the end of a job with the part that stands, if one does
   pub ends_left : (ending : Ending) (work : Work) (part : Option Route) → LeavesPart told (current log) part → dirty_after ≡ dirty → now ≡ log
-      → Comes told (said_after now (Ended ending part) work told) dirty_after log now (λ m. (let o : Option Route = None in o) ≡ None)
+      → StepRan told (said_after now (Ended ending part) work told) dirty_after log now (λ m. (let o : Option Route = None in o) ≡ None)
   ends_left ending work None none same is = ends told dirty dirty_after marks log now kept work none same is
   ends_left ending work (Some part) left same is = ends_with_part ending part work left same is
 
   -- a job gives up
   pub gives_up : (work : Work) (course : Course) (did : Did) → WorkKnows told dirty marks log course work → did ≡ Ended NoMemory (part_of work) → dirty_after ≡ dirty → now ≡ log
-      → Comes told (said_after now did work told) dirty_after log now (λ m. (said_after now did work told).part ≡ None)
+      → StepRan told (said_after now did work told) dirty_after log now (λ m. (said_after now did work told).part ≡ None)
   gives_up (Copy c) course did knows did_is same is =
-      subst (λ x. Comes told (said_after now x (Copy c) told) dirty_after log now (λ m. (said_after now x (Copy c) told).part ≡ None)) (sym did_is)
+      subst (λ x. StepRan told (said_after now x (Copy c) told) dirty_after log now (λ m. (said_after now x (Copy c) told).part ≡ None)) (sym did_is)
       (ends_left NoMemory (Copy c) (tree_part c.at.item) (leaves_part told dirty marks (current log) course c.at.item knows.part) same is)
   gives_up (Delete d) course did knows did_is same is =
-      subst (λ x. Comes told (said_after now x (Delete d) told) dirty_after log now (λ m. (said_after now x (Delete d) told).part ≡ None)) (sym did_is) (ends told dirty dirty_after marks log now kept (Delete d) knows.1 same is)
+      subst (λ x. StepRan told (said_after now x (Delete d) told) dirty_after log now (λ m. (said_after now x (Delete d) told).part ≡ None)) (sym did_is) (ends told dirty dirty_after marks log now kept (Delete d) knows.1 same is)
   gives_up (Make w) course did knows did_is same is =
-      subst (λ x. Comes told (said_after now x (Make w) told) dirty_after log now (λ m. (said_after now x (Make w) told).part ≡ None)) (sym did_is) (ends told dirty dirty_after marks log now kept (Make w) knows.1 same is)
+      subst (λ x. StepRan told (said_after now x (Make w) told) dirty_after log now (λ m. (said_after now x (Make w) told).part ≡ None)) (sym did_is) (ends told dirty dirty_after marks log now kept (Make w) knows.1 same is)
   gives_up (Move w) course did knows did_is same is =
-      subst (λ x. Comes told (said_after now x (Move w) told) dirty_after log now (λ m. (said_after now x (Move w) told).part ≡ None)) (sym did_is) (ends told dirty dirty_after marks log now kept (Move w) knows.none same is)
+      subst (λ x. StepRan told (said_after now x (Move w) told) dirty_after log now (λ m. (said_after now x (Move w) told).part ≡ None)) (sym did_is) (ends told dirty dirty_after marks log now kept (Move w) knows.none same is)
   gives_up (SetMode s) course did knows did_is same is =
-      subst (λ x. Comes told (said_after now x (SetMode s) told) dirty_after log now (λ m. (said_after now x (SetMode s) told).part ≡ None)) (sym did_is) (ends told dirty dirty_after marks log now kept (SetMode s) knows.1 same is)
+      subst (λ x. StepRan told (said_after now x (SetMode s) told) dirty_after log now (λ m. (said_after now x (SetMode s) told).part ≡ None)) (sym did_is) (ends told dirty dirty_after marks log now kept (SetMode s) knows.1 same is)
   gives_up (RemoveEmptied w) course did knows did_is same is =
-      subst (λ x. Comes told (said_after now x (RemoveEmptied w) told) dirty_after log now (λ m. (said_after now x (RemoveEmptied w) told).part ≡ None)) (sym did_is) (ends told dirty dirty_after marks log now kept (RemoveEmptied w) knows.1 same is)
+      subst (λ x. StepRan told (said_after now x (RemoveEmptied w) told) dirty_after log now (λ m. (said_after now x (RemoveEmptied w) told).part ≡ None)) (sym did_is) (ends told dirty dirty_after marks log now kept (RemoveEmptied w) knows.1 same is)
 
   -- the part that a last step removes
   pub removed_part : (c : Copying) (ending : Ending) (part : Route) (stage : Stage) → StageKnows told marks (current log) (Ends ending) c stage → removable stage ≡ Some part

@@ -21,7 +21,7 @@ use Rattle.laws_sessions.proofs.Restless.{IsUnjoined, is_restless}
 -- what a history says: what each path shows, what it showed before its last change, the paths that were named as parts, the parts that
 -- ended jobs left, the part that stands, of which names a change may wait for a sync, and where folders are known to stand on the disk; of which paths a mode may
 -- wait, and the folders in which none does
-pub record Said : Type 0 where
+pub record HistoryFacts : Type 0 where
   pub tree : View
   pub earlier : View
   pub named : List Route
@@ -52,7 +52,7 @@ abbrev pub HasNoMode : Marks → Option ℕ → Type 0
 HasNoMode marks o = (i : ℕ) → o ≡ Some i → marks.modes i ≡ None
 
 -- The node's mode waits, which was this one before: it stands at a dirty path, which showed it so before.
-pub record HasMode (said : Said) (dirty : List Route) (marks : Marks) (log : CallLog) (i before : ℕ) : Type 0 where
+pub record HasMode (said : HistoryFacts) (dirty : List Route) (marks : Marks) (log : CallLog) (i before : ℕ) : Type 0 where
   pub path : Route
   pub leads : find (current log) path ≡ Some i
   pub out : marks.aside path ≡ false
@@ -70,7 +70,7 @@ pub record IsCalmFolder (marks : Marks) (log : CallLog) (up : Route) : Type 0 wh
   pub apart : IsUnjoined log up
 
 -- What is known, and kept by each call. The marks say what stood at each path before the work under way there.
-pub record IsKnown (said : Said) (dirty : List Route) (marks : Marks) (log : CallLog) : Type 0 where
+pub record IsKnown (said : HistoryFacts) (dirty : List Route) (marks : Marks) (log : CallLog) : Type 0 where
   pub guarded : IsGuarded marks log
   pub files : IsOfFiles log
   -- a mode that waits is of a dirty path
@@ -97,7 +97,7 @@ abbrev pub RoamInTransit : Marks → CallLog → Type 0
 RoamInTransit marks log = (i : ℕ) → is_folder (node (current log) i) ≡ true → marks.roams i ≡ true → is_in_transit i log.changes ≡ true
 
 -- and where nothing waits nothing is left open
-pub record IsKept (said : Said) (dirty : List Route) (marks : Marks) (log : CallLog) : Type 0 where
+pub record IsKept (said : HistoryFacts) (dirty : List Route) (marks : Marks) (log : CallLog) : Type 0 where
   pub known : IsKnown said dirty marks log
   pub aside : (p : Route) → marks.aside p ≡ true → (way_waits log p ≡ true) ⊎ (is_some (find (current log) p) ≡ true)
   pub was : (p : Route) → marks.aside p ≡ false → way_waits log p ≡ false → marks.was p ≡ find (current log) p
@@ -131,7 +131,7 @@ neither : (a b : Bool) → (a || b) ≡ false → (a ≡ false) × (b ≡ false)
 neither true b h = absurd (true≢false h)
 neither false b h = (refl, h)
 
-module _ (said : Said) (dirty : List Route) (marks : Marks) (log : CallLog) (known : IsKnown said dirty marks log) where
+module _ (said : HistoryFacts) (dirty : List Route) (marks : Marks) (log : CallLog) (known : IsKnown said dirty marks log) where
   abbrev after : Marks
   after = settled_marks log marks
 
@@ -267,7 +267,7 @@ module _ (said : Said) (dirty : List Route) (marks : Marks) (log : CallLog) (kno
   }
 
 -- What stands at a path that isn't a part's.
-module _ (said : Said) (dirty : List Route) (marks : Marks) (log : CallLog) (known : IsKnown said dirty marks log) where
+module _ (said : HistoryFacts) (dirty : List Route) (marks : Marks) (log : CallLog) (known : IsKnown said dirty marks log) where
   pub firm_now : (p : Route) → marks.aside p ≡ false → (i : ℕ) → find (current log) p ≡ Some i → marks.loose i ≡ false
   firm_now p out i is = elim (known.guarded.firm p i out (found_at log p (Some i) is)) [ inl firm ↦ firm | inr folder ↦ (known.folders i folder).1 ]
 
@@ -298,7 +298,7 @@ pub waits_there : (log : CallLog) (p : Route) (i : ℕ) → find (current log) p
 waits_there log p i is unclean = ap (λ o. option_map_or (λ k. not (is_clean k log.changes)) o false) is ∙ ap not unclean
 
 -- So each crash image is safe.
-module _ (said : Said) (dirty : List Route) (marks : Marks) (log : CallLog) (kept : IsKept said dirty marks log) (image : FileSystem) (left : IsImage log image) where
+module _ (said : HistoryFacts) (dirty : List Route) (marks : Marks) (log : CallLog) (kept : IsKept said dirty marks log) (image : FileSystem) (left : IsImage log image) where
   open_known : IsKnown said dirty marks log
   open_known = kept.known
 

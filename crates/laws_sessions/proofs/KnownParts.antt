@@ -22,11 +22,11 @@ use Rattle.copy_file.proofs.FilledParts.{Holds}
 use Rattle.copy_move.specs.declared.run.Course.{Course}
 use Rattle.copy_move.specs.declared.run.Course.TheVariants.{GoesOn, Asking, InTrouble, OwedSyncFailed, Skips, Ends}
 use Rattle.laws_sessions.specs.Doubt.{way_waits}
-use Rattle.laws_sessions.proofs.Knowing.{Said, bare_roams, settled_marks}
+use Rattle.laws_sessions.proofs.Knowing.{HistoryFacts, bare_roams, settled_marks}
 use Rattle.laws_sessions.proofs.Untouched.{IsAsFound, IsUntouched}
 
 -- the part stands beside the target, and leads to this node
-pub record HasPart (said : Said) (marks : Marks) (s : FileSystem) (target part : Route) (i : ℕ) : Type 0 where
+pub record HasPart (said : HistoryFacts) (marks : Marks) (s : FileSystem) (target part : Route) (i : ℕ) : Type 0 where
   pub part_is : said.part ≡ Some part
   pub leads : find s part ≡ Some i
   pub loose : marks.loose i ≡ true
@@ -63,7 +63,7 @@ may_fill (OwedSyncFailed why) = false
 may_fill (Skips why) = false
 may_fill (Ends ending) = false
 
-abbrev pub StageKnows : Said → Marks → FileSystem → Course → Copying → Stage → Type 0
+abbrev pub StageKnows : HistoryFacts → Marks → FileSystem → Course → Copying → Stage → Type 0
 StageKnows told marks s course c Begin = (told.part ≡ None) × (c.folder ≡ Dirty → IsAsFound marks s c.target)
 StageKnows told marks s course c (Fill part said done) =
     (c.folder ≡ Dirty) × ((i : ℕ) × HasPart told marks s c.target part i × (may_fill course ≡ true → IsFilled s c.source part said done i))
@@ -72,12 +72,12 @@ StageKnows told marks s course c (Left part) = (i : ℕ) × HasPart told marks s
 StageKnows told marks s course c Decided = told.part ≡ None
 
 -- what is known of a file's copy: its folder is listed from its first change on, and on the disk, and no mode waits in it
-abbrev pub FileKnows : Said → List Route → Marks → FileSystem → Course → Copying → Type 0
+abbrev pub FileKnows : HistoryFacts → List Route → Marks → FileSystem → Course → Copying → Type 0
 FileKnows told dirty marks s course c =
     HasName c.target × (c.folder ≡ Dirty → Among dirty (folder_of c.target) × (told.folders (folder_of c.target) ≡ true) × (told.calm (folder_of c.target) ≡ true)) × StageKnows told marks s course c c.stage
 
 -- The part of a link stands beside the target, and leads to a link that says this, which is on the disk but for its name.
-pub record HasLink (said : Said) (marks : Marks) (s : FileSystem) (target part : Route) (text : List ℕ) (i : ℕ) : Type 0 where
+pub record HasLink (said : HistoryFacts) (marks : Marks) (s : FileSystem) (target part : Route) (text : List ℕ) (i : ℕ) : Type 0 where
   pub part_is : said.part ≡ Some part
   pub leads : find s part ≡ Some i
   pub firm : marks.loose i ≡ false
@@ -100,7 +100,7 @@ pub record IsLinkOf (s : FileSystem) (source part : Route) (i : ℕ) : Type 0 wh
   pub unnamed : (node s i).unnamed ≡ 0
 
 -- what is known of a link's copy whose part stands
-pub record LinkKnows (told : Said) (dirty : List Route) (marks : Marks) (s : FileSystem) (source target part : Route) : Type 0 where
+pub record LinkKnows (told : HistoryFacts) (dirty : List Route) (marks : Marks) (s : FileSystem) (source target part : Route) : Type 0 where
   pub name : HasName target
   pub listed : Among dirty (folder_of target)
   pub folder : told.folders (folder_of target) ≡ true
@@ -111,7 +111,7 @@ pub record LinkKnows (told : Said) (dirty : List Route) (marks : Marks) (s : Fil
   pub copies : IsLinkOf s source part i
 
 -- a part that a last step could not remove
-pub record IsLeftPart (told : Said) (s : FileSystem) (part : Route) : Type 0 where
+pub record IsLeftPart (told : HistoryFacts) (s : FileSystem) (part : Route) : Type 0 where
   pub part_is : told.part ≡ Some part
   pub i : ℕ
   pub leads : find s part ≡ Some i
@@ -143,7 +143,7 @@ module _ (log : CallLog) (marks : Marks) where
       by false a_is true b_is out = ap (λ x. cond x (marks.was p) (find (current log) p)) b_is ∙ u.was a_is
       by true a_is true b_is out = absurd (true≢false (sym (ap (λ x. x && (way_waits log p || is_some (find (current log) p))) a_is ∙ ap (λ x. x || is_some (find (current log) p)) b_is) ∙ out))
 
-  pub part_settled : (told : Said) (target part : Route) (i : ℕ) → HasPart told marks (current log) target part i → HasPart told (settled_marks log marks) (current log) target part i
+  pub part_settled : (told : HistoryFacts) (target part : Route) (i : ℕ) → HasPart told marks (current log) target part i → HasPart told (settled_marks log marks) (current log) target part i
   part_settled told target part i h = record {
     part_is = h.part_is;
     leads = h.leads;
@@ -157,17 +157,17 @@ module _ (log : CallLog) (marks : Marks) where
     found = found_settled target h.found;
   }
 
-  pub stage_settled : (told : Said) (course : Course) (c : Copying) (stage : Stage) → StageKnows told marks (current log) course c stage → StageKnows told (settled_marks log marks) (current log) course c stage
+  pub stage_settled : (told : HistoryFacts) (course : Course) (c : Copying) (stage : Stage) → StageKnows told marks (current log) course c stage → StageKnows told (settled_marks log marks) (current log) course c stage
   stage_settled told course c Begin (none, found) = (none, λ dirty. found_settled c.target (found dirty))
   stage_settled told course c (Fill part said done) (dirty, (i, has, filled)) = (dirty, (i, part_settled told c.target part i has, filled))
   stage_settled told course c (Clean part follows) (dirty, (i, has)) = (dirty, (i, part_settled told c.target part i has))
   stage_settled told course c (Left part) (i, has) = (i, part_settled told c.target part i has)
   stage_settled told course c Decided none = none
 
-  pub file_settled : (told : Said) (dirty : List Route) (course : Course) (c : Copying) → FileKnows told dirty marks (current log) course c → FileKnows told dirty (settled_marks log marks) (current log) course c
+  pub file_settled : (told : HistoryFacts) (dirty : List Route) (course : Course) (c : Copying) → FileKnows told dirty marks (current log) course c → FileKnows told dirty (settled_marks log marks) (current log) course c
   file_settled told dirty course c (name, listed, stage) = (name, listed, stage_settled told course c c.stage stage)
 
-  pub link_settled : (told : Said) (target part : Route) (text : List ℕ) (i : ℕ) → HasLink told marks (current log) target part text i → HasLink told (settled_marks log marks) (current log) target part text i
+  pub link_settled : (told : HistoryFacts) (target part : Route) (text : List ℕ) (i : ℕ) → HasLink told marks (current log) target part text i → HasLink told (settled_marks log marks) (current log) target part text i
   link_settled told target part text i h = record {
     part_is = h.part_is;
     leads = h.leads;
@@ -181,31 +181,31 @@ module _ (log : CallLog) (marks : Marks) where
     found = found_settled target h.found;
   }
 
-  pub link_knows_settled : (told : Said) (dirty : List Route) (source target part : Route) → LinkKnows told dirty marks (current log) source target part → LinkKnows told dirty (settled_marks log marks) (current log) source target part
+  pub link_knows_settled : (told : HistoryFacts) (dirty : List Route) (source target part : Route) → LinkKnows told dirty marks (current log) source target part → LinkKnows told dirty (settled_marks log marks) (current log) source target part
   link_knows_settled told dirty source target part k =
       record { name = k.name; listed = k.listed; folder = k.folder; calm = k.calm; text = k.text; i = k.i; has = link_settled told target part k.text k.i k.has; copies = k.copies }
 
 -- a job that goes on only where it went on knows what it knew
-pub stage_course : (told : Said) (marks : Marks) (s : FileSystem) (course other : Course) (c : Copying) (stage : Stage) → (may_fill other ≡ true → may_fill course ≡ true) → StageKnows told marks s course c stage → StageKnows told marks s other c stage
+pub stage_course : (told : HistoryFacts) (marks : Marks) (s : FileSystem) (course other : Course) (c : Copying) (stage : Stage) → (may_fill other ≡ true → may_fill course ≡ true) → StageKnows told marks s course c stage → StageKnows told marks s other c stage
 stage_course told marks s course other c Begin on k = k
 stage_course told marks s course other c (Fill part said done) on (dirty, (i, has, filled)) = (dirty, (i, has, λ e. filled (on e)))
 stage_course told marks s course other c (Clean part follows) on k = k
 stage_course told marks s course other c (Left part) on k = k
 stage_course told marks s course other c Decided on k = k
 
-pub file_course : (told : Said) (dirty : List Route) (marks : Marks) (s : FileSystem) (course other : Course) (c : Copying) → (may_fill other ≡ true → may_fill course ≡ true) → FileKnows told dirty marks s course c → FileKnows told dirty marks s other c
+pub file_course : (told : HistoryFacts) (dirty : List Route) (marks : Marks) (s : FileSystem) (course other : Course) (c : Copying) → (may_fill other ≡ true → may_fill course ≡ true) → FileKnows told dirty marks s course c → FileKnows told dirty marks s other c
 file_course told dirty marks s course other c on (name, listed, stage) = (name, listed, stage_course told marks s course other c c.stage on stage)
 
 -- what is left, or taken anew, fills no part
-pub stage_skipped : (told : Said) (m : Marks) (s : FileSystem) (course other : Course) (c : Copying) (stage : Stage) → StageKnows told m s course c stage
-    → StageKnows told m s other (record c { stage = copying.skipped stage }) (copying.skipped stage)
+pub stage_skipped : (told : HistoryFacts) (m : Marks) (s : FileSystem) (course other : Course) (c : Copying) (stage : Stage) → StageKnows told m s course c stage
+    → StageKnows told m s other (record c { stage = copying.skipped_stage stage }) (copying.skipped_stage stage)
 stage_skipped told m s course other c Begin k = k.0
 stage_skipped told m s course other c (Fill part said done) k = (k.0, (k.1.0, k.1.1))
 stage_skipped told m s course other c (Clean part follows) k = k
 stage_skipped told m s course other c (Left part) k = k
 stage_skipped told m s course other c Decided k = k
 
-pub stage_anew : (told : Said) (m : Marks) (s : FileSystem) (course other : Course) (c : Copying) (stage : Stage) → StageKnows told m s course c stage
+pub stage_anew : (told : HistoryFacts) (m : Marks) (s : FileSystem) (course other : Course) (c : Copying) (stage : Stage) → StageKnows told m s course c stage
     → StageKnows told m s other (record c { stage = copying.taken_anew stage }) (copying.taken_anew stage)
 stage_anew told m s course other c Begin k = k
 stage_anew told m s course other c (Fill part said done) k = (k.0, (k.1.0, k.1.1))
@@ -214,14 +214,14 @@ stage_anew told m s course other c (Left part) k = k
 stage_anew told m s course other c Decided k = k
 
 -- a part as a last step may leave it
-pub part_left : (told : Said) (marks : Marks) (s : FileSystem) (target part : Route) (i : ℕ) → HasPart told marks s target part i → IsLeftPart told s part
+pub part_left : (told : HistoryFacts) (marks : Marks) (s : FileSystem) (target part : Route) (i : ℕ) → HasPart told marks s target part i → IsLeftPart told s part
 part_left told marks s target part i h = record { part_is = h.part_is; i = i; leads = h.leads; bare = ap folder_kind h.file }
 
-pub link_left : (told : Said) (marks : Marks) (s : FileSystem) (target part : Route) (text : List ℕ) (i : ℕ) → HasLink told marks s target part text i → IsLeftPart told s part
+pub link_left : (told : HistoryFacts) (marks : Marks) (s : FileSystem) (target part : Route) (text : List ℕ) (i : ℕ) → HasLink told marks s target part text i → IsLeftPart told s part
 link_left told marks s target part text i h = record { part_is = h.part_is; i = i; leads = h.leads; bare = ap folder_kind h.link }
 
 -- What is known of a part hangs on the part that a history says.
-module _ (told other : Said) (part_same : other.part ≡ told.part) (marks : Marks) (s : FileSystem) where
+module _ (told other : HistoryFacts) (part_same : other.part ≡ told.part) (marks : Marks) (s : FileSystem) where
   part_said : (target part : Route) (i : ℕ) → HasPart told marks s target part i → HasPart other marks s target part i
   part_said target part i h = record {
     part_is = part_same ∙ h.part_is;
@@ -244,7 +244,7 @@ module _ (told other : Said) (part_same : other.part ≡ told.part) (marks : Mar
   stage_said course c Decided none = part_same ∙ none
 
 -- What is known of a copy hangs on the folders on the disk and the calm folders, too.
-module _ (told other : Said) (part_same : other.part ≡ told.part) (folders_same : other.folders ≡ told.folders) (calm_same : other.calm ≡ told.calm) (marks : Marks) (s : FileSystem) where
+module _ (told other : HistoryFacts) (part_same : other.part ≡ told.part) (folders_same : other.folders ≡ told.folders) (calm_same : other.calm ≡ told.calm) (marks : Marks) (s : FileSystem) where
   pub file_said : (dirty : List Route) (course : Course) (c : Copying) → FileKnows told dirty marks s course c → FileKnows other dirty marks s course c
   file_said dirty course c (name, listed, stage) = (
     name,

@@ -17,14 +17,14 @@ use Rattle.laws_crash.proofs.Guarding.{found_there}
 use Rattle.laws_sessions.proofs.Untouched.{IsAsFound}
 use Rattle.laws_sessions.proofs.Quiet.{kind_same}
 pub use Rattle.laws_sessions.proofs.KnownParts.{HasLink, link_settled}
-use Rattle.laws_sessions.proofs.Knowing.{IsCalmFolder, IsKept, IsKnown, Said}
+use Rattle.laws_sessions.proofs.Knowing.{IsCalmFolder, IsKept, IsKnown, HistoryFacts}
 use Rattle.laws_sessions.proofs.MakingParts.{MakesPart, made_known, marks_new, new_node, off_part, part_leads, part_node, with_part}
 use Rattle.laws_sessions.proofs.PlacingParts.{firm_known, marks_firm}
 use Rattle.laws_sessions.proofs.PlacingSteps.{IsWhole}
 use Rattle.laws_sessions.proofs.Resting.{IsSureFolder}
 
 -- so it may be placed, without a sync
-pub whole_link : (told : Said) (marks : Marks) (log : CallLog) (target part : Route) (text : List ℕ) (i : ℕ) → HasLink told marks (current log) target part text i → is_clean i log.changes ≡ true → IsWhole told marks log target part i
+pub whole_link : (told : HistoryFacts) (marks : Marks) (log : CallLog) (target part : Route) (text : List ℕ) (i : ℕ) → HasLink told marks (current log) target part text i → is_clean i log.changes ≡ true → IsWhole told marks log target part i
 whole_link told marks log target part text i has clean = record {
   part_is = has.part_is;
   leads = has.leads;
@@ -43,7 +43,7 @@ no_more true false h = absurd (true≢false (sym h))
 no_more false b h = refl
 
 -- a link is made beside its target, by a job whose item is in this folder, and that may change these folders
-module _ (told : Said) (dirty dirty_after : List Route) (marks : Marks) (log : CallLog) (kept : IsKept told dirty marks log) (folder : Route) (own : Route → Bool) (target : Route) (name : List ℕ) (f : ℕ) (made : Node)
+module _ (told : HistoryFacts) (dirty dirty_after : List Route) (marks : Marks) (log : CallLog) (kept : IsKept told dirty marks log) (folder : Route) (own : Route → Bool) (target : Route) (name : List ℕ) (f : ℕ) (made : Node)
     (m : MakesPart told log name (folder_of target) f) (link : made.kind ≡ Link) (apart : (name ∷ folder_of target) ≡ target → ⊥) (as_it_was : IsAsFound marks (current log) target) where
   abbrev up : Route
   up = folder_of target

@@ -8,9 +8,9 @@ use Rattle.tree_trait.specs.declared.calls.TreeError.TheVariants.{Exists, Missin
 use Rattle.tree_trait.specs.declared.file_system.FileSystem.{FileSystem}
 use Rattle.tree_trait.specs.declared.file_system.Node.{Node}
 use Rattle.tree_trait.specs.Calls.{MakeLink, ReadLink, RemoveFile, Rename}
-use Rattle.tree_trait.specs.Change.{Makes, CallLog, change_of, current, found, with_change}
+use Rattle.tree_trait.specs.Change.{Makes, CallLog, change_of, current, found_node, with_change}
 use Rattle.tree_trait.specs.FileSystem.{find, lookup, node}
-use Rattle.tree_trait.specs.Refusals.{denied, exists, first_of, folder_of, is_link, missing, refusal_of, thing, walk}
+use Rattle.tree_trait.specs.Refusals.{denied_access, exists, first_of, folder_of, is_link, missing, refusal_of, thing, walk}
 use Rattle.tree_trait.specs.Shape.{IsTree}
 use Rattle.tree_trait.proofs.Kept.{at_more}
 use Rattle.tree_trait.proofs.Walking.{check_passes, passed_walk, some_there, walk-find}
@@ -45,7 +45,7 @@ read_finds s path h =
 -- what may be made is not the root
 part_named : (s : FileSystem) (part : Route) (text : List ℕ) → refusal_of s (MakeLink part text) ≡ None → (k : List ℕ) × (up : Route) × (part ≡ k ∷ up)
 part_named s [] text h =
-    let w = passed_walk (walk s []) (λ p. first_of (exists p ∷ denied 0o200 (folder_of s p) ∷ [])) h in
+    let w = passed_walk (walk s []) (λ p. first_of (exists p ∷ denied_access 0o200 (folder_of s p) ∷ [])) h in
     let a = check_passes (is_some w.0.there) Exists _ w.2 in
     absurd (true≢false (ap is_some (walk-find s [] w.0 w.1) ∙ a.0))
 part_named s (k ∷ up) text h = (k, up, refl)
@@ -53,21 +53,21 @@ part_named s (k ∷ up) text h = (k, up, refl)
 -- a link that is made beside others leaves their texts
 module _ (log : CallLog) (tree : IsTree (current log)) (k : List ℕ) (up : Route) (made : Node) (making : IsMaking (current log) k up) (source : Route) (there : (i : ℕ) × (find (current log) source ≡ Some i)) where
   abbrev after : CallLog
-  after = with_change log (Makes (found (current log) up) k made)
+  after = with_change log (Makes (found_node (current log) up) k made)
 
   free : find (current log) (k ∷ up) ≡ None
   free = ap (option_and_then (λ f. lookup (let s = current log in s.names) f k)) making.folder ∙ making.none
 
   source_leads : find (current after) source ≡ Some there.0
-  source_leads = elim (find_same log (Makes (found (current log) up) k made) source) [
+  source_leads = elim (find_same log (Makes (found_node (current log) up) k made) source) [
     | inl same ↦ same ∙ there.1
     | inr under ↦
-        let u = under_made log tree up (found (current log) up) making.folder k made source under in
+        let u = under_made log tree up (found_node (current log) up) making.folder k made source under in
         absurd (let e : Some there.0 ≡ None = sym there.1 ∙ (ap (find (current log)) u.1 ∙ none_below log u.0 (k ∷ up) free) in let f : ⊥ = cc in f)
   ]
 
   source_node : node (current after) there.0 ≡ node (current log) there.0
-  source_node = ap (λ (s : FileSystem). node s there.0) (current_more log (Makes (found (current log) up) k made)) ∙ at_more (let s = current log in s.nodes) made there.0 (found_there (current log) tree source there.0 there.1)
+  source_node = ap (λ (s : FileSystem). node s there.0) (current_more log (Makes (found_node (current log) up) k made)) ∙ at_more (let s = current log in s.nodes) made there.0 (found_there (current log) tree source there.0 there.1)
 
   text_at : (s : FileSystem) (i : ℕ) → find s source ≡ Some i → link_text s source ≡ (let n = node s i in n.bytes)
   text_at s i is = ap (λ o. (let n = node s (unwrap_or o 0) in n.bytes)) is
@@ -98,7 +98,7 @@ module _ (log now : CallLog) (tree : IsTree (current log)) (c : LinkCopying) whe
       let b = part_named (current log) c.part text d.permits in
       let permits : refusal_of (current log) (MakeLink (b.0 ∷ b.1) text) ≡ None = subst (λ r. refusal_of (current log) (MakeLink r text) ≡ None) b.2 d.permits in
       let made : Node = record { kind = kind.Link; bytes = text; mode = 0; mtime = pos 0; unnamed = 0 } in
-      let is : now ≡ with_change log (Makes (found (current log) b.1) b.0 made) = subst (λ r. now ≡ with_change log (change_of (current log) (MakeLink r text) d.time)) b.2 d.is in
+      let is : now ≡ with_change log (Makes (found_node (current log) b.1) b.0 made) = subst (λ r. now ≡ with_change log (change_of (current log) (MakeLink r text) d.time)) b.2 d.is in
       subst (λ r. IsLinkAs (current now) r c.source) (sym b.2)
       (subst (λ (x : CallLog). IsLinkAs (current x) (b.0 ∷ b.1) c.source) (sym is)
       (made_link log tree b.0 b.1 made (making_passes (current log) b.0 b.1 0 permits) c.source (read_finds (current log) c.source read) refl refl))

@@ -23,12 +23,12 @@ use Rattle.copy_folders.specs.declared.stage.Stage.{Stage}
 use Rattle.copy_folders.specs.declared.stage.Stage.TheVariants as at
 use Rattle.copy_link.specs.LinkCopying as link
 use Rattle.copy_link.specs.LinkCopying.{LinkCopying}
-use Rattle.tree_walk.specs.Places.{opened, without_next}
+use Rattle.tree_walk.specs.Places.{opened_folder, without_next}
 use Rattle.copy_folders.specs.declared.level.Level.{Level}
-use Rattle.copy_folders.specs.Levels.{is_around_dirty, level, made_levels, passed, target_around}
+use Rattle.copy_folders.specs.Levels.{is_around_dirty, level, made_levels, passed_levels, target_around}
 use Rattle.job_unsynced.specs.Folders.{with_change}
-use Rattle.copy_tree.specs.declared.item.Item.{Item}
-use Rattle.copy_tree.specs.declared.item.Item.TheVariants.{Next, File, Link, Stays}
+use Rattle.copy_tree.specs.declared.item.ItemAtWork.{ItemAtWork}
+use Rattle.copy_tree.specs.declared.item.ItemAtWork.TheVariants.{Next, File, Link, Stays}
 use Rattle.copy_tree.specs.declared.progress.Progress.{Progress}
 use Rattle.copy_tree.specs.declared.progress.Progress.TheVariants.{UnderWay, Decided, Anew}
 use Rattle.copy_tree.specs.Parts.{IsPartPlace}
@@ -36,7 +36,7 @@ use Rattle.copy_tree.specs.Progress.{link_progress, progress}
 use Rattle.copy_tree.specs.Reports.{IsToldAs}
 use Rattle.copy_tree.specs.Skipping as machine
 use Rattle.copy_tree.specs.Standing.{Seen, after_report}
-use Rattle.copy_tree.specs.Steps.{FolderEnds, FolderMakes, LeavesAll, LinkWorks, SyncsAround, TakesNext, WorksOn, at_end, idle, noted, settled}
+use Rattle.copy_tree.specs.TreeCopySteps.{FolderEnds, FolderMakes, LeavesAll, LinkWorks, SyncsAround, TakesNext, WorksOn, at_end, idle, noted_copy, copy_after_progress}
 use Rattle.copy_tree.proofs.InPlaces.{folder_paths}
 use Rattle.copy_job.specs.Leaving.{may_leave}
 use Rattle.copy_job.specs.Marks.{brings_in, brings_made, folder_worked, is_dirty_after, is_left_dirty, was_dirty}
@@ -95,7 +95,7 @@ left_marks (Ended ending part) c marked = marked
 abbrev SameFolders : Seen → Seen → Type 0
 SameFolders old new = (new.levels.around ≡ old.levels.around) × (new.levels.inner.copy.target ≡ old.levels.inner.copy.target)
 
-settled_same : (p : Progress) (item : Item) (did : Did) (changed : Bool) (c : Seen) → SameFolders c (settled p item (noted did changed c))
+settled_same : (p : Progress) (item : ItemAtWork) (did : Did) (changed : Bool) (c : Seen) → SameFolders c (copy_after_progress p item (noted_copy did changed c))
 settled_same UnderWay item did true c = (refl, refl)
 settled_same UnderWay item did false c = (refl, refl)
 settled_same Decided item did true c = (refl, refl)
@@ -147,7 +147,7 @@ module _ (old new : Seen) (did : Did) (dirty dirty_after : List Route) (before a
 
   -- where the copy stands, once the machine of a folder to be made stands at a stage
   abbrev made_at : Pair → List (List ℕ) → FolderCopying → Stage → Seen
-  made_at pair names moved stage = record old { stage = after_report did old.stage; levels = made_levels stage (opened pair.source names) moved old.levels }
+  made_at pair names moved stage = record old { stage = after_report did old.stage; levels = made_levels stage (opened_folder pair.source names) moved old.levels }
 
   makes_listed : (pair : Pair) (names : List (List ℕ)) (mode : ℕ) → brings_made old ≡ false → FolderMakes pair names mode old new did before after → MarksListed dirty_after new
   makes_listed pair names mode brings w = by (let m = w.moved in m.stage) refl
@@ -173,8 +173,8 @@ module _ (old new : Seen) (did : Did) (dirty dirty_after : List Route) (before a
   takes_listed unclaimed replies brings (inr (inl t)) = file_listed unclaimed _ brings (taken_moves unclaimed replies old new did before after t)
   takes_listed unclaimed replies brings (inr (inr (inl t))) = link_listed _ brings t.works
   takes_listed unclaimed replies brings (inr (inr (inr (inl t)))) = makes_listed t.pair t.names t.mode brings t.works
-  takes_listed unclaimed replies brings (inr (inr (inr (inr (inl t))))) = same_listed brings (now_same old (record old { levels = passed false old.levels }) new t.stands (refl, refl))
-  takes_listed unclaimed replies brings (inr (inr (inr (inr (inr (inl t)))))) = same_listed brings (now_same old (record old { levels = passed false old.levels }) new t.stands (refl, refl))
+  takes_listed unclaimed replies brings (inr (inr (inr (inr (inl t))))) = same_listed brings (now_same old (record old { levels = passed_levels false old.levels }) new t.stands (refl, refl))
+  takes_listed unclaimed replies brings (inr (inr (inr (inr (inr (inl t)))))) = same_listed brings (now_same old (record old { levels = passed_levels false old.levels }) new t.stands (refl, refl))
   takes_listed unclaimed replies brings (inr (inr (inr (inr (inr (inr (inl t))))))) = same_listed brings (now_same old old new t.stands (refl, refl))
   takes_listed unclaimed replies brings (inr (inr (inr (inr (inr (inr (inr (next, inl (debt, e))))))))) = ends_listed brings e
   takes_listed unclaimed replies brings (inr (inr (inr (inr (inr (inr (inr (next, inr (debt, f, same))))))))) = same_listed brings (now_same old (at_end old) new f.stands (refl, refl))
@@ -200,11 +200,11 @@ module _ (old new : Seen) (did : Did) (dirty dirty_after : List Route) (before a
             (around_listed dirty outer s.around marked.1)),
       )
 
-  works_listed : (unclaimed : Route → Type 0) (replies : Replies) (item : Item) → old.item ≡ item → WorksOn item unclaimed replies old new did before after → MarksListed dirty_after new
-  works_listed unclaimed replies Next is (inl s) = syncs_listed (ap (λ (i : Item). brings_in i old.levels) is ∙ s.dirty) s
-  works_listed unclaimed replies Next is (inr (clean, t)) = takes_listed unclaimed replies (ap (λ (i : Item). brings_in i old.levels) is ∙ clean) t
-  works_listed unclaimed replies (File f) is w = file_listed unclaimed f (ap (λ (i : Item). brings_in i old.levels) is) (worked_moves unclaimed f old new did before after w)
-  works_listed unclaimed replies (Link l) is w = link_listed l (ap (λ (i : Item). brings_in i old.levels) is) w
+  works_listed : (unclaimed : Route → Type 0) (replies : Replies) (item : ItemAtWork) → old.item ≡ item → WorksOn item unclaimed replies old new did before after → MarksListed dirty_after new
+  works_listed unclaimed replies Next is (inl s) = syncs_listed (ap (λ (i : ItemAtWork). brings_in i old.levels) is ∙ s.dirty) s
+  works_listed unclaimed replies Next is (inr (clean, t)) = takes_listed unclaimed replies (ap (λ (i : ItemAtWork). brings_in i old.levels) is ∙ clean) t
+  works_listed unclaimed replies (File f) is w = file_listed unclaimed f (ap (λ (i : ItemAtWork). brings_in i old.levels) is) (worked_moves unclaimed f old new did before after w)
+  works_listed unclaimed replies (Link l) is w = link_listed l (ap (λ (i : ItemAtWork). brings_in i old.levels) is) w
   works_listed unclaimed replies (Stays part) is w = absurd w
 
 -- a step with the list
@@ -216,10 +216,10 @@ list_listed free replies old new result dirty dirty_after before after f0 f1 (in
 
 -- what is left, or taken anew
 module _ (dirty : List Route) where
-  named_listed : (old : Seen) (left : Bool) → MarksListed dirty old → MarksListed dirty (record old { levels = passed left old.levels })
+  named_listed : (old : Seen) (left : Bool) → MarksListed dirty old → MarksListed dirty (record old { levels = passed_levels left old.levels })
   named_listed old left h = other_level dirty old.levels.inner _ old.levels.around refl refl h
 
-  settled_listed : (p : Progress) (item : Item) (c : Seen) → MarksListed dirty c → MarksListed dirty (settled p item c)
+  settled_listed : (p : Progress) (item : ItemAtWork) (c : Seen) → MarksListed dirty c → MarksListed dirty (copy_after_progress p item c)
   settled_listed UnderWay item c h = h
   settled_listed Decided item c h = named_listed c false h
   settled_listed Anew item c h = h
@@ -240,13 +240,13 @@ module _ (dirty : List Route) where
   next_listed (name ∷ names) cause old new did (inr (inl s)) h = rest_listed cause old new did s.1 h
   next_listed (name ∷ names) cause old new did (inr (inr room)) h = subst (MarksListed dirty) (sym room.1) h
 
-  skips_listed : (item : Item) (cause : Cause) (old new : Seen) (did : Did) → machine.SkipsAt item cause old did new → MarksListed dirty old → MarksListed dirty new
+  skips_listed : (item : ItemAtWork) (cause : Cause) (old new : Seen) (did : Did) → machine.SkipsAt item cause old did new → MarksListed dirty old → MarksListed dirty new
   skips_listed Next cause old new did s h = next_listed old.levels.inner.names.names cause old new did s h
   skips_listed (File f) cause old new did (moved, skips, stands) h = subst (MarksListed dirty) (sym stands) (settled_listed (progress moved.stage) (File moved) (idle old) h)
   skips_listed (Link l) cause old new did (moved, skips, stands) h = subst (MarksListed dirty) (sym stands) (settled_listed (link_progress moved.stage) (Link moved) (idle old) h)
   skips_listed (Stays part) cause old new did s h = absurd s
 
-  retries_listed : (item : Item) (c : Seen) → MarksListed dirty c → MarksListed dirty (machine.retried_at item c)
+  retries_listed : (item : ItemAtWork) (c : Seen) → MarksListed dirty c → MarksListed dirty (machine.retried_at item c)
   retries_listed Next c h = h
   retries_listed (File f) c h = settled_listed _ _ (idle c) h
   retries_listed (Link l) c h = settled_listed _ _ (idle c) h

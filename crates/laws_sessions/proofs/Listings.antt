@@ -7,7 +7,7 @@ use Rattle.tree_trait.specs.CrashImages.{Among}
 use Rattle.tree_trait.proofs.Visible.{same_path-true}
 use Rattle.job_reports.specs.Paths.{without}
 use Rattle.copy_folders.specs.FolderCopying.{is_dirty}
-use Rattle.job_unsynced.specs.Folders.{is_one_of, joined, with_change}
+use Rattle.job_unsynced.specs.Folders.{is_one_of, joined_folders, with_change}
 use Rattle.copy_folders.specs.declared.level.Level.{Level}
 use Rattle.laws_sessions.proofs.FoldersLie.{AreNested}
 use Rattle.laws_sessions.proofs.DirtyListed.{AreListed, IsListed}
@@ -29,14 +29,14 @@ one_among folder (first ∷ dirty) is = by (same_path first folder) refl is (λ 
     by true same is later = inl (sym (same_path-true first folder same))
     by false other is later = inr (later is)
 
-joined_has : (folder : Route) (dirty : List Route) → Among (joined folder dirty) folder
+joined_has : (folder : Route) (dirty : List Route) → Among (joined_folders folder dirty) folder
 joined_has folder dirty = by (is_one_of folder dirty) refl
   where
     by : (b : Bool) → is_one_of folder dirty ≡ b → Among (if b then dirty else dirty ++ folder ∷ []) folder
     by true is = one_among folder dirty is
     by false is = last_among dirty folder
 
-joined_keeps : (folder : Route) (dirty : List Route) (q : Route) → Among dirty q → Among (joined folder dirty) q
+joined_keeps : (folder : Route) (dirty : List Route) (q : Route) → Among dirty q → Among (joined_folders folder dirty) q
 joined_keeps folder dirty q among = by (is_one_of folder dirty)
   where
     by : (b : Bool) → Among (if b then dirty else dirty ++ folder ∷ []) q

@@ -6,7 +6,7 @@ use Rattle.mc_text.specs.Routes.{Route}
 use Rattle.mc_text.specs.declared.kind.Kind.TheVariants as kind
 use Rattle.tree_trait.specs.declared.file_system.Node.{Node}
 use Rattle.tree_trait.specs.Calls.{MakeFolder}
-use Rattle.tree_trait.specs.Change.{Makes, CallLog, change_of, current, found, with_change}
+use Rattle.tree_trait.specs.Change.{Makes, CallLog, change_of, current, found_node, with_change}
 use Rattle.tree_trait.specs.FileSystem.{Value, View, find, node, value, value_at}
 use Rattle.tree_trait.specs.Refusals.{refusal_of}
 use Rattle.tree_trait.specs.Shape.{IsTree}
@@ -25,13 +25,13 @@ use Rattle.copy_folders.specs.declared.stage.FolderDid.{FolderDid}
 use Rattle.copy_folders.specs.declared.stage.FolderDid.TheVariants.{Made, Set, Barrier, Closed, Troubled}
 use Rattle.copy_folders.specs.declared.stage.NamesState.TheVariants.{Synced}
 use Rattle.copy_folders.specs.declared.stage.Stage.TheVariants as at
-use Rattle.copy_tree.specs.declared.item.Item.{Item}
-use Rattle.copy_tree.specs.declared.item.Item.TheVariants.{Next, File, Link, Stays}
+use Rattle.copy_tree.specs.declared.item.ItemAtWork.{ItemAtWork}
+use Rattle.copy_tree.specs.declared.item.ItemAtWork.TheVariants.{Next, File, Link, Stays}
 use Rattle.copy_tree.specs.InPlace.{IsInPlace, IsMoved}
 use Rattle.copy_tree.specs.Parts.{IsPartPlace}
 use Rattle.copy_tree.specs.Reports.{IsToldAs}
 use Rattle.copy_tree.specs.Standing.{Seen, target_name}
-use Rattle.copy_tree.specs.Steps.{TakesFolder, TakesNext, WorksOn, at_end}
+use Rattle.copy_tree.specs.TreeCopySteps.{TakesFolder, TakesNext, WorksOn, at_end}
 use Rattle.copy_tree.proofs.InPlaces.{leaves_all, pair_moved}
 use Rattle.job_reports.specs.Jobs.{Copies}
 use Rattle.session_entries.specs.Moves.{moved_from}
@@ -55,24 +55,24 @@ module _ (log now : CallLog) (tree : IsTree (current log)) where
       let permits : refusal_of (current log) (MakeFolder (n ∷ up) mode) ≡ None = subst (λ r. refusal_of (current log) (MakeFolder r mode) ≡ None) is d.permits in
       let making : IsMaking (current log) n up = making_passes (current log) n up mode permits in
       let made : Node = record { kind = kind.Folder; bytes = []; mode = mode; mtime = pos 0; unnamed = 0 } in
-      let then : now ≡ with_change log (Makes (found (current log) up) n made) = subst (λ r. now ≡ with_change log (change_of (current log) (MakeFolder r mode) d.time)) is d.is in
+      let then : now ≡ with_change log (Makes (found_node (current log) up) n made) = subst (λ r. now ≡ with_change log (change_of (current log) (MakeFolder r mode) d.time)) is d.is in
       subst (λ (x : CallLog). value_at (current x) target ≡ Some (folder_of_mode mode)) (sym then)
-      (subst (λ r. value_at (current (with_change log (Makes (found (current log) up) n made))) r ≡ Some (folder_of_mode mode)) (sym is)
-      (ap (option_map (λ i. value (node (current (with_change log (Makes (found (current log) up) n made))) i))) (made_leads log tree n up made making) ∙ ap (λ (x : Node). Some (value x)) (made_is log tree n up made making)))
+      (subst (λ r. value_at (current (with_change log (Makes (found_node (current log) up) n made))) r ≡ Some (folder_of_mode mode)) (sym is)
+      (ap (option_map (λ i. value (node (current (with_change log (Makes (found_node (current log) up) n made))) i))) (made_leads log tree n up made making) ∙ ap (λ (x : Node). Some (value x)) (made_is log tree n up made making)))
 
   -- what the history says of it
-  said_made : (top pair : Pair) (mode : ℕ) (v : View) → IsMoved top pair.source pair.target → ((p : Route) → value_at (current log) p ≡ (v p).value) → find (current log) pair.source ≡ Some (found (current log) pair.source)
-      → mode ≡ (let x : Node = node (current log) (found (current log) pair.source) in x.mode) → made_by (Some (Copies top.source top.target)) pair.target v ≡ folder_of_mode (folder_mode mode)
+  said_made : (top pair : Pair) (mode : ℕ) (v : View) → IsMoved top pair.source pair.target → ((p : Route) → value_at (current log) p ≡ (v p).value) → find (current log) pair.source ≡ Some (found_node (current log) pair.source)
+      → mode ≡ (let x : Node = node (current log) (found_node (current log) pair.source) in x.mode) → made_by (Some (Copies top.source top.target)) pair.target v ≡ folder_of_mode (folder_mode mode)
   unfolding folder_of_mode
   said_made top pair mode v moved shows there mode_is =
       let from : moved_from top.source top.target pair.target ≡ pair.source = ap (moved_from top.source top.target) moved.to ∙ (moved_below top.source top.target moved.rest ∙ sym moved.from) in
-      let shown : (v pair.source).value ≡ Some (value (node (current log) (found (current log) pair.source))) =
+      let shown : (v pair.source).value ≡ Some (value (node (current log) (found_node (current log) pair.source))) =
       sym (shows pair.source) ∙ ap (option_map (λ i. value (node (current log) i))) there in
       ap (λ p. copied_folder (v p).value) from ∙ (ap copied_folder shown ∙ ap (λ m. folder_of_mode (folder_mode m)) (sym mode_is))
 
   -- it is what is made
-  pub made_as_said : (top pair : Pair) (mode : ℕ) (v : View) → IsMoved top pair.source pair.target → ((p : Route) → value_at (current log) p ≡ (v p).value) → find (current log) pair.source ≡ Some (found (current log) pair.source)
-      → mode ≡ (let x : Node = node (current log) (found (current log) pair.source) in x.mode) → (path : Route) → pair.target ≡ path
+  pub made_as_said : (top pair : Pair) (mode : ℕ) (v : View) → IsMoved top pair.source pair.target → ((p : Route) → value_at (current log) p ≡ (v p).value) → find (current log) pair.source ≡ Some (found_node (current log) pair.source)
+      → mode ≡ (let x : Node = node (current log) (found_node (current log) pair.source) in x.mode) → (path : Route) → pair.target ≡ path
       → made_by (Some (Copies top.source top.target)) path v ≡ value (record { kind = kind.Folder; bytes = []; mode = folder_mode mode; mtime = pos 0; unnamed = 0 })
   unfolding folder_of_mode
   made_as_said top pair mode v moved shows there mode_is path is = ap (λ p. made_by (Some (Copies top.source top.target)) p v) (sym is) ∙ said_made top pair mode v moved shows there mode_is
@@ -119,7 +119,7 @@ module _ (log now : CallLog) (tree : IsTree (current log)) where
         absurd (closing_not old.levels.inner.copy.stage known.made tells.0 tells.1)
     made_in (inr (inr (inr (inr (inr (inr (inr (next, inr (debt, f, same))))))))) = absurd (let e : common.Made path ≡ _ = f.says in let x : ⊥ = cc in x)
 
-    made_by_work : (item : Item) → WorksOn item (IsPartPlace free old) replies old new did (Some log) (Some now) → Is
+    made_by_work : (item : ItemAtWork) → WorksOn item (IsPartPlace free old) replies old new did (Some log) (Some now) → Is
     made_by_work Next (inl s) =
         let tells = subst (λ r. Tells (at_sync s.outer.copy) r (record (at_sync s.outer.copy) { names = s.names })) (told_made s.report s.says) s.tells in
         absurd (let stage = tells.1 in let f : ⊥ = cc in f)

@@ -21,7 +21,7 @@ use Rattle.laws_crash.proofs.Making.{making_law}
 use Rattle.laws_crash.proofs.Tops.{under_made, none_below}
 use Rattle.job_reports.specs.Paths.{folder_of}
 use Rattle.laws_sessions.specs.Doubt.{way_waits}
-use Rattle.laws_sessions.proofs.Knowing.{HasMode, IsCalmFolder, IsKnown, RoamInTransit, Said, nowhere}
+use Rattle.laws_sessions.proofs.Knowing.{HasMode, IsCalmFolder, IsKnown, RoamInTransit, HistoryFacts, nowhere}
 use Rattle.laws_sessions.proofs.Restless.{unjoined_within}
 use Rattle.laws_sessions.proofs.Resting.{IsSureFolder}
 use Rattle.laws_sessions.proofs.Renaming.{in_one_folder, naming_known}
@@ -40,7 +40,7 @@ marks_new marks part n = record {
   modes = marks.modes;
 }
 
-abbrev pub naming_part : Said → Route → Said
+abbrev pub naming_part : HistoryFacts → Route → HistoryFacts
 naming_part told part = record told { named = part ∷ told.named }
 
 neither : (a b : Bool) → (a || b) ≡ false → (a ≡ false) × (b ≡ false)
@@ -58,7 +58,7 @@ both_false false b h e = e
 older : (i n : ℕ) → i < n → (i == n) ≡ false
 older i n less = false_from_ne_true _ (λ same. let e = eqb-true i n same in absurd (omega (arith, less, e)))
 
-module _ (told : Said) (dirty : List Route) (marks : Marks) (log : CallLog) (known : IsKnown told dirty marks log) (part : Route) (free : find (current log) part ≡ None) where
+module _ (told : HistoryFacts) (dirty : List Route) (marks : Marks) (log : CallLog) (known : IsKnown told dirty marks log) (part : Route) (free : find (current log) part ≡ None) where
   abbrev n : ℕ
   n = new_node log
 
@@ -117,7 +117,7 @@ module _ (told : Said) (dirty : List Route) (marks : Marks) (log : CallLog) (kno
   ]
 
 -- A part is made where nothing stands, in a folder to which nothing waits on the way.
-pub record MakesPart (told : Said) (log : CallLog) (name : List ℕ) (up : Route) (f : ℕ) : Type 0 where
+pub record MakesPart (told : HistoryFacts) (log : CallLog) (name : List ℕ) (up : Route) (f : ℕ) : Type 0 where
   pub none : told.part ≡ None
   pub at : find (current log) up ≡ Some f
   pub folder : is_folder (node (current log) f) ≡ true
@@ -125,7 +125,7 @@ pub record MakesPart (told : Said) (log : CallLog) (name : List ℕ) (up : Route
   pub sure : way_waits log up ≡ false
 
 -- what a history says once it was made, by a job whose item is in this folder, and that may change these folders
-abbrev pub with_part : Said → Route → (Route → Bool) → Route → Said
+abbrev pub with_part : HistoryFacts → Route → (Route → Bool) → Route → HistoryFacts
 with_part told folder own part = record (naming_part told part) {
   part = Some part;
   doubt = λ p. told.doubt p || same_path p part;
@@ -133,7 +133,7 @@ with_part told folder own part = record (naming_part told part) {
   calm = λ p. own p || told.calm p;
 }
 
-module _ (told : Said) (dirty dirty_after : List Route) (marks : Marks) (log : CallLog) (known : IsKnown told dirty marks log) (name : List ℕ) (up : Route) (f : ℕ) (made : Node)
+module _ (told : HistoryFacts) (dirty dirty_after : List Route) (marks : Marks) (log : CallLog) (known : IsKnown told dirty marks log) (name : List ℕ) (up : Route) (f : ℕ) (made : Node)
     (in_transit : RoamInTransit marks log) (m : MakesPart told log name up f) (bare : is_folder made ≡ false) (new_mode : marks.modes (new_node log) ≡ None) where
   abbrev makes : Change
   makes = Makes f name made

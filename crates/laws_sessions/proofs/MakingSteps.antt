@@ -9,7 +9,7 @@ use Rattle.tree_trait.specs.declared.calls.TreeError.{TreeError}
 use Rattle.tree_trait.specs.declared.file_system.FileSystem.{FileSystem}
 use Rattle.tree_trait.specs.FileSystem.{Spot, View, find, lookup, value}
 use Rattle.tree_trait.specs.Calls.{SyncFolder}
-use Rattle.tree_trait.specs.Change.{Makes, Nothing, CallLog, change_of, current, found, torn_write, with_change}
+use Rattle.tree_trait.specs.Change.{Makes, Nothing, CallLog, change_of, current, found_node, torn_write, with_change}
 use Rattle.tree_trait.specs.Refusals.{refusal_of}
 use Rattle.tree_trait.specs.CrashImages.{Among}
 use Rattle.tree_trait.specs.Answers.{Performs}
@@ -44,13 +44,13 @@ use Rattle.laws_sessions.proofs.Calming.{refused_is, still_listed}
 use Rattle.laws_sessions.proofs.Changing.{seen_nowhere}
 use Rattle.laws_sessions.proofs.Deleted.{comes_refused, either, put_at, put_off}
 use Rattle.laws_sessions.proofs.DeletionSteps.{Steps, ends, joined_holds, joined_more, same_dirty, tried}
-use Rattle.job_unsynced.specs.Folders.{joined}
+use Rattle.job_unsynced.specs.Folders.{joined_folders}
 use Rattle.laws_sessions.proofs.JobKnows.{HasName, IsUntouched, KnowsAfter, NoneOver, WorkKnows, calm_in, none_waits, over_it, untouched_free, way_sure}
-use Rattle.laws_sessions.proofs.Knowing.{IsCalmFolder, IsKept, IsKnown, Said, nowhere, settled_marks}
+use Rattle.laws_sessions.proofs.Knowing.{IsCalmFolder, IsKept, IsKnown, HistoryFacts, nowhere, settled_marks}
 use Rattle.laws_sessions.proofs.MakingThings.{marks_born, new_node, thing_made_known}
 use Rattle.laws_sessions.proofs.Resting.{IsSureFolder, folder_at_of, sure_path}
 use Rattle.laws_sessions.proofs.Sources.{folder_is, item_in, making_changed, making_item}
-use Rattle.laws_sessions.proofs.Stepped.{Comes, comes_one, said_after}
+use Rattle.laws_sessions.proofs.Stepped.{StepRan, comes_one, said_after}
 
 -- what a new thing is
 abbrev node_of : NewThing → Node
@@ -67,7 +67,7 @@ thing_passes : (s : FileSystem) (new : NewThing) (name : List ℕ) (up : Route) 
 thing_passes s thing.Folder name up h = making_passes s name up new_folder_mode h
 thing_passes s (thing.Link text) name up h = making_passes s name up 0 h
 
-thing_made : (s : FileSystem) (new : NewThing) (name : List ℕ) (up : Route) (time : ℤ) → change_of s (making_call new (name ∷ up)) time ≡ Makes (found s up) name (node_of new)
+thing_made : (s : FileSystem) (new : NewThing) (name : List ℕ) (up : Route) (time : ℤ) → change_of s (making_call new (name ∷ up)) time ≡ Makes (found_node s up) name (node_of new)
 thing_made s thing.Folder name up time = refl
 thing_made s (thing.Link text) name up time = refl
 
@@ -76,19 +76,19 @@ no_write thing.Folder path s left = refl
 no_write (thing.Link text) path s left = refl
 
 -- a thing is made
-module _ (told : Said) (dirty dirty_after : List Route) (marks : Marks) (log now : CallLog) (name : List ℕ) (up : Route) (new : NewThing) (work : Work) (kept : IsKept told dirty marks log) (none : told.part ≡ None)
+module _ (told : HistoryFacts) (dirty dirty_after : List Route) (marks : Marks) (log now : CallLog) (name : List ℕ) (up : Route) (new : NewThing) (work : Work) (kept : IsKept told dirty marks log) (none : told.part ≡ None)
     (owed : NoneOver (current log) up dirty) (within : folder_changed (item_in work) ≡ up) (own : (p : Route) → may_change (item_in work) p ≡ true → p ≡ up) (said_made : made_by (Some (item_in work)) (name ∷ up) told.tree ≡ value (node_of new)) (listed : Among dirty_after up) (more : (q : Route) → Among dirty q → Among dirty_after q)
     (done : Performs {A = Unit {0}} log (making_call new (name ∷ up)) (Ok tt) (Some now)) where
   abbrev made_path : Route
   made_path = name ∷ up
 
-  abbrev after : Said
+  abbrev after : HistoryFacts
   after = said_after now (Made made_path) work told
 
   d : IsDoneCall log (making_call new made_path) now
   d = done_call log (making_call new made_path) now done
 
-  now_is : now ≡ with_change log (Makes (found (current log) up) name (node_of new))
+  now_is : now ≡ with_change log (Makes (found_node (current log) up) name (node_of new))
   now_is = d.is ∙ ap (with_change log) (thing_made (current log) new name up d.time)
 
   passes : IsMaking (current log) name up
@@ -96,7 +96,7 @@ module _ (told : Said) (dirty dirty_after : List Route) (marks : Marks) (log now
 
   firm : IsSureFolder log up
   firm = record {
-    stands = folder_at_of (current log) up (found (current log) up) passes.folder passes.holds;
+    stands = folder_at_of (current log) up (found_node (current log) up) passes.folder passes.holds;
     sure = way_sure told dirty marks log up kept.known owed;
   }
 
@@ -120,8 +120,8 @@ module _ (told : Said) (dirty dirty_after : List Route) (marks : Marks) (log now
   other : (p : Route) → marks.aside p ≡ true → same_path p made_path ≡ false
   other p aside = false_from_ne_true _ (λ same. both_ways _ (ap marks.aside (same_path-true p made_path same) ∙ untouched.out) aside)
 
-  known_then : IsKnown after dirty_after (marks_born marks (new_node log)) (with_change log (Makes (found (current log) up) name (node_of new)))
-  known_then = thing_made_known told after dirty dirty_after marks log kept.known kept.roams name up (found (current log) up) (node_of new) (record {
+  known_then : IsKnown after dirty_after (marks_born marks (new_node log)) (with_change log (Makes (found_node (current log) up) name (node_of new)))
+  known_then = thing_made_known told after dirty dirty_after marks log kept.known kept.roams name up (found_node (current log) up) (node_of new) (record {
     none = none;
     firm = firm;
     at = passes.folder;
@@ -149,21 +149,21 @@ module _ (told : Said) (dirty dirty_after : List Route) (marks : Marks) (log now
     ];
   }) listed more
 
-  pub thing_is_made : (knows : Marks → Type 0) → ((m : Marks) → knows m) → Comes told after dirty_after log now knows
+  pub thing_is_made : (knows : Marks → Type 0) → ((m : Marks) → knows m) → StepRan told after dirty_after log now knows
   thing_is_made knows known_of =
-      comes_one told after dirty dirty_after marks (marks_born marks (new_node log)) log now (Makes (found (current log) up) name (node_of new)) knows kept now_is
+      comes_one told after dirty dirty_after marks (marks_born marks (new_node log)) log now (Makes (found_node (current log) up) name (node_of new)) knows kept now_is
       (subst (λ (l : CallLog). IsKnown after dirty_after (marks_born marks (new_node log)) l) (sym now_is) known_then) (known_of (settled_marks now (marks_born marks (new_node log))))
 
-module _ (told : Said) (dirty dirty_after : List Route) (marks : Marks) (log now : CallLog) (kept : IsKept told dirty marks log) where
+module _ (told : HistoryFacts) (dirty dirty_after : List Route) (marks : Marks) (log now : CallLog) (kept : IsKept told dirty marks log) where
   abbrev In : Did → Course → Work → Work → Type 0
   In did course work new = Steps told dirty dirty_after marks log now kept did course work new
 
   -- the thing was made, by its last name
-  made_at : (w new : Making) (name : HasName w.path) → told.part ≡ None → new ≡ record w { stage = making.Sync } → NoneOver (current log) (folder_of w.path) dirty → dirty_after ≡ joined (folder_of w.path) dirty
+  made_at : (w new : Making) (name : HasName w.path) → told.part ≡ None → new ≡ record w { stage = making.Sync } → NoneOver (current log) (folder_of w.path) dirty → dirty_after ≡ joined_folders (folder_of w.path) dirty
       → Performs {A = Unit {0}} log (making_call w.thing w.path) (Ok tt) (Some now) → In (Made w.path) GoesOn (Make w) (Make new)
   made_at w new name none new_is owed routes done =
       let up = folder_of w.path in
-      subst (λ q. Comes told (said_after now (Made q) (Make w) told) dirty_after log now (KnowsAfter (Made q) (said_after now (Made q) (Make w) told) dirty_after now GoesOn (Make new))) (sym name.is)
+      subst (λ q. StepRan told (said_after now (Made q) (Make w) told) dirty_after log now (KnowsAfter (Made q) (said_after now (Made q) (Make w) told) dirty_after now GoesOn (Make new))) (sym name.is)
       (thing_is_made told dirty dirty_after marks log now name.name up w.thing (Make w) kept none owed (folder_is (Make w)) (λ p own. same_path-true p (folder_of w.path) (making_changed w.thing w.path p own)) (shown_as w.thing w.path (name.name ∷ up) told.tree)
       (subst (λ xs. Among xs up) (sym routes) (joined_holds up dirty)) (λ q among. subst (λ xs. Among xs q) (sym routes) (joined_more up q dirty among))
       (subst (λ q. Performs {A = Unit {0}} log (making_call w.thing q) (Ok tt) (Some now)) name.is done)
@@ -183,8 +183,8 @@ module _ (told : Said) (dirty dirty_after : List Route) (marks : Marks) (log now
       tried told dirty dirty_after marks log now kept (folder_of w.path) None GoesOn (Make new) (λ routes. (subst (λ (x : Making). HasName x.path) (sym new_is) name, none))
       (subst (λ q. Answers log (sync_of q) (Ok tt) (Some now)) name.is done) routes
   making_tells w new (Troubled trouble) (name, none) (at, new_is) (e, cause, answer) settled leaves =
-      subst (λ (x : Making). Comes told told dirty_after log now (λ m. WorkKnows told dirty_after m now (course_after (Troubled trouble)) (Make x))) (sym new_is)
-      (subst (λ routes. Comes told told routes log now (λ m. WorkKnows told routes m now (course_after (Troubled trouble)) (Make w))) (sym routes)
+      subst (λ (x : Making). StepRan told told dirty_after log now (λ m. WorkKnows told dirty_after m now (course_after (Troubled trouble)) (Make x))) (sym new_is)
+      (subst (λ routes. StepRan told told routes log now (λ m. WorkKnows told routes m now (course_after (Troubled trouble)) (Make w))) (sym routes)
       (comes_refused told dirty marks log now (course_after (Troubled trouble)) (Make w) kept (name, none) (by w.stage refl (subst (λ q. Answers log (call_of w.thing w.stage q) (Err e) (Some now)) name.is answer))))
     where
       routes : dirty_after ≡ dirty

@@ -25,7 +25,7 @@ use Rattle.laws_crash.proofs.Tops.{under_made, none_below}
 use Rattle.laws_sessions.specs.Doubt.{is_pending, way_waits, name_waits, is_joint}
 use Rattle.laws_sessions.proofs.Pending.{pending_less}
 use Rattle.laws_sessions.proofs.InTransit.{WasRenamed}
-use Rattle.laws_sessions.proofs.Knowing.{HasMode, HasNoMode, IsCalmFolder, IsCalmIn, IsKnown, IsUnreached, RoamInTransit, Said, held}
+use Rattle.laws_sessions.proofs.Knowing.{HasMode, HasNoMode, IsCalmFolder, IsCalmIn, IsKnown, IsUnreached, RoamInTransit, HistoryFacts, held}
 use Rattle.laws_sessions.proofs.Quiet.{held_same, kind_same, mounts_same, shows_same, starts_same, unclean_before, was_bare}
 use Rattle.laws_sessions.proofs.Resting.{IsBeside, IsSureFolder, folder_at_of, joint_still, restless_folder, stands_at, sure_still, unborn_more, unjoined_still}
 use Rattle.laws_sessions.proofs.Restless.{IsUnjoined, is_restless, restless_less}
@@ -44,7 +44,7 @@ low : (a b : Bool) → b ≡ false → (a && b) ≡ false
 low true b h = h
 low false b h = refl
 
-module _ (told : Said) (dirty : List Route) (marks : Marks) (log : CallLog) (known : IsKnown told dirty marks log) (new_mode : marks.modes (new_node log) ≡ None) where
+module _ (told : HistoryFacts) (dirty : List Route) (marks : Marks) (log : CallLog) (known : IsKnown told dirty marks log) (new_mode : marks.modes (new_node log) ≡ None) where
   abbrev n : ℕ
   n = new_node log
 
@@ -85,7 +85,7 @@ module _ (told : Said) (dirty : List Route) (marks : Marks) (log : CallLog) (kno
   }
 
 -- A thing is made where nothing stood, in a folder that isn't in doubt; and what the history says then.
-pub record MakesThing (told after : Said) (marks : Marks) (log : CallLog) (name : List ℕ) (up : Route) (f : ℕ) (made : Node) : Type 0 where
+pub record MakesThing (told after : HistoryFacts) (marks : Marks) (log : CallLog) (name : List ℕ) (up : Route) (f : ℕ) (made : Node) : Type 0 where
   pub none : told.part ≡ None
   pub firm : IsSureFolder log up
   pub at : find (current log) up ≡ Some f
@@ -105,7 +105,7 @@ pub record MakesThing (told after : Said) (marks : Marks) (log : CallLog) (name 
   pub calm : (p : Route) → after.calm p ≡ true → (told.calm p ≡ true) ⊎ IsCalmFolder marks log p
   pub new_mode : marks.modes (length (current log).nodes) ≡ None
 
-module _ (told after : Said) (dirty dirty_after : List Route) (marks : Marks) (log : CallLog) (was_known : IsKnown told dirty marks log) (in_transit : RoamInTransit marks log) (name : List ℕ) (up : Route) (f : ℕ) (made : Node)
+module _ (told after : HistoryFacts) (dirty dirty_after : List Route) (marks : Marks) (log : CallLog) (was_known : IsKnown told dirty marks log) (in_transit : RoamInTransit marks log) (name : List ℕ) (up : Route) (f : ℕ) (made : Node)
     (m : MakesThing told after marks log name up f made) (listed : Among dirty_after up) (more : (q : Route) → Among dirty q → Among dirty_after q) where
   abbrev makes : Change
   makes = Makes f name made

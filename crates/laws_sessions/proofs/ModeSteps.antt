@@ -6,7 +6,7 @@ use Rattle.mc_text.specs.Routes.{Route, same_path}
 use Rattle.tree_trait.specs.declared.calls.TreeError.{TreeError}
 use Rattle.tree_trait.specs.FileSystem.{Spot, find, lookup, node, value}
 use Rattle.tree_trait.specs.Calls.{SetMode as Sets_mode}
-use Rattle.tree_trait.specs.Change.{Sets, Nothing, CallLog, current, found, with_change}
+use Rattle.tree_trait.specs.Change.{Sets, Nothing, CallLog, current, found_node, with_change}
 use Rattle.tree_trait.specs.CrashImages.{Among}
 use Rattle.tree_trait.proofs.Finding.{and_then-some}
 use Rattle.tree_trait.proofs.Visible.{same_path-self, same_path-true}
@@ -21,7 +21,7 @@ use Rattle.job_reports.specs.CallRuns.{AllDone}
 use Rattle.job_reports.specs.Paths.{folder_of, without}
 use Rattle.job_reports.proofs.CallAnswers.{IsDoneCall, one_done, some_log}
 use Rattle.job_reports.proofs.PermittedCalls.{stat_missing}
-use Rattle.job_unsynced.specs.Folders.{joined}
+use Rattle.job_unsynced.specs.Folders.{joined_folders}
 use Rattle.mode_job.specs.declared.setting.Stage.{Stage}
 use Rattle.mode_job.specs.declared.setting.Stage.TheVariants as setting
 use Rattle.mode_job.specs.Settings.{Setting, Tells, is_dirty, is_fresh}
@@ -39,10 +39,10 @@ use Rattle.laws_sessions.proofs.Calming.{mode_finds, stopped_is, thing_refused, 
 use Rattle.laws_sessions.proofs.Deleted.{comes_refused, either, put_at, put_off}
 use Rattle.laws_sessions.proofs.DeletionSteps.{Steps, comes_thing_synced, ends, joined_holds, joined_more, same_dirty}
 use Rattle.laws_sessions.proofs.JobKnows.{HasName, KnowsAfter, WorkKnows}
-use Rattle.laws_sessions.proofs.Knowing.{IsKept, IsKnown, Said, settled_marks}
+use Rattle.laws_sessions.proofs.Knowing.{IsKept, IsKnown, HistoryFacts, settled_marks}
 use Rattle.laws_sessions.proofs.Resting.{IsSureFolder, folder_at_of, settled_unless}
 use Rattle.laws_sessions.proofs.SettingModes.{IsMarked, SetsMode, marked, no_mode, no_way, set_known}
-use Rattle.laws_sessions.proofs.Stepped.{Comes, comes_one, said_after}
+use Rattle.laws_sessions.proofs.Stepped.{StepRan, comes_one, said_after}
 
 -- where nothing is owed by a setting, whatever is dirty is gone
 pub none_stands : (log : CallLog) (s : Setting) (dirty : List Route) → NoneOwed (current log) (SetMode s) dirty → (q : Route) → Among dirty q → find (current log) q ≡ None
@@ -58,12 +58,12 @@ and_first true b h = refl
 and_first false b h = h
 
 -- a mode is given
-module _ (told : Said) (dirty dirty_after : List Route) (marks : Marks) (log now : CallLog) (kept : IsKept told dirty marks log) (s : Setting) (has : HasName s.path) (none : told.part ≡ None)
-    (owed : NoneOwed (current log) (SetMode s) dirty) (routes : dirty_after ≡ joined s.path dirty) (d : IsDoneCall log (Sets_mode s.path s.mode) now) where
+module _ (told : HistoryFacts) (dirty dirty_after : List Route) (marks : Marks) (log now : CallLog) (kept : IsKept told dirty marks log) (s : Setting) (has : HasName s.path) (none : told.part ≡ None)
+    (owed : NoneOwed (current log) (SetMode s) dirty) (routes : dirty_after ≡ joined_folders s.path dirty) (d : IsDoneCall log (Sets_mode s.path s.mode) now) where
   abbrev i : ℕ
-  i = found (current log) s.path
+  i = found_node (current log) s.path
 
-  abbrev after : Said
+  abbrev after : HistoryFacts
   after = said_after now (Set s.path) (SetMode s) told
 
   at : find (current log) s.path ≡ Some i
@@ -115,23 +115,23 @@ module _ (told : Said) (dirty dirty_after : List Route) (marks : Marks) (log now
     );
   }
 
-  pub mode_given : (knows : Marks → Type 0) → ((m : Marks) → knows m) → Comes told after dirty_after log now knows
+  pub mode_given : (knows : Marks → Type 0) → ((m : Marks) → knows m) → StepRan told after dirty_after log now knows
   mode_given knows known_of =
       let m : (new : Marks) × IsMarked marks new log s.path i s.mode = marked told after dirty dirty_after marks log s.path i s.mode kept sets in
       comes_one told after dirty dirty_after marks m.0 log now (Sets i s.mode) knows kept d.is
       (subst (λ (l : CallLog). IsKnown after dirty_after m.0 l) (sym d.is) (set_known told after dirty dirty_after marks log s.path i s.mode kept sets m.0 m.1)) (known_of (settled_marks now m.0))
 
-module _ (told : Said) (dirty dirty_after : List Route) (marks : Marks) (log now : CallLog) (kept : IsKept told dirty marks log) where
+module _ (told : HistoryFacts) (dirty dirty_after : List Route) (marks : Marks) (log now : CallLog) (kept : IsKept told dirty marks log) where
   abbrev In : Did → Course → Work → Work → Type 0
   In did course work new = Steps told dirty dirty_after marks log now kept did course work new
 
   -- the thing's sync was tried
   thing_tried : (path : Route) (left : Option TreeError) (course : Course) (work : Work) → ((routes : List Route) → WorkKnows told routes marks log course work)
-      → TellsTried path left log (Some now) → dirty_after ≡ after_try Barrier left path dirty → Comes told told dirty_after log now (λ m. WorkKnows told dirty_after m now course work)
+      → TellsTried path left log (Some now) → dirty_after ≡ after_try Barrier left path dirty → StepRan told told dirty_after log now (λ m. WorkKnows told dirty_after m now course work)
   thing_tried path None course work knows done is =
-      subst (λ routes. Comes told told routes log now (λ m. WorkKnows told routes m now course work)) (sym is) (comes_thing_synced told dirty marks log now path course work kept (knows (without path dirty)) done)
+      subst (λ routes. StepRan told told routes log now (λ m. WorkKnows told routes m now course work)) (sym is) (comes_thing_synced told dirty marks log now path course work kept (knows (without path dirty)) done)
   thing_tried path (Some e) course work knows tried is =
-      subst (λ routes. Comes told told routes log now (λ m. WorkKnows told routes m now course work)) (sym is) (comes_refused told dirty marks log now course work kept (knows dirty) (by tried))
+      subst (λ routes. StepRan told told routes log now (λ m. WorkKnows told routes m now course work)) (sym is) (comes_refused told dirty marks log now course work kept (knows dirty) (by tried))
     where
       by : TellsTried path (let o : Option TreeError = Some e in o) log (Some now) → (now ≡ log) ⊎ (now ≡ with_change log Nothing)
       by (inl look) = inl (some_log now log look.0)
@@ -154,7 +154,7 @@ module _ (told : Said) (dirty dirty_after : List Route) (marks : Marks) (log now
   pub setting_tells : (replies : Replies) (s new : Setting) (did : Did) → WorkKnows told dirty marks log GoesOn (SetMode s) → Tells replies s did new → SettingCalls s did log (Some now)
       → (is_fresh s.stage ≡ true → NoneOwed (current log) (SetMode s) dirty) → Leaves s new → In did (course_after did) (SetMode s) (SetMode new)
   setting_tells replies s new (Set path) (has, none) (stage, path_is, new_is) done settled leaves =
-      let routes : dirty_after ≡ joined s.path dirty =
+      let routes : dirty_after ≡ joined_folders s.path dirty =
       leaves ∙ (ap (λ x. moves_dirty (is_dirty x) (is_dirty new.stage) s.path dirty) stage ∙ ap (λ (x : Setting). moves_dirty false (is_dirty x.stage) s.path dirty) new_is) in
       subst (λ q. In (Set q) GoesOn (SetMode s) (SetMode new)) (sym path_is)
       (mode_given told dirty dirty_after marks log now kept s has none (settled (ap is_fresh stage)) routes (one_done log (Sets_mode s.path s.mode) now done)
@@ -163,14 +163,14 @@ module _ (told : Said) (dirty dirty_after : List Route) (marks : Marks) (log now
       thing_tried s.path None GoesOn (SetMode new) (λ routes. (subst (λ (x : Setting). HasName x.path) (sym new_is) has, none)) (synced_done s.path done)
       (leaves ∙ (ap (λ x. moves_dirty (is_dirty x) (is_dirty new.stage) s.path dirty) stage ∙ ap (λ (x : Setting). moves_dirty true (is_dirty x.stage) s.path dirty) new_is))
   setting_tells replies s new (Troubled trouble) (has, none) (barrier, why, new_is) stop settled leaves =
-      subst (λ (x : Setting). Comes told told dirty_after log now (λ m. WorkKnows told dirty_after m now (course_after (Troubled trouble)) (SetMode x))) (sym new_is)
-      (subst (λ routes. Comes told told routes log now (λ m. WorkKnows told routes m now (course_after (Troubled trouble)) (SetMode s))) (sym (leaves_same s new new_is leaves))
+      subst (λ (x : Setting). StepRan told told dirty_after log now (λ m. WorkKnows told dirty_after m now (course_after (Troubled trouble)) (SetMode x))) (sym new_is)
+      (subst (λ routes. StepRan told told routes log now (λ m. WorkKnows told routes m now (course_after (Troubled trouble)) (SetMode s))) (sym (leaves_same s new new_is leaves))
       (comes_refused told dirty marks log now (course_after (Troubled trouble)) (SetMode s) kept (has, none) (stops s trouble.cause trouble.path s.stage stop)))
   setting_tells replies s new (Skipped path cause) (has, none) (stage, path_is, passes, new_is) (named, stop) settled leaves =
       let same : dirty_after ≡ dirty =
       leaves ∙ (ap (λ x. moves_dirty (is_dirty x) (is_dirty new.stage) s.path dirty) stage ∙ ap (λ (x : Setting). moves_dirty false (is_dirty x.stage) s.path dirty) new_is) in
-      subst (λ (x : Setting). Comes told told dirty_after log now (λ m. WorkKnows told dirty_after m now GoesOn (SetMode x))) (sym new_is)
-      (subst (λ routes. Comes told told routes log now (λ m. WorkKnows told routes m now GoesOn (SetMode (record s { stage = setting.Done })))) (sym same)
+      subst (λ (x : Setting). StepRan told told dirty_after log now (λ m. WorkKnows told dirty_after m now GoesOn (SetMode x))) (sym new_is)
+      (subst (λ routes. StepRan told told routes log now (λ m. WorkKnows told routes m now GoesOn (SetMode (record s { stage = setting.Done })))) (sym same)
       (comes_refused told dirty marks log now GoesOn (SetMode (record s { stage = setting.Done })) kept (has, none) (stops s cause named s.stage stop)))
   setting_tells replies s new (Ended Finished part) (has, none) (stage, part_is, new_is) done settled leaves =
       subst (λ o. In (Ended Finished o) GoesOn (SetMode s) (SetMode new)) (sym part_is) (ends told dirty dirty_after marks log now kept (SetMode s) none (leaves_same s new new_is leaves) (some_log now log done))

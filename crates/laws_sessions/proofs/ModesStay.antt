@@ -26,19 +26,19 @@ use Rattle.laws_sessions.proofs.Histories.{IsReached, traced_reached}
 use Rattle.laws_sessions.proofs.JobKnows.{WorkKnows}
 use Rattle.laws_sessions.proofs.JobLeads.{sync_leads, work_leads}
 use Rattle.laws_sessions.proofs.JobSteps.{gives_up}
-use Rattle.laws_sessions.proofs.Knowing.{IsKept, Said, mode_waits}
+use Rattle.laws_sessions.proofs.Knowing.{IsKept, HistoryFacts, mode_waits}
 use Rattle.laws_sessions.proofs.Moments.{log_of}
 use Rattle.laws_sessions.proofs.Prefixes.{told_of}
 use Rattle.laws_sessions.proofs.Reports.{JobsKnow}
 use Rattle.laws_sessions.proofs.Staying.{IsStill, doubting, kept_doubting, names_stay, sure_moment, work_doubting}
-use Rattle.laws_sessions.proofs.Stepped.{Comes, modes_by, said_after}
+use Rattle.laws_sessions.proofs.Stepped.{StepRan, modes_by, said_after}
 use Rattle.laws_sessions.proofs.Unnamed.{named_step}
 
 abbrev ModeStill : Route → CallLog → CallLog → Type 0
 ModeStill path before now = IsStill (λ log. node_waits log path) before now
 
 -- none waits of a path of which none is said to, and that was named as no part
-unsaid_mode : (said : Said) (path : Route) → said.modes path ≡ false → (Among said.named path → ⊥) → (dirty : List Route) (marks : Marks) (log : CallLog) → IsKept said dirty marks log → node_waits log path ≡ false
+unsaid_mode : (said : HistoryFacts) (path : Route) → said.modes path ≡ false → (Among said.named path → ⊥) → (dirty : List Route) (marks : Marks) (log : CallLog) → IsKept said dirty marks log → node_waits log path ≡ false
 unsaid_mode said path sure unnamed dirty marks log kept = false_from_ne_true _ (λ waits. both_ways _ sure (mode_waits said dirty marks log kept.known path (out (marks.aside path) refl) waits).1)
   where
     out : (b : Bool) → marks.aside path ≡ b → marks.aside path ≡ false
@@ -65,11 +65,11 @@ unset (Ended ending left) before path sure unnamed = sure
 
 module _ (opening : CallLog) (older : List Entry) (was : Stand) (before : CallLog) (r : IsReached opening older was before) (path : Route) (sure : node_waits before path ≡ false)
     (other : Among (named_parts older) path → ⊥) where
-  abbrev told : Said
+  abbrev told : HistoryFacts
   told = told_of opening before older r.part
 
   still_by : (dirty_after : List Route) (now : CallLog) (did : Did) (work : Work) (knows : Marks → Type 0) → names did path ≡ false
-      → Comes (doubting told before) (said_after now did work (doubting told before)) dirty_after before now knows → ModeStill path before now
+      → StepRan (doubting told before) (said_after now did work (doubting told before)) dirty_after before now knows → ModeStill path before now
   still_by dirty_after now did work knows unnamed come = record {
     made = come.made;
     now_is = come.now_is;

@@ -21,7 +21,7 @@ use Rattle.laws_sessions.specs.Safe.{IsSafe, ReplayLaw, SessionLaw}
 use Rattle.laws_sessions.specs.Traces.{Follows, IsTraced, Stand}
 use Rattle.laws_sessions.proofs.Prefixes.{folders_told, told_more, told_of, within_more}
 use Rattle.laws_sessions.proofs.Histories.{IsEntered, IsReached, enters, traced_reached}
-use Rattle.laws_sessions.proofs.Knowing.{IsKept, Said, safe_path}
+use Rattle.laws_sessions.proofs.Knowing.{IsKept, HistoryFacts, safe_path}
 use Rattle.laws_sessions.proofs.Reports.{HasLive, JobsKnow}
 use Rattle.laws_sessions.proofs.Resting.{sure_path}
 use Rattle.laws_sessions.proofs.Stepped.{cut, mid_at, more}
@@ -37,7 +37,7 @@ safe_told opening end g part dirty marks log image kept left path apart =
     safe_path (told_of opening end g part) dirty marks log kept image left path (λ named stays. apart (record { named = named; stays = stays }))
 
 -- the part that is known is that of a live job
-pub live_part : (jobs : List Running) (told : Said) (dirty : List Route) (marks : Marks) (log : CallLog) (live : List LiveJob) (path : Route) → JobsKnow told dirty marks log jobs → HasLive live jobs told.part → told.part ≡ Some path → IsLivePart live path
+pub live_part : (jobs : List Running) (told : HistoryFacts) (dirty : List Route) (marks : Marks) (log : CallLog) (live : List LiveJob) (path : Route) → JobsKnow told dirty marks log jobs → HasLive live jobs told.part → told.part ≡ Some path → IsLivePart live path
 live_part [] told dirty marks log live path knows is part = absurd (let e : (let o : Option Route = None in o) ≡ Some path = sym knows ∙ part in cc)
 live_part (job ∷ []) told dirty marks log live path knows is part = subst (λ l. IsLivePart l path) (sym is) ((let l : LiveJob = record { id = job.id; item = item_in job.work; part = told.part } in l), inl refl, part)
 live_part (job ∷ other ∷ jobs) told dirty marks log live path knows is part = absurd knows

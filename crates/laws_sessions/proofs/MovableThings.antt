@@ -11,7 +11,7 @@ use Rattle.tree_trait.specs.Change.{Change, Moves, CallLog, current, with_change
 use Rattle.tree_trait.proofs.Finding.{find-once}
 use Rattle.laws_crash.specs.Possible.{Leads, MayFindFrom, find_from}
 use Rattle.laws_crash.specs.Guarded.{IsGuarded, IsNaming, Marks}
-use Rattle.laws_crash.specs.Steps.{IsAnchored}
+use Rattle.laws_crash.specs.NameKnowledge.{IsAnchored}
 use Rattle.laws_crash.proofs.Guarding.{found_at, naming_law, settle_law}
 use Rattle.laws_crash.proofs.Moving.{moving_law}
 use Rattle.laws_crash.proofs.Tops.{find_below, not_longer}
@@ -21,7 +21,7 @@ use Rattle.laws_sessions.specs.Doubt.{is_pending, name_waits, way_waits}
 use Rattle.laws_sessions.specs.Replayed.{keeping_moved, moved_by}
 use Rattle.laws_sessions.proofs.AtRest.{RestsBelow}
 use Rattle.laws_sessions.proofs.Changing.{folder_anchored}
-use Rattle.laws_sessions.proofs.Knowing.{IsKept, IsKnown, Said}
+use Rattle.laws_sessions.proofs.Knowing.{IsKept, IsKnown, HistoryFacts}
 use Rattle.laws_sessions.proofs.Moved.{moved_below}
 use Rattle.laws_sessions.proofs.MovedTree.{MovesThing, not_over, other_name, source_name}
 use Rattle.laws_sessions.proofs.PathsBelow.{below_way, is_below, not_below, off_above, off_below}
@@ -39,7 +39,7 @@ pair_of source target = record { source = source; target = target }
 
 -- What a history says once a thing was moved: at the target, and below, stands what stood at the source, and there nothing; of both names a change may wait. The parts
 -- that lay in it lie where it went.
-abbrev pub said_thing_moved : Said → List ℕ → Route → List ℕ → Route → Said
+abbrev pub said_thing_moved : HistoryFacts → List ℕ → Route → List ℕ → Route → HistoryFacts
 said_thing_moved told old source_folder new target_folder = record {
   tree = moved_by (pair_of (old ∷ source_folder) (new ∷ target_folder)) told.tree;
   earlier = keeping_moved (pair_of (old ∷ source_folder) (new ∷ target_folder)) told.tree told.earlier;
@@ -53,7 +53,7 @@ said_thing_moved told old source_folder new target_folder = record {
 }
 
 -- A thing may be moved, to where nothing stands, or if it is no folder, over another such thing.
-pub record CanMoveThing (told : Said) (marks : Marks) (log : CallLog) (old : List ℕ) (source_folder : Route) (new : List ℕ) (target_folder : Route) (f g i : ℕ) : Type 0 where
+pub record CanMoveThing (told : HistoryFacts) (marks : Marks) (log : CallLog) (old : List ℕ) (source_folder : Route) (new : List ℕ) (target_folder : Route) (f g i : ℕ) : Type 0 where
   -- no part stands
   pub none : told.part ≡ None
   pub from : find (current log) source_folder ≡ Some f
@@ -75,7 +75,7 @@ pub record CanMoveThing (told : Said) (marks : Marks) (log : CallLog) (old : Lis
   -- no mount begins there
   pub no_mount : starts_mount (current log) i ≡ false
 
-module _ (told : Said) (dirty : List Route) (marks : Marks) (log : CallLog) (kept : IsKept told dirty marks log) (old : List ℕ) (source_folder : Route) (new : List ℕ) (target_folder : Route)
+module _ (told : HistoryFacts) (dirty : List Route) (marks : Marks) (log : CallLog) (kept : IsKept told dirty marks log) (old : List ℕ) (source_folder : Route) (new : List ℕ) (target_folder : Route)
     (f g i : ℕ) (r : Option ℕ) (h : CanMoveThing told marks log old source_folder new target_folder f g i) where
   abbrev moves : Change
   moves = Moves f old g new i r

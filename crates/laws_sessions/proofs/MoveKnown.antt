@@ -17,7 +17,7 @@ use Rattle.move_job.specs.declared.moving.MovingStage.TheVariants.{Take, SyncTar
 use Rattle.move_job.specs.Movings.{Moving, is_dirty, owes_target}
 use Rattle.laws_sessions.specs.Doubt.{is_joint, is_pending, joins, name_waits}
 use Rattle.laws_sessions.proofs.AtRest.{RestsBelow}
-use Rattle.laws_sessions.proofs.Knowing.{IsCalmIn, Said, settled_marks}
+use Rattle.laws_sessions.proofs.Knowing.{IsCalmIn, HistoryFacts, settled_marks}
 use Rattle.laws_sessions.proofs.KnownParts.{HasName}
 use Rattle.laws_sessions.proofs.Restless.{is_restless, joint_less, names_in, restless_less}
 use Rattle.laws_sessions.proofs.TreeKnown.{IsStill, is_over}
@@ -33,7 +33,7 @@ is_moved PassedOver = false
 
 -- Both folders stand on the disk, no mode waits in either, and renamings wait for them and each other alone. One that is not dirty any more is at rest. Nothing waits
 -- of what was moved, and of what lies in it; and where it was nothing stands.
-pub record IsMovedIn (told : Said) (marks : Marks) (log : CallLog) (m : Moving) : Type 0 where
+pub record IsMovedIn (told : HistoryFacts) (marks : Marks) (log : CallLog) (m : Moving) : Type 0 where
   pub f : ℕ
   pub g : ℕ
   pub from : find (current log) (folder_of m.pair.source) ≡ Some f
@@ -49,7 +49,7 @@ pub record IsMovedIn (told : Said) (marks : Marks) (log : CallLog) (m : Moving) 
   pub told_to : told.folders (folder_of m.pair.target) ≡ true
 
 -- In last steps a folder may stay dirty, and the move goes on.
-pub record MoveKnown (told : Said) (marks : Marks) (log : CallLog) (course : Course) (m : Moving) : Type 0 where
+pub record MoveKnown (told : HistoryFacts) (marks : Marks) (log : CallLog) (course : Course) (m : Moving) : Type 0 where
   pub source : HasName m.pair.source
   pub target : HasName m.pair.target
   pub none : told.part ≡ None
@@ -57,17 +57,17 @@ pub record MoveKnown (told : Said) (marks : Marks) (log : CallLog) (course : Cou
   pub moved : is_over course ≡ false → is_moved m.stage ≡ true → IsMovedIn told marks log m
 
 -- a move that stands at a stage before its renaming, or in its last steps
-pub move_at : (told : Said) (marks : Marks) (log : CallLog) (course other : Course) (m new : Moving) (stage : MovingStage) → new ≡ record m { stage = stage } → (is_over other ≡ false → is_moved stage ≡ true → IsMovedIn told marks log new)
+pub move_at : (told : HistoryFacts) (marks : Marks) (log : CallLog) (course other : Course) (m new : Moving) (stage : MovingStage) → new ≡ record m { stage = stage } → (is_over other ≡ false → is_moved stage ≡ true → IsMovedIn told marks log new)
     → MoveKnown told marks log course m → MoveKnown told marks log other new
 move_at told marks log course other m new stage is then k = subst (λ (x : Moving). (is_over other ≡ false → is_moved stage ≡ true → IsMovedIn told marks log x) → MoveKnown told marks log other x) (sym is)
     (λ moved. record { source = k.source; target = k.target; none = k.none; other = k.other; moved = moved }) then
 
 -- of a job that goes on, or waits, at the same stage
-pub move_course : (told : Said) (marks : Marks) (log : CallLog) (course other : Course) (m : Moving) → (is_over other ≡ false → is_over course ≡ false) → MoveKnown told marks log course m → MoveKnown told marks log other m
+pub move_course : (told : HistoryFacts) (marks : Marks) (log : CallLog) (course other : Course) (m : Moving) → (is_over other ≡ false → is_over course ≡ false) → MoveKnown told marks log course m → MoveKnown told marks log other m
 move_course told marks log course other m over k = record { source = k.source; target = k.target; none = k.none; other = k.other; moved = λ on. k.moved (over on) }
 
 -- of the same pair at the same stage, whatever kinds of troubles are passed over
-pub moved_same : (told : Said) (marks : Marks) (log : CallLog) (m new : Moving) → new.pair ≡ m.pair → new.stage ≡ m.stage → IsMovedIn told marks log m → IsMovedIn told marks log new
+pub moved_same : (told : HistoryFacts) (marks : Marks) (log : CallLog) (m new : Moving) → new.pair ≡ m.pair → new.stage ≡ m.stage → IsMovedIn told marks log m → IsMovedIn told marks log new
 moved_same told marks log m new pair stage h = record {
   f = h.f;
   g = h.g;
@@ -101,7 +101,7 @@ module _ (log : CallLog) (marks : Marks) where
     apart = h.apart;
   }
 
-  pub moved_settled : (told : Said) (m : Moving) → IsMovedIn told marks log m → IsMovedIn told (settled_marks log marks) log m
+  pub moved_settled : (told : HistoryFacts) (m : Moving) → IsMovedIn told marks log m → IsMovedIn told (settled_marks log marks) log m
   moved_settled told m h = record {
     f = h.f;
     g = h.g;
@@ -118,11 +118,11 @@ module _ (log : CallLog) (marks : Marks) where
     told_to = h.told_to;
   }
 
-  pub move_settled : (told : Said) (course : Course) (m : Moving) → MoveKnown told marks log course m → MoveKnown told (settled_marks log marks) log course m
+  pub move_settled : (told : HistoryFacts) (course : Course) (m : Moving) → MoveKnown told marks log course m → MoveKnown told (settled_marks log marks) log course m
   move_settled told course m k = record { source = k.source; target = k.target; none = k.none; other = k.other; moved = λ on is. moved_settled told m (k.moved on is) }
 
 -- A sync, and a call that was refused, leave the tree as it was; no folder is restless after it that wasn't, nor is any joined.
-module _ (told : Said) (marks : Marks) (log : CallLog) (c : Change) (same : current (with_change log c) ≡ current log) (no_names : (f : ℕ) → names_in f c ≡ false) (no_joins : (f g : ℕ) → joins f g c ≡ false) where
+module _ (told : HistoryFacts) (marks : Marks) (log : CallLog) (c : Change) (same : current (with_change log c) ≡ current log) (no_names : (f : ℕ) → names_in f c ≡ false) (no_joins : (f g : ℕ) → joins f g c ≡ false) where
   abbrev now : CallLog
   now = with_change log c
 
@@ -184,7 +184,7 @@ module _ (told : Said) (marks : Marks) (log : CallLog) (c : Change) (same : curr
     moved = λ on is. let h = k.moved on is in moved_on m m refl h (λ owes. rests_on h.g (h.target_rests owes)) (λ clean. rests_on h.f (h.source_rests clean));
   }
 
-pub move_still : (told : Said) (marks : Marks) (log later : CallLog) (course : Course) (m : Moving) → IsStill log later → MoveKnown told marks log course m → MoveKnown told marks later course m
+pub move_still : (told : HistoryFacts) (marks : Marks) (log later : CallLog) (course : Course) (m : Moving) → IsStill log later → MoveKnown told marks log course m → MoveKnown told marks later course m
 move_still told marks log later course m (c, is, how) k = subst (λ (l : CallLog). MoveKnown told marks l course m) (sym is) (by c how)
   where
     by : (c : Change) → (c ≡ Nothing) ⊎ ((f : ℕ) × (c ≡ Syncs f)) → MoveKnown told marks (with_change log c) course m
@@ -192,7 +192,7 @@ move_still told marks log later course m (c, is, how) k = subst (λ (l : CallLog
     by c (inr (f, sync)) = subst (λ (x : Change). MoveKnown told marks (with_change log x) course m) (sym sync) (move_on told marks log (Syncs f) (current_more log (Syncs f)) (λ h. refl) (λ h g. refl) course m k)
 
 -- it hangs on the part and the folders on the disk of what a history says
-pub move_said : (told other : Said) → other.part ≡ told.part → other.folders ≡ told.folders → (marks : Marks) (log : CallLog) (course : Course) (m : Moving) → MoveKnown told marks log course m → MoveKnown other marks log course m
+pub move_said : (told other : HistoryFacts) → other.part ≡ told.part → other.folders ≡ told.folders → (marks : Marks) (log : CallLog) (course : Course) (m : Moving) → MoveKnown told marks log course m → MoveKnown other marks log course m
 move_said told other part folders marks log course m k = record {
   source = k.source;
   target = k.target;
@@ -218,7 +218,7 @@ move_said told other part folders marks log course m k = record {
 }
 
 -- Where both folders are at rest no name of either waits.
-module _ (told : Said) (marks : Marks) (log : CallLog) (m : Moving) (h : IsMovedIn told marks log m) (target_over : owes_target m.stage ≡ false) (source_over : is_dirty m.stage ≡ false) where
+module _ (told : HistoryFacts) (marks : Marks) (log : CallLog) (m : Moving) (h : IsMovedIn told marks log m) (target_over : owes_target m.stage ≡ false) (source_over : is_dirty m.stage ≡ false) where
   rests : (k : ℕ) → (k ≡ h.f) ⊎ (k ≡ h.g) → is_restless k log.changes ≡ false
   rests k (inl same) = subst (λ j. is_restless j log.changes ≡ false) (sym same) (h.source_rests source_over)
   rests k (inr same) = subst (λ j. is_restless j log.changes ≡ false) (sym same) (h.target_rests target_over)
@@ -240,7 +240,7 @@ none_below : (s : FileSystem) (top rest : Route) → find s top ≡ None → fin
 none_below s top [] gone = gone
 none_below s top (name ∷ rest) gone = ap (option_and_then (λ f. lookup s.names f name)) (none_below s top rest gone)
 
-module _ (told : Said) (marks : Marks) (log : CallLog) (m : Moving) (h : IsMovedIn told marks log m) where
+module _ (told : HistoryFacts) (marks : Marks) (log : CallLog) (m : Moving) (h : IsMovedIn told marks log m) where
   pub none_left : (rest : Route) → find (current log) (rest ++ m.pair.source) ≡ None
   none_left rest = none_below (current log) m.pair.source rest h.gone
 

@@ -4,12 +4,12 @@ use Rattle.std.specs.Option.{option_map_or}
 use Rattle.mc_text.specs.Routes.{Route}
 use Rattle.tree_trait.specs.FileSystem.{find}
 use Rattle.tree_trait.specs.Change.{Moves, CallLog, current, with_change}
-use Rattle.laws_crash.specs.Steps.{as_it_stands}
+use Rattle.laws_crash.specs.NameKnowledge.{as_it_stands}
 use Rattle.laws_sessions.proofs.AtRest.{RestsBelow}
 use Rattle.laws_sessions.proofs.Changing.{off_itself, some_none}
 use Rattle.laws_sessions.proofs.FolderExampleSteps.{first, log, small_tree, top}
 use Rattle.laws_sessions.proofs.Histories.{at_opening}
-use Rattle.laws_sessions.proofs.Knowing.{IsKept, IsKnown, Said}
+use Rattle.laws_sessions.proofs.Knowing.{IsKept, IsKnown, HistoryFacts}
 use Rattle.laws_sessions.proofs.MovingThings.{CanMoveThing, marks_moving, said_thing_moved, thing_moved_known}
 use Rattle.laws_sessions.proofs.PathsBelow.{not_below}
 use Rattle.laws_sessions.proofs.Prefixes.{told_of}
@@ -21,7 +21,7 @@ root = []
 abbrev opening : CallLog
 opening = log []
 
-abbrev told : Said
+abbrev told : HistoryFacts
 told = told_of opening opening [] None
 
 kept : IsKept told [] (as_it_stands opening) opening

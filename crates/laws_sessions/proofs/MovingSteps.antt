@@ -6,7 +6,7 @@ use Rattle.mc_text.specs.Routes.{Route, same_path}
 use Rattle.tree_trait.specs.declared.calls.TreeError.{TreeError}
 use Rattle.tree_trait.specs.FileSystem.{find, node}
 use Rattle.tree_trait.specs.Calls.{Rename, SyncFolder}
-use Rattle.tree_trait.specs.Change.{Nothing, Syncs, CallLog, current, found, with_change}
+use Rattle.tree_trait.specs.Change.{Nothing, Syncs, CallLog, current, found_node, with_change}
 use Rattle.tree_trait.specs.Refusals.{folder_kind, is_folder}
 use Rattle.tree_trait.specs.CrashImages.{Among}
 use Rattle.tree_trait.specs.Answers.{Performs}
@@ -23,11 +23,11 @@ use Rattle.job_reports.specs.declared.report.Did.TheVariants.{Began, Chunk, Plac
 use Rattle.job_reports.specs.Paths.{folder_of, without}
 use Rattle.job_reports.proofs.PermittedCalls.{stat_missing}
 use Rattle.job_reports.proofs.CallAnswers.{done_call, some_log}
-use Rattle.job_unsynced.specs.Folders.{joined}
+use Rattle.job_unsynced.specs.Folders.{joined_folders}
 use Rattle.move_job.specs.declared.moving.MovingStage.{MovingStage}
 use Rattle.move_job.specs.declared.moving.MovingStage.TheVariants.{Take, SyncTarget, SyncSource, Finish, PassedOver}
 use Rattle.move_job.specs.Takings.{MayMove}
-use Rattle.move_job.specs.Movings.{LastMovingCalls, Moving, MovingCalls, MovingLeaves, Stops, Tells, Winds, after_sync, after_target, is_dirty, is_fresh, owed_folder, owed_in, owes_target, skipped, with_moves}
+use Rattle.move_job.specs.Movings.{LastMovingCalls, Moving, MovingCalls, MovingLeaves, Stops, Tells, Winds, after_sync, after_target, is_dirty, is_fresh, owed_folder, owed_in, owes_target, skipped_stage, with_moves}
 use Rattle.copy_move.specs.declared.work.Work.{Work}
 use Rattle.copy_move.specs.declared.work.Work.TheVariants.{Move}
 use Rattle.copy_move.specs.declared.run.Course.{Course}
@@ -41,12 +41,12 @@ use Rattle.laws_sessions.proofs.Changing.{some_is}
 use Rattle.laws_sessions.proofs.Deleted.{comes_refused}
 use Rattle.laws_sessions.proofs.DeletionSteps.{Steps, ends, joined_holds, joined_more, stands, tried}
 use Rattle.laws_sessions.proofs.JobKnows.{NoneOver, WorkKnows, none_left, none_over}
-use Rattle.laws_sessions.proofs.Knowing.{IsKept, IsKnown, Said}
+use Rattle.laws_sessions.proofs.Knowing.{IsKept, IsKnown, HistoryFacts}
 use Rattle.laws_sessions.proofs.MoveKnown.{IsMovedIn, MoveKnown, is_moved, move_at, move_course, move_settled, moved_on, moved_same, rests_on}
 use Rattle.laws_sessions.proofs.MovingThings.{pair_of, said_thing_moved}
 use Rattle.laws_sessions.proofs.RenamingThings.{thing_moves}
 use Rattle.laws_sessions.proofs.Restless.{is_restless, restless_synced}
-use Rattle.laws_sessions.proofs.Stepped.{Comes, comes_one, said_after}
+use Rattle.laws_sessions.proofs.Stepped.{StepRan, comes_one, said_after}
 use Rattle.laws_sessions.proofs.ThingRests.{source_rests}
 use Rattle.laws_sessions.proofs.TreeKnown.{is_over}
 
@@ -59,26 +59,26 @@ without_twice up (first ∷ paths) = by (same_path first up) refl (without_twice
     by true is same = same
     by false is same = ap (λ b. if◌then◌else◌ (not b) (first ∷ without up (without up paths)) (without up (without up paths))) is ∙ ap (λ xs. (let l : List Route = first ∷ xs in l)) same
 
-module _ (told : Said) (dirty dirty_after : List Route) (marks : Marks) (log now : CallLog) (kept : IsKept told dirty marks log) where
+module _ (told : HistoryFacts) (dirty dirty_after : List Route) (marks : Marks) (log now : CallLog) (kept : IsKept told dirty marks log) where
   abbrev In : Did → Course → Work → Work → Type 0
   In did course work new = Steps told dirty dirty_after marks log now kept did course work new
 
   -- it was renamed
   abbrev Renamed : Work → Pair → Type 0
   Renamed work pair =
-      Comes told (said_after now (Moved pair) work told) dirty_after log now (λ m. MoveKnown (said_after now (Moved pair) work told) m now GoesOn (record { pair = pair; stage = SyncTarget }))
+      StepRan told (said_after now (Moved pair) work told) dirty_after log now (λ m. MoveKnown (said_after now (Moved pair) work told) m now GoesOn (record { pair = pair; stage = SyncTarget }))
 
   abbrev Renames : Pair → Type 0
   Renames pair =
-      (same_path pair.source pair.target ≡ false) × NoneOver (current log) (folder_of pair.target) dirty × NoneOver (current log) (folder_of pair.source) dirty × (is_folder (node (current log) (found (current log) pair.source)) ≡ true → find (current log) pair.target ≡ None)
-      × RestsBelow marks log pair.source × (dirty_after ≡ joined (folder_of pair.source) (joined (folder_of pair.target) dirty)) × Performs {A = Unit {0}} log (Rename pair.source pair.target) (Ok tt) (Some now)
+      (same_path pair.source pair.target ≡ false) × NoneOver (current log) (folder_of pair.target) dirty × NoneOver (current log) (folder_of pair.source) dirty × (is_folder (node (current log) (found_node (current log) pair.source)) ≡ true → find (current log) pair.target ≡ None)
+      × RestsBelow marks log pair.source × (dirty_after ≡ joined_folders (folder_of pair.source) (joined_folders (folder_of pair.target) dirty)) × Performs {A = Unit {0}} log (Rename pair.source pair.target) (Ok tt) (Some now)
 
   renamed_at : (work : Work) (old : List ℕ) (from : Route) (new : List ℕ) (to : Route) → told.part ≡ None → Renames (pair_of (old ∷ from) (new ∷ to)) → Renamed work (pair_of (old ∷ from) (new ∷ to))
   renamed_at work old from new to none (other, owed, owed_from, free, rests, routes, done) =
       thing_moves told dirty dirty_after marks log now kept old from new to none other owed owed_from free rests
-      (subst (λ xs. Among xs from) (sym routes) (joined_holds from (joined to dirty)))
-      (subst (λ xs. Among xs to) (sym routes) (joined_more from to (joined to dirty) (joined_holds to dirty)))
-      (λ q among. subst (λ xs. Among xs q) (sym routes) (joined_more from q (joined to dirty) (joined_more to q dirty among)))
+      (subst (λ xs. Among xs from) (sym routes) (joined_holds from (joined_folders to dirty)))
+      (subst (λ xs. Among xs to) (sym routes) (joined_more from to (joined_folders to dirty) (joined_holds to dirty)))
+      (λ q among. subst (λ xs. Among xs q) (sym routes) (joined_more from q (joined_folders to dirty) (joined_more to q dirty among)))
       done
       (λ m. MoveKnown (said_thing_moved told old from new to) m now GoesOn (record { pair = pair_of (old ∷ from) (new ∷ to); stage = SyncTarget }))
       (λ m moved. record { source = record { name = old; is = refl }; target = record { name = new; is = refl }; none = none; other = other; moved = λ on is. moved })
@@ -91,7 +91,7 @@ module _ (told : Said) (dirty dirty_after : List Route) (marks : Marks) (log now
       (renamed_at work k.source.name (folder_of w.pair.source) k.target.name (folder_of w.pair.target) k.none (subst (λ p. Renames p) spelled renames))
 
   -- nothing stands where a folder is moved
-  free_target : (pair : Pair) (replies : Replies) → MayMove (current log) pair replies → is_folder (node (current log) (found (current log) pair.source)) ≡ true → find (current log) pair.target ≡ None
+  free_target : (pair : Pair) (replies : Replies) → MayMove (current log) pair replies → is_folder (node (current log) (found_node (current log) pair.source)) ≡ true → find (current log) pair.target ≡ None
   free_target pair replies may folder = elim may.free [
     | inl missing ↦ stat_missing (current log) pair.target missing
     | inr decided ↦ (let d = decided.1 in absurd (both_ways _ (ap folder_kind (sym d.of_source.is.kind) ∙ d.single) folder))
@@ -99,11 +99,11 @@ module _ (told : Said) (dirty dirty_after : List Route) (marks : Marks) (log now
 
   -- one of its folders was synced
   move_synced : (up : Route) (i : ℕ) (new : Moving) → find (current log) up ≡ Some i → Performs {A = Unit {0}} log (SyncFolder up) (Ok tt) (Some now) → dirty_after ≡ without up dirty → MoveKnown told marks (with_change log (Syncs i)) GoesOn new
-      → Comes told told dirty_after log now (λ m. MoveKnown told m now GoesOn new)
+      → StepRan told told dirty_after log now (λ m. MoveKnown told m now GoesOn new)
   move_synced up i new at done routes knows =
       let d = done_call log (SyncFolder up) now done in
       let is : now ≡ with_change log (Syncs i) = d.is ∙ ap (λ j. with_change log (Syncs j)) (ap (λ o. unwrap_or o 0) at) in
-      subst (λ xs. Comes told told xs log now (λ m. MoveKnown told m now GoesOn new)) (sym routes)
+      subst (λ xs. StepRan told told xs log now (λ m. MoveKnown told m now GoesOn new)) (sym routes)
       (comes_one told told dirty (without up dirty) marks marks log now (Syncs i) (λ m. MoveKnown told m now GoesOn new) kept is
       (subst (λ (l : CallLog). IsKnown told (without up dirty) marks l) (sym is) (cleared_known told dirty marks log kept.known up i at))
       (move_settled now marks told GoesOn new (subst (λ (l : CallLog). MoveKnown told marks l GoesOn new) (sym is) knows)))
@@ -126,13 +126,13 @@ module _ (told : Said) (dirty dirty_after : List Route) (marks : Marks) (log now
 
   -- The target's folder was synced; where it holds both names, so was the other.
   target_synced : (w new : Moving) → w.stage ≡ SyncTarget → new ≡ record w { stage = after_target w.pair } → MoveKnown told marks log GoesOn w → Performs {A = Unit {0}} log (SyncFolder (folder_of w.pair.target)) (Ok tt) (Some now)
-      → dirty_after ≡ with_moves SyncTarget (after_target w.pair) w.pair dirty → Comes told told dirty_after log now (λ m. MoveKnown told m now GoesOn new)
+      → dirty_after ≡ with_moves SyncTarget (after_target w.pair) w.pair dirty → StepRan told told dirty_after log now (λ m. MoveKnown told m now GoesOn new)
   target_synced w new at new_is k done leaves = by (same_path (folder_of w.pair.target) (folder_of w.pair.source)) refl
     where
       h : IsMovedIn told marks log w
       h = k.moved refl (ap is_moved at)
 
-      by : (b : Bool) → same_path (folder_of w.pair.target) (folder_of w.pair.source) ≡ b → Comes told told dirty_after log now (λ m. MoveKnown told m now GoesOn new)
+      by : (b : Bool) → same_path (folder_of w.pair.target) (folder_of w.pair.source) ≡ b → StepRan told told dirty_after log now (λ m. MoveKnown told m now GoesOn new)
       by false apart =
           move_synced (folder_of w.pair.target) h.g new h.to done (leaves ∙ ap (λ b. with_moves SyncTarget (if◌then◌else◌ b Finish SyncSource) w.pair dirty) apart)
           (synced_knows h.g w new SyncSource (new_is ∙ ap (λ b. (let x : Moving = record w { stage = if◌then◌else◌ b Finish SyncSource } in x)) apart) k h (λ over. restless_synced h.g log.changes) (λ over. absurd (true≢false over)))
@@ -147,14 +147,14 @@ module _ (told : Said) (dirty dirty_after : List Route) (marks : Marks) (log now
 
   -- and then the source's
   source_synced : (w new : Moving) → w.stage ≡ SyncSource → new ≡ record w { stage = Finish } → MoveKnown told marks log GoesOn w → Performs {A = Unit {0}} log (SyncFolder (folder_of w.pair.source)) (Ok tt) (Some now)
-      → dirty_after ≡ without (folder_of w.pair.source) dirty → Comes told told dirty_after log now (λ m. MoveKnown told m now GoesOn new)
+      → dirty_after ≡ without (folder_of w.pair.source) dirty → StepRan told told dirty_after log now (λ m. MoveKnown told m now GoesOn new)
   source_synced w new at new_is k done leaves =
       let h = k.moved refl (ap is_moved at) in
       move_synced (folder_of w.pair.source) h.f new h.from done leaves
       (synced_knows h.f w new Finish new_is k h (λ over. rests_then h.f h.g (h.target_rests (ap owes_target at))) (λ over. restless_synced h.f log.changes))
 
   folder_synced : (w new : Moving) (stage : MovingStage) → w.stage ≡ stage → is_dirty stage ≡ true → new ≡ record w { stage = after_sync w.pair stage } → MoveKnown told marks log GoesOn w
-      → Performs {A = Unit {0}} log (SyncFolder (owed_in w.pair stage)) (Ok tt) (Some now) → dirty_after ≡ with_moves stage (after_sync w.pair stage) w.pair dirty → Comes told told dirty_after log now (λ m. MoveKnown told m now GoesOn new)
+      → Performs {A = Unit {0}} log (SyncFolder (owed_in w.pair stage)) (Ok tt) (Some now) → dirty_after ≡ with_moves stage (after_sync w.pair stage) w.pair dirty → StepRan told told dirty_after log now (λ m. MoveKnown told m now GoesOn new)
   folder_synced w new Take at owes new_is k done leaves = absurd (false≢true owes)
   folder_synced w new SyncTarget at owes new_is k done leaves = target_synced w new at new_is k done leaves
   folder_synced w new SyncSource at owes new_is k done leaves = source_synced w new at new_is k done leaves
@@ -190,9 +190,9 @@ module _ (told : Said) (dirty dirty_after : List Route) (marks : Marks) (log now
   passed_knows course w new is k = move_at told marks log course GoesOn w new PassedOver is (λ on moved. absurd (false≢true moved)) k
 
   -- a refusal, after which the move stands so
-  refused_at : (course : Course) (new : Moving) → MoveKnown told marks log course new → (now ≡ log) ⊎ (now ≡ with_change log Nothing) → dirty_after ≡ dirty → Comes told told dirty_after log now (λ m. MoveKnown told m now course new)
+  refused_at : (course : Course) (new : Moving) → MoveKnown told marks log course new → (now ≡ log) ⊎ (now ≡ with_change log Nothing) → dirty_after ≡ dirty → StepRan told told dirty_after log now (λ m. MoveKnown told m now course new)
   refused_at course new k how routes =
-      subst (λ xs. Comes told told xs log now (λ m. MoveKnown told m now course new)) (sym routes) (comes_refused told dirty marks log now course (Move new) kept k how)
+      subst (λ xs. StepRan told told xs log now (λ m. MoveKnown told m now course new)) (sym routes) (comes_refused told dirty marks log now course (Move new) kept k how)
 
   pub moving_tells : (replies : Replies) (w new : Moving) (did : Did) → WorkKnows told dirty marks log GoesOn (Move w) → Tells replies w did new → MovingCalls replies w did log (Some now)
       → (is_fresh w.stage ≡ true → NoneOwed (current log) (Move w) dirty) → dirty_after ≡ with_moves w.stage new.stage w.pair dirty
@@ -263,15 +263,15 @@ module _ (told : Said) (dirty dirty_after : List Route) (marks : Marks) (log now
   moving_winds w new ending (Troubled trouble) left folder k winds answer calls leaves = absurd winds
 
 -- a skip leaves a thing that was renamed where it stands
-skipped_same : (stage : MovingStage) → is_moved (skipped stage) ≡ true → skipped stage ≡ stage
+skipped_same : (stage : MovingStage) → is_moved (skipped_stage stage) ≡ true → skipped_stage stage ≡ stage
 skipped_same Take moved = absurd (false≢true moved)
 skipped_same SyncTarget moved = refl
 skipped_same SyncSource moved = refl
 skipped_same Finish moved = refl
 skipped_same PassedOver moved = refl
 
-pub moving_skipped : (told : Said) (marks : Marks) (log : CallLog) (course : Course) (w new : Moving) → is_over course ≡ false → new ≡ record w { stage = skipped w.stage } → MoveKnown told marks log course w → MoveKnown told marks log GoesOn new
+pub moving_skipped : (told : HistoryFacts) (marks : Marks) (log : CallLog) (course : Course) (w new : Moving) → is_over course ≡ false → new ≡ record w { stage = skipped_stage w.stage } → MoveKnown told marks log course w → MoveKnown told marks log GoesOn new
 moving_skipped told marks log course w new going is k =
-    move_at told marks log course GoesOn w new (skipped w.stage) is (λ on moved.
+    move_at told marks log course GoesOn w new (skipped_stage w.stage) is (λ on moved.
     let same = skipped_same w.stage moved in
     moved_same told marks log w new (ap (λ (x : Moving). x.pair) is) (ap (λ (x : Moving). x.stage) is ∙ same) (k.moved going (ap is_moved (sym same) ∙ moved))) k

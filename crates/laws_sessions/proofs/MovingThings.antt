@@ -13,7 +13,7 @@ use Rattle.job_reports.specs.declared.job.Pair.{Pair}
 use Rattle.session_entries.specs.Moves.{is_of_move, moved_from, paths_below, paths_moved, paths_off}
 use Rattle.laws_sessions.specs.Doubt.{way_waits}
 use Rattle.laws_sessions.specs.Replayed.{moved_by, nothing_there}
-use Rattle.laws_sessions.proofs.Knowing.{HasMode, HasNoMode, IsKept, IsKnown, Said, held}
+use Rattle.laws_sessions.proofs.Knowing.{HasMode, HasNoMode, IsKept, IsKnown, HistoryFacts, held}
 pub use Rattle.laws_sessions.proofs.MovableThings.{CanMoveThing, marks_moving, pair_of, said_thing_moved}
 use Rattle.laws_sessions.proofs.MovableThings.{aside_was, guarded_now, out_off, out_was, source_way, target_way, thing}
 use Rattle.laws_sessions.proofs.MovedPaths.{among_first, among_second, kept_off, part_moved, passes_among}
@@ -36,7 +36,7 @@ moved_same pair v w same p = by (is_prefix pair.target p) (is_prefix pair.source
 none_some : {A : Type 0} (x : Option ℕ) (n : ℕ) → x ≡ None → x ≡ Some n → A
 none_some x n none some = absurd (let e : (let o : Option ℕ = None in o) ≡ Some n = sym none ∙ some in let f : ⊥ = cc in f)
 
-module _ (told : Said) (dirty : List Route) (marks : Marks) (log : CallLog) (kept : IsKept told dirty marks log) (old : List ℕ) (source_folder : Route) (new : List ℕ) (target_folder : Route)
+module _ (told : HistoryFacts) (dirty : List Route) (marks : Marks) (log : CallLog) (kept : IsKept told dirty marks log) (old : List ℕ) (source_folder : Route) (new : List ℕ) (target_folder : Route)
     (f g i : ℕ) (r : Option ℕ) (h : CanMoveThing told marks log old source_folder new target_folder f g i) where
   abbrev moves : Change
   moves = Moves f old g new i r
@@ -56,7 +56,7 @@ module _ (told : Said) (dirty : List Route) (marks : Marks) (log : CallLog) (kep
   abbrev moving : Marks
   moving = marks_moving marks i source target
 
-  abbrev after : Said
+  abbrev after : HistoryFacts
   after = said_thing_moved told old source_folder new target_folder
 
   known : IsKnown told dirty marks log

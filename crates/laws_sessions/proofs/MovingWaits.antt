@@ -21,7 +21,7 @@ use Rattle.laws_sessions.specs.Doubt.{is_joint, is_pending, joins, name_waits, w
 use Rattle.laws_sessions.proofs.AtRest.{RestsBelow}
 use Rattle.laws_sessions.proofs.Changing.{folder_stays, off_itself}
 use Rattle.laws_sessions.proofs.InTransit.{WasRenamed, now_renamed, still_renamed}
-use Rattle.laws_sessions.proofs.Knowing.{IsCalmFolder, IsKept, IsKnown, IsUnreached, Said}
+use Rattle.laws_sessions.proofs.Knowing.{IsCalmFolder, IsKept, IsKnown, IsUnreached, HistoryFacts}
 use Rattle.laws_sessions.proofs.MovableThings.{CanMoveThing, marks_moving, pair_of, said_thing_moved}
 use Rattle.laws_sessions.proofs.MovableThings.{source_above, source_holds, target_above, thing}
 use Rattle.laws_sessions.proofs.MovedTree.{MovesThing, lands, mount_off, mounts, names, names_at, nodes, off, source_folder_off, source_name, source_stands, target_folder_off, target_stands, tree_now, where_is, where_was}
@@ -38,7 +38,7 @@ off_within top folder name p away other =
     let e = same_path-true (top ∷ folder) (name ∷ p) same in
     off_itself p folder (let under : p ≡ folder = cc in under) other)) away
 
-module _ (told : Said) (dirty : List Route) (marks : Marks) (log : CallLog) (kept : IsKept told dirty marks log) (old : List ℕ) (source_folder : Route) (new : List ℕ) (target_folder : Route)
+module _ (told : HistoryFacts) (dirty : List Route) (marks : Marks) (log : CallLog) (kept : IsKept told dirty marks log) (old : List ℕ) (source_folder : Route) (new : List ℕ) (target_folder : Route)
     (f g i : ℕ) (r : Option ℕ) (h : CanMoveThing told marks log old source_folder new target_folder f g i) where
   abbrev moves : Change
   moves = Moves f old g new i r
@@ -58,7 +58,7 @@ module _ (told : Said) (dirty : List Route) (marks : Marks) (log : CallLog) (kep
   abbrev moving : Marks
   moving = marks_moving marks i source target
 
-  abbrev after : Said
+  abbrev after : HistoryFacts
   after = said_thing_moved told old source_folder new target_folder
 
   known : IsKnown told dirty marks log

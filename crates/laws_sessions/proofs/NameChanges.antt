@@ -5,7 +5,7 @@ use Rattle.std.specs.Option.{option_map_or}
 use Rattle.std.proofs.lemmas.Bool.{both_ways, eq-eqb, false_from_ne_true, false≢true}
 use Rattle.mc_text.specs.Routes.{Route}
 use Rattle.tree_trait.specs.declared.file_system.Node.{Node}
-use Rattle.tree_trait.specs.Change.{Change, Makes, Moves, Removes, Syncs, CallLog, current, found, with_change}
+use Rattle.tree_trait.specs.Change.{Change, Makes, Moves, Removes, Syncs, CallLog, current, found_node, with_change}
 use Rattle.tree_trait.specs.CrashImages.{says}
 use Rattle.tree_trait.specs.FileSystem.{find, lookup, node}
 use Rattle.tree_trait.specs.Refusals.{is_folder}
@@ -86,43 +86,43 @@ module _ (name : List ℕ) (up : Route) where
 
   -- A thing is made in a folder: its name there waits, and nothing in it.
   pub waits_made : (log : CallLog) (tree : IsTree (current log)) (files : IsOfFiles log) (k : List ℕ) (q : Route) (made : Node) (making : IsMaking (current log) k q) (E F : Type 0) → (up ≡ q → F) → (E → F) → WaitsIf name up log E
-      → WaitsIf name up (with_change log (Makes (found (current log) q) k made)) F
-  waits_made log tree files k q made making E F here f h = waits_by log (Makes (found (current log) q) k made) E F h refl stands said f
+      → WaitsIf name up (with_change log (Makes (found_node (current log) q) k made)) F
+  waits_made log tree files k q made making E F here f h = waits_by log (Makes (found_node (current log) q) k made) E F h refl stands said f
     where
-      there : found (current log) q < length (current log).nodes
-      there = folder_there (current log).nodes (found (current log) q) making.holds
+      there : found_node (current log) q < length (current log).nodes
+      there = folder_there (current log).nodes (found_node (current log) q) making.holds
 
       bare : is_folder (node (current log) (length (current log).nodes)) ≡ false
       bare = false_from_ne_true _ (λ is. let past = folder_there (current log).nodes (length (current log).nodes) is in absurd (omega (arith, past)))
 
-      none_new : is_pending (length (current log).nodes) name (with_change log (Makes (found (current log) q) k made)).changes ≡ true → F
-      none_new pending = elim (pending_less (length (current log).nodes) name log.changes (Makes (found (current log) q) k made) pending) [
+      none_new : is_pending (length (current log).nodes) name (with_change log (Makes (found_node (current log) q) k made)).changes ≡ true → F
+      none_new pending = elim (pending_less (length (current log).nodes) name log.changes (Makes (found_node (current log) q) k made) pending) [
         | inl old ↦ absurd (both_ways _ (files.bare (length (current log).nodes) name bare) old)
         | inr new ↦
-            let e = (same_name-true (found (current log) q) (length (current log).nodes) k name (said_one _ (Some 0) new)).0 in
+            let e = (same_name-true (found_node (current log) q) (length (current log).nodes) k name (said_one _ (Some 0) new)).0 in
             let t = there in
             absurd (omega (arith, e, t))
       ]
 
-      by_rest : (rest : Route) (g : ℕ) → up ≡ rest ++ k ∷ q → find (current (with_change log (Makes (found (current log) q) k made))) up ≡ Some g
-          → ((h : ℕ) → is_joint g h log.changes ≡ false) × (is_pending g name (with_change log (Makes (found (current log) q) k made)).changes ≡ true → F)
+      by_rest : (rest : Route) (g : ℕ) → up ≡ rest ++ k ∷ q → find (current (with_change log (Makes (found_node (current log) q) k made))) up ≡ Some g
+          → ((h : ℕ) → is_joint g h log.changes ≡ false) × (is_pending g name (with_change log (Makes (found_node (current log) q) k made)).changes ≡ true → F)
       by_rest [] g is at =
-          let same : g ≡ length (current log).nodes = some_same (length (current log).nodes) g (sym (leads log tree k q made making) ∙ (ap (find (current (with_change log (Makes (found (current log) q) k made)))) (sym is) ∙ at)) in (
+          let same : g ≡ length (current log).nodes = some_same (length (current log).nodes) g (sym (leads log tree k q made making) ∙ (ap (find (current (with_change log (Makes (found_node (current log) q) k made)))) (sym is) ∙ at)) in (
             λ h. subst (λ j. is_joint j h log.changes ≡ false) (sym same) (bare_unjoined log tree files (length (current log).nodes) h bare),
-            λ pending. none_new (subst (λ j. is_pending j name (with_change log (Makes (found (current log) q) k made)).changes ≡ true) same pending),
+            λ pending. none_new (subst (λ j. is_pending j name (with_change log (Makes (found_node (current log) q) k made)).changes ≡ true) same pending),
           )
-      by_rest (first ∷ rest) g is at = none_some g _ (ap (find (current (with_change log (Makes (found (current log) q) k made)))) is ∙ below_made log tree k q made making first rest) at
+      by_rest (first ∷ rest) g is at = none_some g _ (ap (find (current (with_change log (Makes (found_node (current log) q) k made)))) is ∙ below_made log tree k q made making first rest) at
 
-      stands : (g : ℕ) → find (current (with_change log (Makes (found (current log) q) k made))) up ≡ Some g
-          → (find (current log) up ≡ Some g) ⊎ (((h : ℕ) → is_joint g h log.changes ≡ false) × (is_pending g name (with_change log (Makes (found (current log) q) k made)).changes ≡ true → F))
-      stands g at = elim (find_same log (Makes (found (current log) q) k made) up) [
+      stands : (g : ℕ) → find (current (with_change log (Makes (found_node (current log) q) k made))) up ≡ Some g
+          → (find (current log) up ≡ Some g) ⊎ (((h : ℕ) → is_joint g h log.changes ≡ false) × (is_pending g name (with_change log (Makes (found_node (current log) q) k made)).changes ≡ true → F))
+      stands g at = elim (find_same log (Makes (found_node (current log) q) k made) up) [
         | inl same ↦ inl (sym same ∙ at)
-        | inr under ↦ let u = under_made log tree q (found (current log) q) making.folder k made up under in inr (by_rest u.0 g u.1 at)
+        | inr under ↦ let u = under_made log tree q (found_node (current log) q) making.folder k made up under in inr (by_rest u.0 g u.1 at)
       ]
 
-      said : (g : ℕ) → find (current log) up ≡ Some g → is_some (says (Makes (found (current log) q) k made) 0 g name) ≡ true → F
+      said : (g : ℕ) → find (current log) up ≡ Some g → is_some (says (Makes (found_node (current log) q) k made) 0 g name) ≡ true → F
       said g at says_so =
-          let e = (same_name-true (found (current log) q) g k name (said_one _ (Some 0) says_so)).0 in
+          let e = (same_name-true (found_node (current log) q) g k name (said_one _ (Some 0) says_so)).0 in
           here (find-once (current log) tree up q g at (making.folder ∙ ap (λ i. Some i) e))
 
   -- A part goes to a free name beside it, or it is removed: their names wait in that folder.

@@ -5,7 +5,7 @@ use Rattle.mc_text.specs.Routes.{Route}
 use Rattle.mc_text.specs.declared.kind.Kind.TheVariants as kind
 use Rattle.tree_trait.specs.declared.file_system.Node.{Node}
 use Rattle.tree_trait.specs.Calls.{MakeLink, RemoveFile, Rename, SyncFolder}
-use Rattle.tree_trait.specs.Change.{Makes, CallLog, change_of, current, found, with_change}
+use Rattle.tree_trait.specs.Change.{Makes, CallLog, change_of, current, found_node, with_change}
 use Rattle.tree_trait.specs.FileSystem.{node}
 use Rattle.tree_trait.specs.Refusals.{refusal_of}
 use Rattle.tree_trait.specs.Shape.{IsTree}
@@ -30,7 +30,7 @@ use Rattle.copy_link.specs.LinkSteps.{LinkCalls, LinkStops, link_text, next_call
 use Rattle.copy_link.specs.declared.stage.Stage.{Stage as LinkStage}
 use Rattle.copy_link.specs.declared.stage.Stage.TheVariants as link_stage
 use Rattle.copy_folders.specs.FolderCopying.{is_dirty}
-use Rattle.copy_folders.specs.Levels.{Levels, dirtied}
+use Rattle.copy_folders.specs.Levels.{Levels, dirtied_levels}
 use Rattle.laws_sessions.proofs.FileMoves.{MoveCalls, MoveStops}
 use Rattle.laws_sessions.proofs.Resting.{IsOfFiles, bare_unjoined}
 use Rattle.laws_sessions.proofs.AtWork.{HasItem}
@@ -66,7 +66,7 @@ module _ (name : List ℕ) (up : Route) (log now : CallLog) (files : IsOfFiles l
   -- a file
   module _ (unclaimed : Route → Type 0) (f : Copying) (known : FileKnown unclaimed log top l f) (marked : (part : Route) → part_at f.stage ≡ Some part → is_dirty l.inner.copy.names ≡ true) where
     abbrev after : Copying → Type 0
-    after moved = Marked up (dirtied (file.is_dirty moved.folder) l)
+    after moved = Marked up (dirtied_levels (file.is_dirty moved.folder) l)
 
     kept : (moved : Copying) → Then E → Then (after moved)
     kept moved so = waits_map name up now E (after moved) (marked_dirtied up (file.is_dirty moved.folder) l) so
@@ -87,10 +87,10 @@ module _ (name : List ℕ) (up : Route) (log now : CallLog) (files : IsOfFiles l
     pub file_names : (moved : Copying) (did : Did) → file.Tells f did moved → MoveCalls unclaimed f did moved log (Some now) → Then (after moved)
     file_names moved (Began part) (stage, (facts, new_is)) (looked, began_of, (k, part_is, first, rows)) =
         let d = done_call log (making (current log) (places_of f) k) now (row_done log now (making (current log) (places_of f) k) rows) in
-        let mode : ℕ = part_mode (node (current log) (found (current log) f.source)).mode in
+        let mode : ℕ = part_mode (node (current log) (found_node (current log) f.source)).mode in
         let made : Node = record { kind = kind.File; bytes = []; mode = mode; mtime = d.time; unnamed = 0 } in
         let passes : IsMaking (current log) (part_name f.job k) (folder_of f.target) = making_passes (current log) (part_name f.job k) (folder_of f.target) mode d.permits in
-        let here : up ≡ folder_of f.target → after moved = λ is. subst (λ b. Marked up (dirtied b l)) (sym (ap (λ (c : Copying). file.is_dirty c.folder) new_is)) (dirtied_here up l (is ∙ known.within)) in
+        let here : up ≡ folder_of f.target → after moved = λ is. subst (λ b. Marked up (dirtied_levels b l)) (sym (ap (λ (c : Copying). file.is_dirty c.folder) new_is)) (dirtied_here up l (is ∙ known.within)) in
         subst (λ (x : CallLog). WaitsIf name up x (after moved)) (sym d.is)
         (waits_made name up log known.tree files (part_name f.job k) (folder_of f.target) made passes E (after moved) here (marked_dirtied up (file.is_dirty moved.folder) l) h)
     file_names moved (Chunk count) (part, facts, done, stage, least, most, fits, new_is) (part_now, facts_now, done_now, stage_now, count_is, rows) =
@@ -124,14 +124,14 @@ module _ (name : List ℕ) (up : Route) (log now : CallLog) (files : IsOfFiles l
   -- a link
   module _ (c : LinkCopying) (known : LinkKnown log top l c) where
     abbrev link_after : LinkCopying → Type 0
-    link_after moved = Marked up (dirtied (link.is_dirty moved.folder) l)
+    link_after moved = Marked up (dirtied_levels (link.is_dirty moved.folder) l)
 
     link_kept : (moved : LinkCopying) → Then E → Then (link_after moved)
     link_kept moved so = waits_map name up now E (link_after moved) (marked_dirtied up (link.is_dirty moved.folder) l) so
 
     -- a name was changed, and the folder is marked
     link_here : (moved : LinkCopying) → link.is_dirty moved.folder ≡ true → up ≡ l.inner.copy.target → link_after moved
-    link_here moved dirty is = subst (λ b. Marked up (dirtied b l)) (sym dirty) (dirtied_here up l is)
+    link_here moved dirty is = subst (λ b. Marked up (dirtied_levels b l)) (sym dirty) (dirtied_here up l is)
 
     rows_at : (stage : LinkStage) → c.stage ≡ stage → AllDone log (next_call (current log) c c.stage) (Some now) → AllDone log (next_call (current log) c stage) (Some now)
     rows_at stage is rows = subst (λ x. AllDone log (next_call (current log) c x) (Some now)) is rows
@@ -153,7 +153,7 @@ module _ (name : List ℕ) (up : Route) (log now : CallLog) (files : IsOfFiles l
         let d = done_call log (MakeLink c.part text) now (row_done log now (MakeLink c.part text) rows) in
         let permits : refusal_of (current log) (MakeLink (b.0 ∷ l.inner.copy.target) text) ≡ None = subst (λ r. refusal_of (current log) (MakeLink r text) ≡ None) b.1 d.permits in
         let made : Node = record { kind = kind.Link; bytes = text; mode = 0; mtime = pos 0; unnamed = 0 } in
-        let then : now ≡ with_change log (Makes (found (current log) l.inner.copy.target) b.0 made) = subst (λ r. now ≡ with_change log (change_of (current log) (MakeLink r text) d.time)) b.1 d.is in
+        let then : now ≡ with_change log (Makes (found_node (current log) l.inner.copy.target) b.0 made) = subst (λ r. now ≡ with_change log (change_of (current log) (MakeLink r text) d.time)) b.1 d.is in
         subst (λ (x : CallLog). WaitsIf name up x (link_after moved)) (sym then)
         (waits_made name up log known.tree files b.0 l.inner.copy.target made (making_passes (current log) b.0 l.inner.copy.target 0 permits) E (link_after moved)
         (link_here moved (ap (λ (m : LinkCopying). link.is_dirty m.folder) new_is)) (marked_dirtied up (link.is_dirty moved.folder) l) h)

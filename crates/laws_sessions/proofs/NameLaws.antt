@@ -18,15 +18,15 @@ use Rattle.copy_folders.specs.FolderCopying.{FolderCopying, is_dirty}
 use Rattle.copy_folders.specs.FolderSteps as folder
 use Rattle.copy_folders.specs.declared.level.Level.{Level}
 use Rattle.copy_folders.specs.Levels.{level}
-use Rattle.copy_tree.specs.declared.item.Item.{Item}
-use Rattle.copy_tree.specs.declared.item.Item.TheVariants.{Next, File, Link, Stays}
+use Rattle.copy_tree.specs.declared.item.ItemAtWork.{ItemAtWork}
+use Rattle.copy_tree.specs.declared.item.ItemAtWork.TheVariants.{Next, File, Link, Stays}
 use Rattle.copy_tree.specs.declared.progress.Progress.{Progress}
 use Rattle.copy_tree.specs.declared.progress.Progress.TheVariants.{UnderWay, Decided, Anew}
 use Rattle.copy_tree.specs.Parts.{IsPartPlace}
 use Rattle.copy_tree.specs.Progress.{link_progress, progress}
 use Rattle.copy_tree.specs.Skipping.{SkipsAt, SkipsNamed, SkipsRest, retried_at}
 use Rattle.copy_tree.specs.Standing.{Seen}
-use Rattle.copy_tree.specs.Steps.{LeavesAll, LinkWorks, TakesNext, WorksOn, idle, link_begun, noted, settled}
+use Rattle.copy_tree.specs.TreeCopySteps.{LeavesAll, LinkWorks, TakesNext, WorksOn, idle, link_begun, noted_copy, copy_after_progress}
 use Rattle.job_answers.specs.declared.replies.Replies.{Replies}
 use Rattle.laws_sessions.proofs.FileMoves.{FileMoves, taken_moves, worked_moves}
 use Rattle.laws_sessions.proofs.Names.{IsMarked, IsMarkedAt, NamesLaw, WaitsMarked, WorkedMarked}
@@ -35,12 +35,12 @@ use Rattle.laws_sessions.proofs.NameMarks.{Marked, dirty_if, dirty_stays, mark_i
 use Rattle.laws_sessions.proofs.NameSteps.{leaves_marks, settled_marks, works_names}
 use Rattle.laws_sessions.proofs.StepsKnown.{step_begins}
 
-none_marked : (item : Item) (inner : Level) → item ≡ Next → WorkedMarked item inner
+none_marked : (item : ItemAtWork) (inner : Level) → item ≡ Next → WorkedMarked item inner
 none_marked item inner is = subst (λ i. WorkedMarked i inner) (sym is) tt
 
-settled_marked : (p : Progress) (item : Item) (c : Seen) → c.item ≡ Next → (p ≡ UnderWay → WorkedMarked item c.levels.inner) → IsMarked (settled p item c)
+settled_marked : (p : Progress) (item : ItemAtWork) (c : Seen) → c.item ≡ Next → (p ≡ UnderWay → WorkedMarked item c.levels.inner) → IsMarked (copy_after_progress p item c)
 settled_marked UnderWay item c none h = h refl
-settled_marked Decided item c none h = none_marked c.item (let s : Seen = settled Decided item c in s.levels.inner) none
+settled_marked Decided item c none h = none_marked c.item (let s : Seen = copy_after_progress Decided item c in s.levels.inner) none
 settled_marked Anew item c none h = none_marked c.item c.levels.inner none
 
 pub left_marked : (n : ℕ) (old mid : Seen) → LeavesAll n old mid → IsMarked old → IsMarked mid
@@ -100,7 +100,7 @@ module _ (unclaimed : Route → Type 0) (replies : Replies) (old new : Seen) (di
   file_marked : (f : Copying) → (progress f.stage ≡ UnderWay → is_dirty old.levels.inner.copy.names ≡ true) → FileMoves unclaimed f old new did before after → IsMarked new
   file_marked f dirty w =
       let m = w.moved in
-      let c = noted did (file.is_dirty m.folder) (idle old) in
+      let c = noted_copy did (file.is_dirty m.folder) (idle old) in
       subst IsMarked (sym w.stands) (settled_marked (progress m.stage) (File m) c refl (λ going. elim (file_under f m did w.tells going) [
         | inl changed ↦ dirty_if (file.is_dirty m.folder) old.levels changed
         | inr on ↦ dirty_stays (file.is_dirty m.folder) old.levels (dirty on)
@@ -109,7 +109,7 @@ module _ (unclaimed : Route → Type 0) (replies : Replies) (old new : Seen) (di
   link_marked : (l : LinkCopying) → (link_progress l.stage ≡ UnderWay → is_dirty old.levels.inner.copy.names ≡ true) → LinkWorks l old new did before after → IsMarked new
   link_marked l dirty w =
       let m = w.moved in
-      let c = noted did (link.is_dirty m.folder) (idle old) in
+      let c = noted_copy did (link.is_dirty m.folder) (idle old) in
       subst IsMarked (sym w.stands) (settled_marked (link_progress m.stage) (Link m) c refl (λ going. elim (link_under l m did w.tells going) [
         | inl changed ↦ dirty_if (link.is_dirty m.folder) old.levels changed
         | inr on ↦ dirty_stays (link.is_dirty m.folder) old.levels (dirty on)
@@ -120,7 +120,7 @@ module _ (unclaimed : Route → Type 0) (replies : Replies) (old new : Seen) (di
 
   takes_marked : old.item ≡ Next → TakesNext unclaimed replies old new did before after → IsMarked new
   takes_marked none (inl s) = same none (ap (λ (c : Seen). c.item) s.stands)
-  takes_marked none (inr (inl t)) = file_marked (file.begun old.job t.pair.source t.pair.target) (λ going. absurd (let f : ⊥ = cc in f)) (taken_moves unclaimed replies old new did before after t)
+  takes_marked none (inr (inl t)) = file_marked (file.begun_copy old.job t.pair.source t.pair.target) (λ going. absurd (let f : ⊥ = cc in f)) (taken_moves unclaimed replies old new did before after t)
   takes_marked none (inr (inr (inl t))) = link_marked (link_begun t.pair t.part) (λ going. absurd (let f : ⊥ = cc in f)) t.works
   takes_marked none (inr (inr (inr (inl t)))) = same none (let w = t.works in ap (λ (c : Seen). c.item) w.stands)
   takes_marked none (inr (inr (inr (inr (inl t))))) = same none (ap (λ (c : Seen). c.item) t.stands)
@@ -129,7 +129,7 @@ module _ (unclaimed : Route → Type 0) (replies : Replies) (old new : Seen) (di
   takes_marked none (inr (inr (inr (inr (inr (inr (inr (next, inl (debt, e))))))))) = same none (ap (λ (c : Seen). c.item) e.stands)
   takes_marked none (inr (inr (inr (inr (inr (inr (inr (next, inr (debt, f, stays))))))))) = same none (ap (λ (c : Seen). c.item) f.stands)
 
-  works_marked : (item : Item) → old.item ≡ item → IsMarked old → WorksOn item unclaimed replies old new did before after → IsMarked new
+  works_marked : (item : ItemAtWork) → old.item ≡ item → IsMarked old → WorksOn item unclaimed replies old new did before after → IsMarked new
   works_marked Next is marked (inl s) = same is (ap (λ (c : Seen). c.item) s.stands)
   works_marked Next is marked (inr takes) = takes_marked is takes.1
   works_marked (File f) is marked w = file_marked f (λ going. subst (λ i. WorkedMarked i old.levels.inner) is marked) (worked_moves unclaimed f old new did before after w)
@@ -146,8 +146,8 @@ module _ (log : CallLog) where
   keeps_inner : (old : Seen) (l : Level) → old.item ≡ Next → ((up : Route) → IsMarkedAt up old.levels.inner → IsMarkedAt up l) → Keeps old (record old { levels = record old.levels { inner = l } })
   keeps_inner old l none goes = keeps old (record old { levels = record old.levels { inner = l } }) (none_marked old.item l none) (λ up h. mark_inner up old.levels.inner l old.levels.around (goes up) h)
 
-  keeps_item : (old : Seen) (p : Progress) (item : Item) → WorkedMarked item old.levels.inner → Keeps old (settled p item (idle old))
-  keeps_item old p item marked = keeps old (settled p item (idle old)) (settled_marked p item (idle old) refl (λ going. marked)) (λ up h. settled_marks [] up p item (idle old) h)
+  keeps_item : (old : Seen) (p : Progress) (item : ItemAtWork) → WorkedMarked item old.levels.inner → Keeps old (copy_after_progress p item (idle old))
+  keeps_item old p item marked = keeps old (copy_after_progress p item (idle old)) (settled_marked p item (idle old) refl (λ going. marked)) (λ up h. settled_marks [] up p item (idle old) h)
 
   keeps_as : (old new mid : Seen) → new ≡ mid → Keeps old mid → Keeps old new
   keeps_as old new mid is k = subst (λ (c : Seen). Keeps old c) (sym is) k
@@ -170,13 +170,13 @@ module _ (log : CallLog) where
   skips_named (first ∷ names) cause old new did none marked (inr (inl rest)) = skips_rest cause old new did none marked rest.1
   skips_named (first ∷ names) cause old new did none marked (inr (inr room)) = keeps_as old new old room.1 (keeps_all old marked)
 
-  skips_marked : (item : Item) (cause : Cause) (old new : Seen) (did : Did) → old.item ≡ item → IsMarked old → SkipsAt item cause old did new → Keeps old new
+  skips_marked : (item : ItemAtWork) (cause : Cause) (old new : Seen) (did : Did) → old.item ≡ item → IsMarked old → SkipsAt item cause old did new → Keeps old new
   skips_marked Next cause old new did is marked s = skips_named old.levels.inner.names.names cause old new did is marked s
   skips_marked (File f) cause old new did is marked (moved, skips, stands) = keeps_as old new _ stands (keeps_item old (progress moved.stage) (File moved) (subst (λ i. WorkedMarked i old.levels.inner) is marked))
   skips_marked (Link l) cause old new did is marked (moved, skips, stands) = keeps_as old new _ stands (keeps_item old (link_progress moved.stage) (Link moved) (subst (λ i. WorkedMarked i old.levels.inner) is marked))
   skips_marked (Stays part) cause old new did is marked s = absurd s
 
-  retries_marked : (item : Item) (c : Seen) → c.item ≡ item → IsMarked c → Keeps c (retried_at item c)
+  retries_marked : (item : ItemAtWork) (c : Seen) → c.item ≡ item → IsMarked c → Keeps c (retried_at item c)
   retries_marked Next c is marked = keeps_all c marked
   retries_marked (File f) c is marked = keeps_item c (progress (file.taken_anew f.stage)) (File (record f { stage = file.taken_anew f.stage })) (subst (λ i. WorkedMarked i c.levels.inner) is marked)
   retries_marked (Link l) c is marked = keeps_item c (link_progress (link.taken_anew l.stage)) (Link (record l { stage = link.taken_anew l.stage })) (subst (λ i. WorkedMarked i c.levels.inner) is marked)

@@ -8,7 +8,7 @@ use Rattle.copy_folders.specs.declared.stage.Stage.{Stage}
 use Rattle.copy_folders.specs.declared.stage.Stage.TheVariants as at
 use Rattle.tree_walk.specs.Places.{OpenFolder}
 use Rattle.copy_folders.specs.declared.level.Level.{Level}
-use Rattle.copy_folders.specs.Levels.{Levels, closed, dirtied, made_levels, owes, passed}
+use Rattle.copy_folders.specs.Levels.{Levels, levels_closed, dirtied_levels, made_levels, owes, passed_levels}
 use Rattle.laws_sessions.proofs.FoldersEnd.{is_open}
 use Rattle.laws_sessions.proofs.Names.{IsMarkedAt, IsMarkedIn}
 
@@ -28,21 +28,21 @@ module _ (up : Route) where
   pub mark_inner : (old new : Level) (around : List Level) → (IsMarkedAt up old → IsMarkedAt up new) → IsMarkedIn up old around → IsMarkedIn up new around
   mark_inner old new around goes h = elim (mark_split old around h) [ inl is ↦ mark_head new around (goes is) | inr other ↦ other new ]
 
-  pub marked_dirtied : (changed : Bool) (l : Levels) → Marked l → Marked (dirtied changed l)
+  pub marked_dirtied : (changed : Bool) (l : Levels) → Marked l → Marked (dirtied_levels changed l)
   marked_dirtied true l h = mark_inner l.inner _ l.around (λ is. (is.0, refl)) h
   marked_dirtied false l h = mark_inner l.inner _ l.around (λ is. is) h
 
-  pub marked_passed : (left : Bool) (l : Levels) → Marked l → Marked (passed left l)
+  pub marked_passed : (left : Bool) (l : Levels) → Marked l → Marked (passed_levels left l)
   marked_passed left l h = mark_inner l.inner _ l.around (λ is. is) h
 
-  pub marked_closed : (l : Levels) → Marked l → Marked (closed l)
+  pub marked_closed : (l : Levels) → Marked l → Marked (levels_closed l)
   marked_closed l h = mark_inner l.inner _ l.around (λ is. is) h
 
   -- the folder that is worked is marked, once a name in it was changed
-  pub dirtied_here : (l : Levels) → up ≡ l.inner.copy.target → Marked (dirtied true l)
+  pub dirtied_here : (l : Levels) → up ≡ l.inner.copy.target → Marked (dirtied_levels true l)
   dirtied_here l same = mark_head _ l.around (sym same, refl)
 
-  pub worked_here : (changed : Bool) (l : Levels) → is_dirty l.inner.copy.names ≡ true → up ≡ l.inner.copy.target → Marked (dirtied changed l)
+  pub worked_here : (changed : Bool) (l : Levels) → is_dirty l.inner.copy.names ≡ true → up ≡ l.inner.copy.target → Marked (dirtied_levels changed l)
   worked_here changed l dirty same = marked_dirtied changed l (mark_head l.inner l.around (sym same, dirty))
 
   pub marked_made : (stage : Stage) (names : OpenFolder) (copy : FolderCopying) (l : Levels) → Marked l → Marked (made_levels stage names copy l)
@@ -67,10 +67,10 @@ not_owing (at.Make mode) names still none dirty = false≢true still
 not_owing at.Done names still none dirty = false≢true still
 
 -- a folder that is marked stays so
-pub dirty_stays : (changed : Bool) (l : Levels) → is_dirty l.inner.copy.names ≡ true → (let d : Levels = dirtied changed l in is_dirty d.inner.copy.names) ≡ true
+pub dirty_stays : (changed : Bool) (l : Levels) → is_dirty l.inner.copy.names ≡ true → (let d : Levels = dirtied_levels changed l in is_dirty d.inner.copy.names) ≡ true
 dirty_stays true l dirty = refl
 dirty_stays false l dirty = dirty
 
-pub dirty_if : (changed : Bool) (l : Levels) → changed ≡ true → (let d : Levels = dirtied changed l in is_dirty d.inner.copy.names) ≡ true
+pub dirty_if : (changed : Bool) (l : Levels) → changed ≡ true → (let d : Levels = dirtied_levels changed l in is_dirty d.inner.copy.names) ≡ true
 dirty_if true l is = refl
 dirty_if false l is = absurd (false≢true is)

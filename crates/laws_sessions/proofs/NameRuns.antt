@@ -6,7 +6,7 @@ use Rattle.mc_text.specs.Routes.{Route, same_path}
 use Rattle.tree_trait.specs.declared.calls.TreeError.{TreeError}
 use Rattle.tree_trait.specs.Answers.{Performs}
 use Rattle.tree_trait.specs.Calls.{Call, RemoveFile, Rename, SetMode, SyncFile, SyncFolder}
-use Rattle.tree_trait.specs.Change.{Change, Moves, Nothing, Removes, Sets, Syncs, CallLog, change_of, current, found, with_change}
+use Rattle.tree_trait.specs.Change.{Change, Moves, Nothing, Removes, Sets, Syncs, CallLog, change_of, current, found_node, with_change}
 use Rattle.tree_trait.specs.CrashImages.{says}
 use Rattle.tree_trait.specs.FileSystem.{find, lookup}
 use Rattle.tree_trait.specs.Refusals.{after_walk, refusal_of, rename_refusal, walk}
@@ -19,7 +19,7 @@ use Rattle.job_reports.specs.declared.report.Cause.{Cause}
 use Rattle.job_reports.proofs.CallAnswers.{IsDoneCall, done_call}
 use Rattle.job_reports.proofs.PermittedCalls.{sync_finds}
 use Rattle.copy_file.specs.CopyCalls.{part_mode, placing}
-use Rattle.copy_folders.specs.Levels.{Levels, coming, passed}
+use Rattle.copy_folders.specs.Levels.{Levels, coming, passed_levels}
 use Rattle.laws_sessions.specs.Doubt.{is_pending}
 use Rattle.laws_sessions.proofs.Pending.{pending_less, quiet_within}
 use Rattle.laws_sessions.proofs.Resting.{IsOfFiles, bare_unjoined, unjoined_at}
@@ -77,12 +77,12 @@ module _ (name : List ℕ) (up : Route) (item_name : List ℕ) (l : Levels) (par
   then_synced : (from mid : CallLog) → Performs {A = Unit {0}} from (SyncFile part) (Ok tt) (Some mid) → Ready from → Ready mid
   then_synced from mid h r =
       let d = done_call from (SyncFile part) mid h in
-      subst Ready (sym d.is) (ready_quiet from (Syncs (found (current from) part)) (tree_synced from (found (current from) part) r.tree) (λ n g m. refl) r)
+      subst Ready (sym d.is) (ready_quiet from (Syncs (found_node (current from) part)) (tree_synced from (found_node (current from) part) r.tree) (λ n g m. refl) r)
 
   then_moded : (from mid : CallLog) (mode : ℕ) → Performs {A = Unit {0}} from (SetMode part mode) (Ok tt) (Some mid) → Ready from → Ready mid
   then_moded from mid mode h r =
       let d = done_call from (SetMode part mode) mid h in
-      subst Ready (sym d.is) (ready_quiet from (Sets (found (current from) part) mode) (tree_moded from (found (current from) part) mode r.tree) (λ n g m. refl) r)
+      subst Ready (sym d.is) (ready_quiet from (Sets (found_node (current from) part) mode) (tree_moded from (found_node (current from) part) mode r.tree) (λ n g m. refl) r)
 
   -- it is renamed
   pub renamed : (log now : CallLog) → Ready log → Performs {A = Unit {0}} log (Rename part target) (Ok tt) (Some now) → WaitsIf name up now F
@@ -94,7 +94,7 @@ module _ (name : List ℕ) (up : Route) (item_name : List ℕ) (l : Levels) (par
       d : IsDoneCall log (Rename part target) now
       d = done_call log (Rename part target) now h
 
-      w : IsAtWork (current log) folder (let q : Levels = passed false l in coming item_name q.inner.names q.around) part target
+      w : IsAtWork (current log) folder (let q : Levels = passed_levels false l in coming item_name q.inner.names q.around) part target
       w = let item = r.item in item.work
 
       at : refusal_of (current log) (Rename (w.k ∷ folder) (w.n ∷ folder)) ≡ None → WaitsIf name up now F
@@ -102,14 +102,14 @@ module _ (name : List ℕ) (up : Route) (item_name : List ℕ) (l : Levels) (par
           let a = passed_walk (walk (current log) (w.k ∷ folder)) (λ a. after_walk (current log) (w.n ∷ folder) (λ b. rename_refusal (current log) (w.k ∷ folder) (w.n ∷ folder) a b)) permits in
           let b = passed_walk (walk (current log) (w.n ∷ folder)) (λ b. rename_refusal (current log) (w.k ∷ folder) (w.n ∷ folder) a.0 b) a.2 in
           let last = last_place (current log) w.n folder b.0 b.1 in
-          let g = found (current log) folder in
+          let g = found_node (current log) folder in
           let leads_here : find (current log) (w.k ∷ folder) ≡ Some w.i = subst (λ q. find (current log) q ≡ Some w.i) w.part_is w.leads in
           let part_there : lookup (let s = current log in s.names) g w.k ≡ Some w.i = sym (ap (option_and_then (λ k. lookup (let s = current log in s.names) k w.k)) last.folder) ∙ leads_here in
           let other : same_path (w.k ∷ folder) (w.n ∷ folder) ≡ false = false_from_ne_true _ (λ same. let e : (w.k ∷ folder) ≡ w.n ∷ folder = same_path-true (w.k ∷ folder) (w.n ∷ folder) same in w.apart cc) in
           let change : change_of (current log) (Rename part target) d.time ≡ Moves g w.k g w.n w.i (find (current log) (w.n ∷ folder)) =
           ap (λ q. change_of (current log) (Rename q target) d.time) w.part_is
           ∙ (ap (λ q. change_of (current log) (Rename (w.k ∷ folder) q) d.time) w.target_is
-          ∙ (ap (λ x. cond x Nothing (Moves g w.k g w.n (found (current log) (w.k ∷ folder)) (find (current log) (w.n ∷ folder)))) other
+          ∙ (ap (λ x. cond x Nothing (Moves g w.k g w.n (found_node (current log) (w.k ∷ folder)) (find (current log) (w.n ∷ folder)))) other
           ∙ ap (λ k. Moves g w.k g w.n k (find (current log) (w.n ∷ folder))) (ap (λ o. unwrap_or o 0) leads_here))) in
           subst (λ (x : CallLog). WaitsIf name up x F) (sym (d.is ∙ ap (with_change log) change))
           (waits_placed name up log r.tree folder g last.folder w.k w.i part_there w.file (r.bare w.i w.leads) (λ h. r.apart w.i h w.leads) E F here f r.waits w.n (find (current log) (w.n ∷ folder)) w.apart)
@@ -132,7 +132,7 @@ module _ (name : List ℕ) (up : Route) (item_name : List ℕ) (l : Levels) (par
       d : IsDoneCall log (RemoveFile part) now
       d = done_call log (RemoveFile part) now h
 
-      w : IsAtWork (current log) l.inner.copy.target (let q : Levels = passed false l in coming item_name q.inner.names q.around) part target
+      w : IsAtWork (current log) l.inner.copy.target (let q : Levels = passed_levels false l in coming item_name q.inner.names q.around) part target
       w = let item = r.item in item.work
 
       at : IsRemovable (current log) part → WaitsIf name up now F
@@ -140,7 +140,7 @@ module _ (name : List ℕ) (up : Route) (item_name : List ℕ) (l : Levels) (par
           let leads_there : find (current log) (x.name ∷ x.up) ≡ Some x.i = rw x.folder x.leads in
           let change : change_of (current log) (RemoveFile part) d.time ≡ Removes x.f x.name x.i =
           ap (λ q. change_of (current log) (RemoveFile q) d.time) x.path_is
-          ∙ (ap (λ g. Removes g x.name (found (current log) (x.name ∷ x.up))) (ap (λ o. unwrap_or o 0) x.folder) ∙ ap (λ k. Removes x.f x.name k) (ap (λ o. unwrap_or o 0) leads_there)) in
+          ∙ (ap (λ g. Removes g x.name (found_node (current log) (x.name ∷ x.up))) (ap (λ o. unwrap_or o 0) x.folder) ∙ ap (λ k. Removes x.f x.name k) (ap (λ o. unwrap_or o 0) leads_there)) in
           let beside : (x.name ∷ x.up) ≡ w.k ∷ l.inner.copy.target = sym x.path_is ∙ w.part_is in
           let within : x.up ≡ l.inner.copy.target = cc in
           subst (λ (y : CallLog). WaitsIf name up y F) (sym (d.is ∙ ap (with_change log) change))
@@ -150,4 +150,4 @@ module _ (name : List ℕ) (up : Route) (item_name : List ℕ) (l : Levels) (par
 pub folder_synced : (name : List ℕ) (up : Route) (log now : CallLog) (target : Route) (E F : Type 0) → AllDone log (SyncFolder target ∷ []) (Some now) → (E → (up ≡ target) ⊎ F) → WaitsIf name up log E → WaitsIf name up now F
 folder_synced name up log now target E F rows f h =
     let d = done_call log (SyncFolder target) now (row_done log now (SyncFolder target) rows) in
-    subst (λ (x : CallLog). WaitsIf name up x F) (sym d.is) (waits_synced name up log target (found (current log) target) E F (sync_finds (current log) target d.permits) f h)
+    subst (λ (x : CallLog). WaitsIf name up x F) (sym d.is) (waits_synced name up log target (found_node (current log) target) E F (sync_finds (current log) target d.permits) f h)

@@ -23,18 +23,18 @@ use Rattle.copy_folders.specs.declared.stage.NamesState.{NamesState}
 use Rattle.copy_folders.specs.declared.stage.NamesState.TheVariants.{Synced, Dirty}
 use Rattle.copy_folders.specs.declared.stage.Stage.{Stage}
 use Rattle.copy_folders.specs.declared.stage.Stage.TheVariants as at
-use Rattle.tree_walk.specs.Places.{opened}
+use Rattle.tree_walk.specs.Places.{opened_folder}
 use Rattle.copy_folders.specs.declared.level.Level.{Level}
-use Rattle.copy_folders.specs.Levels.{IsLeft, Levels, closed, dirtied, is_around_dirty, level, made_levels, passed, with_copy}
-use Rattle.copy_tree.specs.declared.item.Item.{Item}
-use Rattle.copy_tree.specs.declared.item.Item.TheVariants.{Next, File, Link, Stays}
+use Rattle.copy_folders.specs.Levels.{IsLeft, Levels, levels_closed, dirtied_levels, is_around_dirty, level, made_levels, passed_levels, with_copy}
+use Rattle.copy_tree.specs.declared.item.ItemAtWork.{ItemAtWork}
+use Rattle.copy_tree.specs.declared.item.ItemAtWork.TheVariants.{Next, File, Link, Stays}
 use Rattle.copy_tree.specs.declared.progress.Progress.{Progress}
 use Rattle.copy_tree.specs.declared.progress.Progress.TheVariants.{UnderWay, Decided, Anew}
 use Rattle.copy_tree.specs.Parts.{IsPartPlace}
 use Rattle.copy_tree.specs.Progress.{link_progress, progress}
 use Rattle.copy_tree.specs.Reports.{IsToldAs}
 use Rattle.copy_tree.specs.Standing.{Seen, after_report, target_name}
-use Rattle.copy_tree.specs.Steps.{LeavesAll, LinkWorks, TakesNext, WorksOn, at_end, idle, link_begun, noted, settled}
+use Rattle.copy_tree.specs.TreeCopySteps.{LeavesAll, LinkWorks, TakesNext, WorksOn, at_end, idle, link_begun, noted_copy, copy_after_progress}
 use Rattle.laws_sessions.proofs.FileMoves.{FileMoves, taken_moves, worked_moves}
 use Rattle.laws_sessions.proofs.AtWork.{ItemKnown}
 use Rattle.laws_sessions.proofs.FoldersEnd.{EndsLast}
@@ -55,7 +55,7 @@ module _ (name : List ℕ) (up : Route) where
   Marks c = Marked up c.levels
 
   -- what is settled has the marks that it had
-  pub settled_marks : (p : Progress) (item : Item) (c : Seen) → Marks c → (let s : Seen = settled p item c in Marked up s.levels)
+  pub settled_marks : (p : Progress) (item : ItemAtWork) (c : Seen) → Marks c → (let s : Seen = copy_after_progress p item c in Marked up s.levels)
   settled_marks UnderWay item c h = h
   settled_marks Decided item c h = marked_passed up false c.levels h
   settled_marks Anew item c h = h
@@ -73,7 +73,7 @@ module _ (name : List ℕ) (up : Route) where
   leaves_marks (suc n) old mid (last, all, none, one) ends h =
       let r = one.returns in
       let before = leaves_end n old last all ends in
-      left_marks (closed last.levels) mid.levels r.left (not_owing last.levels.inner.copy.stage last.levels.inner.copy.names before.open_still one.done) (marked_closed up last.levels (leaves_marks n old last all ends h))
+      left_marks (levels_closed last.levels) mid.levels r.left (not_owing last.levels.inner.copy.stage last.levels.inner.copy.names before.open_still one.done) (marked_closed up last.levels (leaves_marks n old last all ends h))
 
   module _ (free : Route → Bool) (replies : Replies) (old new : Seen) (did : Did) (log now : CallLog) (known : StepKnown log old) (h : WaitsIf name up log (Marks old)) where
     abbrev Unclaimed : Route → Type 0
@@ -91,17 +91,17 @@ module _ (name : List ℕ) (up : Route) where
     file_works : (f : Copying) → FileKnown Unclaimed log old.name old.levels f → ((part : Route) → part_at f.stage ≡ Some part → is_dirty old.levels.inner.copy.names ≡ true) → FileMoves Unclaimed f old new did (Some log) (Some now) → Then
     file_works f about marked w =
         let m = w.moved in
-        let c = noted did (file.is_dirty m.folder) (idle old) in
-        as_new (settled (progress m.stage) (File m) c) w.stands
-        (waits_map name up now (Marked up (dirtied (file.is_dirty m.folder) old.levels)) _ (settled_marks (progress m.stage) (File m) c)
+        let c = noted_copy did (file.is_dirty m.folder) (idle old) in
+        as_new (copy_after_progress (progress m.stage) (File m) c) w.stands
+        (waits_map name up now (Marked up (dirtied_levels (file.is_dirty m.folder) old.levels)) _ (settled_marks (progress m.stage) (File m) c)
         (file_names name up log now known.files old.name old.levels h Unclaimed f about marked m did w.tells (w.called log refl)))
 
     link_works : (l : LinkCopying) → LinkKnown log old.name old.levels l → LinkWorks l old new did (Some log) (Some now) → Then
     link_works l about w =
         let m = w.moved in
-        let c = noted did (link.is_dirty m.folder) (idle old) in
-        as_new (settled (link_progress m.stage) (Link m) c) w.stands
-        (waits_map name up now (Marked up (dirtied (link.is_dirty m.folder) old.levels)) _ (settled_marks (link_progress m.stage) (Link m) c)
+        let c = noted_copy did (link.is_dirty m.folder) (idle old) in
+        as_new (copy_after_progress (link_progress m.stage) (Link m) c) w.stands
+        (waits_map name up now (Marked up (dirtied_levels (link.is_dirty m.folder) old.levels)) _ (settled_marks (link_progress m.stage) (Link m) c)
         (link_names name up log now known.files old.name old.levels h l about m did w.tells (w.called log refl)))
 
     -- the next call of a folder is refused
@@ -118,17 +118,17 @@ module _ (name : List ℕ) (up : Route) where
 
     -- a folder is made, or that is refused
     made_by : (pair : Pair) (names : List (List ℕ)) (mode : ℕ) (n : List ℕ) → pair.target ≡ n ∷ old.levels.inner.copy.target → (moved : FolderCopying) (report : FolderDid) → Tells (copying pair.source pair.target (at.Make mode) Synced) report moved
-        → FolderCalls (copying pair.source pair.target (at.Make mode) Synced) report log (Some now) → WaitsIf name up now (Marked up (made_levels moved.stage (opened pair.source names) moved old.levels))
+        → FolderCalls (copying pair.source pair.target (at.Make mode) Synced) report log (Some now) → WaitsIf name up now (Marked up (made_levels moved.stage (opened_folder pair.source names) moved old.levels))
     made_by pair names mode n target_is moved (folder_did.Made path) (mode_now, stage, path_is, new_is) rows =
         let call = MakeFolder pair.target (folder_mode mode) in
         let d = done_call log call now (row_done log now call rows) in
         let permits : refusal_of (current log) (MakeFolder (n ∷ old.levels.inner.copy.target) (folder_mode mode)) ≡ None = subst (λ r. refusal_of (current log) (MakeFolder r (folder_mode mode)) ≡ None) target_is d.permits in
         let then = subst (λ r. now ≡ with_change log (change_of (current log) (MakeFolder r (folder_mode mode)) d.time)) target_is d.is in
-        subst (λ (x : CallLog). WaitsIf name up x (Marked up (made_levels moved.stage (opened pair.source names) moved old.levels))) (sym then)
+        subst (λ (x : CallLog). WaitsIf name up x (Marked up (made_levels moved.stage (opened_folder pair.source names) moved old.levels))) (sym then)
         (waits_made name up log known.tree known.files n old.levels.inner.copy.target _ (making_passes (current log) n old.levels.inner.copy.target (folder_mode mode) permits) (Marks old) _
-        (made_here up moved.stage (opened pair.source names) moved old.levels (owed_mode mode_now) (ap (λ (x : FolderCopying). x.stage) new_is)) (marked_made up moved.stage (opened pair.source names) moved old.levels) h)
+        (made_here up moved.stage (opened_folder pair.source names) moved old.levels (owed_mode mode_now) (ap (λ (x : FolderCopying). x.stage) new_is)) (marked_made up moved.stage (opened_folder pair.source names) moved old.levels) h)
     made_by pair names mode n target_is moved (folder_did.Troubled trouble) tells run =
-        waits_map name up now (Marks old) _ (marked_made up moved.stage (opened pair.source names) moved old.levels) (next_stops (Marks old) pair.target (at.Make mode) Synced trouble.cause trouble.path run h)
+        waits_map name up now (Marks old) _ (marked_made up moved.stage (opened_folder pair.source names) moved old.levels) (next_stops (Marks old) pair.target (at.Make mode) Synced trouble.cause trouble.path run h)
     made_by pair names mode n target_is moved (folder_did.Set path) (mode_now, stage, path_is, new_is) rows = absurd (let f : ⊥ = cc in f)
     made_by pair names mode n target_is moved folder_did.Barrier (stage, dirty, new_is) rows = absurd (let f : ⊥ = cc in f)
     made_by pair names mode n target_is moved folder_did.Closed (stage, clean, new_is) rows = absurd (let f : ⊥ = cc in f)
@@ -198,22 +198,22 @@ module _ (name : List ℕ) (up : Route) where
 
     takes : TakesNext Unclaimed replies old new did (Some log) (Some now) → is_around_dirty old.levels.around ≡ false → Then
     takes (inl s) clean = as_new old s.stands (same (Marks old) (some_log now log s.same) h)
-    takes (inr (inl t)) clean = file_works (file.begun old.job t.pair.source t.pair.target) (taken_file free replies old new did log now known clean t) (λ part at. absurd (let f : ⊥ = cc in f)) (taken_moves Unclaimed replies old new did (Some log) (Some now) t)
+    takes (inr (inl t)) clean = file_works (file.begun_copy old.job t.pair.source t.pair.target) (taken_file free replies old new did log now known clean t) (λ part at. absurd (let f : ⊥ = cc in f)) (taken_moves Unclaimed replies old new did (Some log) (Some now) t)
     takes (inr (inr (inl t))) clean = link_works (link_begun t.pair t.part) (taken_link free replies old new did log now known clean t) t.works
     takes (inr (inr (inr (inl t)))) clean =
         let n = next_of old old.levels.inner.names.names t.pair t.next in
         let w = t.works in
-        with_levels (after_report did old.stage) (let m = w.moved in made_levels m.stage (opened t.pair.source t.names) m old.levels) w.stands (made_by t.pair t.names t.mode (target_name old n.name) n.target_is w.moved w.report w.tells (w.called log refl))
+        with_levels (after_report did old.stage) (let m = w.moved in made_levels m.stage (opened_folder t.pair.source t.names) m old.levels) w.stands (made_by t.pair t.names t.mode (target_name old n.name) n.target_is w.moved w.report w.tells (w.called log refl))
     takes (inr (inr (inr (inr (inl t))))) clean =
-        as_new (record old { levels = passed false old.levels }) t.stands (waits_map name up now (Marks old) _ (marked_passed up false old.levels) (same (Marks old) (some_log now log t.same) h))
+        as_new (record old { levels = passed_levels false old.levels }) t.stands (waits_map name up now (Marks old) _ (marked_passed up false old.levels) (same (Marks old) (some_log now log t.same) h))
     takes (inr (inr (inr (inr (inr (inl t)))))) clean =
-        as_new (record old { levels = passed false old.levels }) t.stands (waits_map name up now (Marks old) _ (marked_passed up false old.levels) (same (Marks old) (some_log now log t.same) h))
+        as_new (record old { levels = passed_levels false old.levels }) t.stands (waits_map name up now (Marks old) _ (marked_passed up false old.levels) (same (Marks old) (some_log now log t.same) h))
     takes (inr (inr (inr (inr (inr (inr (inl t))))))) clean = as_new old t.stands (same (Marks old) (some_log now log t.same) h)
     takes (inr (inr (inr (inr (inr (inr (inr (next, inl (debt, e))))))))) clean = with_levels (after_report did old.stage) (with_copy e.moved old.levels) e.stands (ends_by e.moved e.report e.says e.tells (e.called log refl))
     takes (inr (inr (inr (inr (inr (inr (inr (next, inr (debt, f, stays))))))))) clean =
         as_new (at_end old) f.stands (waits_map name up now (Marks old) _ (marked_closed up old.levels) (same (Marks old) (some_log now log stays) h))
 
-    pub works_names : (item : Item) → old.item ≡ item → ItemKnown log old item → IsMarked old → WorksOn item Unclaimed replies old new did (Some log) (Some now) → Then
+    pub works_names : (item : ItemAtWork) → old.item ≡ item → ItemKnown log old item → IsMarked old → WorksOn item Unclaimed replies old new did (Some log) (Some now) → Then
     works_names Next is item marked (inl s) = with_levels (after_report did old.stage) (with_state s.outer s.around s.was s.names) s.stands (around_by s.outer s.around s.was s.names s.report s.tells (s.called log refl))
     works_names Next is item marked (inr (clean, t)) = takes t clean
     works_names (File f) is item marked w = file_works f (worked_file free replies old new did log now known f item) (λ part at. subst (λ i. WorkedMarked i old.levels.inner) is marked) (worked_moves Unclaimed f old new did (Some log) (Some now) w)

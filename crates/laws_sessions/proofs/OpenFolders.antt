@@ -5,13 +5,13 @@ use Rattle.std.specs.Prelude.{ℕ, ⊤, Bool, true, false, List, [], ◌∷◌}
 use Rattle.mc_text.specs.Routes.{Route}
 use Rattle.tree_trait.specs.Change.{CallLog}
 use Rattle.copy_folders.specs.declared.level.Level.{Level}
-use Rattle.copy_folders.specs.Levels.{Levels, coming, is_around_dirty, passed}
+use Rattle.copy_folders.specs.Levels.{Levels, coming, is_around_dirty, passed_levels}
 use Rattle.copy_tree.specs.Standing.{Seen}
 use Rattle.laws_sessions.proofs.FilledFolders.{IsFilling, IsNew}
 
 -- the names that are yet to be met in the folder that is worked (`ahead` of `copy_tree`), once the next one is done with
 abbrev pub later : Seen → List (List ℕ)
-later c = (let p : Levels = passed false c.levels in coming c.name p.inner.names p.around)
+later c = (let p : Levels = passed_levels false c.levels in coming c.name p.inner.names p.around)
 
 -- each folder around is filled
 abbrev pub AroundKnow : CallLog → List ℕ → List Level → Type 0

@@ -13,9 +13,9 @@ use Rattle.job_reports.specs.declared.report.Did.TheVariants.{Set}
 use Rattle.copy_folders.specs.declared.level.Level.{Level}
 use Rattle.copy_tree.specs.declared.copy.Named.{Named}
 use Rattle.copy_tree.specs.InPlace.{IsInPlace, owed_of}
-use Rattle.copy_tree.specs.Skipping.{Skips, retried}
-use Rattle.copy_tree.specs.Standing.{Seen, begun}
-use Rattle.copy_tree.specs.Steps.{CopySteps}
+use Rattle.copy_tree.specs.Skipping.{Skips, retried_copy}
+use Rattle.copy_tree.specs.Standing.{Seen, begun_tree_copy}
+use Rattle.copy_tree.specs.TreeCopySteps.{CopySteps}
 use Rattle.laws_sessions.specs.Replayed.{set_by}
 use Rattle.laws_sessions.proofs.Resting.{IsOfFiles}
 use Rattle.laws_sessions.proofs.CopyLaws.{CopyKnown}
@@ -38,11 +38,11 @@ OwedModes v c = AllOwe v c.levels.inner c.levels.around
 -- It is so of a copy that begins; each step keeps it of a view that shows the tree before it, and each skip and retry of any; and it is so of any other
 -- view that shows the same at and below the source.
 pub record OwedModeLaw : Type 0 where
-  pub begins : (v : View) (job : ℕ) (source target : Named) → OwedModes v (begun job source target)
+  pub begins : (v : View) (job : ℕ) (source target : Named) → OwedModes v (begun_tree_copy job source target)
   pub step : (free : Route → Bool) (replies : Replies) (old new : Seen) (did : Did) (calls : ℕ) (log now : CallLog) (faults faults_after : ℕ) (v : View)
       → CopySteps free replies old new did calls (Some log) (Some now) faults faults_after → IsTree (current log) → IsOfFiles log → CopyKnown log old → ShowsTree v log → OwedModes v old → OwedModes v new
   pub skip : (cause : Cause) (old new : Seen) (did : Did) (v : View) → Skips cause old did new → OwedModes v old → OwedModes v new
-  pub retry : (c : Seen) (v : View) → OwedModes v c → OwedModes v (retried c)
+  pub retry : (c : Seen) (v : View) → OwedModes v c → OwedModes v (retried_copy c)
   pub other : (top : Pair) (c : Seen) (v w : View) → IsInPlace top c → ((rest : Route) → (w (rest ++ top.source)).value ≡ (v (rest ++ top.source)).value) → OwedModes v c → OwedModes w c
 
 -- So a folder that is given its mode shows what the history makes of what it showed before.

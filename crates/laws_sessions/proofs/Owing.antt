@@ -24,7 +24,7 @@ use Rattle.copy_move.specs.Jobs.{WorkTells}
 use Rattle.copy_move.specs.Settling.{LiesApart, NoneOwed, WorkLeaves, changed_folder, is_own, with_change}
 use Rattle.job_reports.specs.declared.report.Did.{Did}
 use Rattle.job_reports.specs.declared.report.Did.TheVariants.{Began, Chunk, Placed, Removed, Made, Set, Kept, Skipped, Cleaned, Barrier, Asked, Merges, Moved, Troubled, Ended}
-use Rattle.job_unsynced.specs.Folders.{is_one_of, joined}
+use Rattle.job_unsynced.specs.Folders.{is_one_of, joined_folders}
 use Rattle.tree_trait.specs.declared.file_system.FileSystem.{FileSystem}
 use Rattle.tree_trait.specs.declared.calls.TreeError.TheVariants.{Missing}
 use Rattle.tree_trait.specs.Calls.{Stat}
@@ -38,14 +38,14 @@ use Rattle.session_entries.specs.Named.{named_parts}
 use Rattle.session_entries.specs.declared.history.Entry.{Entry}
 use Rattle.laws_sessions.proofs.Histories.{IsReached, traced_reached}
 use Rattle.laws_sessions.proofs.Intact.{own_folder}
-use Rattle.laws_sessions.proofs.Knowing.{IsKnown, Said, clean_now, mode_waits}
+use Rattle.laws_sessions.proofs.Knowing.{IsKnown, HistoryFacts, clean_now, mode_waits}
 use Rattle.laws_sessions.proofs.Prefixes.{calm_told}
 use Rattle.laws_sessions.proofs.Resting.{IsBeside}
 use Rattle.laws_sessions.proofs.Untouched.{none_on}
 use Rattle.laws_sessions.proofs.WaitsFor.{waits_for}
 
 -- a path of which a change waits lies in a folder that is owed
-listed : (told : Said) (dirty : List Route) (marks : Marks) (log : CallLog) (path : Route) → IsKnown told dirty marks log → name_waits log path ≡ true → IsOwed dirty log (folder_of path)
+listed : (told : HistoryFacts) (dirty : List Route) (marks : Marks) (log : CallLog) (path : Route) → IsKnown told dirty marks log → name_waits log path ≡ true → IsOwed dirty log (folder_of path)
 listed told dirty marks log [] known waits = absurd (false≢true waits)
 listed told dirty marks log (name ∷ up) known waits = by (find (current log) up) refl waits
   where
@@ -112,7 +112,7 @@ pub apart_from : (s : FileSystem) (work : Work) (dirty : List Route) (q : Route)
 apart_from s work dirty q among none = none_on s work dirty none q among
 
 -- and so does each folder that is owed, since those for which a renaming waits lie on one mount
-pub owed_apart : (told : Said) (dirty : List Route) (marks : Marks) (log : CallLog) (work : Work) (up : Route) → IsKnown told dirty marks log → NoneOwed (current log) work dirty → IsOwed dirty log up → IsApart log (changed_folder work) up
+pub owed_apart : (told : HistoryFacts) (dirty : List Route) (marks : Marks) (log : CallLog) (work : Work) (up : Route) → IsKnown told dirty marks log → NoneOwed (current log) work dirty → IsOwed dirty log up → IsApart log (changed_folder work) up
 owed_apart told dirty marks log work up known none (inl among) = apart_from (current log) work dirty up among none
 owed_apart told dirty marks log work up known none (inr (other, among, joined)) = elim (apart_from (current log) work dirty other among none) [
   | inl gone ↦ absurd (let e : (let o : Option ℕ = None in o) ≡ Some joined.g = sym (stat_missing (current log) other gone) ∙ joined.beside in let x : ⊥ = cc in x)
@@ -123,8 +123,8 @@ owed_apart told dirty marks log work up known none (inr (other, among, joined)) 
   )
 ]
   where
-    beside : IsBeside log up joined.g
-    beside = known.joint joined.f joined.g up joined.joint joined.at
+    beside : IsBeside log up joined_folders.g
+    beside = known.joint joined_folders.f joined_folders.g up joined_folders.joint joined_folders.at
 
 pub in_filter : (keeps : Route → Bool) (q : Route) (routes : List Route) → Among (filter keeps routes) q → Among routes q
 in_filter keeps q [] among = absurd among
@@ -140,7 +140,7 @@ in_both q [] last (inr none) = absurd none
 in_both q (x ∷ xs) last (inl same) = inr (inl same)
 in_both q (x ∷ xs) last (inr later) = elim (in_both q xs last later) [ inl same ↦ inl same | inr before ↦ inr (inr before) ]
 
-in_joined : (up q : Route) (dirty : List Route) → Among (joined up dirty) q → (q ≡ up) ⊎ Among dirty q
+in_joined : (up q : Route) (dirty : List Route) → Among (joined_folders up dirty) q → (q ≡ up) ⊎ Among dirty q
 in_joined up q dirty = by (is_one_of up dirty)
   where
     by : (b : Bool) → Among (if b then dirty else dirty ++ up ∷ []) q → (q ≡ up) ⊎ Among dirty q
@@ -187,7 +187,7 @@ own_or_before replies (Delete d) (Delete next) (Delete new) did q dirty dirty_af
     by : (did : Did) → Tells replies d did next → DeletionLeaves d did dirty dirty_after before after → (is_own (Delete d) q ≡ true) ⊎ Among dirty q
     by (Removed path) (going, within, at) (inl h) = elim (in_joined (folder_of path) q dirty (subst (λ xs. Among xs q) h.0 among)) [ inl same ↦ inl (own_folder d path q within same) | inr old ↦ inr old ]
     by (Removed path) (going, within, at) (inr h) =
-        elim (in_joined (folder_of path) q dirty (in_filter (λ kept. not (same_path kept path)) q (joined (folder_of path) dirty) (subst (λ xs. Among xs q) h.0 among))) [
+        elim (in_joined (folder_of path) q dirty (in_filter (λ kept. not (same_path kept path)) q (joined_folders (folder_of path) dirty) (subst (λ xs. Among xs q) h.0 among))) [
           | inl same ↦ inl (own_folder d path q within same)
           | inr old ↦ inr old
         ]

@@ -3,7 +3,7 @@ use Rattle.std.proofs.Common.{◌≡◌, ℕ, false, List, [], ◌∷◌, ◌++�
 use Rattle.mc_text.specs.Routes.{Route}
 use Rattle.tree_trait.specs.declared.file_system.FileSystem.{FileSystem}
 use Rattle.tree_trait.specs.declared.file_system.Node.{Node}
-use Rattle.tree_trait.specs.Change.{Change, Makes, CallLog, current, found, with_change}
+use Rattle.tree_trait.specs.Change.{Change, Makes, CallLog, current, found_node, with_change}
 use Rattle.tree_trait.specs.FileSystem.{find, node}
 use Rattle.tree_trait.specs.Refusals.{is_folder}
 use Rattle.tree_trait.specs.Shape.{IsTree}
@@ -17,7 +17,7 @@ use Rattle.job_reports.proofs.PermittedCalls.{IsMaking}
 
 module _ (log : CallLog) (tree : IsTree (current log)) (k : List ℕ) (up : Route) (made : Node) (making : IsMaking (current log) k up) where
   abbrev f : ℕ
-  f = found (current log) up
+  f = found_node (current log) up
 
   abbrev makes : Change
   makes = Makes f k made

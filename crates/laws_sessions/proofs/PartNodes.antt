@@ -12,7 +12,7 @@ use Rattle.tree_trait.proofs.Finding.{find-once}
 use Rattle.laws_crash.specs.Guarded.{Marks}
 use Rattle.laws_crash.proofs.Guarding.{same_quiet, found_at}
 use Rattle.laws_crash.proofs.Leading.{current_more}
-use Rattle.laws_sessions.proofs.Knowing.{Said, IsKnown}
+use Rattle.laws_sessions.proofs.Knowing.{HistoryFacts, IsKnown}
 use Rattle.laws_sessions.proofs.JobKnows.{HasPart, IsBare}
 use Rattle.laws_sessions.proofs.Quiet.{kind_same}
 
@@ -28,7 +28,7 @@ written_node log i bytes time there = ap (λ (s : FileSystem). node s i) (curren
 pub moded_node : (log : CallLog) (i mode : ℕ) → i < length (current log).nodes → node (current (with_change log (Sets i mode))) i ≡ record (node (current log) i) { mode = mode }
 moded_node log i mode there = ap (λ (s : FileSystem). node s i) (current_more log (Sets i mode)) ∙ set_here (current log).nodes i _ there
 
-module _ (told : Said) (dirty : List Route) (marks : Marks) (log : CallLog) (known : IsKnown told dirty marks log) (target part : Route) (i : ℕ) (has : HasPart told marks (current log) target part i) where
+module _ (told : HistoryFacts) (dirty : List Route) (marks : Marks) (log : CallLog) (known : IsKnown told dirty marks log) (target part : Route) (i : ℕ) (has : HasPart told marks (current log) target part i) where
   pub part_there : i < length (current log).nodes
   part_there = known.guarded.there part i (found_at log part (Some i) has.leads)
 

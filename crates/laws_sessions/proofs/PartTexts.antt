@@ -11,11 +11,11 @@ use Rattle.job_reports.specs.declared.report.Cause.{Cause}
 use Rattle.job_reports.specs.declared.report.Did.{Did}
 use Rattle.copy_link.specs.LinkCopying.{has_part}
 use Rattle.copy_link.specs.LinkSteps.{link_text}
-use Rattle.copy_tree.specs.declared.item.Item.{Item}
-use Rattle.copy_tree.specs.declared.item.Item.TheVariants.{Next, File, Link, Stays}
-use Rattle.copy_tree.specs.Skipping.{Skips, retried}
+use Rattle.copy_tree.specs.declared.item.ItemAtWork.{ItemAtWork}
+use Rattle.copy_tree.specs.declared.item.ItemAtWork.TheVariants.{Next, File, Link, Stays}
+use Rattle.copy_tree.specs.Skipping.{Skips, retried_copy}
 use Rattle.copy_tree.specs.Standing.{Seen}
-use Rattle.copy_tree.specs.Steps.{CopySteps}
+use Rattle.copy_tree.specs.TreeCopySteps.{CopySteps}
 
 pub record IsLinkAs (s : FileSystem) (part source : Route) : Type 0 where
   pub i : ℕ
@@ -23,7 +23,7 @@ pub record IsLinkAs (s : FileSystem) (part source : Route) : Type 0 where
   pub link : (let n = node s i in n.kind) ≡ kind.Link
   pub text : (let n = node s i in n.bytes) ≡ link_text s source
 
-abbrev pub TextKnown : CallLog → Item → Type 0
+abbrev pub TextKnown : CallLog → ItemAtWork → Type 0
 TextKnown log Next = ⊤
 TextKnown log (File f) = ⊤
 TextKnown log (Link l) = has_part l.stage ≡ true → IsLinkAs (current log) l.part l.source
@@ -34,4 +34,4 @@ pub record TextLaw : Type 0 where
   pub step : (free : Route → Bool) (replies : Replies) (old new : Seen) (did : Did) (calls : ℕ) (log now : CallLog) (faults faults_after : ℕ)
       → CopySteps free replies old new did calls (Some log) (Some now) faults faults_after → IsTree (current log) → TextKnown log old.item → TextKnown now new.item
   pub skip : (log : CallLog) (cause : Cause) (old new : Seen) (did : Did) → Skips cause old did new → TextKnown log old.item → TextKnown log new.item
-  pub retry : (log : CallLog) (c : Seen) → TextKnown log c.item → (let again : Seen = retried c in TextKnown log again.item)
+  pub retry : (log : CallLog) (c : Seen) → TextKnown log c.item → (let again : Seen = retried_copy c in TextKnown log again.item)

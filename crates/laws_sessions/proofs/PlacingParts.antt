@@ -21,7 +21,7 @@ use Rattle.laws_crash.proofs.Tops.{under_moved, none_below}
 use Rattle.laws_sessions.proofs.Restless.{unjoined_within}
 use Rattle.laws_sessions.proofs.Resting.{bare_may}
 use Rattle.laws_sessions.specs.Doubt.{way_waits}
-use Rattle.laws_sessions.proofs.Knowing.{IsKnown, RoamInTransit, Said, held}
+use Rattle.laws_sessions.proofs.Knowing.{IsKnown, RoamInTransit, HistoryFacts, held}
 use Rattle.laws_sessions.proofs.Renaming.{in_one_folder, naming_known}
 use Rattle.laws_sessions.proofs.Changing.{seen_nowhere, none_below_file, folder_anchored, off_itself, said_two, some_none, some_is}
 
@@ -41,7 +41,7 @@ was_or true true h = inr refl
 was_or true false h = absurd (true≢false h)
 was_or false b h = inl refl
 
-pub firm_known : (told : Said) (dirty : List Route) (marks : Marks) (log : CallLog) (i : ℕ) → is_clean i log.changes ≡ true → marks.modes i ≡ None → IsKnown told dirty marks log → IsKnown told dirty (marks_firm marks i) log
+pub firm_known : (told : HistoryFacts) (dirty : List Route) (marks : Marks) (log : CallLog) (i : ℕ) → is_clean i log.changes ≡ true → marks.modes i ≡ None → IsKnown told dirty marks log → IsKnown told dirty (marks_firm marks i) log
 firm_known told dirty marks log i clean no_mode known = record {
   guarded = settle_law marks (marks_firm marks i) log known.guarded (record {
     paths = λ p out. inl (out, refl);
@@ -70,7 +70,7 @@ pub firm_transit : (marks : Marks) (log : CallLog) (i : ℕ) → RoamInTransit m
 firm_transit marks log i in_transit j folder is = in_transit j folder is
 
 -- A part that is to be placed, in a folder to which nothing waits on the way, and what the history says once it is.
-pub record PlacesPart (told after : Said) (marks : Marks) (log : CallLog) (part target : List ℕ) (up : Route) (f i : ℕ) : Type 0 where
+pub record PlacesPart (told after : HistoryFacts) (marks : Marks) (log : CallLog) (part target : List ℕ) (up : Route) (f i : ℕ) : Type 0 where
   pub part_is : told.part ≡ Some (part ∷ up)
   pub at : find (current log) up ≡ Some f
   pub folder : is_folder (node (current log) f) ≡ true
@@ -99,7 +99,7 @@ pub record PlacesPart (told after : Said) (marks : Marks) (log : CallLog) (part 
   pub no_mode : marks.modes i ≡ None
   pub doubted : (after.doubt (target ∷ up) ≡ true) × (after.doubt (part ∷ up) ≡ true)
 
-module _ (told after : Said) (dirty dirty_after : List Route) (marks : Marks) (log : CallLog) (known : IsKnown told dirty marks log) (in_transit : RoamInTransit marks log) (part target : List ℕ) (up : Route) (f i : ℕ) (r : Option ℕ)
+module _ (told after : HistoryFacts) (dirty dirty_after : List Route) (marks : Marks) (log : CallLog) (known : IsKnown told dirty marks log) (in_transit : RoamInTransit marks log) (part target : List ℕ) (up : Route) (f i : ℕ) (r : Option ℕ)
     (h : PlacesPart told after marks log part target up f i) where
   abbrev moves : Change
   moves = Moves f part f target i r

@@ -12,7 +12,7 @@ use Rattle.tree_trait.specs.declared.calls.TreeError.{TreeError}
 use Rattle.tree_trait.specs.FileSystem.{Spot, Value, find, node, starts_mount, value}
 use Rattle.tree_trait.specs.Refusals.{is_folder, folder_kind, walk, after_walk, rename_refusal}
 use Rattle.tree_trait.specs.Calls.{Call, SetMode, SyncFile, Rename}
-use Rattle.tree_trait.specs.Change.{Change, Nothing, Moves, Sets, Syncs, CallLog, current, with_change, change_of, found}
+use Rattle.tree_trait.specs.Change.{Change, Nothing, Moves, Sets, Syncs, CallLog, current, with_change, change_of, found_node}
 use Rattle.tree_trait.specs.CrashImages.{Among, is_clean}
 use Rattle.tree_trait.specs.Answers.{Performs}
 use Rattle.tree_trait.proofs.Visible.{same_path-self, same_path-true}
@@ -26,7 +26,7 @@ use Rattle.job_reports.specs.declared.report.Did.TheVariants.{Placed}
 use Rattle.copy_file.specs.declared.stage.SourceFacts.{SourceFacts}
 use Rattle.job_reports.specs.CallRuns.{AllDone, StopsAt, RunStops}
 use Rattle.copy_file.specs.CopyCalls.{part_mode, placing}
-use Rattle.copy_file.specs.Copied.{copied}
+use Rattle.copy_file.specs.Copied.{copied_value}
 use Rattle.copy_file.specs.Copying.{Copying}
 use Rattle.job_reports.specs.Jobs.{Copies}
 use Rattle.job_reports.specs.Paths.{without, folder_of}
@@ -37,22 +37,22 @@ use Rattle.session_entries.specs.Moves.{moved_from}
 use Rattle.laws_sessions.specs.Replayed.{keeping, mode_placed, placed_by, placed_copy}
 use Rattle.laws_sessions.proofs.Calming.{moded_known, nothing_known, synced_known, refused_is}
 use Rattle.laws_sessions.proofs.Deleted.{file_no_mount, put_at, put_off}
-use Rattle.laws_sessions.proofs.Knowing.{Said, IsKnown, IsKept, held, settled_marks}
+use Rattle.laws_sessions.proofs.Knowing.{HistoryFacts, IsKnown, IsKept, held, settled_marks}
 use Rattle.laws_sessions.proofs.JobKnows.{HasPart, IsAsFound, IsBare, IsFilled, none_of_part, part_settled}
 use Rattle.laws_sessions.proofs.PartNodes.{moded_node, part_on, part_there}
 use Rattle.laws_sessions.proofs.PlacingParts.{PlacesPart, firm_known, firm_transit, marks_firm, placed_known}
-use Rattle.laws_sessions.proofs.Stepped.{Comes, comes_none, comes_one, comes_then, doubt_by}
+use Rattle.laws_sessions.proofs.Stepped.{StepRan, comes_none, comes_one, comes_then, doubt_by}
 
 -- the part that stands, in any tree: what its node holds, once it held these bytes with any mode
-abbrev Kept : Said → Route → Route → ℕ → FileSystem → FileSystem → ℕ → Marks → Type 0
+abbrev Kept : HistoryFacts → Route → Route → ℕ → FileSystem → FileSystem → ℕ → Marks → Type 0
 Kept told target part i before now mode marks =
     HasPart told marks now target part i × ((bytes : List ℕ) → Holds (node before i) bytes mode → Holds (node now i) bytes mode)
 
-module _ (told : Said) (dirty : List Route) (target part : Route) (i : ℕ) where
+module _ (told : HistoryFacts) (dirty : List Route) (target part : Route) (i : ℕ) where
   -- its mode is set
   pub mode_set : (marks : Marks) (log mid : CallLog) (mode : ℕ) → IsKept told dirty marks log → HasPart told marks (current log) target part i
       → Performs {A = Unit {0}} log (SetMode part mode) (Ok tt) (Some mid)
-      → Comes told told dirty log mid (λ m. HasPart told m (current mid) target part i × ((bytes : List ℕ) (old : ℕ) → Holds (node (current log) i) bytes old → Holds (node (current mid) i) bytes mode))
+      → StepRan told told dirty log mid (λ m. HasPart told m (current mid) target part i × ((bytes : List ℕ) (old : ℕ) → Holds (node (current log) i) bytes old → Holds (node (current mid) i) bytes mode))
   mode_set marks log mid mode kept has done =
       comes_one told told dirty dirty marks marks log mid (Sets i mode)
       (λ m. HasPart told m (current mid) target part i × ((bytes : List ℕ) (old : ℕ) → Holds (node (current log) i) bytes old → Holds (node (current mid) i) bytes mode)) kept mid_is
@@ -82,7 +82,7 @@ module _ (told : Said) (dirty : List Route) (target part : Route) (i : ℕ) wher
   IsFirm marks log = is_clean i log.changes ≡ true
 
   pub part_synced : (marks : Marks) (log mid : CallLog) → IsKept told dirty marks log → HasPart told marks (current log) target part i → Performs {A = Unit {0}} log (SyncFile part) (Ok tt) (Some mid)
-      → Comes told told dirty log mid (λ m. HasPart told m (current mid) target part i × IsFirm m mid × (node (current mid) i ≡ node (current log) i))
+      → StepRan told told dirty log mid (λ m. HasPart told m (current mid) target part i × IsFirm m mid × (node (current mid) i ≡ node (current log) i))
   part_synced marks log mid kept has done =
       comes_one told told dirty dirty marks marks log mid (Syncs i)
       (λ m. HasPart told m (current mid) target part i × IsFirm m mid × (node (current mid) i ≡ node (current log) i)) kept mid_is
@@ -102,7 +102,7 @@ module _ (told : Said) (dirty : List Route) (target part : Route) (i : ℕ) wher
 
   -- a call that was refused changes nothing of the part
   pub part_refused : (marks : Marks) (log now : CallLog) → IsKept told dirty marks log → HasPart told marks (current log) target part i → (now ≡ log) ⊎ (now ≡ with_change log Nothing)
-      → Comes told told dirty log now (λ m. HasPart told m (current now) target part i)
+      → StepRan told told dirty log now (λ m. HasPart told m (current now) target part i)
   part_refused marks log now kept has (inl same) =
       comes_none told told dirty log now (λ m. HasPart told m (current now) target part i) marks same kept (subst (λ (l : CallLog). HasPart told marks (current l) target part i) (sym same) has)
   part_refused marks log now kept has (inr more) =
@@ -112,7 +112,7 @@ module _ (told : Said) (dirty : List Route) (target part : Route) (i : ℕ) wher
       (part_settled (with_change log Nothing) marks told target part i (subst (λ (s : FileSystem). HasPart told marks s target part i) (sym (current_more log Nothing)) has)))
 
   abbrev Stays : CallLog → CallLog → Type 0
-  Stays log now = Comes told told dirty log now (λ m. HasPart told m (current now) target part i)
+  Stays log now = StepRan told told dirty log now (λ m. HasPart told m (current now) target part i)
 
   -- the sync and the renaming stop
   tail_stops : (marks : Marks) (log now : CallLog) (call : Call) (e : TreeError) → IsKept told dirty marks log → HasPart told marks (current log) target part i
@@ -159,7 +159,7 @@ one_name : (a b : List ℕ) (q : Route) → (a ∷ q) ≡ b ∷ q → a ≡ b
 one_name a b q e = cc
 
 -- A part that is whole, and on the disk but for its name: one of a file that was filled and synced, or of a link.
-pub record IsWhole (said : Said) (marks : Marks) (log : CallLog) (target part : Route) (i : ℕ) : Type 0 where
+pub record IsWhole (said : HistoryFacts) (marks : Marks) (log : CallLog) (target part : Route) (i : ℕ) : Type 0 where
   pub part_is : said.part ≡ Some part
   pub leads : find (current log) part ≡ Some i
   pub moves : marks.roams i ≡ true
@@ -170,7 +170,7 @@ pub record IsWhole (said : Said) (marks : Marks) (log : CallLog) (target part : 
   pub apart : part ≡ target → ⊥
   pub found : IsAsFound marks (current log) target
 
-pub whole_part : (told : Said) (marks : Marks) (log : CallLog) (target part : Route) (i : ℕ) → HasPart told marks (current log) target part i → is_clean i log.changes ≡ true → IsWhole told marks log target part i
+pub whole_part : (told : HistoryFacts) (marks : Marks) (log : CallLog) (target part : Route) (i : ℕ) → HasPart told marks (current log) target part i → is_clean i log.changes ≡ true → IsWhole told marks log target part i
 whole_part told marks log target part i has clean = record {
   part_is = has.part_is;
   leads = has.leads;
@@ -184,7 +184,7 @@ whole_part told marks log target part i has clean = record {
 }
 
 -- what a history says once a part was placed at a path, by a copy of this source to that target
-abbrev pub said_placed : Said → Route → Route → Route → Said
+abbrev pub said_placed : HistoryFacts → Route → Route → Route → HistoryFacts
 said_placed told source to target = record {
   tree = placed_by (Some (Copies source to)) target told.tree;
   earlier = keeping (changed_by (Placed target)) told.tree told.earlier;
@@ -198,20 +198,20 @@ said_placed told source to target = record {
 }
 
 -- it is renamed to a path that lies at or below that target, and holds what stands where this comes from
-module _ (told : Said) (dirty : List Route) (source to target : Route) (tname : List ℕ) (target_is : target ≡ tname ∷ folder_of target) (part : Route) (i : ℕ) (listed : Among dirty (folder_of target)) (firm : told.folders (folder_of target) ≡ true) (calm : told.calm (folder_of target) ≡ true)
+module _ (told : HistoryFacts) (dirty : List Route) (source to target : Route) (tname : List ℕ) (target_is : target ≡ tname ∷ folder_of target) (part : Route) (i : ℕ) (listed : Among dirty (folder_of target)) (firm : told.folders (folder_of target) ≡ true) (calm : told.calm (folder_of target) ≡ true)
     (marks : Marks) (mid now : CallLog) (kept : IsKept told dirty marks mid) (whole : IsWhole told marks mid target part i)
     (copy : option_map placed_copy (told.tree (moved_from source to target)).value ≡ Some (value (node (current mid) i))) (done : Performs {A = Unit {0}} mid (Rename part target) (Ok tt) (Some now)) where
   abbrev up : Route
   up = folder_of target
 
-  abbrev after : Said
+  abbrev after : HistoryFacts
   after = said_placed told source to target
 
   d : IsDoneCall mid (Rename part target) now
   d = done_call mid (Rename part target) now done
 
   abbrev f : ℕ
-  f = found (current mid) up
+  f = found_node (current mid) up
 
   abbrev r : Option ℕ
   r = find (current mid) target
@@ -229,14 +229,14 @@ module _ (told : Said) (dirty : List Route) (source to target : Route) (tname : 
   apart_path : same_path (whole.name ∷ up) (tname ∷ up) ≡ false
   apart_path = false_from_ne_true _ (λ h. apart (one_name whole.name tname up (same_path-true (whole.name ∷ up) (tname ∷ up) h)))
 
-  found_part : found (current mid) (whole.name ∷ up) ≡ i
+  found_part : found_node (current mid) (whole.name ∷ up) ≡ i
   found_part = ap (λ o. unwrap_or o 0) (ap (find (current mid)) (sym whole.beside) ∙ whole.leads)
 
   now_is : now ≡ with_change mid moved
   now_is = d.is ∙ ap (with_change mid) (
       ap (λ q. change_of (current mid) (Rename q target) d.time) whole.beside
       ∙ (ap (λ q. change_of (current mid) (Rename (whole.name ∷ up) q) d.time) target_is
-      ∙ (ap (λ b. if◌then◌else◌ b Nothing (Moves f whole.name f tname (found (current mid) (whole.name ∷ up)) (find (current mid) (tname ∷ up)))) apart_path
+      ∙ (ap (λ b. if◌then◌else◌ b Nothing (Moves f whole.name f tname (found_node (current mid) (whole.name ∷ up)) (find (current mid) (tname ∷ up)))) apart_path
       ∙ (ap (λ j. Moves f whole.name f tname j (find (current mid) (tname ∷ up))) found_part ∙ ap (λ q. Moves f whole.name f tname i (find (current mid) q)) (sym target_is))))
       )
 
@@ -334,7 +334,7 @@ module _ (told : Said) (dirty : List Route) (source to target : Route) (tname : 
     );
   }
 
-  pub whole_placed : Comes told after dirty mid now (λ m. after.part ≡ None)
+  pub whole_placed : StepRan told after dirty mid now (λ m. after.part ≡ None)
   whole_placed =
       comes_one told after dirty dirty marks (marks_firm marks i) mid now moved (λ m. after.part ≡ None) kept now_is
       (subst (λ (l : CallLog). IsKnown after dirty (marks_firm marks i) l) (sym now_is)
@@ -342,12 +342,12 @@ module _ (told : Said) (dirty : List Route) (source to target : Route) (tname : 
       refl
 
 -- A file's part is placed by the copy of a source to a target, in which the file's target comes from the file's source.
-module _ (told : Said) (dirty : List Route) (source to : Route) (c : Copying) (source_is : moved_from source to c.target ≡ c.source) (tname : List ℕ) (target_is : c.target ≡ tname ∷ folder_of c.target) (part : Route) (i : ℕ) (listed : Among dirty (folder_of c.target)) (firm : told.folders (folder_of c.target) ≡ true) (calm : told.calm (folder_of c.target) ≡ true) where
-  abbrev said_then : Said
+module _ (told : HistoryFacts) (dirty : List Route) (source to : Route) (c : Copying) (source_is : moved_from source to c.target ≡ c.source) (tname : List ℕ) (target_is : c.target ≡ tname ∷ folder_of c.target) (part : Route) (i : ℕ) (listed : Among dirty (folder_of c.target)) (firm : told.folders (folder_of c.target) ≡ true) (calm : told.calm (folder_of c.target) ≡ true) where
+  abbrev said_then : HistoryFacts
   said_then = said_placed told source to c.target
 
   abbrev Placing : CallLog → CallLog → Type 0
-  Placing log now = Comes told said_then dirty log now (λ m. said_then.part ≡ None)
+  Placing log now = StepRan told said_then dirty log now (λ m. said_then.part ≡ None)
 
   -- the part is renamed
   renamed : (marks : Marks) (mid now : CallLog) → IsKept told dirty marks mid → HasPart told marks (current mid) c.target part i → IsFirm told dirty c.target part i marks mid
@@ -377,8 +377,8 @@ module _ (told : Said) (dirty : List Route) (source to : Route) (c : Copying) (s
     source_value = ap (λ (s : Spot). s.value) (sym (kept.known.shows c.source not_source)) ∙ ap (option_map (λ j. value (node (current log) j))) filled.source_leads
 
     -- of a file what is placed has its mode
-    as_file : placed_copy (value from) ≡ copied (value from)
-    as_file = ap (λ kind. (let v : Value = record (copied (value from)) { mode = mode_placed kind from.mode } in v)) filled.file
+    as_file : placed_copy (value from) ≡ copied_value (value from)
+    as_file = ap (λ kind. (let v : Value = record (copied_value (value from)) { mode = mode_placed kind from.mode } in v)) filled.file
 
     copy_of : (s : FileSystem) → Holds (node s i) from.bytes said.mode → option_map placed_copy (told.tree c.source).value ≡ Some (value (node s i))
     copy_of s h = ap (option_map placed_copy) source_value ∙ ap (λ v. Some v) (as_file ∙ sym (holds_copy (node s i) from filled.file (record { kind = h.kind; bytes_are = h.bytes_are; mode_is = h.mode_is ∙ filled.mode; unnamed = h.unnamed })))

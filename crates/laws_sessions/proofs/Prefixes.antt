@@ -6,7 +6,7 @@ use Rattle.std.specs.Option.{option_map_or}
 use Rattle.mc_text.specs.Routes.{Route, same_path}
 use Rattle.job_reports.specs.declared.report.Did.{Did}
 use Rattle.job_reports.specs.declared.report.Did.TheVariants.{Began, Chunk, Placed, Removed, Made, Set, Kept, Skipped, Cleaned, Barrier, Asked, Merges, Moved, Troubled, Ended}
-use Rattle.job_reports.specs.Jobs.{Item, folder_changed}
+use Rattle.job_reports.specs.Jobs.{ItemOfJob, folder_changed}
 use Rattle.tree_trait.specs.FileSystem.{View}
 use Rattle.tree_trait.specs.Change.{Change, CallLog, current}
 use Rattle.session_entries.specs.declared.history.Event.{Event}
@@ -16,7 +16,7 @@ use Rattle.session_entries.specs.declared.history.Entry.{Entry}
 use Rattle.session_entries.specs.LiveJobs.{LiveJob, live_item, live_jobs}
 use Rattle.laws_sessions.specs.Replayed.{earlier_event, earlier_tree, log_prefix, replayed_event, replayed_tree}
 use Rattle.session_entries.specs.Named.{left_parts, left_after, IsUnnamedSince, named_after, named_parts, names, names_path}
-use Rattle.laws_sessions.proofs.Knowing.{Said, anywhere}
+use Rattle.laws_sessions.proofs.Knowing.{HistoryFacts, anywhere}
 use Rattle.laws_sessions.proofs.Resting.{folder_at}
 use Rattle.laws_sessions.proofs.Stepped.{calm_by, folders_by, more}
 
@@ -54,7 +54,7 @@ calm_told [] = anywhere
 calm_told (e ∷ older) = calm_event e.what (live_jobs older) (calm_told older)
 
 -- what a history says, over a tree that has come to this log
-abbrev pub told_of : CallLog → CallLog → List Entry → Option Route → Said
+abbrev pub told_of : CallLog → CallLog → List Entry → Option Route → HistoryFacts
 told_of opening end g part = record {
   tree = replayed_tree opening end g;
   earlier = earlier_tree opening end g;
@@ -68,7 +68,7 @@ told_of opening end g part = record {
 }
 
 -- the same after one event more, by which so many calls were made
-abbrev pub told_with : CallLog → CallLog → List Entry → ℕ → Event → Option Route → Said
+abbrev pub told_with : CallLog → CallLog → List Entry → ℕ → Event → Option Route → HistoryFacts
 told_with opening end older calls what part = record {
   tree = replayed_event (log_prefix opening calls end) what (live_jobs older) (replayed_tree opening end older);
   earlier = earlier_event what (replayed_tree opening end older) (earlier_tree opening end older);
@@ -105,7 +105,7 @@ earlier_more opening now cs (e ∷ older) (few, w) =
     ap (λ v. earlier_event e.what v (earlier_tree opening (more now cs) older)) (replayed_more opening now cs older w)
     ∙ ap (earlier_event e.what (replayed_tree opening now older)) (earlier_more opening now cs older w)
 
-abbrev pub said_by : (Route → Bool) → (Route → Bool) → View → View → List Route → List Route → Option Route → Said
+abbrev pub said_by : (Route → Bool) → (Route → Bool) → View → View → List Route → List Route → Option Route → HistoryFacts
 said_by folders calm tree earlier named left part =
     record { tree = tree; earlier = earlier; named = named; left = left; part = part; doubt = anywhere; folders = folders; modes = anywhere; calm = calm }
 
@@ -132,7 +132,7 @@ known_by Barrier folder before p unnamed h = h
 known_by (Troubled trouble) folder before p unnamed h = h
 known_by (Ended ending part) folder before p unnamed h = h
 
-known_still : (did : Did) (item : Option Item) (before : Route → Bool) (p : Route) → names did p ≡ false → before p ≡ true → option_map_or (λ i. folders_by did (folder_changed i) before) item before p ≡ true
+known_still : (did : Did) (item : Option ItemOfJob) (before : Route → Bool) (p : Route) → names did p ≡ false → before p ≡ true → option_map_or (λ i. folders_by did (folder_changed i) before) item before p ≡ true
 known_still did None before p unnamed h = h
 known_still did (Some item) before p unnamed h = known_by did (folder_changed item) before p unnamed h
 

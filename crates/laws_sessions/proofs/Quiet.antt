@@ -19,7 +19,7 @@ use Rattle.laws_crash.proofs.Leading.{clean_more, current_more}
 use Rattle.laws_crash.proofs.Syncing.{unaltered_law}
 use Rattle.laws_sessions.specs.Doubt.{is_pending, way_waits, name_waits, is_joint}
 use Rattle.laws_sessions.proofs.Pending.{is_within, pending_less, says_at}
-use Rattle.laws_sessions.proofs.Knowing.{Said, HasMode, IsCalmFolder, IsKnown, IsUnreached, held}
+use Rattle.laws_sessions.proofs.Knowing.{HistoryFacts, HasMode, IsCalmFolder, IsKnown, IsUnreached, held}
 use Rattle.laws_sessions.proofs.Resting.{IsBeside, IsOfFiles, IsSureFolder, folder_at, joint_still, stands_at, sure_still, unborn_more, unjoined_still}
 use Rattle.laws_sessions.proofs.Restless.{IsUnjoined, is_restless, restless_less}
 use Rattle.laws_sessions.proofs.RoamingFolders.{renames_none, roaming_still}
@@ -96,7 +96,7 @@ pub record IsNameless (log : CallLog) (c : Change) : Type 0 where
   pub unborn : (i : ℕ) → length (current log).nodes ≤ i → alters i c ≡ false
 
 -- After it each path leads where it led, and waits where it waited.
-module _ (said : Said) (dirty : List Route) (marks : Marks) (log : CallLog) (c : Change) (known : IsKnown said dirty marks log) (n : IsNameless log c) where
+module _ (said : HistoryFacts) (dirty : List Route) (marks : Marks) (log : CallLog) (c : Change) (known : IsKnown said dirty marks log) (n : IsNameless log c) where
   abbrev now : CallLog
   now = with_change log c
 
@@ -168,7 +168,7 @@ module _ (said : Said) (dirty : List Route) (marks : Marks) (log : CallLog) (c :
   calm_apart p apart = unjoined_still log c known.guarded.tree known.files n.within (starts_same log c) as_before was_at p apart
 
 -- a quiet call, and what it alters is nothing that can be seen but the part that stands
-pub record IsCalm (said : Said) (marks : Marks) (log : CallLog) (c : Change) : Type 0 where
+pub record IsCalm (said : HistoryFacts) (marks : Marks) (log : CallLog) (c : Change) : Type 0 where
   pub quiet : IsQuiet marks log c
   pub within : is_within c ≡ true
   pub still : (p : Route) (i : ℕ) → (said.part ≡ Some p → ⊥) → find (current log) p ≡ Some i → alters i c ≡ false
@@ -176,7 +176,7 @@ pub record IsCalm (said : Said) (marks : Marks) (log : CallLog) (c : Change) : T
   -- no mode of it waits
   pub moded : (i : ℕ) → alters i c ≡ true → marks.modes i ≡ None
 
-module _ (said : Said) (dirty : List Route) (marks : Marks) (log : CallLog) (c : Change) (known : IsKnown said dirty marks log) (calm : IsCalm said marks log c) where
+module _ (said : HistoryFacts) (dirty : List Route) (marks : Marks) (log : CallLog) (c : Change) (known : IsKnown said dirty marks log) (calm : IsCalm said marks log c) where
   quiet_of : IsQuiet marks log c
   quiet_of = calm.quiet
 

@@ -6,7 +6,7 @@ use Rattle.mc_text.specs.Routes.{Route}
 use Rattle.tree_trait.specs.declared.calls.TreeError.{TreeError}
 use Rattle.tree_trait.specs.Answers.{Performs}
 use Rattle.tree_trait.specs.Calls.{Call, Rename, SetMode, SyncFile}
-use Rattle.tree_trait.specs.Change.{Change, Sets, Syncs, CallLog, current, found, with_change}
+use Rattle.tree_trait.specs.Change.{Change, Sets, Syncs, CallLog, current, found_node, with_change}
 use Rattle.tree_trait.specs.CrashImages.{says}
 use Rattle.tree_trait.specs.Shape.{IsTree}
 use Rattle.tree_trait.proofs.Kept.{tree_set}
@@ -60,15 +60,15 @@ module _ (P : CallLog → Type 0) (quiet : (log : CallLog) (c : Change) → IsTr
   synced : (from mid : CallLog) (part : Route) → Performs {A = Unit {0}} from (SyncFile part) (Ok tt) (Some mid) → IsTree (current from) × P from → IsTree (current mid) × P mid
   synced from mid part h (tree, known) =
       let d = done_call from (SyncFile part) mid h in (
-        subst (λ (x : CallLog). IsTree (current x)) (sym d.is) (tree_synced from (found (current from) part) tree),
-        subst P (sym d.is) (quiet from (Syncs (found (current from) part)) tree (λ n g m. refl) known),
+        subst (λ (x : CallLog). IsTree (current x)) (sym d.is) (tree_synced from (found_node (current from) part) tree),
+        subst P (sym d.is) (quiet from (Syncs (found_node (current from) part)) tree (λ n g m. refl) known),
       )
 
   moded : (from mid : CallLog) (part : Route) (mode : ℕ) → Performs {A = Unit {0}} from (SetMode part mode) (Ok tt) (Some mid) → IsTree (current from) × P from → IsTree (current mid) × P mid
   moded from mid part mode h (tree, known) =
       let d = done_call from (SetMode part mode) mid h in (
-        subst (λ (x : CallLog). IsTree (current x)) (sym d.is) (tree_moded from (found (current from) part) mode tree),
-        subst P (sym d.is) (quiet from (Sets (found (current from) part) mode) tree (λ n g m. refl) known),
+        subst (λ (x : CallLog). IsTree (current x)) (sym d.is) (tree_moded from (found_node (current from) part) mode tree),
+        subst P (sym d.is) (quiet from (Sets (found_node (current from) part) mode) tree (λ n g m. refl) known),
       )
 
   module _ (now : CallLog) (part target : Route) where

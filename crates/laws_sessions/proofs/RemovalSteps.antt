@@ -17,7 +17,7 @@ use Rattle.job_reports.specs.declared.report.Did.{Did}
 use Rattle.job_reports.specs.declared.report.Did.TheVariants.{Removed, Kept, Skipped, Barrier, Troubled, Ended}
 use Rattle.job_reports.specs.Paths.{folder_of}
 use Rattle.job_reports.proofs.CallAnswers.{some_log}
-use Rattle.job_unsynced.specs.Folders.{joined}
+use Rattle.job_unsynced.specs.Folders.{joined_folders}
 use Rattle.emptied_job.specs.declared.removal.RemovalStage.{RemovalStage}
 use Rattle.emptied_job.specs.declared.removal.RemovalStage.TheVariants as removal
 use Rattle.emptied_job.specs.Removals.{LastRemovalCalls, RemovalCalls, RemovalLeaves, Removing, Stops, Tells, Winds, is_dirty, is_fresh}
@@ -34,17 +34,17 @@ use Rattle.laws_sessions.proofs.Deleted.{IsRemoval, comes_refused, folder_remove
 use Rattle.laws_sessions.proofs.DeletionSteps.{Steps, ends, joined_holds, joined_more, same_dirty, tried}
 use Rattle.laws_sessions.proofs.Intact.{removed_in}
 use Rattle.laws_sessions.proofs.JobKnows.{HasName, KnowsAfter, WorkKnows, calm_in, over_it}
-use Rattle.laws_sessions.proofs.Knowing.{IsCalmFolder, IsKept, Said}
+use Rattle.laws_sessions.proofs.Knowing.{IsCalmFolder, IsKept, HistoryFacts}
 use Rattle.laws_sessions.proofs.Sources.{item_in}
-use Rattle.laws_sessions.proofs.Stepped.{Comes, said_after}
+use Rattle.laws_sessions.proofs.Stepped.{StepRan, said_after}
 use Rattle.laws_sessions.proofs.ThingRests.{NoneWithin, around_sure, modes_within, none_around, none_in_emptied, prefix_append, sure_within, unjoined}
 
-module _ (told : Said) (dirty dirty_after : List Route) (marks : Marks) (log now : CallLog) (kept : IsKept told dirty marks log) where
+module _ (told : HistoryFacts) (dirty dirty_after : List Route) (marks : Marks) (log now : CallLog) (kept : IsKept told dirty marks log) where
   abbrev In : Did → Course → Work → Work → Type 0
   In did course work new = Steps told dirty dirty_after marks log now kept did course work new
 
   -- The folder is removed, of which nothing waits, nor in the one that holds it.
-  removes : (r new : Removing) → HasName r.path → told.part ≡ None → new.path ≡ r.path → NoneOwed (current log) (RemoveEmptied r) dirty → dirty_after ≡ joined (folder_of r.path) dirty
+  removes : (r new : Removing) → HasName r.path → told.part ≡ None → new.path ≡ r.path → NoneOwed (current log) (RemoveEmptied r) dirty → dirty_after ≡ joined_folders (folder_of r.path) dirty
       → Performs {A = Unit {0}} log (RemoveFolder r.path) (Ok tt) (Some now) → In (Removed r.path) GoesOn (RemoveEmptied r) (RemoveEmptied new)
   removes r new name none path_is owed routes done =
       removes_thing told dirty dirty_after marks log now r.path (RemoveEmptied r) (KnowsAfter (Removed r.path) (said_after now (Removed r.path) (RemoveEmptied r) told) dirty_after now GoesOn (RemoveEmptied new)) kept none
@@ -74,9 +74,9 @@ module _ (told : Said) (dirty dirty_after : List Route) (marks : Marks) (log now
 
   -- a call that was refused, after which it stands so
   refused_at : (course : Course) (r new : Removing) → HasName r.path → told.part ≡ None → new.path ≡ r.path → (now ≡ log) ⊎ (now ≡ with_change log Nothing) → dirty_after ≡ dirty
-      → Comes told told dirty_after log now (λ m. WorkKnows told dirty_after m now course (RemoveEmptied new))
+      → StepRan told told dirty_after log now (λ m. WorkKnows told dirty_after m now course (RemoveEmptied new))
   refused_at course r new name none path_is how routes =
-      subst (λ xs. Comes told told xs log now (λ m. WorkKnows told xs m now course (RemoveEmptied new))) (sym routes)
+      subst (λ xs. StepRan told told xs log now (λ m. WorkKnows told xs m now course (RemoveEmptied new))) (sym routes)
       (comes_refused told dirty marks log now course (RemoveEmptied new) kept (stays course r new name none path_is dirty) how)
 
   stops_same : (r : Removing) (stage : RemovalStage) (cause : Cause) (path : Option Route) → Stops r stage cause path log (Some now) → (now ≡ log) ⊎ (now ≡ with_change log Nothing)

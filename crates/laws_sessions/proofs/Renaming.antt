@@ -16,7 +16,7 @@ use Rattle.laws_crash.proofs.Guarding.{naming_law, find_same, found_at}
 use Rattle.laws_crash.proofs.Syncing.{unaltered_law}
 use Rattle.laws_sessions.specs.Doubt.{is_pending, way_waits, name_waits, is_joint, joins}
 use Rattle.laws_sessions.proofs.Pending.{pending_less, says_at}
-use Rattle.laws_sessions.proofs.Knowing.{HasMode, HasNoMode, IsCalmFolder, IsKnown, IsUnreached, Said, held, nowhere}
+use Rattle.laws_sessions.proofs.Knowing.{HasMode, HasNoMode, IsCalmFolder, IsKnown, IsUnreached, HistoryFacts, held, nowhere}
 use Rattle.laws_sessions.proofs.Quiet.{held_same, kind_same, shows_same, starts_same, unclean_before, was_bare}
 use Rattle.laws_sessions.proofs.Resting.{IsBeside, IsSureFolder, folder_at_of, joint_after, joint_folder, mount_still, restless_folder, stands_at, sure_still, unborn_more, unjoined_after}
 use Rattle.laws_sessions.proofs.Restless.{is_restless, named_both, names_in, restless_less}
@@ -61,7 +61,7 @@ in_one_folder log c up first second f stands folder here at files files_now = re
 }
 
 -- A call that changes the names of files in one folder or in two, at these two paths alone, and what the history says then.
-pub record IsFileNaming (said after : Said) (dirty dirty_after : List Route) (marks : Marks) (log : CallLog) (c : Change) (up beside first second : Route) (f g : ℕ) : Type 0 where
+pub record IsFileNaming (said after : HistoryFacts) (dirty dirty_after : List Route) (marks : Marks) (log : CallLog) (c : Change) (up beside first second : Route) (f g : ℕ) : Type 0 where
   pub naming : IsNaming marks log c
   pub names : ChangesFiles log c up beside first second f g
   pub made : (i : ℕ) → length (current log).nodes ≤ i → is_folder (node (current (with_change log c)) i) ≡ false
@@ -92,7 +92,7 @@ pub record IsFileNaming (said after : Said) (dirty dirty_after : List Route) (ma
       → (marks.was p ≡ find (current (with_change log c)) p) ⊎ ((held (current log) (marks.was p) ≡ (after.earlier p).value) × HasNoMode marks (marks.was p))
   pub part : (p : Route) → after.part ≡ Some p → (marks.aside p ≡ true) × (after.tree p ≡ nowhere) × (is_some (find (current (with_change log c)) p) ≡ true)
 
-module _ (said after : Said) (dirty dirty_after : List Route) (marks : Marks) (log : CallLog) (c : Change) (up beside first second : Route) (f e : ℕ)
+module _ (said after : HistoryFacts) (dirty dirty_after : List Route) (marks : Marks) (log : CallLog) (c : Change) (up beside first second : Route) (f e : ℕ)
     (known : IsKnown said dirty marks log) (n : IsFileNaming said after dirty dirty_after marks log c up beside first second f e) where
   abbrev now : CallLog
   now = with_change log c

@@ -5,7 +5,7 @@ use Rattle.std.proofs.lemmas.Bool.{true≢false, both_ways, eqb-true, or_cases, 
 use Rattle.mc_text.specs.Routes.{Route, is_prefix, same_path}
 use Rattle.tree_trait.specs.FileSystem.{find, node}
 use Rattle.tree_trait.specs.Calls.{Rename}
-use Rattle.tree_trait.specs.Change.{Change, Moves, Nothing, CallLog, current, found, with_change}
+use Rattle.tree_trait.specs.Change.{Change, Moves, Nothing, CallLog, current, found_node, with_change}
 use Rattle.tree_trait.specs.Refusals.{is_folder}
 use Rattle.tree_trait.specs.CrashImages.{Among}
 use Rattle.tree_trait.specs.Answers.{Performs}
@@ -20,7 +20,7 @@ use Rattle.laws_sessions.proofs.AtRest.{RestsBelow}
 use Rattle.laws_sessions.proofs.Changing.{off_itself, some_none}
 use Rattle.laws_sessions.proofs.Deleted.{file_no_mount}
 use Rattle.laws_sessions.proofs.JobKnows.{NoneOn, NoneOver, modes_in, none_joint, none_waits, over_it, way_sure}
-use Rattle.laws_sessions.proofs.Knowing.{IsCalmIn, IsKept, IsKnown, Said, settled_marks}
+use Rattle.laws_sessions.proofs.Knowing.{IsCalmIn, IsKept, IsKnown, HistoryFacts, settled_marks}
 use Rattle.laws_sessions.proofs.MoveKnown.{IsMovedIn, moved_settled}
 use Rattle.laws_sessions.proofs.MovedTree.{MovesThing, source_gone, source_stands, target_stands, where_was}
 use Rattle.laws_sessions.proofs.MovingThings.{CanMoveThing, marks_moving, pair_of, said_thing_moved, thing_moved_known, thing_rests}
@@ -29,20 +29,20 @@ use Rattle.laws_sessions.proofs.Quiet.{starts_same}
 use Rattle.laws_sessions.proofs.Renamings.{IsRenaming, renaming_passes}
 use Rattle.laws_sessions.proofs.Resting.{sure_path}
 use Rattle.laws_sessions.proofs.Restless.{joint_less, named_both, names_in}
-use Rattle.laws_sessions.proofs.Stepped.{Comes, comes_one}
+use Rattle.laws_sessions.proofs.Stepped.{StepRan, comes_one}
 
 -- A thing is renamed, a folder where nothing stands; nothing waits in it, and nothing is dirty on the mounts of both folders, nor on those of the folders on the way to them.
-module _ (told : Said) (dirty dirty_after : List Route) (marks : Marks) (log now : CallLog) (kept : IsKept told dirty marks log) (old : List ℕ) (from : Route) (new : List ℕ) (to : Route)
-    (none : told.part ≡ None) (other : same_path (old ∷ from) (new ∷ to) ≡ false) (owed : NoneOver (current log) to dirty) (owed_from : NoneOver (current log) from dirty) (free : is_folder (node (current log) (found (current log) (old ∷ from))) ≡ true → find (current log) (new ∷ to) ≡ None)
+module _ (told : HistoryFacts) (dirty dirty_after : List Route) (marks : Marks) (log now : CallLog) (kept : IsKept told dirty marks log) (old : List ℕ) (from : Route) (new : List ℕ) (to : Route)
+    (none : told.part ≡ None) (other : same_path (old ∷ from) (new ∷ to) ≡ false) (owed : NoneOver (current log) to dirty) (owed_from : NoneOver (current log) from dirty) (free : is_folder (node (current log) (found_node (current log) (old ∷ from))) ≡ true → find (current log) (new ∷ to) ≡ None)
     (rests : RestsBelow marks log (old ∷ from)) (listed : Among dirty_after from) (listed_beside : Among dirty_after to) (more : (q : Route) → Among dirty q → Among dirty_after q) (done : Performs {A = Unit {0}} log (Rename (old ∷ from) (new ∷ to)) (Ok tt) (Some now)) where
   abbrev f : ℕ
-  f = found (current log) from
+  f = found_node (current log) from
 
   abbrev g : ℕ
-  g = found (current log) to
+  g = found_node (current log) to
 
   abbrev i : ℕ
-  i = found (current log) (old ∷ from)
+  i = found_node (current log) (old ∷ from)
 
   abbrev r : Option ℕ
   r = find (current log) (new ∷ to)
@@ -53,7 +53,7 @@ module _ (told : Said) (dirty dirty_after : List Route) (marks : Marks) (log now
   abbrev moved_log : CallLog
   moved_log = with_change log moves
 
-  abbrev after : Said
+  abbrev after : HistoryFacts
   after = said_thing_moved told old from new to
 
   abbrev roaming : Marks
@@ -163,7 +163,7 @@ module _ (told : Said) (dirty dirty_after : List Route) (marks : Marks) (log now
     told_to = or_right (told.folders to && not (is_of_move (pair_of (old ∷ from) (new ∷ to)) to)) _ (or_right (same_path to from) (same_path to to) (same_path-self to));
   }
 
-  pub thing_moves : (knows : Marks → Type 0) → ((m : Marks) → IsMovedIn after m now renamed → knows m) → Comes told after dirty_after log now knows
+  pub thing_moves : (knows : Marks → Type 0) → ((m : Marks) → IsMovedIn after m now renamed → knows m) → StepRan told after dirty_after log now knows
   thing_moves knows known_of =
       comes_one told after dirty dirty_after marks roaming log now moves knows kept now_is
       (subst (λ (l : CallLog). IsKnown after dirty_after roaming l) (sym now_is) (thing_moved_known told dirty marks log kept old from new to f g i r can dirty_after listed listed_beside more))

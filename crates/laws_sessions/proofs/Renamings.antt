@@ -7,21 +7,21 @@ use Rattle.tree_trait.specs.declared.file_system.FileSystem.{FileSystem}
 use Rattle.tree_trait.specs.declared.calls.TreeError.{TreeError}
 use Rattle.tree_trait.specs.declared.calls.TreeError.TheVariants.{CrossMount, Denied, IntoItself, IsFolder, Missing, Mounted, NotEmpty, NotFolder}
 use Rattle.tree_trait.specs.Calls.{Rename}
-use Rattle.tree_trait.specs.Change.{found}
+use Rattle.tree_trait.specs.Change.{found_node}
 use Rattle.tree_trait.specs.FileSystem.{find, node, starts_mount}
 use Rattle.tree_trait.specs.Refusals.{Place, after_walk, first_of, folder_of, is_empty, is_folder, is_mount, lacks, mount_of, refusal_of, rename_refusal, same_mount, thing, walk}
 use Rattle.tree_trait.proofs.Walking.{check_passes, last_place, passed_walk, some_there, walk-find}
 
 -- both folders stand, on one mount, and what is renamed, which isn't moved into itself; no mount begins there, and a folder isn't replaced by what is none
 pub record IsRenaming (s : FileSystem) (old : List ℕ) (from : Route) (new : List ℕ) (to : Route) : Type 0 where
-  pub from_at : find s from ≡ Some (found s from)
-  pub to_at : find s to ≡ Some (found s to)
-  pub holds : is_folder (node s (found s to)) ≡ true
-  pub leads : find s (old ∷ from) ≡ Some (found s (old ∷ from))
+  pub from_at : find s from ≡ Some (found_node s from)
+  pub to_at : find s to ≡ Some (found_node s to)
+  pub holds : is_folder (node s (found_node s to)) ≡ true
+  pub leads : find s (old ∷ from) ≡ Some (found_node s (old ∷ from))
   pub mount : mount_of s to ≡ mount_of s from
   pub into : is_prefix (old ∷ from) (new ∷ to) ≡ false
-  pub unmounted : starts_mount s (found s (old ∷ from)) ≡ false
-  pub bare : is_folder (node s (found s (old ∷ from))) ≡ false → (j : ℕ) → find s (new ∷ to) ≡ Some j → is_folder (node s j) ≡ false
+  pub unmounted : starts_mount s (found_node s (old ∷ from)) ≡ false
+  pub bare : is_folder (node s (found_node s (old ∷ from))) ≡ false → (j : ℕ) → find s (new ∷ to) ≡ Some j → is_folder (node s j) ≡ false
 
 -- the checks between two paths
 abbrev apart_checks : FileSystem → Route → Route → Place → Place → List (Bool × TreeError)

@@ -10,7 +10,7 @@ use Rattle.job_reports.specs.declared.report.Did.TheVariants.{Began, Chunk, Plac
 use Rattle.job_reports.specs.declared.job.Pair.{Pair}
 use Rattle.job_reports.specs.declared.job.Job.{Job}
 use Rattle.job_reports.specs.declared.job.Job.TheVariants as plan
-use Rattle.job_reports.specs.Jobs.{Item, is_link_text}
+use Rattle.job_reports.specs.Jobs.{ItemOfJob, is_link_text}
 use Rattle.copy_move.specs.declared.run.Course.TheVariants.{GoesOn}
 use Rattle.make_job.specs.declared.new_thing.NewThing.{NewThing}
 use Rattle.make_job.specs.declared.new_thing.NewThing.TheVariants as thing
@@ -18,14 +18,14 @@ use Rattle.copy_move.specs.declared.work.Work.{Work}
 use Rattle.copy_move.specs.Jobs.{Running, first_work}
 use Rattle.session_entries.specs.LiveJobs.{LiveJob, after_report}
 use Rattle.laws_sessions.specs.Traces.{before_others, unless_ended, with_job}
-use Rattle.laws_sessions.proofs.Knowing.{Said}
+use Rattle.laws_sessions.proofs.Knowing.{HistoryFacts}
 use Rattle.laws_sessions.proofs.JobKnows.{HasName, KnowsAfter, WorkKnows}
 use Rattle.laws_sessions.proofs.Sources.{item_in}
 use Rattle.laws_sessions.proofs.Stepped.{part_after}
 use Rattle.laws_sessions.proofs.TreeSkipped.{begins_tree}
 
 -- what is known of the live jobs: of none no part stands
-abbrev pub JobsKnow : Said → List Route → Marks → CallLog → List Running → Type 0
+abbrev pub JobsKnow : HistoryFacts → List Route → Marks → CallLog → List Running → Type 0
 JobsKnow told dirty marks log [] = told.part ≡ None
 JobsKnow told dirty marks log (job ∷ []) = WorkKnows told dirty marks log job.course job.work
 JobsKnow told dirty marks log (job ∷ other ∷ jobs) = ⊥
@@ -42,7 +42,7 @@ same_id id = eq-eqb id id refl
 pub with_one : (job : Running) (new : Option Running) → with_job job.id new (job ∷ []) ≡ before_others new []
 with_one job new = ap (λ b. if◌then◌else◌ b (before_others new []) (job ∷ [])) (same_id job.id)
 
-module _ (told : Said) (dirty : List Route) (marks : Marks) (log : CallLog) (new : Running) where
+module _ (told : HistoryFacts) (dirty : List Route) (marks : Marks) (log : CallLog) (new : Running) where
   -- the jobs after a report
   pub knows_after : (did : Did) → KnowsAfter did told dirty log new.course new.work marks → JobsKnow told dirty marks log (before_others (unless_ended did new) [])
   knows_after (Ended ending part) k = k
@@ -61,7 +61,7 @@ module _ (told : Said) (dirty : List Route) (marks : Marks) (log : CallLog) (new
   knows_after Barrier k = k
   knows_after (Troubled trouble) k = k
 
-module _ (id : ℕ) (item : Item) (part : Option Route) (new : Running) (same : new.id ≡ id) (same_item : item ≡ item_in new.work) where
+module _ (id : ℕ) (item : ItemOfJob) (part : Option Route) (new : Running) (same : new.id ≡ id) (same_item : item ≡ item_in new.work) where
   abbrev one : List LiveJob
   one = (let l : LiveJob = record { id = id; item = item; part = part } in l) ∷ []
 
@@ -96,7 +96,7 @@ has_name [] h = absurd (false≢true h)
 has_name (name ∷ folder) h = record { name = name; is = refl }
 
 -- the work of a plan knows its target
-module _ (told : Said) (dirty : List Route) (marks : Marks) (log : CallLog) (none : told.part ≡ None) where
+module _ (told : HistoryFacts) (dirty : List Route) (marks : Marks) (log : CallLog) (none : told.part ≡ None) where
   deletes : (path : Route) (w : Work) (b : Bool) → is_some (parent_of path) ≡ b → (let o : Option Work = if◌then◌else◌ b (Some (Rattle.copy_move.specs.Jobs.deletes path)) None in o) ≡ Some w → WorkKnows told dirty marks log GoesOn w
   deletes path w true has is = subst (λ x. WorkKnows told dirty marks log GoesOn x) (let e : Rattle.copy_move.specs.Jobs.deletes path ≡ w = cc in e) (has_name path has, none, λ e. absurd (let f : ⊥ = cc in f))
   deletes path w false has is = absurd (let f : ⊥ = cc in f)

@@ -3,14 +3,14 @@ use Rattle.std.specs.Prelude.{◌≡◌, Bool, true, List}
 use Rattle.mc_text.specs.Routes.{Route}
 use Rattle.tree_trait.specs.Change.{CallLog}
 use Rattle.laws_crash.specs.Guarded.{Marks}
-use Rattle.laws_sessions.proofs.Knowing.{HasMode, IsCalmFolder, IsKept, Said}
+use Rattle.laws_sessions.proofs.Knowing.{HasMode, IsCalmFolder, IsKept, HistoryFacts}
 use Rattle.laws_sessions.proofs.Resting.{IsSureFolder}
 
-abbrev pub restated : Said → (Route → Bool) → (Route → Bool) → Said
+abbrev pub restated : HistoryFacts → (Route → Bool) → (Route → Bool) → HistoryFacts
 restated told folders calm = record told { folders = folders; calm = calm }
 
-module _ (told : Said) (folders calm : Route → Bool) where
-  abbrev other : Said
+module _ (told : HistoryFacts) (folders calm : Route → Bool) where
+  abbrev other : HistoryFacts
   other = restated told folders calm
 
   pub restated_kept : (dirty : List Route) (marks : Marks) (log : CallLog) → IsKept told dirty marks log → ((p : Route) → folders p ≡ true → IsSureFolder log p) → ((p : Route) → calm p ≡ true → IsCalmFolder marks log p)

@@ -26,13 +26,13 @@ use Rattle.copy_folders.specs.declared.stage.NamesState.TheVariants.{Synced}
 use Rattle.copy_folders.specs.declared.stage.Stage.TheVariants as at
 use Rattle.copy_folders.specs.declared.level.Level.{Level}
 use Rattle.copy_folders.specs.Levels.{is_around_dirty}
-use Rattle.copy_tree.specs.declared.item.Item.{Item}
-use Rattle.copy_tree.specs.declared.item.Item.TheVariants.{Next, File, Link, Stays}
+use Rattle.copy_tree.specs.declared.item.ItemAtWork.{ItemAtWork}
+use Rattle.copy_tree.specs.declared.item.ItemAtWork.TheVariants.{Next, File, Link, Stays}
 use Rattle.copy_tree.specs.InPlace.{AreMoved, IsInPlace, IsMoved, owed_of}
 use Rattle.copy_tree.specs.Parts.{IsPartPlace}
 use Rattle.copy_tree.specs.Reports.{IsToldAs}
 use Rattle.copy_tree.specs.Standing.{Seen}
-use Rattle.copy_tree.specs.Steps.{FolderEnds, TakesNext, WorksOn, at_end}
+use Rattle.copy_tree.specs.TreeCopySteps.{FolderEnds, TakesNext, WorksOn, at_end}
 use Rattle.copy_tree.proofs.InPlaces.{closed_in_place, leaves_all}
 use Rattle.session_entries.specs.Moves.{moved_from}
 use Rattle.laws_sessions.specs.Replayed.{set_by, with_mode_of}
@@ -141,7 +141,7 @@ module _ (log now : CallLog) (tree : IsTree (current log)) (v : View) (shows : S
     set_in clean (inr (inr (inr (inr (inr (inr (inr (next, inl (debt, e))))))))) = folder_set clean e
     set_in clean (inr (inr (inr (inr (inr (inr (inr (next, inr (debt, f, same))))))))) = absurd (let e : common.Set path ≡ _ = f.says in let x : ⊥ = cc in x)
 
-    set_by_work : (item : Item) → WorksOn item (IsPartPlace free old) replies old new did (Some log) (Some now) → Is
+    set_by_work : (item : ItemAtWork) → WorksOn item (IsPartPlace free old) replies old new did (Some log) (Some now) → Is
     set_by_work Next (inl s) =
         let tells = subst (λ r. Tells (at_sync s.outer.copy) r (record (at_sync s.outer.copy) { names = s.names })) (told_set s.report s.says) s.tells in
         absurd (let stage = tells.1 in let f : ⊥ = cc in f)

@@ -16,7 +16,7 @@ use Rattle.tree_trait.proofs.Kept.{tree_set}
 use Rattle.tree_trait.proofs.Visible.{same_path-self, same_path-true}
 use Rattle.laws_crash.specs.Possible.{MayFind}
 use Rattle.laws_crash.specs.Guarded.{Marks, IsGuarded, IsSettledAt, with_mode}
-use Rattle.laws_crash.specs.Modes.{moded}
+use Rattle.laws_crash.specs.Modes.{marks_with_mode}
 use Rattle.laws_crash.proofs.Guarding.{found_at, quiet_law, same_quiet, settle_law}
 use Rattle.laws_crash.proofs.Leading.{current_more}
 use Rattle.laws_crash.proofs.ModeLaws.{setting_law}
@@ -26,7 +26,7 @@ use Rattle.job_reports.specs.Paths.{folder_of}
 use Rattle.laws_sessions.specs.Doubt.{is_pending, name_waits, way_waits}
 use Rattle.laws_sessions.proofs.Changing.{folder_anchored}
 use Rattle.laws_sessions.proofs.JobKnows.{none_unlisted}
-use Rattle.laws_sessions.proofs.Knowing.{HasMode, IsCalmFolder, IsCalmIn, IsKept, IsKnown, Said, firm_now, held}
+use Rattle.laws_sessions.proofs.Knowing.{HasMode, IsCalmFolder, IsCalmIn, IsKept, IsKnown, HistoryFacts, firm_now, held}
 use Rattle.laws_sessions.proofs.PartNodes.{moded_node}
 use Rattle.laws_sessions.proofs.Quiet.{IsNameless, calm_apart, calm_files, calm_firm, calm_joint, calm_tracked, held_same, shows_same, starts_same, unclean_before, waits_before, was_folder}
 use Rattle.laws_sessions.proofs.Resting.{IsSureFolder, settled_unless}
@@ -35,7 +35,7 @@ use Rattle.laws_sessions.proofs.RoamingFolders.{roaming_still}
 use Rattle.laws_sessions.proofs.WaitsFor.{waits_for}
 
 -- A mode is to be set where nothing of the path waits, nor another mode of what stands there, and what the history says once it is.
-pub record SetsMode (told after : Said) (dirty dirty_after : List Route) (marks : Marks) (log : CallLog) (path : Route) (i mode : ℕ) : Type 0 where
+pub record SetsMode (told after : HistoryFacts) (dirty dirty_after : List Route) (marks : Marks) (log : CallLog) (path : Route) (i mode : ℕ) : Type 0 where
   pub at : find (current log) path ≡ Some i
   pub sure : way_waits log path ≡ false
   pub no_mode : marks.modes i ≡ None
@@ -63,7 +63,7 @@ some_is : (x y : ℕ) → (let o : Option ℕ = Some x in o) ≡ Some y → y �
 some_is x y h = cc
 
 -- nothing that stands is dirty: so no name waits, nor a mode
-module _ (told : Said) (dirty : List Route) (marks : Marks) (log : CallLog) (kept : IsKept told dirty marks log) (gone : (q : Route) → Among dirty q → find (current log) q ≡ None) where
+module _ (told : HistoryFacts) (dirty : List Route) (marks : Marks) (log : CallLog) (kept : IsKept told dirty marks log) (gone : (q : Route) → Among dirty q → find (current log) q ≡ None) where
   no_name : (p : Route) → name_waits log p ≡ false
   no_name [] = refl
   no_name (name ∷ up) = by (find (current log) up) refl
@@ -93,7 +93,7 @@ module _ (told : Said) (dirty : List Route) (marks : Marks) (log : CallLog) (kep
   no_mode p i at = none_unlisted told dirty marks log kept p i at (λ among. some_not_none i (sym (gone p among) ∙ at))
 
 -- A folder that is on the disk is found after any crash at its path or nowhere, so wherever else it is said to have stood nothing waits.
-pub folder_once : (told : Said) (dirty : List Route) (marks : Marks) (log : CallLog) → IsKept told dirty marks log → (path : Route) (i : ℕ) → find (current log) path ≡ Some i → is_folder (node (current log) i) ≡ true
+pub folder_once : (told : HistoryFacts) (dirty : List Route) (marks : Marks) (log : CallLog) → IsKept told dirty marks log → (path : Route) (i : ℕ) → find (current log) path ≡ Some i → is_folder (node (current log) i) ≡ true
     → way_waits log path ≡ false → (p : Route) → marks.aside p ≡ false → marks.was p ≡ Some i → IsSettledAt log p
 folder_once told dirty marks log kept path i at folder sure p out was x found = elim (kept.known.guarded.twofold p x out found) [
   | inl now ↦ now
@@ -150,7 +150,7 @@ pub record IsMarked (marks new : Marks) (log : CallLog) (path : Route) (i mode :
   -- the mode of the thing may wait now
   pub moded : (j before : ℕ) → new.modes j ≡ Some before → ((j ≡ i) × (before ≡ (node (current log) i).mode) × (new.aside path ≡ false)) ⊎ ((j ≡ i → ⊥) × (marks.modes j ≡ Some before))
 
-module _ (told after : Said) (dirty dirty_after : List Route) (marks : Marks) (log : CallLog) (path : Route) (i mode : ℕ) (kept : IsKept told dirty marks log) (s : SetsMode told after dirty dirty_after marks log path i mode) where
+module _ (told after : HistoryFacts) (dirty dirty_after : List Route) (marks : Marks) (log : CallLog) (path : Route) (i mode : ℕ) (kept : IsKept told dirty marks log) (s : SetsMode told after dirty dirty_after marks log path i mode) where
   abbrev sets : Change
   sets = Sets i mode
 
@@ -244,7 +244,7 @@ module _ (told after : Said) (dirty dirty_after : List Route) (marks : Marks) (l
       path_by p out true is = inr (settled_there p out is)
       path_by p out false is = let b = as_before p out is in inl (b.1, b.0)
 
-  firm_marked : marks.loose i ≡ false → IsMarked marks (moded i (node (current log) i).mode shown_marks) log path i mode
+  firm_marked : marks.loose i ≡ false → IsMarked marks (marks_with_mode i (node (current log) i).mode shown_marks) log path i mode
   firm_marked firm = record {
     guarded = setting_law.sets shown_marks log i mode (shown_guarded firm) there firm s.no_mode;
     aside = λ p is. still_aside (marks.aside p) (same_path p path) is;
@@ -270,7 +270,7 @@ module _ (told after : Said) (dirty dirty_after : List Route) (marks : Marks) (l
     where
       by : (b : Bool) → marks.loose i ≡ b → (new : Marks) × IsMarked marks new log path i mode
       by true loose = (marks, loose_marked loose)
-      by false firm = (moded i (node (current log) i).mode shown_marks, firm_marked firm)
+      by false firm = (marks_with_mode i (node (current log) i).mode shown_marks, firm_marked firm)
 
   node_now : node (current now) i ≡ with_mode mode (node (current log) i)
   node_now = moded_node log i mode there

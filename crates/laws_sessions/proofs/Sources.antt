@@ -7,7 +7,7 @@ use Rattle.job_answers.specs.declared.replies.Replies.{Replies}
 use Rattle.job_reports.specs.declared.job.Job.{Job}
 use Rattle.job_reports.specs.declared.job.Pair.{Pair}
 use Rattle.job_reports.specs.declared.job.Job.TheVariants as plan
-use Rattle.job_reports.specs.Jobs.{Item, Copies, Moves, Removes, Makes, MakesLink, Sets, RemovesEmptied, folder_changed, is_link_text, item_of}
+use Rattle.job_reports.specs.Jobs.{ItemOfJob, Copies, Moves, Removes, Makes, MakesLink, Sets, RemovesEmptied, folder_changed, is_link_text, item_of}
 use Rattle.job_reports.specs.declared.report.Ending.{Ending}
 use Rattle.job_reports.specs.declared.report.Ending.TheVariants.{Finished}
 use Rattle.job_reports.specs.declared.report.Did.{Did}
@@ -32,17 +32,17 @@ pub use Rattle.emptied_job.proofs.RemovalFolders.{removal_stays, removal_winds_t
 use Rattle.mode_job.specs.ModeSettings as modes
 use Rattle.mode_job.specs.Settings.{Setting}
 use Rattle.mode_job.specs.Settings as settings
-use Rattle.copy_move.specs.Jobs.{PassesOver, Running, JobTells, TellsOn, WorkTells, WorkWinds, answered, answered_on, copies, deletes, first_work, makes, moves, removes_emptied, sets, taken_anew}
+use Rattle.copy_move.specs.Jobs.{PassesOver, Running, JobTells, TellsOn, WorkTells, WorkWinds, answered_job, answered_on, copies, deletes, first_work, makes, moves, removes_emptied, sets, taken_anew}
 use Rattle.copy_move.specs.Settling.{changed_folder}
 use Rattle.laws_sessions.specs.Staying.{may_change}
 
 -- what is made at a path
-abbrev pub making_item : NewThing → Route → Item
+abbrev pub making_item : NewThing → Route → ItemOfJob
 making_item thing.Folder path = Makes path
 making_item (thing.Link text) path = MakesLink path text
 
 -- what a work is at, whatever its stage
-abbrev pub item_in : Work → Item
+abbrev pub item_in : Work → ItemOfJob
 item_in (Copy c) = Copies c.top.source c.top.target
 item_in (Delete d) = Removes d.path
 item_in (Make m) = making_item m.thing m.path
@@ -51,11 +51,11 @@ item_in (SetMode s) = Sets s.path s.mode
 item_in (RemoveEmptied r) = RemovesEmptied r.path
 
 -- of a copy
-abbrev tree_item : Pair → Item
+abbrev tree_item : Pair → ItemOfJob
 tree_item top = Copies top.source top.target
 
 -- of a move
-abbrev move_item : Pair → Item
+abbrev move_item : Pair → ItemOfJob
 move_item pair = Moves pair.source pair.target
 
 making_folder : (new : NewThing) (path : Route) → folder_changed (making_item new path) ≡ folder_of path
@@ -249,5 +249,5 @@ answer_on GoesOn answer job = (refl, refl)
 answer_on (Skips why) answer job = (refl, refl)
 answer_on (Ends ending) answer job = (refl, refl)
 
-pub answer_same : (answer : Answer) (job : Running) → IsSame job (answered answer job)
+pub answer_same : (answer : Answer) (job : Running) → IsSame job (answered_job answer job)
 answer_same answer job = answer_on job.course answer job

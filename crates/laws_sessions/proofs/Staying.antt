@@ -9,7 +9,7 @@ use Rattle.tree_trait.specs.Change.{Change, CallLog, current}
 use Rattle.tree_trait.specs.CrashImages.{all_settled}
 use Rattle.tree_trait.proofs.Visible.{same_path-self, same_path-true}
 use Rattle.job_reports.specs.declared.report.Transfer.TheVariants.{ByCopy}
-use Rattle.job_reports.specs.Jobs.{Item, item_of}
+use Rattle.job_reports.specs.Jobs.{ItemOfJob, item_of}
 use Rattle.laws_crash.specs.Guarded.{Marks}
 use Rattle.job_reports.specs.declared.report.Did.{Did}
 use Rattle.job_reports.specs.declared.report.Did.TheVariants.{Began, Chunk, Placed, Removed, Made, Set, Kept, Skipped, Cleaned, Barrier, Asked, Merges, Moved, Troubled, Ended}
@@ -22,7 +22,7 @@ use Rattle.copy_move.specs.declared.run.Course.{Course}
 use Rattle.copy_move.specs.declared.work.Work.{Work}
 use Rattle.copy_move.specs.Jobs.{Running}
 use Rattle.laws_sessions.specs.Doubt.{name_waits, node_waits}
-use Rattle.session_entries.specs.LiveJobs.{IsLivePart, LiveJob, after_event, after_report, live, live_jobs, part_after, turned}
+use Rattle.session_entries.specs.LiveJobs.{IsLivePart, LiveJob, after_event, after_report, live, live_jobs, part_after, turned_live_job}
 use Rattle.laws_sessions.specs.Replayed.{log_prefix}
 use Rattle.session_entries.specs.Entries.{IsMoment, calls_in}
 use Rattle.session_entries.specs.Named.{IsUnnamedSince, names, names_path}
@@ -34,17 +34,17 @@ use Rattle.laws_sessions.proofs.Histories.{IsReached, enters, traced_reached}
 use Rattle.laws_sessions.proofs.JobKnows.{WorkKnows, work_said}
 use Rattle.laws_sessions.proofs.JobLeads.{sync_leads, work_leads}
 use Rattle.laws_sessions.proofs.JobSteps.{gives_up}
-use Rattle.laws_sessions.proofs.Knowing.{IsKept, Said, waits_there}
+use Rattle.laws_sessions.proofs.Knowing.{IsKept, HistoryFacts, waits_there}
 use Rattle.laws_sessions.proofs.Moments.{prefix_cut, prefix_is, live_part, log_of, traced_count}
 use Rattle.laws_sessions.proofs.MovedPaths.{off_ends}
 use Rattle.laws_sessions.proofs.Reports.{JobsKnow}
-use Rattle.laws_sessions.proofs.Stepped.{AreMids, Comes, cut, doubt_by, mid_at, more, said_after}
+use Rattle.laws_sessions.proofs.Stepped.{AreMids, StepRan, cut, doubt_by, mid_at, more, said_after}
 
 -- what a history says, where a change may wait only of the paths of which one waits now, and a mode only where one does
-abbrev pub doubting : Said → CallLog → Said
+abbrev pub doubting : HistoryFacts → CallLog → HistoryFacts
 doubting told log = record told { doubt = name_waits log; modes = node_waits log }
 
-module _ (told : Said) (log : CallLog) where
+module _ (told : HistoryFacts) (log : CallLog) where
   pub work_doubting : (dirty : List Route) (marks : Marks) (now : CallLog) (course : Course) (work : Work) → WorkKnows told dirty marks now course work → WorkKnows (doubting told log) dirty marks now course work
   work_doubting dirty marks now course work k = work_said told (doubting told log) refl refl refl refl dirty marks now course work k
 
@@ -109,7 +109,7 @@ unnamed_sure (Ended ending left) part before path sure unnamed other = sure
 pub record IsStill (waits : CallLog → Bool) (before now : CallLog) : Type 0 where
   pub made : List Change
   pub now_is : now ≡ more before made
-  pub said : Said
+  pub said : HistoryFacts
   pub mids : AreMids said before made
   pub sure : (dirty : List Route) (marks : Marks) (log : CallLog) → IsKept said dirty marks log → waits log ≡ false
   pub after : waits now ≡ false
@@ -119,11 +119,11 @@ abbrev NameStill : Route → CallLog → CallLog → Type 0
 NameStill path before now = IsStill (λ log. name_waits log path) before now
 
 -- nor does one where none is said to
-pub unsaid : (said : Said) (path : Route) → said.doubt path ≡ false → (dirty : List Route) (marks : Marks) (log : CallLog) → IsKept said dirty marks log → name_waits log path ≡ false
+pub unsaid : (said : HistoryFacts) (path : Route) → said.doubt path ≡ false → (dirty : List Route) (marks : Marks) (log : CallLog) → IsKept said dirty marks log → name_waits log path ≡ false
 unsaid said path sure dirty marks log kept = false_from_ne_true _ (λ waits. both_ways _ sure (kept.known.doubts path waits))
 
-still_by : (told : Said) (dirty_after : List Route) (before now : CallLog) (did : Did) (work : Work) (knows : Marks → Type 0) (path : Route) → name_waits before path ≡ false → names did path ≡ false
-    → (told.part ≡ Some path → ⊥) → Comes (doubting told before) (said_after now did work (doubting told before)) dirty_after before now knows → NameStill path before now
+still_by : (told : HistoryFacts) (dirty_after : List Route) (before now : CallLog) (did : Did) (work : Work) (knows : Marks → Type 0) (path : Route) → name_waits before path ≡ false → names did path ≡ false
+    → (told.part ≡ Some path → ⊥) → StepRan (doubting told before) (said_after now did work (doubting told before)) dirty_after before now knows → NameStill path before now
 still_by told dirty_after before now did work knows path sure unnamed other come = record {
   made = come.made;
   now_is = come.now_is;
@@ -134,7 +134,7 @@ still_by told dirty_after before now did work knows path sure unnamed other come
 }
 
 module _ (opening : CallLog) (older : List Entry) (was : Stand) (before : CallLog) (r : IsReached opening older was before) (path : Route) (sure : name_waits before path ≡ false) (other : r.part ≡ Some path → ⊥) where
-  abbrev told : Said
+  abbrev told : HistoryFacts
   told = told_of opening before older r.part
 
   step_still : (dirty_after : List Route) (now : CallLog) (did : Did) (job : Running) (after : Option Running) → was.jobs ≡ job ∷ [] → names did path ≡ false → StepLeads job did after was.dirty dirty_after before now
@@ -230,13 +230,13 @@ module _ (path : Route) where
   report_part id Barrier (job ∷ jobs) unnamed h = stepped_part (job.id == id) job Barrier jobs (after_report id Barrier jobs) unnamed (report_part id Barrier jobs unnamed) h
   report_part id (Troubled trouble) (job ∷ jobs) unnamed h = stepped_part (job.id == id) job (Troubled trouble) jobs (after_report id (Troubled trouble) jobs) unnamed (report_part id (Troubled trouble) jobs unnamed) h
 
-  begun_part : (id : ℕ) (jobs : List LiveJob) (o : Option Item) → IsLivePart (option_map_or (λ item. live id item ∷ jobs) o jobs) path → IsLivePart jobs path
+  begun_part : (id : ℕ) (jobs : List LiveJob) (o : Option ItemOfJob) → IsLivePart (option_map_or (λ item. live id item ∷ jobs) o jobs) path → IsLivePart jobs path
   begun_part id jobs None h = h
   begun_part id jobs (Some item) (found, inl same, is) = let e : (let o : Option Route = None in o) ≡ Some path = ap (λ (l : LiveJob). l.part) (sym same) ∙ is in absurd (let f : ⊥ = cc in f)
   begun_part id jobs (Some item) (found, inr among, is) = (found, among, is)
 
   -- no part of a source stands before it is worked
-  turned_among : (id : ℕ) (item : Item) (jobs : List LiveJob) → IsLivePart (map (turned id item) jobs) path → IsLivePart jobs path
+  turned_among : (id : ℕ) (item : ItemOfJob) (jobs : List LiveJob) → IsLivePart (map (turned_live_job id item) jobs) path → IsLivePart jobs path
   turned_among id item [] h = h
   turned_among id item (job ∷ jobs) (found, inl same, is) = by (job.id == id) (ap (λ (l : LiveJob). l.part) (sym same) ∙ is)
     where
@@ -245,7 +245,7 @@ module _ (path : Route) where
       by false is = (job, inl refl, is)
   turned_among id item (job ∷ jobs) (found, inr among, is) = let k = turned_among id item jobs (found, among, is) in (k.0, inr k.1, k.2)
 
-  turned_part : (id : ℕ) (jobs : List LiveJob) (o : Option Item) → IsLivePart (option_map_or (λ item. map (turned id item) jobs) o jobs) path → IsLivePart jobs path
+  turned_part : (id : ℕ) (jobs : List LiveJob) (o : Option ItemOfJob) → IsLivePart (option_map_or (λ item. map (turned_live_job id item) jobs) o jobs) path → IsLivePart jobs path
   turned_part id jobs None h = h
   turned_part id jobs (Some item) h = turned_among id item jobs h
 

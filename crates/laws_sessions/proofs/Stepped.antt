@@ -6,7 +6,7 @@ use Rattle.std.proofs.Math.Seq.{take-append_seam, take-length}
 use Rattle.mc_text.specs.Routes.{Route, same_path}
 use Rattle.tree_trait.specs.Change.{Change, CallLog, with_change}
 use Rattle.laws_crash.specs.Guarded.{Marks}
-use Rattle.job_reports.specs.Jobs.{Item, folder_changed}
+use Rattle.job_reports.specs.Jobs.{ItemOfJob, folder_changed}
 use Rattle.job_reports.specs.Paths.{folder_of}
 use Rattle.job_reports.specs.declared.report.Did.{Did}
 use Rattle.job_reports.specs.declared.report.Did.TheVariants.{Began, Chunk, Placed, Removed, Made, Set, Kept, Skipped, Cleaned, Barrier, Asked, Merges, Moved, Troubled, Ended}
@@ -15,7 +15,7 @@ use Rattle.session_entries.specs.Moves.{is_of_move}
 use Rattle.laws_sessions.specs.Replayed.{earlier_step, replayed_step}
 use Rattle.laws_sessions.specs.Staying.{may_change}
 use Rattle.session_entries.specs.Named.{left_by, named_by}
-use Rattle.laws_sessions.proofs.Knowing.{Said, IsKnown, IsKept, settled_kept, settled_marks}
+use Rattle.laws_sessions.proofs.Knowing.{HistoryFacts, IsKnown, IsKept, settled_kept, settled_marks}
 use Rattle.laws_sessions.proofs.Sources.{item_in}
 
 -- the log with these changes more
@@ -27,23 +27,23 @@ abbrev pub cut : CallLog → ℕ → CallLog
 cut log count = record log { changes = take count log.changes }
 
 -- all this is known at some moment
-abbrev pub IsMid : Said → CallLog → Type 0
+abbrev pub IsMid : HistoryFacts → CallLog → Type 0
 IsMid said log = (dirty : List Route) × (marks : Marks) × IsKept said dirty marks log
 
 -- and before each of these changes
-abbrev pub AreMids : Said → CallLog → List Change → Type 0
+abbrev pub AreMids : HistoryFacts → CallLog → List Change → Type 0
 AreMids said log [] = Unit {0}
 AreMids said log (c ∷ cs) = IsMid said log × AreMids said (with_change log c) cs
 
 pub more_one : (log : CallLog) (c : Change) (cs : List Change) → more log (c ∷ cs) ≡ more (with_change log c) cs
 more_one log c cs = ap (λ xs. (let l : CallLog = record log { changes = xs } in l)) (sym (append_assoc log.changes (c ∷ []) cs))
 
-pub mids_more : (said : Said) (log : CallLog) (xs ys : List Change) → AreMids said log xs → AreMids said (more log xs) ys → AreMids said log (xs ++ ys)
+pub mids_more : (said : HistoryFacts) (log : CallLog) (xs ys : List Change) → AreMids said log xs → AreMids said (more log xs) ys → AreMids said log (xs ++ ys)
 mids_more said log [] ys front back = subst (λ (l : CallLog). AreMids said l ys) (ap (λ xs. (let l : CallLog = record log { changes = xs } in l)) (append-nil log.changes)) back
 mids_more said log (x ∷ xs) ys front back = (front.0, mids_more said (with_change log x) xs ys front.1 (subst (λ (l : CallLog). AreMids said l ys) (more_one log x xs) back))
 
 -- so at each count of calls
-pub mid_at : (said : Said) (cs : List Change) (log : CallLog) (count : ℕ) → AreMids said log cs → length log.changes ≤ count → count ≤ length (log.changes ++ cs)
+pub mid_at : (said : HistoryFacts) (cs : List Change) (log : CallLog) (count : ℕ) → AreMids said log cs → length log.changes ≤ count → count ≤ length (log.changes ++ cs)
     → (cut (more log cs) count ≡ more log cs) ⊎ IsMid said (cut (more log cs) count)
 mid_at said [] log count mids least most =
     let same : count ≡ length (log.changes ++ []) = (let n = length-append log.changes [] in omega (arith, least, most, n)) in
@@ -134,7 +134,7 @@ modes_by (Troubled trouble) before = before
 modes_by (Ended ending left) before = before
 
 -- in the folders of a job's first change no mode waits from then on, until one is set there, and no renaming for them and others, until something is moved from or to them
-abbrev pub calm_by : Did → Item → (Route → Bool) → Route → Bool
+abbrev pub calm_by : Did → ItemOfJob → (Route → Bool) → Route → Bool
 calm_by (Began made) item before = λ p. may_change item p || before p
 calm_by (Removed path) item before = λ p. may_change item p || before p
 calm_by (Made path) item before = λ p. may_change item p || before p
@@ -151,7 +151,7 @@ calm_by Barrier item before = before
 calm_by (Troubled trouble) item before = before
 calm_by (Ended ending left) item before = before
 
-abbrev pub said_after : CallLog → Did → Work → Said → Said
+abbrev pub said_after : CallLog → Did → Work → HistoryFacts → HistoryFacts
 said_after now did work told = record {
   tree = replayed_step now did (Some (item_in work)) told.tree;
   earlier = earlier_step did told.tree told.earlier;
@@ -165,7 +165,7 @@ said_after now did work told = record {
 }
 
 -- What a step comes to.
-pub record Comes (told after : Said) (dirty_after : List Route) (log now : CallLog) (knows : Marks → Type 0) : Type 0 where
+pub record StepRan (told after : HistoryFacts) (dirty_after : List Route) (log now : CallLog) (knows : Marks → Type 0) : Type 0 where
   pub made : List Change
   pub now_is : now ≡ more log made
   pub mids : AreMids told log made
@@ -174,8 +174,8 @@ pub record Comes (told after : Said) (dirty_after : List Route) (log now : CallL
   pub known_of : knows marks
 
 -- no call was made
-pub comes_none : (told after : Said) (dirty_after : List Route) (log now : CallLog) (knows : Marks → Type 0) (marks : Marks) → now ≡ log → IsKept after dirty_after marks log → knows marks
-    → Comes told after dirty_after log now knows
+pub comes_none : (told after : HistoryFacts) (dirty_after : List Route) (log now : CallLog) (knows : Marks → Type 0) (marks : Marks) → now ≡ log → IsKept after dirty_after marks log → knows marks
+    → StepRan told after dirty_after log now knows
 comes_none told after dirty_after log now knows marks is kept known_of = record {
   made = [];
   now_is = is ∙ ap (λ xs. (let l : CallLog = record log { changes = xs } in l)) (sym (append-nil log.changes));
@@ -186,8 +186,8 @@ comes_none told after dirty_after log now knows marks is kept known_of = record 
 }
 
 -- one call was made
-pub comes_one : (told after : Said) (dirty dirty_after : List Route) (before marks : Marks) (log now : CallLog) (c : Change) (knows : Marks → Type 0) → IsKept told dirty before log → now ≡ with_change log c
-    → IsKnown after dirty_after marks now → knows (settled_marks now marks) → Comes told after dirty_after log now knows
+pub comes_one : (told after : HistoryFacts) (dirty dirty_after : List Route) (before marks : Marks) (log now : CallLog) (c : Change) (knows : Marks → Type 0) → IsKept told dirty before log → now ≡ with_change log c
+    → IsKnown after dirty_after marks now → knows (settled_marks now marks) → StepRan told after dirty_after log now knows
 comes_one told after dirty dirty_after before marks log now c knows kept is known known_of = record {
   made = c ∷ [];
   now_is = is;
@@ -198,8 +198,8 @@ comes_one told after dirty dirty_after before marks log now c knows kept is know
 }
 
 -- one step after another
-pub comes_then : (told after : Said) (dirty dirty_after : List Route) (log mid now : CallLog) (knows knows_then : Marks → Type 0) → Comes told told dirty log mid knows
-    → ((marks : Marks) → IsKept told dirty marks mid → knows marks → Comes told after dirty_after mid now knows_then) → Comes told after dirty_after log now knows_then
+pub comes_then : (told after : HistoryFacts) (dirty dirty_after : List Route) (log mid now : CallLog) (knows knows_then : Marks → Type 0) → StepRan told told dirty log mid knows
+    → ((marks : Marks) → IsKept told dirty marks mid → knows marks → StepRan told after dirty_after mid now knows_then) → StepRan told after dirty_after log now knows_then
 comes_then told after dirty dirty_after log mid now knows knows_then first next =
     let second = next first.marks first.kept first.known_of in
     record {
@@ -212,7 +212,7 @@ comes_then told after dirty dirty_after log mid now knows knows_then first next 
     }
 
 -- what follows from what is known
-pub comes_map : (told after : Said) (dirty_after : List Route) (log now : CallLog) (knows other : Marks → Type 0) → ((marks : Marks) → IsKept after dirty_after marks now → knows marks → other marks)
-    → Comes told after dirty_after log now knows → Comes told after dirty_after log now other
+pub comes_map : (told after : HistoryFacts) (dirty_after : List Route) (log now : CallLog) (knows other : Marks → Type 0) → ((marks : Marks) → IsKept after dirty_after marks now → knows marks → other marks)
+    → StepRan told after dirty_after log now knows → StepRan told after dirty_after log now other
 comes_map told after dirty_after log now knows other map come =
     record { made = come.made; now_is = come.now_is; mids = come.mids; marks = come.marks; kept = come.kept; known_of = map come.marks come.kept come.known_of }

@@ -11,9 +11,9 @@ use Rattle.copy_link.specs.LinkCopying as link
 use Rattle.copy_link.specs.LinkCopying.{LinkCopying}
 use Rattle.tree_walk.specs.Places.{is_empty}
 use Rattle.copy_folders.specs.declared.level.Level.{Level}
-use Rattle.copy_folders.specs.Levels.{closed, coming, is_around_dirty}
-use Rattle.copy_tree.specs.declared.item.Item.{Item}
-use Rattle.copy_tree.specs.declared.item.Item.TheVariants.{Next, File, Link, Stays}
+use Rattle.copy_folders.specs.Levels.{levels_closed, coming, is_around_dirty}
+use Rattle.copy_tree.specs.declared.item.ItemAtWork.{ItemAtWork}
+use Rattle.copy_tree.specs.declared.item.ItemAtWork.TheVariants.{Next, File, Link, Stays}
 use Rattle.copy_tree.specs.declared.progress.Progress.{Progress}
 use Rattle.copy_tree.specs.declared.progress.Progress.TheVariants.{UnderWay, Decided, Anew}
 use Rattle.job_reports.specs.declared.report.Did.{Did}
@@ -21,7 +21,7 @@ use Rattle.copy_tree.specs.Parts.{IsPartPlace, ahead}
 use Rattle.copy_tree.specs.Progress.{link_progress, progress}
 use Rattle.copy_tree.specs.Standing.{Seen, target_name}
 use Rattle.tree_trait.specs.Shape.{IsTree}
-use Rattle.copy_tree.specs.Steps.{CopySteps, LeavesAll, LinkWorks, TakesNext, WorksOn, idle, link_begun, noted, settled}
+use Rattle.copy_tree.specs.TreeCopySteps.{CopySteps, LeavesAll, LinkWorks, TakesNext, WorksOn, idle, link_begun, noted_copy, copy_after_progress}
 use Rattle.laws_sessions.proofs.FileMoves.{FileMoves, taken_moves, worked_moves}
 use Rattle.laws_sessions.proofs.Changing.{folder_anchored}
 use Rattle.laws_sessions.proofs.Resting.{IsOfFiles, stands_at, sure_path}
@@ -54,8 +54,8 @@ leaves_all (suc n) log old new (mid, all, none, one) known =
     let k = leaves_all n log old mid all known in
     let same : new.name ≡ mid.name = ap (λ (c : Seen). c.name) r.stands in
     subst (KnownAs log new) (sym same) (
-      levels_left log mid.name (closed mid.levels) new.levels r.left (closed_levels log mid.name mid.levels k.0),
-      laid_left mid.name (closed mid.levels) new.levels r.left (laid_closed mid.name mid.levels k.1),
+      levels_left log mid.name (levels_closed mid.levels) new.levels r.left (closed_levels log mid.name mid.levels k.0),
+      laid_left mid.name (levels_closed mid.levels) new.levels r.left (laid_closed mid.name mid.levels k.1),
     )
 
 -- nothing is at work where folders were left
@@ -67,7 +67,7 @@ item_left (suc n) log old new (mid, all, none, one) item =
     subst (ItemKnown log new) (sym next) tt
 
 -- what is copied keeps its name
-settled_name : (p : Progress) (item : Item) (c : Seen) → (let s : Seen = settled p item c in s.name) ≡ c.name
+settled_name : (p : Progress) (item : ItemAtWork) (c : Seen) → (let s : Seen = copy_after_progress p item c in s.name) ≡ c.name
 settled_name UnderWay item c = refl
 settled_name Decided item c = refl
 settled_name Anew item c = refl
@@ -76,16 +76,16 @@ module _ (unclaimed : Route → Type 0) (replies : Replies) (old new : Seen) (di
   file_name : (f : Copying) → FileMoves unclaimed f old new did before after → new.name ≡ old.name
   file_name f w =
       let moved = w.moved in
-      ap (λ (c : Seen). c.name) w.stands ∙ settled_name (progress moved.stage) (File moved) (noted did (file.is_dirty moved.folder) (idle old))
+      ap (λ (c : Seen). c.name) w.stands ∙ settled_name (progress moved.stage) (File moved) (noted_copy did (file.is_dirty moved.folder) (idle old))
 
   link_name : (l : LinkCopying) → LinkWorks l old new did before after → new.name ≡ old.name
   link_name l w =
       let moved = w.moved in
-      ap (λ (c : Seen). c.name) w.stands ∙ settled_name (link_progress moved.stage) (Link moved) (noted did (link.is_dirty moved.folder) (idle old))
+      ap (λ (c : Seen). c.name) w.stands ∙ settled_name (link_progress moved.stage) (Link moved) (noted_copy did (link.is_dirty moved.folder) (idle old))
 
   next_name : TakesNext unclaimed replies old new did before after → new.name ≡ old.name
   next_name (inl s) = ap (λ (c : Seen). c.name) s.stands
-  next_name (inr (inl t)) = file_name (file.begun old.job t.pair.source t.pair.target) (taken_moves unclaimed replies old new did before after t)
+  next_name (inr (inl t)) = file_name (file.begun_copy old.job t.pair.source t.pair.target) (taken_moves unclaimed replies old new did before after t)
   next_name (inr (inr (inl t))) = link_name (link_begun t.pair t.part) t.works
   next_name (inr (inr (inr (inl t)))) = (let w = t.works in ap (λ (c : Seen). c.name) w.stands)
   next_name (inr (inr (inr (inr (inl t))))) = ap (λ (c : Seen). c.name) t.stands
@@ -94,7 +94,7 @@ module _ (unclaimed : Route → Type 0) (replies : Replies) (old new : Seen) (di
   next_name (inr (inr (inr (inr (inr (inr (inr (next, inl (debt, ends))))))))) = ap (λ (c : Seen). c.name) ends.stands
   next_name (inr (inr (inr (inr (inr (inr (inr (next, inr (debt, f, same))))))))) = ap (λ (c : Seen). c.name) f.stands
 
-  pub works_name : (item : Item) → WorksOn item unclaimed replies old new did before after → new.name ≡ old.name
+  pub works_name : (item : ItemAtWork) → WorksOn item unclaimed replies old new did before after → new.name ≡ old.name
   works_name Next (inl s) = ap (λ (c : Seen). c.name) s.stands
   works_name Next (inr takes) = next_name takes.1
   works_name (File f) w = file_name f (worked_moves unclaimed f old new did before after w)

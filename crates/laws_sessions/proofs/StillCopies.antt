@@ -35,8 +35,8 @@ use Rattle.copy_tree.specs.Progress.{link_progress, progress}
 use Rattle.copy_tree.specs.Reports.{IsToldAs}
 use Rattle.copy_tree.specs.Skipping as machine
 use Rattle.copy_tree.specs.Standing.{Seen}
-use Rattle.copy_tree.specs.Steps.{FolderEnds, SyncsAround, TakesFile, TakesFolder, TakesLink, TakesNext, WorksOn, at_end, idle, link_begun, noted, settled}
-use Rattle.copy_tree.specs.declared.item.Item.TheVariants.{Next, File, Link}
+use Rattle.copy_tree.specs.TreeCopySteps.{FolderEnds, SyncsAround, TakesFile, TakesFolder, TakesLink, TakesNext, WorksOn, at_end, idle, link_begun, noted_copy, copy_after_progress}
+use Rattle.copy_tree.specs.declared.item.ItemAtWork.TheVariants.{Next, File, Link}
 use Rattle.copy_job.specs.Passing.{OrPassedOver}
 use Rattle.copy_job.specs.Standing.{SubtreeCopying}
 use Rattle.copy_job.specs.SubtreeSteps.{LastSubtreeStep, ListSteps, SubtreeSkips, SubtreeSteps, step_result}
@@ -88,16 +88,16 @@ module _ (log now : CallLog) (free : Route → Bool) (replies : Replies) (mid : 
       )
 
   -- a file that is taken up begins its part, or is in trouble
-  file_stops : (did : Did) (new : Seen) (trouble : Trouble) (t : TakesFile (IsPartPlace free mid) replies mid new did (Some log) (Some now)) (moved : Copying) → (let p = t.pair in moved ≡ file.begun mid.job p.source p.target)
-      → new ≡ settled (progress moved.stage) (File moved) (noted did (file.is_dirty moved.folder) (idle mid)) → MoveCalls (IsPartPlace free mid) (let p = t.pair in file.begun mid.job p.source p.target) (Troubled trouble) moved log (Some now) → Idle new
+  file_stops : (did : Did) (new : Seen) (trouble : Trouble) (t : TakesFile (IsPartPlace free mid) replies mid new did (Some log) (Some now)) (moved : Copying) → (let p = t.pair in moved ≡ file.begun_copy mid.job p.source p.target)
+      → new ≡ copy_after_progress (progress moved.stage) (File moved) (noted_copy did (file.is_dirty moved.folder) (idle mid)) → MoveCalls (IsPartPlace free mid) (let p = t.pair in file.begun_copy mid.job p.source p.target) (Troubled trouble) moved log (Some now) → Idle new
   file_stops did new trouble t moved moved_is stands calls = (
     calm_if log now (how calls),
-    ap (λ (x : Seen). x.item) stands ∙ ap (λ (m : Copying). (let x : Seen = settled (progress m.stage) (File m) (noted did (file.is_dirty m.folder) (idle mid)) in x.item)) moved_is,
+    ap (λ (x : Seen). x.item) stands ∙ ap (λ (m : Copying). (let x : Seen = copy_after_progress (progress m.stage) (File m) (noted_copy did (file.is_dirty m.folder) (idle mid)) in x.item)) moved_is,
   )
     where
-      how : MoveCalls (IsPartPlace free mid) (let p = t.pair in file.begun mid.job p.source p.target) (Troubled trouble) moved log (Some now) → (now ≡ log) ⊎ (now ≡ with_change log Nothing)
+      how : MoveCalls (IsPartPlace free mid) (let p = t.pair in file.begun_copy mid.job p.source p.target) (Troubled trouble) moved log (Some now) → (now ≡ log) ⊎ (now ≡ with_change log Nothing)
       how (inl same) = inl (some_log now log same)
-      how (inr (k, first, run)) = stopped_is log now (making (current log) (let p = t.pair in places_of (file.begun mid.job p.source p.target)) k) trouble.cause trouble.path (λ s left. refl) run
+      how (inr (k, first, run)) = stopped_is log now (making (current log) (let p = t.pair in places_of (file.begun_copy mid.job p.source p.target)) k) trouble.cause trouble.path (λ s left. refl) run
 
   file_idle : (did : Did) (new : Seen) → begins_change did ≡ false → TakesFile (IsPartPlace free mid) replies mid new did (Some log) (Some now) → Idle new
   file_idle (Began part) new still t = absurd (true≢false still)
@@ -124,10 +124,10 @@ module _ (log now : CallLog) (free : Route → Bool) (replies : Replies) (mid : 
 
   -- and so does a link
   link_stops : (did : Did) (new : Seen) (trouble : Trouble) (t : TakesLink (IsPartPlace free mid) replies mid new did (Some log) (Some now)) (moved : LinkCopying) → moved ≡ link_begun t.pair t.part
-      → new ≡ settled (link_progress moved.stage) (Link moved) (noted did (link.is_dirty moved.folder) (idle mid)) → LinkCalls (link_begun t.pair t.part) (Troubled trouble) log (Some now) → Idle new
+      → new ≡ copy_after_progress (link_progress moved.stage) (Link moved) (noted_copy did (link.is_dirty moved.folder) (idle mid)) → LinkCalls (link_begun t.pair t.part) (Troubled trouble) log (Some now) → Idle new
   link_stops did new trouble t moved moved_is stands calls = (
     calm_if log now (how calls),
-    ap (λ (x : Seen). x.item) stands ∙ ap (λ (m : LinkCopying). (let x : Seen = settled (link_progress m.stage) (Link m) (noted did (link.is_dirty m.folder) (idle mid)) in x.item)) moved_is,
+    ap (λ (x : Seen). x.item) stands ∙ ap (λ (m : LinkCopying). (let x : Seen = copy_after_progress (link_progress m.stage) (Link m) (noted_copy did (link.is_dirty m.folder) (idle mid)) in x.item)) moved_is,
   )
     where
       how : LinkCalls (link_begun t.pair t.part) (Troubled trouble) log (Some now) → (now ≡ log) ⊎ (now ≡ with_change log Nothing)

@@ -29,16 +29,16 @@ use Rattle.session_entries.specs.declared.history.JobOrder.{JobOrder}
 use Rattle.session_entries.specs.declared.history.JobOrder.TheVariants.{Answered}
 use Rattle.copy_tree.specs.Skipping.{retried_at}
 use Rattle.copy_tree.specs.Standing.{Seen}
-use Rattle.copy_tree.specs.declared.item.Item.TheVariants as item
+use Rattle.copy_tree.specs.declared.item.ItemAtWork.TheVariants as item
 use Rattle.make_job.specs.declared.new_thing.NewThing.TheVariants as thing
 use Rattle.copy_move.specs.declared.run.Course.{Course}
 use Rattle.copy_move.specs.declared.run.Course.TheVariants.{GoesOn, Asking, InTrouble, OwedSyncFailed, Skips, Ends}
 use Rattle.copy_move.specs.declared.work.Work.{Work}
 use Rattle.copy_move.specs.declared.work.Work.TheVariants.{Copy, Delete, Make, Move, SetMode, RemoveEmptied}
-use Rattle.copy_move.specs.Jobs.{CallsOn, PassesOver, Running, TellsOn, WorkCalls, WorkLastCalls, WorkTells, WorkWinds, answered, answered_on, begun_work, closed_job, copies, deletes, first_work, makes, moves, removes_emptied, sets, taken_anew}
-use Rattle.copy_move.specs.Steps.{LastWalks, SkipWalks, SyncsOwed, Walks, WalksOn}
-use Rattle.copy_move.specs.Told.{running, turned, with_next}
-use Rattle.laws_sessions.specs.Traces.{EventLeads, IsJob, IsUnclaimed, Stand, StepLeads, WorkLeads, before_others, begun, if_closed, ordered, with_job}
+use Rattle.copy_move.specs.Jobs.{CallsOn, PassesOver, Running, TellsOn, WorkCalls, WorkLastCalls, WorkTells, WorkWinds, answered_job, answered_on, begun_work, closed_job, copies, deletes, first_work, makes, moves, removes_emptied, sets, taken_anew}
+use Rattle.copy_move.specs.JobStepReports.{LastWalks, SkipWalks, SyncsOwed, Walks, WalksOn}
+use Rattle.copy_move.specs.Told.{running, turned_job, with_next}
+use Rattle.laws_sessions.specs.Traces.{EventLeads, IsJob, IsUnclaimed, Stand, StepLeads, WorkLeads, before_others, begun_jobs, if_closed, ordered_job, with_job}
 use Rattle.laws_sessions.specs.Whole.{begins_in}
 use Rattle.laws_sessions.proofs.CalmCalls.{calm_stop, calm_thing}
 use Rattle.laws_sessions.proofs.StillCopies.{last_idle, passes_idle, step_idle}
@@ -104,14 +104,14 @@ answered_idle GoesOn answer job idle = idle
 answered_idle (Skips cause) answer job idle = idle
 answered_idle (Ends ending) answer job idle = idle
 
-ordered_idle : (id : ℕ) (order : JobOrder) (job : Running) → IsIdle job.work → IsIdle (ordered id order job).work
+ordered_idle : (id : ℕ) (order : JobOrder) (job : Running) → IsIdle job.work → IsIdle (ordered_job id order job).work
 ordered_idle id (Answered answer) job idle = by (job.id == id)
   where
-    by : (b : Bool) → IsIdle (if b then answered answer job else job).work
+    by : (b : Bool) → IsIdle (if b then answered_job answer job else job).work
     by true = answered_idle job.course answer job idle
     by false = idle
 
-orders_idle : (id : ℕ) (order : JobOrder) (jobs : List Running) → AreIdle jobs → AreIdle (map (ordered id order) jobs)
+orders_idle : (id : ℕ) (order : JobOrder) (jobs : List Running) → AreIdle jobs → AreIdle (map (ordered_job id order) jobs)
 orders_idle id order [] idle = idle
 orders_idle id order (job ∷ []) idle = ordered_idle id order job idle
 orders_idle id order (job ∷ other ∷ jobs) idle = absurd idle
@@ -147,7 +147,7 @@ first_idle id (plan.SetMode (path ∷ []) mode) w is = begins_by (is_some (paren
 first_idle id (plan.SetMode (path ∷ more ∷ paths) mode) w is = absurd (let f : ⊥ = cc in f)
 first_idle id (plan.RemoveEmptied path) w is = begins_by (is_some (parent_of path)) (removes_emptied path) w tt is
 
-begun_idle : (id : ℕ) (job : Job) → AreIdle (begun id job)
+begun_idle : (id : ℕ) (job : Job) → AreIdle (begun_jobs id job)
 begun_idle id job = by (begun_work id (sources_of job)) refl
   where
     work_idle : (sources : List Job) (w : Work) → begun_work id sources ≡ Some w → IsIdle w
@@ -158,7 +158,7 @@ begun_idle id job = by (begun_work id (sources_of job)) refl
     by None is = tt
     by (Some w) is = work_idle (sources_of job) w is
 
-turned_idle : (source : Job) (job next : Running) → turned source job ≡ Some next → IsIdle next.work
+turned_idle : (source : Job) (job next : Running) → turned_job source job ≡ Some next → IsIdle next.work
 turned_idle source job next is = by (first_work job.id source) refl (is)
   where
     by : (o : Option Work) → first_work job.id source ≡ o → option_map (λ work. with_next job work) o ≡ Some next → IsIdle next.work
@@ -290,8 +290,8 @@ module _ (log now : CallLog) where
     event_stays (Next id source) still idle t =
         of_job id t.job (Some t.next) was.jobs idle t.its
         (λ job_idle. (let on = leads_stays t.job t.over (Ended Finished None) was.dirty after.dirty refl job_idle t.done in on.0, turned_idle source t.job t.next t.next_is)) t.jobs_is
-    event_stays (event.Began id job background) still idle b = none_made (begun id job) (begun_idle id job) (ap (λ (x : Stand). x.jobs) b.after_is) b.now_is
-    event_stays (Order id order) still idle s = none_made (map (ordered id order) was.jobs) (orders_idle id order was.jobs idle) (ap (λ (x : Stand). x.jobs) s.after_is) s.now_is
+    event_stays (event.Began id job background) still idle b = none_made (begun_jobs id job) (begun_idle id job) (ap (λ (x : Stand). x.jobs) b.after_is) b.now_is
+    event_stays (Order id order) still idle s = none_made (map (ordered_job id order) was.jobs) (orders_idle id order was.jobs idle) (ap (λ (x : Stand). x.jobs) s.after_is) s.now_is
     event_stays (Key key time refusals lost) still idle s = none_made was.jobs idle (ap (λ (x : Stand). x.jobs) s.after_is) s.now_is
     event_stays (Look refusals) still idle s = none_made was.jobs idle (ap (λ (x : Stand). x.jobs) s.after_is) s.now_is
     event_stays Sought still idle s = none_made was.jobs idle (ap (λ (x : Stand). x.jobs) s.after_is) s.now_is

@@ -5,10 +5,10 @@ use Rattle.std.specs.Option.{option_map_or}
 use Rattle.std.proofs.lemmas.Bool.{false_from_ne_true, true≢false}
 use Rattle.mc_text.specs.Routes.{Route, same_path}
 use Rattle.tree_trait.specs.Calls.{SetMode as Sets_mode}
-use Rattle.tree_trait.specs.Change.{Sets, CallLog, current, found}
+use Rattle.tree_trait.specs.Change.{Sets, CallLog, current, found_node}
 use Rattle.laws_crash.specs.Guarded.{Marks}
 use Rattle.job_answers.specs.declared.replies.Replies.{Replies}
-use Rattle.job_reports.specs.Jobs.{Item, Sets as Sets_item}
+use Rattle.job_reports.specs.Jobs.{ItemOfJob, Sets as Sets_item}
 use Rattle.job_reports.specs.declared.report.Ending.{Ending}
 use Rattle.job_reports.specs.declared.report.Ending.TheVariants.{Finished, Aborted, Killed, NoMemory}
 use Rattle.job_reports.specs.declared.report.Did.{Did}
@@ -31,14 +31,14 @@ use Rattle.laws_sessions.specs.Doubt.{name_waits}
 use Rattle.laws_sessions.specs.Traces.{IsUnclaimed, WorkLeads}
 use Rattle.laws_sessions.proofs.Beginnings.{goes_then}
 use Rattle.laws_sessions.proofs.JobKnows.{WorkKnows}
-use Rattle.laws_sessions.proofs.Knowing.{IsKnown, Said}
+use Rattle.laws_sessions.proofs.Knowing.{IsKnown, HistoryFacts}
 use Rattle.laws_sessions.proofs.NameChanges.{WaitsIf}
 use Rattle.laws_sessions.proofs.NameRuns.{quiet_waits}
 use Rattle.laws_sessions.proofs.Sources.{item_in, making_item}
 use Rattle.laws_sessions.proofs.Untouched.{NoneOn, none_joint, none_waits}
 
 -- no change waits of the name of the thing to which a job gives a mode
-abbrev pub IsSureThing : Item → CallLog → Type 0
+abbrev pub IsSureThing : ItemOfJob → CallLog → Type 0
 IsSureThing (Sets_item thing mode) log = name_waits log thing ≡ false
 IsSureThing item log = Unit {0}
 
@@ -98,7 +98,7 @@ unnamed_on job new did s (Skips why) path is (inr (apart, did_is, new_is)) none 
 unnamed_on job new did s (Ends ending) path is (work, winds, new_is) none = wind_unnamed ending s work did path (subst (λ w. WorkWinds ending w did work) is winds)
 
 -- where a mode is given nothing waits
-set_sure : (told : Said) (dirty : List Route) (marks : Marks) (log now : CallLog) (s new : Setting) (path : Route) → IsKnown told dirty marks log → NoneOwed (current log) (SetMode s) dirty → SettingCalls s (Set path) log (Some now) → name_waits now s.path ≡ false
+set_sure : (told : HistoryFacts) (dirty : List Route) (marks : Marks) (log now : CallLog) (s new : Setting) (path : Route) → IsKnown told dirty marks log → NoneOwed (current log) (SetMode s) dirty → SettingCalls s (Set path) log (Some now) → name_waits now s.path ≡ false
 set_sure told dirty marks log now s new path known none calls = by s.path
   where
     on : (up : Route) → NoneOn (current log) up dirty
@@ -109,10 +109,10 @@ set_sure told dirty marks log now s new path known none calls = by s.path
     by (name ∷ up) =
         let d = one_done log (Sets_mode s.path s.mode) now calls in
         let before : WaitsIf name up log ⊥ = (λ waits. true≢false (sym waits ∙ none_waits told dirty marks log up known (on up) name), none_joint told dirty marks log up known (on up)) in
-        let after = quiet_waits name up ⊥ log (Sets (found (current log) s.path) s.mode) known.guarded.tree (λ n g m. refl) before in
+        let after = quiet_waits name up ⊥ log (Sets (found_node (current log) s.path) s.mode) known.guarded.tree (λ n g m. refl) before in
         subst (λ (l : CallLog). name_waits l (name ∷ up) ≡ false) (sym d.is) (false_from_ne_true _ after.0)
 
-set_then : (replies : Replies) (told : Said) (dirty : List Route) (marks : Marks) (log now : CallLog) (s : Setting) (work : Work) (did : Did) → IsKnown told dirty marks log → (settings.is_fresh s.stage ≡ true → NoneOwed (current log) (SetMode s) dirty) → WorkTells replies (SetMode s) did work
+set_then : (replies : Replies) (told : HistoryFacts) (dirty : List Route) (marks : Marks) (log now : CallLog) (s : Setting) (work : Work) (did : Did) → IsKnown told dirty marks log → (settings.is_fresh s.stage ≡ true → NoneOwed (current log) (SetMode s) dirty) → WorkTells replies (SetMode s) did work
     → SettingCalls s did log (Some now) → begins_change did ≡ true → name_waits now s.path ≡ false
 set_then replies told dirty marks log now s (SetMode new) (Set path) known owed t calls h = set_sure told dirty marks log now s new path known (owed (ap settings.is_fresh t.0)) calls
 set_then replies told dirty marks log now s (SetMode new) (Began part) known owed t calls h = absurd t
@@ -131,7 +131,7 @@ set_then replies told dirty marks log now s (SetMode new) (Troubled trouble) kno
 set_then replies told dirty marks log now s (SetMode new) (Ended ending part) known owed t calls h = absurd (true≢false (sym h))
 set_then replies told dirty marks log now s work did known owed t calls h = absurd t
 
-module _ (told : Said) (dirty dirty_after : List Route) (marks : Marks) (log now : CallLog) (known : IsKnown told dirty marks log) (job new : Running) (did : Did)
+module _ (told : HistoryFacts) (dirty dirty_after : List Route) (marks : Marks) (log now : CallLog) (known : IsKnown told dirty marks log) (job new : Running) (did : Did)
     (still : (path : Route) → (told.part ≡ Some path → ⊥) → names did path ≡ false → name_waits log path ≡ false → name_waits now path ≡ false) where
   -- a name that waits for nothing, and isn't named, goes on so
   still_sure : (s : Setting) → told.part ≡ None → names did s.path ≡ false → name_waits log s.path ≡ false → name_waits now s.path ≡ false

@@ -23,7 +23,7 @@ use Rattle.copy_move.specs.Settling.{LiesOff, NoneOwed}
 use Rattle.laws_sessions.specs.Doubt.{is_pending, name_waits, node_waits, way_waits}
 use Rattle.laws_sessions.proofs.AtRest.{RestsBelow}
 use Rattle.laws_sessions.proofs.JobKnows.{HasName, NoneOver, none_joint, none_unlisted, none_waits, over_it, way_sure}
-use Rattle.laws_sessions.proofs.Knowing.{IsKept, Said, clean_now}
+use Rattle.laws_sessions.proofs.Knowing.{IsKept, HistoryFacts, clean_now}
 use Rattle.laws_sessions.proofs.Mounts.{mount_mates}
 pub use Rattle.laws_sessions.proofs.PathsBelow.{below_way as prefix_way, is_below as prefix_append}
 use Rattle.laws_sessions.proofs.Resting.{sure_path}
@@ -47,7 +47,7 @@ none_in_moved s m dirty none kept among = elim (none kept among) [ inl gone ↦ 
 pub none_in_emptied : (s : FileSystem) (r : Removing) (dirty : List Route) → NoneOwed s (RemoveEmptied r) dirty → NoneWithin s r.path dirty
 none_in_emptied s r dirty none kept among = elim (none kept among) [ inl gone ↦ inl gone | inr apart ↦ inr (apart.0, apart.2) ]
 
-module _ (told : Said) (dirty : List Route) (marks : Marks) (log : CallLog) (kept : IsKept told dirty marks log) (top : Route) (has : HasName top) (none : NoneWithin (current log) top dirty) where
+module _ (told : HistoryFacts) (dirty : List Route) (marks : Marks) (log : CallLog) (kept : IsKept told dirty marks log) (top : Route) (has : HasName top) (none : NoneWithin (current log) top dirty) where
   abbrev pub around : Route
   around = folder_of top
 
@@ -130,7 +130,7 @@ module _ (told : Said) (dirty : List Route) (marks : Marks) (log : CallLog) (kep
       by (Some i) at = ap (λ o. option_map_or (λ i. not (is_clean i log.changes)) o false) at ∙ ap not (clean_now told dirty marks log kept.known (rest ++ top) out i at (modes_within rest i at))
 
 -- So nothing waits at or below the source of a move, before its first change.
-pub source_rests : (told : Said) (dirty : List Route) (marks : Marks) (log : CallLog) → IsKept told dirty marks log → (m : Moving) → HasName m.pair.source → NoneOwed (current log) (Move m) dirty → RestsBelow marks log m.pair.source
+pub source_rests : (told : HistoryFacts) (dirty : List Route) (marks : Marks) (log : CallLog) → IsKept told dirty marks log → (m : Moving) → HasName m.pair.source → NoneOwed (current log) (Move m) dirty → RestsBelow marks log m.pair.source
 source_rests told dirty marks log kept m has none = record {
   names = λ name rest. names_within told dirty marks log kept m.pair.source has within rest name;
   modes = λ rest i at. modes_within told dirty marks log kept m.pair.source has within rest i at;

@@ -38,7 +38,7 @@ use Rattle.copy_move.specs.Settling.{WorkLeaves, with_change}
 use Rattle.mode_job.proofs.DirtySettings.{setting_stays}
 use Rattle.make_job.proofs.MakingFolders.{making_stays}
 use Rattle.job_reports.specs.Paths.{folder_of, without}
-use Rattle.copy_move.specs.Steps.{LeavesDirty}
+use Rattle.copy_move.specs.JobStepReports.{LeavesDirty}
 use Rattle.session_entries.specs.Named.{begins_change}
 use Rattle.laws_sessions.specs.Traces.{WorkLeads}
 use Rattle.laws_sessions.proofs.MoveKnown.{is_moved}
@@ -99,7 +99,7 @@ removal_dirty replies r new Barrier t h = absurd (false≢true h)
 removal_dirty replies r new (Troubled trouble) t h = absurd (false≢true h)
 removal_dirty replies r new (Ended ending part) t h = absurd (false≢true h)
 
-skipped_moved : (stage : MovingStage) → is_moved (movings.skipped stage) ≡ is_moved stage
+skipped_moved : (stage : MovingStage) → is_moved (movings.skipped_stage stage) ≡ is_moved stage
 skipped_moved moving.Take = refl
 skipped_moved moving.SyncTarget = refl
 skipped_moved moving.SyncSource = refl
@@ -230,13 +230,13 @@ tidy_work replies (RemoveEmptied r) (RemoveEmptied new) did dirty dirty_after be
     tidy_by (removals.is_dirty r.stage) (removals.is_dirty new.stage) (folder_of r.path) (folder_of new.path) dirty dirty_after leaves (ap folder_of (removal_stays replies r new did tells)) (old (λ h. both_ways _ clean (removal_dirty replies r new did tells h))) clean among
 tidy_work replies work new did dirty dirty_after before after tells leaves old = absurd tells
 
-skipped_clean : (stage : MakingStage) → makings.is_dirty (makings.skipped stage) ≡ makings.is_dirty stage
+skipped_clean : (stage : MakingStage) → makings.is_dirty (makings.skipped_stage stage) ≡ makings.is_dirty stage
 skipped_clean making.Make = refl
 skipped_clean making.Sync = refl
 skipped_clean making.Finish = refl
 skipped_clean making.PassedOver = refl
 
-skip_removal : (stage : RemovalStage) → removals.is_dirty (removals.skipped stage) ≡ removals.is_dirty stage
+skip_removal : (stage : RemovalStage) → removals.is_dirty (removals.skipped_stage stage) ≡ removals.is_dirty stage
 skip_removal removal.Remove = refl
 skip_removal removal.Sync = refl
 skip_removal removal.Finish = refl

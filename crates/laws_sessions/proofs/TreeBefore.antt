@@ -20,8 +20,8 @@ use Rattle.copy_folders.specs.Levels.{is_around_dirty}
 use Rattle.job_unsynced.specs.Folders.{with_change as change_list}
 use Rattle.copy_tree.specs.Reports.{IsToldAs}
 use Rattle.copy_tree.specs.Standing.{Seen, after_report, is_fresh}
-use Rattle.copy_tree.specs.Steps.{Finishes, FolderEnds, LeavesAll, SyncsAround, TakesAsked, TakesKept, TakesMerged, at_end}
-use Rattle.copy_tree.specs.declared.item.Item.TheVariants.{Next}
+use Rattle.copy_tree.specs.TreeCopySteps.{Finishes, FolderEnds, LeavesAll, SyncsAround, TakesAsked, TakesKept, TakesMerged, at_end}
+use Rattle.copy_tree.specs.declared.item.ItemAtWork.TheVariants.{Next}
 use Rattle.copy_job.specs.Marks.{folder_worked, is_dirty_after, was_dirty}
 use Rattle.copy_job.specs.Standing.{SubtreeCopying}
 use Rattle.copy_job.specs.Unbegun.{MayBegin}
@@ -29,8 +29,8 @@ use Rattle.copy_move.specs.Settling.{NoneOwed}
 use Rattle.copy_move.specs.declared.run.Course.TheVariants.{Asking, GoesOn}
 use Rattle.copy_move.specs.declared.work.Work.TheVariants.{Copy}
 use Rattle.copy_move.specs.Jobs.{course_after}
-use Rattle.laws_sessions.proofs.Knowing.{IsKept, Said, settled_marks}
-use Rattle.laws_sessions.proofs.Stepped.{Comes, comes_map, comes_none, said_after}
+use Rattle.laws_sessions.proofs.Knowing.{IsKept, HistoryFacts, settled_marks}
+use Rattle.laws_sessions.proofs.Stepped.{StepRan, comes_map, comes_none, said_after}
 use Rattle.laws_sessions.proofs.OwedModes.{OwedModes}
 use Rattle.laws_sessions.proofs.TreeCalls.{around_comes, idle_refused, refused_end, synced_end}
 use Rattle.laws_sessions.proofs.TreeGoing.{LogHas}
@@ -38,7 +38,7 @@ use Rattle.laws_sessions.proofs.TreeLeads.{log_has}
 use Rattle.laws_sessions.proofs.TreeKnown.{AroundKnows, IsCalmBut, ItemHas, TreeHas, TreeStands, around_settled, LiesOutside}
 
 -- The machine's step begins here; and a copy that has changed nothing changes something only where nothing is owed.
-pub record Before (told : Said) (dirty : List Route) (marks : Marks) (log : CallLog) (c : SubtreeCopying) (mid : Seen) : Type 0 where
+pub record Before (told : HistoryFacts) (dirty : List Route) (marks : Marks) (log : CallLog) (c : SubtreeCopying) (mid : Seen) : Type 0 where
   pub n : ℕ
   pub leaves : LeavesAll n c.at mid
   pub stands : TreeStands dirty c
@@ -51,19 +51,19 @@ pub record Before (told : Said) (dirty : List Route) (marks : Marks) (log : Call
 abbrev pub Had : CallLog → SubtreeCopying → Type 0
 Had log c = LiesOutside c.top × LogHas c.top log c.at
 
-pub had_begun : (told : Said) (dirty : List Route) (marks : Marks) (log : CallLog) (c : SubtreeCopying) (mid : Seen) → Before told dirty marks log c mid → is_fresh c.at.stage ≡ false → Had log c
+pub had_begun : (told : HistoryFacts) (dirty : List Route) (marks : Marks) (log : CallLog) (c : SubtreeCopying) (mid : Seen) → Before told dirty marks log c mid → is_fresh c.at.stage ≡ false → Had log c
 had_begun told dirty marks log c mid b some = let h = b.begun some in (h.outside, log_has told dirty marks log c b.stands h)
 
 -- What is known after a step, of the part, and of the folder around once something was changed; and the modes that are owed are, as the history tells them then.
-pub record Then (told : Said) (dirty_after : List Route) (log now : CallLog) (c : SubtreeCopying) (did : Did) (new : Seen) (m : Marks) : Type 0 where
+pub record Then (told : HistoryFacts) (dirty_after : List Route) (log now : CallLog) (c : SubtreeCopying) (did : Did) (new : Seen) (m : Marks) : Type 0 where
   pub part : ItemHas (said_after now did (Copy c) told) dirty_after m (current now) (course_after did) new.item
   pub around : is_fresh (after_report did c.at.stage) ≡ false → AroundKnows (said_after now did (Copy c) told) m (current now) (record c { at = new })
   pub had : is_fresh (after_report did c.at.stage) ≡ false → Had log c
-  pub modes : OwedModes told.tree new → OwedModes (let s : Said = said_after now did (Copy c) told in s.tree) new
+  pub modes : OwedModes told.tree new → OwedModes (let s : HistoryFacts = said_after now did (Copy c) told in s.tree) new
 
 -- what the machine's step comes to
-abbrev pub Result : Said → List Route → List Route → CallLog → CallLog → SubtreeCopying → Did → Seen → Type 0
-Result told dirty dirty_after log now c did new = Comes told (said_after now did (Copy c) told) dirty_after log now (Then told dirty_after log now c did new)
+abbrev pub Result : HistoryFacts → List Route → List Route → CallLog → CallLog → SubtreeCopying → Did → Seen → Type 0
+Result told dirty dirty_after log now c did new = StepRan told (said_after now did (Copy c) told) dirty_after log now (Then told dirty_after log now c did new)
 
 -- a report that is no first change comes once something was changed
 pub is_begun : (c : SubtreeCopying) (did : Did) → (is_fresh c.at.stage ≡ true → MayBegin did) → (MayBegin did → ⊥) → is_fresh c.at.stage ≡ false
@@ -73,7 +73,7 @@ is_begun c did first off = by (is_fresh c.at.stage) refl
     by false is = is
     by true fresh = absurd (off (first fresh))
 
-module _ (told : Said) (dirty dirty_after : List Route) (marks : Marks) (log now : CallLog) (kept : IsKept told dirty marks log) (c : SubtreeCopying) (mid : Seen) (b : Before told dirty marks log c mid) (none : mid.item ≡ Next) where
+module _ (told : HistoryFacts) (dirty dirty_after : List Route) (marks : Marks) (log now : CallLog) (kept : IsKept told dirty marks log) (c : SubtreeCopying) (mid : Seen) (b : Before told dirty marks log c mid) (none : mid.item ≡ Next) where
   abbrev Comes_to : Did → Seen → Type 0
   Comes_to did new = Result told dirty dirty_after log now c did new
 
@@ -91,21 +91,21 @@ module _ (told : Said) (dirty dirty_after : List Route) (marks : Marks) (log now
   idle_now new still = (no_part, λ some. elim (b.around some) [ inl calm ↦ inl calm | inr but ↦ inr (still, but.1) ])
 
   -- a trouble, where nothing is at work then
-  pub idle_trouble : (trouble : Trouble) (new : Seen) → new.item ≡ Next → Comes told told dirty_after log now (λ m. Idle new m (current now)) → Comes_to (Troubled trouble) new
+  pub idle_trouble : (trouble : Trouble) (new : Seen) → new.item ≡ Next → StepRan told told dirty_after log now (λ m. Idle new m (current now)) → Comes_to (Troubled trouble) new
   idle_trouble trouble new still come = comes_map told told dirty_after log now (λ m. Idle new m (current now)) (Then told dirty_after log now c (Troubled trouble) new)
       (λ m k idle. record { part = subst (λ i. ItemHas told dirty_after m (current now) (course_after (Troubled trouble)) i) (sym still) idle.0; around = idle.1; had = λ some. had_begun told dirty marks log c mid b some; modes = λ h. h }) come
 
   -- a call was refused, or none was made
-  quiet_known : (new : Seen) → new.item ≡ Next → dirty_after ≡ dirty → (now ≡ log) ⊎ (now ≡ with_change log Nothing) → Comes told told dirty_after log now (λ m. Idle new m (current now))
+  quiet_known : (new : Seen) → new.item ≡ Next → dirty_after ≡ dirty → (now ≡ log) ⊎ (now ≡ with_change log Nothing) → StepRan told told dirty_after log now (λ m. Idle new m (current now))
   quiet_known new still list how =
-      subst (λ routes. Comes told told routes log now (λ m. Idle new m (current now))) (sym list) (idle_refused (Idle new) (idle_settles new) told dirty marks log now kept (idle_now new still) how)
+      subst (λ routes. StepRan told told routes log now (λ m. Idle new m (current now))) (sym list) (idle_refused (Idle new) (idle_settles new) told dirty marks log now kept (idle_now new still) how)
 
   pub idle_quiet : (trouble : Trouble) (new : Seen) → new.item ≡ Next → dirty_after ≡ dirty → (now ≡ log) ⊎ (now ≡ with_change log Nothing) → Comes_to (Troubled trouble) new
   idle_quiet trouble new still list how = idle_trouble trouble new still (quiet_known new still list how)
 
   -- where no call is made, and what is known of the part goes on to be known
   unmoved : (did : Did) (new : Seen) → new.item ≡ Next → dirty_after ≡ dirty → now ≡ log → ((m : Marks) → Idle new m (current now) → Then told dirty_after log now c did new m)
-      → Comes told told dirty_after log now (Then told dirty_after log now c did new)
+      → StepRan told told dirty_after log now (Then told dirty_after log now c did new)
   unmoved did new still list same then =
       comes_map told told dirty_after log now (λ m. Idle new m (current now)) (Then told dirty_after log now c did new) (λ m k idle. then m idle) (quiet_known new still list (inl same))
 
@@ -131,7 +131,7 @@ module _ (told : Said) (dirty dirty_after : List Route) (marks : Marks) (log now
       (λ m idle. record { part = subst (λ i. ItemHas told dirty_after m (current now) Asking i) (sym still) idle.0; around = idle.1; had = λ some. had_begun told dirty marks log c mid b some; modes = λ h. h }))
 
   -- a sync, once something was changed
-  pub idle_barrier : (new : Seen) → new.item ≡ Next → is_fresh c.at.stage ≡ false → Comes told told dirty_after log now (λ m. Idle new m (current now)) → Comes_to Barrier new
+  pub idle_barrier : (new : Seen) → new.item ≡ Next → is_fresh c.at.stage ≡ false → StepRan told told dirty_after log now (λ m. Idle new m (current now)) → Comes_to Barrier new
   idle_barrier new still some come = comes_map told told dirty_after log now (λ m. Idle new m (current now)) (Then told dirty_after log now c Barrier new)
       (λ m k idle. record { part = subst (λ i. ItemHas told dirty_after m (current now) GoesOn i) (sym still) idle.0; around = λ e. idle.1 some; had = λ e. had_begun told dirty marks log c mid b some; modes = λ h. h }) come
 
@@ -142,13 +142,13 @@ module _ (told : Said) (dirty dirty_after : List Route) (marks : Marks) (log now
   around_item : (did : Did) (new : Seen) → SyncsAround mid new did (Some log) (Some now) → new.item ≡ Next
   around_item did new s = ap (λ (x : Seen). x.item) s.stands ∙ none
 
-  around_known : (did : Did) (new : Seen) → Listed did new → (s : SyncsAround mid new did (Some log) (Some now)) → Comes told told dirty_after log now (λ m. Idle new m (current now))
+  around_known : (did : Did) (new : Seen) → Listed did new → (s : SyncsAround mid new did (Some log) (Some now)) → StepRan told told dirty_after log now (λ m. Idle new m (current now))
   around_known did new list s = around_comes (Idle new) (idle_settles new) told dirty dirty_after marks log now kept mid new did none list s (idle_now new (around_item did new s))
 
   pub syncs_around : (did : Did) (new : Seen) → (is_fresh c.at.stage ≡ true → MayBegin did) → Listed did new → SyncsAround mid new did (Some log) (Some now) → Comes_to did new
   syncs_around did new first list s = by s.report s.says s.tells
     where
-      come : Comes told told dirty_after log now (λ m. Idle new m (current now))
+      come : StepRan told told dirty_after log now (λ m. Idle new m (current now))
       come = around_known did new list s
 
       by : (report : FolderDid) → IsToldAs report did → folder.Tells (let o = s.outer in at_sync o.copy) report (let o = s.outer in record (at_sync o.copy) { names = s.names }) → Comes_to did new
@@ -183,8 +183,8 @@ module _ (told : Said) (dirty dirty_after : List Route) (marks : Marks) (log now
   finishes did new f list same =
       let still : new.item ≡ Next = ap (λ (x : Seen). x.item) f.stands ∙ none in
       subst (λ d. Comes_to d new) (sym f.says)
-      (subst (λ routes. Comes told (said_after now (Ended Finished None) (Copy c) told) routes log now (Then told routes log now c (Ended Finished None) new)) (sym list)
-      (subst (λ o. Comes told (record told { part = o }) dirty log now (Then told dirty log now c (Ended Finished None) new)) no_part
+      (subst (λ routes. StepRan told (said_after now (Ended Finished None) (Copy c) told) routes log now (Then told routes log now c (Ended Finished None) new)) (sym list)
+      (subst (λ o. StepRan told (record told { part = o }) dirty log now (Then told dirty log now c (Ended Finished None) new)) no_part
       (comes_none told told dirty log now (Then told dirty log now c (Ended Finished None) new) marks same kept (record {
         part = subst (λ i. ItemHas (said_after now (Ended Finished None) (Copy c) told) dirty marks (current now) (course_after (Ended Finished None)) i) (sym still) refl;
         around = λ some. elim (b.around some) [

@@ -17,9 +17,9 @@ use Rattle.copy_folders.specs.Levels.{is_around_dirty}
 use Rattle.copy_tree.specs.InPlace.{AreMoved, HoldsTop, IsInPlace, IsMoved}
 use Rattle.copy_tree.specs.Parts.{ahead}
 use Rattle.copy_tree.specs.Standing.{Seen, due, is_fresh}
-use Rattle.copy_tree.specs.Steps.{LeavesAll}
+use Rattle.copy_tree.specs.TreeCopySteps.{LeavesAll}
 use Rattle.copy_tree.specs.declared.due.Due.TheVariants.{Thing}
-use Rattle.copy_tree.specs.declared.item.Item.TheVariants.{Next}
+use Rattle.copy_tree.specs.declared.item.ItemAtWork.TheVariants.{Next}
 use Rattle.copy_tree.proofs.InPlaces.{leaves_all, pair_moved}
 use Rattle.copy_job.specs.Standing.{SubtreeCopying}
 use Rattle.copy_job.specs.Unbegun.{IsOutside}
@@ -36,7 +36,7 @@ use Rattle.laws_sessions.proofs.EndSteps.{filled_if, met_not}
 use Rattle.laws_sessions.proofs.FilledFolders.{IsFilling}
 use Rattle.laws_sessions.proofs.Intact.{prefix_append, prefix_way}
 use Rattle.laws_sessions.proofs.JobKnows.{calm_in}
-use Rattle.laws_sessions.proofs.Knowing.{IsCalmFolder, IsCalmIn, IsKept, Said}
+use Rattle.laws_sessions.proofs.Knowing.{IsCalmFolder, IsCalmIn, IsKept, HistoryFacts}
 use Rattle.laws_sessions.proofs.Resting.{IsFolderAt, IsSureFolder, folder_at, stands_at}
 use Rattle.laws_sessions.proofs.Restated.{restated, restated_kept}
 use Rattle.laws_sessions.proofs.TreeGoing.{LogHas, leaves_has}
@@ -78,7 +78,7 @@ none_left (suc n) old mid (last, all, none, one) outermost =
     let same : last ≡ old = none_left n old last all outermost in
     absurd (let e : [] ≡ mid.levels.inner ∷ mid.levels.around = sym (ap (λ (c : Seen). c.levels.around) same ∙ outermost) ∙ left.was in let f : ⊥ = cc in f)
 
-module _ (told : Said) (dirty : List Route) (marks : Marks) (log : CallLog) (kept : IsKept told dirty marks log) (c : SubtreeCopying) (mid : Seen) (n : ℕ) (leaves : LeavesAll n c.at mid) (stands : TreeStands dirty c)
+module _ (told : HistoryFacts) (dirty : List Route) (marks : Marks) (log : CallLog) (kept : IsKept told dirty marks log) (c : SubtreeCopying) (mid : Seen) (n : ℕ) (leaves : LeavesAll n c.at mid) (stands : TreeStands dirty c)
     (none : mid.item ≡ Next) (pair : Pair) (next : due mid ≡ Thing pair) (meets : Meets log pair) where
   abbrev top : Pair
   top = c.top
@@ -229,10 +229,10 @@ module _ (told : Said) (dirty : List Route) (marks : Marks) (log : CallLog) (kep
   worked_filled clean has = let copy = has.copy in let levels = copy.0.0 in filled_inner (is_around_dirty mid.levels.around) log mid.levels.inner.copy.target (ahead mid) clean levels.inner
 
 -- what a history says, with the folder that holds the target as one on the disk, and the folders that the copy may change as calm ones
-abbrev pub within : Said → SubtreeCopying → Said
+abbrev pub within : HistoryFacts → SubtreeCopying → HistoryFacts
 within told c = restated told (λ p. same_path p (folder_of c.top.target) || told.folders p) (λ p. may_change (Copies c.top.source c.top.target) p || told.calm p)
 
-pub within_kept : (told : Said) (dirty : List Route) (marks : Marks) (log : CallLog) (c : SubtreeCopying) (mid : Seen) → IsKept told dirty marks log → MayChange marks log c mid → IsKept (within told c) dirty marks log
+pub within_kept : (told : HistoryFacts) (dirty : List Route) (marks : Marks) (log : CallLog) (c : SubtreeCopying) (mid : Seen) → IsKept told dirty marks log → MayChange marks log c mid → IsKept (within told c) dirty marks log
 within_kept told dirty marks log c mid kept may =
     let k = kept.known in
     restated_kept told (λ p. same_path p (folder_of c.top.target) || told.folders p) (λ p. may_change (Copies c.top.source c.top.target) p || told.calm p) dirty marks log kept

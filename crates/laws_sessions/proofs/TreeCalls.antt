@@ -5,7 +5,7 @@ use Rattle.mc_text.specs.Routes.{Route}
 use Rattle.tree_trait.specs.declared.file_system.FileSystem.{FileSystem}
 use Rattle.tree_trait.specs.Answers.{Performs}
 use Rattle.tree_trait.specs.Calls.{MakeFolder, SetMode, SyncFolder}
-use Rattle.tree_trait.specs.Change.{Nothing, Syncs, CallLog, current, found, with_change}
+use Rattle.tree_trait.specs.Change.{Nothing, Syncs, CallLog, current, found_node, with_change}
 use Rattle.laws_crash.specs.Guarded.{Marks}
 use Rattle.laws_crash.proofs.Leading.{current_more}
 use Rattle.job_reports.specs.CallRuns.{AllDone, RunStops}
@@ -31,16 +31,16 @@ use Rattle.job_unsynced.specs.Folders.{with_change as change_list}
 use Rattle.copy_tree.specs.Reports.{IsToldAs}
 use Rattle.copy_tree.specs.Standing.{Seen}
 use Rattle.copy_tree.specs.Skipping as machine
-use Rattle.copy_tree.specs.Steps.{FolderEnds, LeavesAll, SyncsAround, at_end}
-use Rattle.copy_tree.specs.declared.item.Item.TheVariants.{Next}
+use Rattle.copy_tree.specs.TreeCopySteps.{FolderEnds, LeavesAll, SyncsAround, at_end}
+use Rattle.copy_tree.specs.declared.item.ItemAtWork.TheVariants.{Next}
 use Rattle.copy_job.specs.Marks.{brings_in, folder_worked, is_dirty_after, is_left_dirty, was_dirty}
 use Rattle.copy_job.specs.Standing.{SubtreeCopying}
 use Rattle.copy_move.specs.declared.run.Course.{Course}
 use Rattle.laws_sessions.proofs.KnownParts.{may_fill}
 use Rattle.laws_sessions.proofs.Calming.{cleared_known, nothing_known, refused_is}
-use Rattle.laws_sessions.proofs.Knowing.{IsKept, IsKnown, Said, settled_marks}
+use Rattle.laws_sessions.proofs.Knowing.{IsKept, IsKnown, HistoryFacts, settled_marks}
 use Rattle.laws_sessions.proofs.QuietRuns.{row_done, row_stops}
-use Rattle.laws_sessions.proofs.Stepped.{Comes, comes_none, comes_one}
+use Rattle.laws_sessions.proofs.Stepped.{StepRan, comes_none, comes_one}
 use Rattle.laws_sessions.proofs.TreeKnown.{AroundKnows, ItemHas}
 use Rattle.laws_sessions.proofs.TreeSkipped.{skipped_item, skips_none}
 
@@ -80,10 +80,10 @@ same_list true folder dirty = refl
 same_list false folder dirty = refl
 
 -- What is known of the tree, and with the marks that are settled, is known after a call that changes nothing of it.
-module _ (Q : Marks → FileSystem → Type 0) (settles : (l : CallLog) (m : Marks) → Q m (current l) → Q (settled_marks l m) (current l)) (told : Said) (dirty : List Route) (marks : Marks) (log now : CallLog)
+module _ (Q : Marks → FileSystem → Type 0) (settles : (l : CallLog) (m : Marks) → Q m (current l) → Q (settled_marks l m) (current l)) (told : HistoryFacts) (dirty : List Route) (marks : Marks) (log now : CallLog)
     (kept : IsKept told dirty marks log) where
   abbrev Then : List Route → Type 0
-  Then routes = Comes told told routes log now (λ m. Q m (current now))
+  Then routes = StepRan told told routes log now (λ m. Q m (current now))
 
   -- a call that was refused, or none
   pub idle_refused : Q marks (current log) → (now ≡ log) ⊎ (now ≡ with_change log Nothing) → Then dirty
@@ -98,19 +98,19 @@ module _ (Q : Marks → FileSystem → Type 0) (settles : (l : CallLog) (m : Mar
   pub idle_synced : (up : Route) → Q marks (current log) → Performs {A = Unit {0}} log (SyncFolder up) (Ok tt) (Some now) → Then (without up dirty)
   idle_synced up known done =
       let d = done_call log (SyncFolder up) now done in
-      let f = found (current log) up in
+      let f = found_node (current log) up in
       comes_one told told dirty (without up dirty) marks marks log now (Syncs f) (λ m. Q m (current now)) kept d.is
       (subst (λ (l : CallLog). IsKnown told (without up dirty) marks l) (sym d.is) (cleared_known told dirty marks log kept.known up f (sync_finds (current log) up d.permits)))
       (settles now marks (subst (λ (s : FileSystem). Q marks s) (sym (ap current d.is ∙ current_more log (Syncs f))) known))
 
-module _ (Q : Marks → FileSystem → Type 0) (settles : (l : CallLog) (m : Marks) → Q m (current l) → Q (settled_marks l m) (current l)) (told : Said) (dirty dirty_after : List Route) (marks : Marks) (log now : CallLog) (kept : IsKept told dirty marks log) (old new : Seen) (did : Did) (none : old.item ≡ Next)
+module _ (Q : Marks → FileSystem → Type 0) (settles : (l : CallLog) (m : Marks) → Q m (current l) → Q (settled_marks l m) (current l)) (told : HistoryFacts) (dirty dirty_after : List Route) (marks : Marks) (log now : CallLog) (kept : IsKept told dirty marks log) (old new : Seen) (did : Did) (none : old.item ≡ Next)
     (list : dirty_after ≡ change_list (was_dirty old) (is_dirty_after old did new) (folder_worked old) dirty) where
   abbrev Stands : Type 0
-  Stands = Comes told told dirty_after log now (λ m. Q m (current now))
+  Stands = StepRan told told dirty_after log now (λ m. Q m (current now))
 
   -- by what the list of dirty folders is then
-  listed : (routes : List Route) → dirty_after ≡ routes → Comes told told routes log now (λ m. Q m (current now)) → Stands
-  listed routes is come = subst (λ xs. Comes told told xs log now (λ m. Q m (current now))) (sym is) come
+  listed : (routes : List Route) → dirty_after ≡ routes → StepRan told told routes log now (λ m. Q m (current now)) → Stands
+  listed routes is come = subst (λ xs. StepRan told told xs log now (λ m. Q m (current now))) (sym is) come
 
   -- the folder around is synced
   module _ (s : SyncsAround old new did (Some log) (Some now)) (known : Q marks (current log)) where
@@ -172,7 +172,7 @@ module _ (Q : Marks → FileSystem → Type 0) (settles : (l : CallLog) (m : Mar
         (idle_refused Q settles told dirty marks log now kept known (folder_refused worked.target worked.stage worked.names trouble.cause trouble.path log now stop))
 
 -- What is known of the part and of the folder around, wherever the copy stands.
-abbrev pub PartAt : Said → List Route → Marks → FileSystem → Course → SubtreeCopying → Seen → Type 0
+abbrev pub PartAt : HistoryFacts → List Route → Marks → FileSystem → Course → SubtreeCopying → Seen → Type 0
 PartAt told dirty marks s course c at = ItemHas told dirty marks s course at.item × AroundKnows told marks s (record c { at = at })
 
 -- folders that are left make nothing of it
@@ -180,18 +180,18 @@ pub left_item : (n : ℕ) (old mid : Seen) → LeavesAll n old mid → mid.item 
 left_item zero old mid is = ap (λ (x : Seen). x.item) is
 left_item (suc n) old mid (last, all, none, one) = let r = one.returns in ap (λ (x : Seen). x.item) r.stands ∙ left_item n old last all
 
-pub around_at : (told : Said) (marks : Marks) (s : FileSystem) (c : SubtreeCopying) (old new : Seen) → (old.item ≡ Next → new.item ≡ Next) → AroundKnows told marks s (record c { at = old }) → AroundKnows told marks s (record c { at = new })
+pub around_at : (told : HistoryFacts) (marks : Marks) (s : FileSystem) (c : SubtreeCopying) (old new : Seen) → (old.item ≡ Next → new.item ≡ Next) → AroundKnows told marks s (record c { at = old }) → AroundKnows told marks s (record c { at = new })
 around_at told marks s c old new stays (inl calm) = inl calm
 around_at told marks s c old new stays (inr (none, but)) = inr (stays none, but)
 
-pub left_part : (told : Said) (dirty : List Route) (marks : Marks) (s : FileSystem) (course : Course) (c : SubtreeCopying) (n : ℕ) (old mid : Seen) → LeavesAll n old mid → PartAt told dirty marks s course c old → PartAt told dirty marks s course c mid
+pub left_part : (told : HistoryFacts) (dirty : List Route) (marks : Marks) (s : FileSystem) (course : Course) (c : SubtreeCopying) (n : ℕ) (old mid : Seen) → LeavesAll n old mid → PartAt told dirty marks s course c old → PartAt told dirty marks s course c mid
 left_part told dirty marks s course c n old mid l (item, around) = (
   subst (λ i. ItemHas told dirty marks s course i) (sym (left_item n old mid l)) item,
   around_at told marks s c old mid (λ none. left_item n old mid l ∙ none) around,
 )
 
 -- nor does what is passed over in the same step, which called nothing more
-pub passed_part : (told : Said) (dirty : List Route) (marks : Marks) (s : FileSystem) (course other : Course) (c : SubtreeCopying) (cause : Cause) (old new : Seen) (did : Did)
+pub passed_part : (told : HistoryFacts) (dirty : List Route) (marks : Marks) (s : FileSystem) (course other : Course) (c : SubtreeCopying) (cause : Cause) (old new : Seen) (did : Did)
     → ((trouble : Trouble) → did ≡ common.Troubled trouble → may_fill other ≡ true → ⊥) → machine.Skips cause old did new → PartAt told dirty marks s course c old → PartAt told dirty marks s other c new
 passed_part told dirty marks s course other c cause old new did off skips (item, around) = (
   skipped_item told dirty marks s course other cause did off old.item old new refl skips item,

@@ -19,19 +19,19 @@ use Rattle.copy_job.specs.SubtreeSteps.{ListSteps, SubtreeSteps, step_result}
 use Rattle.copy_tree.specs.Parts.{IsPartPlace}
 use Rattle.copy_tree.specs.Skipping.{SkipsAt, SkipsNamed}
 use Rattle.copy_tree.specs.Standing.{Seen, is_fresh}
-use Rattle.copy_tree.specs.Steps.{WorksOn}
-use Rattle.copy_tree.specs.declared.item.Item.{Item}
-use Rattle.copy_tree.specs.declared.item.Item.TheVariants.{Next, File, Link, Stays}
+use Rattle.copy_tree.specs.TreeCopySteps.{WorksOn}
+use Rattle.copy_tree.specs.declared.item.ItemAtWork.{ItemAtWork}
+use Rattle.copy_tree.specs.declared.item.ItemAtWork.TheVariants.{Next, File, Link, Stays}
 use Rattle.copy_move.specs.declared.run.Course.TheVariants.{GoesOn}
 use Rattle.laws_sessions.specs.Doubt.{name_waits}
 use Rattle.tree_trait.specs.Refusals.{is_folder}
-use Rattle.laws_sessions.proofs.Knowing.{Said}
+use Rattle.laws_sessions.proofs.Knowing.{HistoryFacts}
 use Rattle.laws_sessions.proofs.TreeEnds.{IsAtEnd, ended_calm, ended_names, ends_here}
 use Rattle.laws_sessions.proofs.TreeGoing.{LogHas, leaves_has}
 use Rattle.laws_sessions.proofs.TreeKnown.{AroundKnows, TreeKnown}
 use Rattle.laws_sessions.proofs.TreeLeads.{log_has}
 
-pub record TreeLeft (told : Said) (marks : Marks) (log : CallLog) (c : SubtreeCopying) : Type 0 where
+pub record TreeLeft (told : HistoryFacts) (marks : Marks) (log : CallLog) (c : SubtreeCopying) : Type 0 where
   pub names : (name : List ℕ) (up : Route) → is_own c up ≡ true → name_waits log (name ∷ up) ≡ false
   pub calm : (rest : Route) (i : ℕ) → find (current log) (rest ++ c.top.target) ≡ Some i → (is_clean i log.changes ≡ true) ⊎ ((rest ≡ []) × (is_folder (node (current log) i) ≡ false))
   pub around : AroundKnows told marks (current log) c
@@ -48,7 +48,7 @@ named_no_end (first ∷ names) cause old new part (inr (inl (long, inl s))) = ab
 named_no_end (first ∷ names) cause old new part (inr (inl (long, inr s))) = absurd (let e = s.0 in let f : ⊥ = cc in f)
 named_no_end (first ∷ names) cause old new part (inr (inr s)) = absurd (let e = s.0 in let f : ⊥ = cc in f)
 
-skips_no_end : {A : Type 0} (item : Item) (cause : Cause) (old new : Seen) (part : Option Route) → SkipsAt item cause old (Ended Finished part) new → A
+skips_no_end : {A : Type 0} (item : ItemAtWork) (cause : Cause) (old new : Seen) (part : Option Route) → SkipsAt item cause old (Ended Finished part) new → A
 skips_no_end Next cause old new part s = named_no_end old.levels.inner.names.names cause old new part s
 skips_no_end (File f) cause old new part (moved, inl s, stands) = absurd (let e = s.0 in let f : ⊥ = cc in f)
 skips_no_end (File f) cause old new part (moved, inr s, stands) = absurd (let e = s.0 in let f : ⊥ = cc in f)
@@ -56,7 +56,7 @@ skips_no_end (Link l) cause old new part (moved, inl s, stands) = absurd (let e 
 skips_no_end (Link l) cause old new part (moved, inr s, stands) = absurd (let e = s.0 in let f : ⊥ = cc in f)
 skips_no_end (Stays left) cause old new part s = absurd s
 
-module _ (told : Said) (dirty dirty_after : List Route) (marks : Marks) (log now : CallLog) (c new : SubtreeCopying) (part : Option Route) (known : TreeKnown told dirty marks log GoesOn c) (begun : is_fresh c.at.stage ≡ false)
+module _ (told : HistoryFacts) (dirty dirty_after : List Route) (marks : Marks) (log now : CallLog) (c new : SubtreeCopying) (part : Option Route) (known : TreeKnown told dirty marks log GoesOn c) (begun : is_fresh c.at.stage ≡ false)
     (free : Route → Bool) (replies : Replies) (calls f0 f1 : ℕ) (s : SubtreeSteps free replies c new (Ended Finished part) calls dirty dirty_after (Some log) (Some now) f0 f1) where
   -- folders that owe nothing are left, and the machine is at its end
   record Ends : Type 0 where

@@ -20,9 +20,9 @@ use Rattle.copy_folders.specs.declared.level.Level.{Level}
 use Rattle.job_unsynced.specs.Folders.{is_of}
 use Rattle.copy_tree.specs.Reports.{IsToldAs}
 use Rattle.copy_tree.specs.Standing.{Seen}
-use Rattle.copy_tree.specs.Steps.{TakesNext, WorksOn}
-use Rattle.copy_tree.specs.declared.item.Item.{Item}
-use Rattle.copy_tree.specs.declared.item.Item.TheVariants.{Next, File, Link, Stays}
+use Rattle.copy_tree.specs.TreeCopySteps.{TakesNext, WorksOn}
+use Rattle.copy_tree.specs.declared.item.ItemAtWork.{ItemAtWork}
+use Rattle.copy_tree.specs.declared.item.ItemAtWork.TheVariants.{Next, File, Link, Stays}
 use Rattle.laws_sessions.specs.Doubt.{name_waits}
 use Rattle.tree_trait.specs.Refusals.{is_folder}
 use Rattle.job_answers.specs.declared.replies.Replies.{Replies}
@@ -66,7 +66,7 @@ module _ (top : Pair) (log : CallLog) (c : Seen) (h : LogHas top log c) where
       clean = false_from_ne_true _ (λ dirty. let ends = h.ends in not_owing c.levels.inner.copy.stage c.levels.inner.copy.names ends.open_still debt dirty);
     }
 
-    pub ends_here : (item : Item) → c.item ≡ item → WorksOn item unclaimed replies c new (common.Ended Finished part) before after → IsAtEnd c
+    pub ends_here : (item : ItemAtWork) → c.item ≡ item → WorksOn item unclaimed replies c new (common.Ended Finished part) before after → IsAtEnd c
     ends_here Next is (inl s) = no_end s.report part s.says
     ends_here Next is (inr (clean, takes)) = ends_next is takes
     ends_here (File f) is w =
@@ -89,7 +89,7 @@ module _ (top : Pair) (log : CallLog) (c : Seen) (h : LogHas top log c) where
   none_set (at.Fill owed) names clean set = false≢true set
   none_set at.Done names clean set = false≢true set
 
-  no_part : (item : Item) (path : Route) → item ≡ Next → filled_part item ≡ Some path → ⊥
+  no_part : (item : ItemAtWork) (path : Route) → item ≡ Next → filled_part item ≡ Some path → ⊥
   no_part item path none is = (let e : (let o : Option Route = None in o) ≡ Some path = sym (ap filled_part none) ∙ is in let f : ⊥ = cc in f)
 
   -- nor does a change of what stands at or below the target, but of a file or a link at the target that stood there before

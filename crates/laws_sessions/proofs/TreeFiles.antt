@@ -17,15 +17,15 @@ use Rattle.copy_file.specs.Copying.{Copying, Tells, after_clean, part_at, places
 use Rattle.copy_file.specs.PartNames.{IsFirstFree, IsShort, part_name, part_path}
 use Rattle.copy_file.specs.declared.stage.Stage.{Stage}
 use Rattle.copy_file.specs.declared.stage.Stage.TheVariants as at
-use Rattle.copy_tree.specs.declared.item.Item.{Item}
-use Rattle.copy_tree.specs.declared.item.Item.TheVariants.{File}
+use Rattle.copy_tree.specs.declared.item.ItemAtWork.{ItemAtWork}
+use Rattle.copy_tree.specs.declared.item.ItemAtWork.TheVariants.{File}
 use Rattle.copy_tree.specs.declared.progress.Progress.{Progress}
 use Rattle.copy_tree.specs.declared.progress.Progress.TheVariants.{UnderWay, Decided, Anew}
-use Rattle.copy_folders.specs.Levels.{Levels, coming, dirtied, is_around_dirty, passed}
+use Rattle.copy_folders.specs.Levels.{Levels, coming, dirtied_levels, is_around_dirty, passed_levels}
 use Rattle.copy_tree.specs.Parts.{IsShortPart}
 use Rattle.copy_tree.specs.Progress.{progress}
 use Rattle.copy_tree.specs.Standing.{Seen}
-use Rattle.copy_tree.specs.Steps.{after_file, idle, noted, settled}
+use Rattle.copy_tree.specs.TreeCopySteps.{after_file, idle, noted_copy, copy_after_progress}
 use Rattle.laws_sessions.proofs.FileMoves.{MoveCalls, MoveStops}
 use Rattle.laws_sessions.proofs.FilledCalls.{IsNoneOf}
 use Rattle.laws_sessions.proofs.AtWork.{HasItem}
@@ -37,18 +37,18 @@ use Rattle.laws_sessions.proofs.TreeRuns.{Ready, part_placed, row_named, row_qui
 
 -- What is known of open folders stays known where one of them gets dirty, and the next name is done with.
 module _ (now : CallLog) (name : List ℕ) where
-  dirty_levels : (changed : Bool) (l : Levels) → LevelsKnow now name l → LevelsKnow now name (dirtied changed l)
+  dirty_levels : (changed : Bool) (l : Levels) → LevelsKnow now name l → LevelsKnow now name (dirtied_levels changed l)
   dirty_levels true l known = record { inner = known.inner; around = known.around }
   dirty_levels false l known = record { inner = known.inner; around = known.around }
 
-  passed_dirty : (changed : Bool) (l : Levels) → LevelsKnow now name (passed false l) → LevelsKnow now name (passed false (dirtied changed l))
+  passed_dirty : (changed : Bool) (l : Levels) → LevelsKnow now name (passed_levels false l) → LevelsKnow now name (passed_levels false (dirtied_levels changed l))
   passed_dirty true l known = record { inner = known.inner; around = known.around }
   passed_dirty false l known = record { inner = known.inner; around = known.around }
 
   -- what has to be known by how far a file or a link is
   abbrev pub Needs : Progress → Levels → Type 0
   Needs UnderWay l = LevelsKnow now name l
-  Needs Decided l = LevelsKnow now name (passed false l)
+  Needs Decided l = LevelsKnow now name (passed_levels false l)
   Needs Anew l = LevelsKnow now name l
 
   pub needs : (p : Progress) (l : Levels) → LevelsKnow now name l → Needs p l
@@ -56,7 +56,7 @@ module _ (now : CallLog) (name : List ℕ) where
   needs Decided l known = levels_passed now name false l known
   needs Anew l known = known
 
-  pub settled_levels : (p : Progress) (item : Item) (did : Did) (changed : Bool) (c : Seen) → Needs p c.levels → LevelsKnow now name (let s : Seen = settled p item (noted did changed c) in s.levels)
+  pub settled_levels : (p : Progress) (item : ItemAtWork) (did : Did) (changed : Bool) (c : Seen) → Needs p c.levels → LevelsKnow now name (let s : Seen = copy_after_progress p item (noted_copy did changed c) in s.levels)
   settled_levels UnderWay item did changed c known = dirty_levels changed c.levels known
   settled_levels Decided item did changed c known = passed_dirty changed c.levels known
   settled_levels Anew item did changed c known = dirty_levels changed c.levels known
@@ -64,7 +64,7 @@ module _ (now : CallLog) (name : List ℕ) where
   file_then : (moved : Copying) (did : Did) (old new : Seen) (p : Progress) → progress moved.stage ≡ p → new ≡ after_file did moved (idle old) → Needs p old.levels → LevelsKnow now name new.levels
   file_then moved did old new p p_is stands known =
       subst (λ (s : Seen). LevelsKnow now name s.levels) (sym stands)
-      (subst (λ q. LevelsKnow now name (let s : Seen = settled q (File moved) (noted did (file.is_dirty moved.folder) (idle old)) in s.levels)) (sym p_is)
+      (subst (λ q. LevelsKnow now name (let s : Seen = copy_after_progress q (File moved) (noted_copy did (file.is_dirty moved.folder) (idle old)) in s.levels)) (sym p_is)
       (settled_levels p (File moved) did (file.is_dirty moved.folder) (idle old) known))
 
 -- Of a file: where its part stands, and that a part which is begun has the name of nothing that is yet to be met.
@@ -102,7 +102,7 @@ module _ (unclaimed : Route → Type 0) (log now : CallLog) (name : List ℕ) (l
       row_named name l known.clean known.nested log now (RemoveFile part) work.k (Ok tt) known.tree (row_done log now (RemoveFile part) rows)
       (λ q ns off. subst (λ r. IsNoneOf q ns r) (sym work.part_is) off) item.off known.levels
 
-  ready : (part : Route) → part_at f.stage ≡ Some part → Ready name (passed false l) known.clean known.nested log part f.target
+  ready : (part : Route) → part_at f.stage ≡ Some part → Ready name (passed_levels false l) known.clean known.nested log part f.target
   ready part is = let item = known.item part is in record { tree = known.tree; known = levels_passed log name false l known.levels; work = item.work }
 
   -- a trouble, by where the copy stands
@@ -126,8 +126,8 @@ module _ (unclaimed : Route → Type 0) (log now : CallLog) (name : List ℕ) (l
       (row_quiet name l known.clean known.nested log now (writing (current log) (places_of f) part_now facts_now done_now) (Ok tt) known.tree
       (row_done log now (writing (current log) (places_of f) part_now facts_now done_now) rows) (λ q ns. tt) known.levels))
   file_step moved (Placed path) old new levels_are short (part, facts, stage, path_is, new_is) (part_now, facts_now, stage_now, rows) stands =
-      file_then now name moved (Placed path) old new Decided (ap (λ (c : Copying). progress c.stage) new_is) stands (subst (λ (x : Levels). LevelsKnow now name (passed false x)) (sym levels_are)
-      (part_placed name (passed false l) known.clean known.nested log now facts_now.mode part_now f.target (ready part_now (ap part_at stage_now)) rows))
+      file_then now name moved (Placed path) old new Decided (ap (λ (c : Copying). progress c.stage) new_is) stands (subst (λ (x : Levels). LevelsKnow now name (passed_levels false x)) (sym levels_are)
+      (part_placed name (passed_levels false l) known.clean known.nested log now facts_now.mode part_now f.target (ready part_now (ap part_at stage_now)) rows))
   file_step moved (Cleaned part) old new levels_are short (follows, stage, new_is) rows stands =
       file_then now name moved (Cleaned part) old new (progress (after_clean follows)) (ap (λ (c : Copying). progress c.stage) new_is) stands
       (needs now name (progress (after_clean follows)) old.levels (subst (LevelsKnow now name) (sym levels_are) (removed part (ap part_at stage) rows)))

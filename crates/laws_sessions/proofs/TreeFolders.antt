@@ -3,7 +3,7 @@ use Rattle.std.proofs.Common.{◌≡◌, ℕ, true, false, List, [], ◌∷◌, 
 use Rattle.mc_text.specs.Routes.{Route}
 use Rattle.tree_trait.specs.Answers.{Performs}
 use Rattle.tree_trait.specs.Calls.{Call, MakeFolder, SetMode, SyncFolder}
-use Rattle.tree_trait.specs.Change.{CallLog, current, found}
+use Rattle.tree_trait.specs.Change.{CallLog, current, found_node}
 use Rattle.tree_trait.specs.CrashImages.{Among}
 use Rattle.tree_trait.specs.Shape.{IsTree}
 use Rattle.job_reports.specs.CallRuns.{AllDone, RunStops}
@@ -20,12 +20,12 @@ use Rattle.copy_folders.specs.declared.stage.NamesState.{NamesState}
 use Rattle.copy_folders.specs.declared.stage.NamesState.TheVariants.{Synced, Dirty}
 use Rattle.copy_folders.specs.declared.stage.Stage.{Stage}
 use Rattle.copy_folders.specs.declared.stage.Stage.TheVariants as at
-use Rattle.tree_walk.specs.Places.{opened}
+use Rattle.tree_walk.specs.Places.{opened_folder}
 use Rattle.copy_folders.specs.declared.level.Level.{Level}
 use Rattle.job_reports.specs.declared.report.Did.{Did}
-use Rattle.copy_folders.specs.Levels.{Levels, closed, coming, is_around_dirty, level, made_levels, passed, with_copy}
+use Rattle.copy_folders.specs.Levels.{Levels, levels_closed, coming, is_around_dirty, level, made_levels, passed_levels, with_copy}
 use Rattle.copy_tree.specs.Standing.{Seen}
-use Rattle.copy_tree.specs.Steps.{FolderEnds, FolderMakes, SyncsAround}
+use Rattle.copy_tree.specs.TreeCopySteps.{FolderEnds, FolderMakes, SyncsAround}
 use Rattle.laws_sessions.proofs.FilledFolders.{IsNew, folder_opens}
 use Rattle.laws_sessions.proofs.Resting.{IsOfFiles}
 use Rattle.laws_sessions.proofs.OpenFolders.{AroundKnow, InnerKnows, LevelsKnow}
@@ -41,7 +41,7 @@ copy_levels log name l moved same known = record {
   around = known.around;
 }
 
-pub closed_levels : (log : CallLog) (name : List ℕ) (l : Levels) → LevelsKnow log name l → LevelsKnow log name (closed l)
+pub closed_levels : (log : CallLog) (name : List ℕ) (l : Levels) → LevelsKnow log name l → LevelsKnow log name (levels_closed l)
 closed_levels log name l known = record { inner = known.inner; around = known.around }
 
 -- What is known as a step at a folder begins.
@@ -81,7 +81,7 @@ module _ (log now : CallLog) (name : List ℕ) (l : Levels) (known : FolderKnown
   next_stops target at.Done names why path run = none_stops why path run
 
   -- a folder is made in the innermost one, where it was met next
-  module _ (clean : is_around_dirty l.around ≡ false) (n : List ℕ) (off : Among (let p : Levels = passed false l in coming name p.inner.names p.around) n → ⊥) where
+  module _ (clean : is_around_dirty l.around ≡ false) (n : List ℕ) (off : Among (let p : Levels = passed_levels false l in coming name p.inner.names p.around) n → ⊥) where
     abbrev up : Route
     up = l.inner.copy.target
 
@@ -89,21 +89,21 @@ module _ (log now : CallLog) (name : List ℕ) (l : Levels) (known : FolderKnown
     made_new mode names h =
         let d = done_call log (MakeFolder (n ∷ up) mode) now h in
         let passes = making_passes (current log) n up mode d.permits in
-        subst (λ (x : CallLog). IsNew x (n ∷ up) names) (sym d.is) (folder_opens log known.tree up (found (current log) up) passes.folder n _ passes.none known.files passes.holds refl names)
+        subst (λ (x : CallLog). IsNew x (n ∷ up) names) (sym d.is) (folder_opens log known.tree up (found_node (current log) up) passes.folder n _ passes.none known.files passes.holds refl names)
 
-    made_passed : (mode : ℕ) → Performs {A = Unit {0}} log (MakeFolder (n ∷ up) mode) (Ok tt) (Some now) → LevelsKnow now name (passed false l)
-    made_passed mode h = row_named name (passed false l) clean known.nested log now (MakeFolder (n ∷ up) mode) n (Ok tt) known.tree h (λ q ns none. none) off (levels_passed log name false l known.levels)
+    made_passed : (mode : ℕ) → Performs {A = Unit {0}} log (MakeFolder (n ∷ up) mode) (Ok tt) (Some now) → LevelsKnow now name (passed_levels false l)
+    made_passed mode h = row_named name (passed_levels false l) clean known.nested log now (MakeFolder (n ∷ up) mode) n (Ok tt) known.tree h (λ q ns none. none) off (levels_passed log name false l known.levels)
 
     makes : (pair : Pair) (names : List (List ℕ)) (mode : ℕ) (moved : FolderCopying) (report : FolderDid) → pair.target ≡ n ∷ up → Tells (copying pair.source pair.target (at.Make mode) Synced) report moved
-        → FolderCalls (copying pair.source pair.target (at.Make mode) Synced) report log (Some now) → LevelsKnow now name (made_levels moved.stage (opened pair.source names) moved l)
+        → FolderCalls (copying pair.source pair.target (at.Make mode) Synced) report log (Some now) → LevelsKnow now name (made_levels moved.stage (opened_folder pair.source names) moved l)
     makes pair names mode moved (Made path) target_is (mode_now, stage, path_is, new_is) rows =
         let done = row_done log now (MakeFolder pair.target (folder_mode mode)) rows in
         let here = subst (λ t. Performs {A = Unit {0}} log (MakeFolder t (folder_mode mode)) (Ok tt) (Some now)) target_is done in
         let new = subst (λ t. IsNew now t names) (sym target_is) (made_new (folder_mode mode) names here) in
-        subst (λ (c : FolderCopying). LevelsKnow now name (made_levels c.stage (opened pair.source names) c l)) (sym new_is)
-        (levels_entered now name (opened pair.source names) _ l (made_passed (folder_mode mode) here) clean new)
+        subst (λ (c : FolderCopying). LevelsKnow now name (made_levels c.stage (opened_folder pair.source names) c l)) (sym new_is)
+        (levels_entered now name (opened_folder pair.source names) _ l (made_passed (folder_mode mode) here) clean new)
     makes pair names mode moved (Troubled trouble) target_is (barrier, new_is) run =
-        subst (λ (c : FolderCopying). LevelsKnow now name (made_levels c.stage (opened pair.source names) c l)) (sym new_is) (refused (MakeFolder pair.target (folder_mode mode)) trouble.cause trouble.path run)
+        subst (λ (c : FolderCopying). LevelsKnow now name (made_levels c.stage (opened_folder pair.source names) c l)) (sym new_is) (refused (MakeFolder pair.target (folder_mode mode)) trouble.cause trouble.path run)
     makes pair names mode moved (Set path) target_is (mode_now, stage, path_is, new_is) rows = absurd (let f : ⊥ = cc in f)
     makes pair names mode moved Barrier target_is (stage, dirty, new_is) rows = absurd (let f : ⊥ = cc in f)
     makes pair names mode moved Closed target_is (stage, clean_is, new_is) rows = absurd (let f : ⊥ = cc in f)
@@ -111,7 +111,7 @@ module _ (log now : CallLog) (name : List ℕ) (l : Levels) (known : FolderKnown
     pub folder_makes : (pair : Pair) (names : List (List ℕ)) (mode : ℕ) (old new : Seen) (did : Did) → old.levels ≡ l → pair.target ≡ n ∷ up → FolderMakes pair names mode old new did (Some log) (Some now) → LevelsKnow now name new.levels
     folder_makes pair names mode old new did levels_are target_is w =
         subst (λ (s : Seen). LevelsKnow now name s.levels) (sym w.stands)
-        (subst (λ (x : Levels). LevelsKnow now name (made_levels w.moved.stage (opened pair.source names) w.moved x)) (sym levels_are)
+        (subst (λ (x : Levels). LevelsKnow now name (made_levels w.moved.stage (opened_folder pair.source names) w.moved x)) (sym levels_are)
         (makes pair names mode w.moved w.report target_is w.tells (w.called log refl)))
 
   -- the innermost folder is given its mode, or synced; it was made long ago
@@ -153,7 +153,7 @@ module _ (log now : CallLog) (name : List ℕ) (l : Levels) (known : FolderKnown
     opens h =
         let d = done_call log (SyncFolder outer.copy.target) now h in
         subst (λ (x : CallLog). LevelsKnow x name (with_state Synced)) (sym d.is)
-        (levels_opened log known.tree name lies.0 (found (current log) outer.copy.target) l outer around was (subst (λ (ls : List Level). is_around_dirty ls ≡ true) was dirty) lies.1
+        (levels_opened log known.tree name lies.0 (found_node (current log) outer.copy.target) l outer around was (subst (λ (ls : List Level). is_around_dirty ls ≡ true) was dirty) lies.1
         (sync_finds (current log) outer.copy.target d.permits) known.levels)
 
     still_dirty : LevelsKnow now name l → LevelsKnow now name (with_state Dirty)

@@ -13,13 +13,13 @@ use Rattle.job_reports.specs.declared.report.Did.{Did}
 use Rattle.job_reports.specs.Paths.{folder_of}
 use Rattle.job_reports.proofs.CallAnswers.{some_log}
 use Rattle.job_unsynced.specs.Folders.{is_of}
-use Rattle.copy_folders.specs.Levels.{closed}
+use Rattle.copy_folders.specs.Levels.{levels_closed}
 use Rattle.copy_tree.specs.InPlace.{IsInPlace}
 use Rattle.copy_tree.specs.Parts.{IsPartPlace}
 use Rattle.copy_tree.specs.Reports.{changes}
 use Rattle.copy_tree.specs.Skipping as machine
 use Rattle.copy_tree.specs.Standing.{Seen, after_report, is_fresh}
-use Rattle.copy_tree.specs.Steps.{CopySteps, IsWorkable, LeavesAll}
+use Rattle.copy_tree.specs.TreeCopySteps.{CopySteps, IsWorkable, LeavesAll}
 use Rattle.copy_tree.specs.declared.copy.Stage.{Stage}
 use Rattle.copy_tree.specs.declared.copy.Stage.TheVariants.{Going}
 use Rattle.copy_tree.proofs.InPlaces as places
@@ -119,7 +119,7 @@ leaves_laid (suc n) old mid (last, all, none, one) h =
     let r = one.returns in
     let same : mid.name ≡ last.name = ap (λ (c : Seen). c.name) r.stands in
     subst (λ name. AreLaid name mid.levels.inner mid.levels.around) (sym same)
-    (laid_left last.name (closed last.levels) mid.levels r.left (laid_closed last.name last.levels (leaves_laid n old last all h)))
+    (laid_left last.name (levels_closed last.levels) mid.levels r.left (laid_closed last.name last.levels (leaves_laid n old last all h)))
 
 step_laid : (free : Route → Bool) (replies : Replies) (old new : Seen) (did : Did) (count : ℕ) (before after : Option CallLog) (f0 f1 : ℕ) → CopySteps free replies old new did count before after f0 f1 → LaidIn old → LaidIn new
 step_laid free replies old new did count before after f0 f1 s h =

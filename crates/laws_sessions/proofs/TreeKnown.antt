@@ -17,8 +17,8 @@ use Rattle.copy_file.specs.declared.stage.Stage.TheVariants as file_stage
 use Rattle.copy_link.specs.LinkCopying as link
 use Rattle.copy_tree.specs.InPlace.{IsInPlace}
 use Rattle.copy_tree.specs.Standing.{Seen, is_fresh}
-use Rattle.copy_tree.specs.declared.item.Item.{Item}
-use Rattle.copy_tree.specs.declared.item.Item.TheVariants.{Next, File, Link, Stays}
+use Rattle.copy_tree.specs.declared.item.ItemAtWork.{ItemAtWork}
+use Rattle.copy_tree.specs.declared.item.ItemAtWork.TheVariants.{Next, File, Link, Stays}
 use Rattle.copy_job.specs.Standing.{SubtreeCopying, is_own, part_of}
 use Rattle.copy_job.specs.Unbegun.{IsUnbegun}
 use Rattle.copy_move.specs.declared.run.Course.{Course}
@@ -34,7 +34,7 @@ use Rattle.laws_sessions.proofs.DirtyListed.{MarksListed}
 use Rattle.laws_sessions.proofs.FoldersEnd.{EndsLast}
 use Rattle.laws_sessions.proofs.FoldersLie.{AreLaid}
 use Rattle.laws_sessions.proofs.KnownParts.{may_fill, FileKnows, HasName, IsLeftPart, LinkKnows, StageKnows, file_course, file_said, file_settled, link_knows_settled, link_left, link_said, part_left}
-use Rattle.laws_sessions.proofs.Knowing.{Said, settled_marks}
+use Rattle.laws_sessions.proofs.Knowing.{HistoryFacts, settled_marks}
 use Rattle.laws_sessions.proofs.NameChanges.{waits_quiet}
 use Rattle.laws_sessions.proofs.Names.{IsMarked, IsMarkedIn, WaitsMarked}
 use Rattle.laws_sessions.proofs.OpenFolders.{LevelsKnow}
@@ -53,14 +53,14 @@ is_over Asking = false
 is_over (Skips why) = false
 
 -- what is known of the part, by what is at work
-abbrev pub ItemHas : Said → List Route → Marks → FileSystem → Course → Item → Type 0
+abbrev pub ItemHas : HistoryFacts → List Route → Marks → FileSystem → Course → ItemAtWork → Type 0
 ItemHas told dirty marks s course Next = told.part ≡ None
 ItemHas told dirty marks s course (File f) = FileKnows told dirty marks s course f
 ItemHas told dirty marks s course (Link l) = (link.has_part l.stage ≡ true) × LinkKnows told dirty marks s l.source l.target l.part
 ItemHas told dirty marks s course (Stays part) = IsLeftPart told s part
 
 -- what is known of a part that a last step leaves, if one stands
-abbrev pub LeavesPart : Said → FileSystem → Option Route → Type 0
+abbrev pub LeavesPart : HistoryFacts → FileSystem → Option Route → Type 0
 LeavesPart told s None = told.part ≡ None
 LeavesPart told s (Some part) = IsLeftPart told s part
 
@@ -69,7 +69,7 @@ abbrev pub IsCalmBut : Marks → FileSystem → Route → Type 0
 IsCalmBut marks s target = (name : List ℕ) (i : ℕ) → (name ∷ folder_of target ≡ target → is_folder (node s i) ≡ false) → find s (name ∷ folder_of target) ≡ Some i → (marks.modes i ≡ None) ⊎ (starts_mount s i ≡ true)
 
 -- The history says that none waits there; or the target was given its mode, and nothing is at work any more.
-abbrev pub AroundKnows : Said → Marks → FileSystem → SubtreeCopying → Type 0
+abbrev pub AroundKnows : HistoryFacts → Marks → FileSystem → SubtreeCopying → Type 0
 AroundKnows told marks s c = (told.calm (folder_of c.top.target) ≡ true) ⊎ ((c.at.item ≡ Next) × IsCalmBut marks s c.top.target)
 
 -- how the copy stands, whatever was changed: a fact of the machine and of the list of dirty folders
@@ -87,7 +87,7 @@ LiesOutside top = (name : List ℕ) (rest : Route) → top.source ≡ name ∷ r
 
 -- what is known once something was changed: the source doesn't lie below the target; and of the open folders, of the file or link at work, of what
 -- lies at and below the target, and of the folder around
-pub record TreeHas (told : Said) (marks : Marks) (log : CallLog) (c : SubtreeCopying) : Type 0 where
+pub record TreeHas (told : HistoryFacts) (marks : Marks) (log : CallLog) (c : SubtreeCopying) : Type 0 where
   pub outside : LiesOutside c.top
   pub levels : LevelsKnow log c.at.name c.at.levels
   pub item : ItemKnown log c.at c.at.item
@@ -100,21 +100,21 @@ pub record TreeHas (told : Said) (marks : Marks) (log : CallLog) (c : SubtreeCop
   pub around : AroundKnows told marks (current log) c
 
 -- so as the laws of the machine want it
-pub copy_known : (told : Said) (dirty : List Route) (marks : Marks) (log : CallLog) (c : SubtreeCopying) → TreeStands dirty c → TreeHas told marks log c → CopyKnown log c.at
+pub copy_known : (told : HistoryFacts) (dirty : List Route) (marks : Marks) (log : CallLog) (c : SubtreeCopying) → TreeStands dirty c → TreeHas told marks log c → CopyKnown log c.at
 copy_known told dirty marks log c stands has = ((has.levels, stands.laid), has.item)
 
 -- A copy that isn't in its last steps.
-pub record TreeGoes (told : Said) (dirty : List Route) (marks : Marks) (log : CallLog) (c : SubtreeCopying) : Type 0 where
+pub record TreeGoes (told : HistoryFacts) (dirty : List Route) (marks : Marks) (log : CallLog) (c : SubtreeCopying) : Type 0 where
   pub stands : TreeStands dirty c
   pub begun : is_fresh c.at.stage ≡ false → TreeHas told marks log c
 
-pub record TreeKnown (told : Said) (dirty : List Route) (marks : Marks) (log : CallLog) (course : Course) (c : SubtreeCopying) : Type 0 where
+pub record TreeKnown (told : HistoryFacts) (dirty : List Route) (marks : Marks) (log : CallLog) (course : Course) (c : SubtreeCopying) : Type 0 where
   pub name : HasName c.top.target
   pub part : ItemHas told dirty marks (current log) course c.at.item
   pub goes : is_over course ≡ false → TreeGoes told dirty marks log c
 
 -- what the item at work leaves if all ends now
-pub leaves_part : (told : Said) (dirty : List Route) (marks : Marks) (s : FileSystem) (course : Course) (item : Item) → ItemHas told dirty marks s course item → LeavesPart told s (part_of item)
+pub leaves_part : (told : HistoryFacts) (dirty : List Route) (marks : Marks) (s : FileSystem) (course : Course) (item : ItemAtWork) → ItemHas told dirty marks s course item → LeavesPart told s (part_of item)
 leaves_part told dirty marks s course Next none = none
 leaves_part told dirty marks s course (File f) (name, listed, stage) = by f.stage stage
   where
@@ -129,8 +129,8 @@ leaves_part told dirty marks s course (Link l) (stands, k) =
 leaves_part told dirty marks s course (Stays part) k = k
 
 -- It is known with the marks that are settled.
-module _ (log : CallLog) (marks : Marks) (told : Said) where
-  pub item_settled : (dirty : List Route) (course : Course) (item : Item) → ItemHas told dirty marks (current log) course item → ItemHas told dirty (settled_marks log marks) (current log) course item
+module _ (log : CallLog) (marks : Marks) (told : HistoryFacts) where
+  pub item_settled : (dirty : List Route) (course : Course) (item : ItemAtWork) → ItemHas told dirty marks (current log) course item → ItemHas told dirty (settled_marks log marks) (current log) course item
   item_settled dirty course Next none = none
   item_settled dirty course (File f) k = file_settled log marks told dirty course f k
   item_settled dirty course (Link l) (stands, k) = (stands, link_knows_settled log marks told dirty l.source l.target l.part k)
@@ -172,13 +172,13 @@ module _ (log : CallLog) (marks : Marks) (told : Said) where
   }
 
 -- a job that goes on only where it went on, and isn't over where it wasn't, knows what it knew
-pub item_course : (told : Said) (dirty : List Route) (marks : Marks) (s : FileSystem) (course other : Course) (item : Item) → (may_fill other ≡ true → may_fill course ≡ true) → ItemHas told dirty marks s course item → ItemHas told dirty marks s other item
+pub item_course : (told : HistoryFacts) (dirty : List Route) (marks : Marks) (s : FileSystem) (course other : Course) (item : ItemAtWork) → (may_fill other ≡ true → may_fill course ≡ true) → ItemHas told dirty marks s course item → ItemHas told dirty marks s other item
 item_course told dirty marks s course other Next on none = none
 item_course told dirty marks s course other (File f) on k = file_course told dirty marks s course other f on k
 item_course told dirty marks s course other (Link l) on k = k
 item_course told dirty marks s course other (Stays part) on k = k
 
-pub tree_course : (told : Said) (dirty : List Route) (marks : Marks) (log : CallLog) (course other : Course) (c : SubtreeCopying) → (may_fill other ≡ true → may_fill course ≡ true) → (is_over other ≡ false → is_over course ≡ false)
+pub tree_course : (told : HistoryFacts) (dirty : List Route) (marks : Marks) (log : CallLog) (course other : Course) (c : SubtreeCopying) → (may_fill other ≡ true → may_fill course ≡ true) → (is_over other ≡ false → is_over course ≡ false)
     → TreeKnown told dirty marks log course c → TreeKnown told dirty marks log other c
 tree_course told dirty marks log course other c on over k =
     record { name = k.name; part = item_course told dirty marks (current log) course other c.at.item on k.part; goes = λ still. k.goes (over still) }
@@ -187,21 +187,21 @@ tree_course told dirty marks log course other c on over k =
 abbrev pub IsStill : CallLog → CallLog → Type 0
 IsStill log now = (c : Change) × (now ≡ with_change log c) × ((c ≡ Nothing) ⊎ ((f : ℕ) × (c ≡ Syncs f)))
 
-module _ (told : Said) (dirty : List Route) (marks : Marks) (log : CallLog) (tree : IsTree (current log)) (c : Change) (same : current (with_change log c) ≡ current log)
+module _ (told : HistoryFacts) (dirty : List Route) (marks : Marks) (log : CallLog) (tree : IsTree (current log)) (c : Change) (same : current (with_change log c) ≡ current log)
     (none : (n g : ℕ) (m : List ℕ) → says c n g m ≡ None) (alters_none : (i : ℕ) → alters i c ≡ false) where
   abbrev after : CallLog
   after = with_change log c
 
-  item_still : (course : Course) (item : Item) → ItemHas told dirty marks (current log) course item → ItemHas told dirty marks (current after) course item
+  item_still : (course : Course) (item : ItemAtWork) → ItemHas told dirty marks (current log) course item → ItemHas told dirty marks (current after) course item
   item_still course item k = subst (λ (s : FileSystem). ItemHas told dirty marks s course item) (sym same) k
 
-  known_still : (s : Seen) (item : Item) → ItemKnown log s item → ItemKnown after s item
+  known_still : (s : Seen) (item : ItemAtWork) → ItemKnown log s item → ItemKnown after s item
   known_still s Next k = tt
   known_still s (File f) (clean, going, within, has) = (clean, going, within, λ part is. has_quiet s.name s.levels part f.target log c tree none (has part is))
   known_still s (Link l) (clean, going, within, has) = (clean, going, within, λ is. has_quiet s.name s.levels l.part l.target log c tree none (has is))
   known_still s (Stays part) k = tt
 
-  text_still : (item : Item) → TextKnown log item → TextKnown after item
+  text_still : (item : ItemAtWork) → TextKnown log item → TextKnown after item
   text_still Next k = tt
   text_still (File f) k = tt
   text_still (Link l) k = λ has. subst (λ (s : FileSystem). IsLinkAs s l.part l.source) (sym same) (k has)
@@ -210,7 +210,7 @@ module _ (told : Said) (dirty : List Route) (marks : Marks) (log : CallLog) (tre
   calm_still : (path : Route) (E : Type 0) → IsCalmOr path log E → IsCalmOr path after E
   calm_still path E calm = calm_quiet path log c E E calm none (λ i at altered. absurd (both_ways _ (alters_none i) altered)) (λ e. e)
 
-  part_still : (item : Item) → PartCalm log item → PartCalm after item
+  part_still : (item : ItemAtWork) → PartCalm log item → PartCalm after item
   part_still Next k = tt
   part_still (File f) k = tt
   part_still (Link l) k = λ has. calm_still l.part ⊥ (k has)
@@ -240,7 +240,7 @@ module _ (told : Said) (dirty : List Route) (marks : Marks) (log : CallLog) (tre
     goes = λ on. let g = k.goes on in record { stands = g.stands; begun = λ some. has_still t (g.begun some) };
   }
 
-pub tree_still : (told : Said) (dirty : List Route) (marks : Marks) (log now : CallLog) (course : Course) (t : SubtreeCopying) → IsTree (current log) → IsStill log now → TreeKnown told dirty marks log course t
+pub tree_still : (told : HistoryFacts) (dirty : List Route) (marks : Marks) (log now : CallLog) (course : Course) (t : SubtreeCopying) → IsTree (current log) → IsStill log now → TreeKnown told dirty marks log course t
     → TreeKnown told dirty marks now course t
 tree_still told dirty marks log now course t tree (c, is, how) k = subst (λ (l : CallLog). TreeKnown told dirty marks l course t) (sym is) (by c how)
   where
@@ -249,8 +249,8 @@ tree_still told dirty marks log now course t tree (c, is, how) k = subst (λ (l 
     by c (inr (f, sync)) = subst (λ (x : Change). TreeKnown told dirty marks (with_change log x) course t) (sym sync) (tree_quiet told dirty marks log tree (Syncs f) (current_more log (Syncs f)) (λ n g m. refl) (λ i. refl) course t k)
 
 -- Of what a history says it hangs on the tree, the part, the folders on the disk and the calm folders.
-module _ (told other : Said) (tree_same : other.tree ≡ told.tree) (part_same : other.part ≡ told.part) (folders_same : other.folders ≡ told.folders) (calm_same : other.calm ≡ told.calm) (dirty : List Route) (marks : Marks) (log : CallLog) where
-  item_said : (course : Course) (item : Item) → ItemHas told dirty marks (current log) course item → ItemHas other dirty marks (current log) course item
+module _ (told other : HistoryFacts) (tree_same : other.tree ≡ told.tree) (part_same : other.part ≡ told.part) (folders_same : other.folders ≡ told.folders) (calm_same : other.calm ≡ told.calm) (dirty : List Route) (marks : Marks) (log : CallLog) where
+  item_said : (course : Course) (item : ItemAtWork) → ItemHas told dirty marks (current log) course item → ItemHas other dirty marks (current log) course item
   item_said course Next none = part_same ∙ none
   item_said course (File f) k = file_said told other part_same folders_same calm_same marks (current log) dirty course f k
   item_said course (Link l) (stands, k) = (stands, link_said told other part_same folders_same calm_same marks (current log) dirty l.source l.target l.part k)

@@ -14,7 +14,7 @@ use Rattle.copy_folders.specs.FolderCopying.{FolderCopying, is_dirty}
 use Rattle.copy_folders.specs.declared.stage.NamesState.TheVariants.{Synced}
 use Rattle.tree_walk.specs.Places.{OpenFolder}
 use Rattle.copy_folders.specs.declared.level.Level.{Level}
-use Rattle.copy_folders.specs.Levels.{IsLeft, Levels, coming, dirtied, emptied, entered, is_around_dirty, level, passed}
+use Rattle.copy_folders.specs.Levels.{IsLeft, Levels, coming, dirtied_levels, emptied_levels, entered_levels, is_around_dirty, level, passed_levels}
 use Rattle.laws_sessions.proofs.FilledCalls.{MayFill, filling_call}
 use Rattle.laws_sessions.proofs.FilledFolders.{IsFilling, IsNew, filling_fewer, filling_quiet, new_quiet, opens_synced}
 use Rattle.laws_sessions.proofs.OpenFolders.{AroundKnow, InnerKnows, LevelsKnow}
@@ -48,15 +48,15 @@ none_coming name place [] is k among = subst (λ xs. Among (map (λ (met : List 
 none_coming name place (outer ∷ around) is k among = subst (λ xs. Among xs k) is among
 
 -- The next name is done with, or all that are left.
-pub levels_passed : (log : CallLog) (name : List ℕ) (left : Bool) (l : Levels) → LevelsKnow log name l → LevelsKnow log name (passed left l)
+pub levels_passed : (log : CallLog) (name : List ℕ) (left : Bool) (l : Levels) → LevelsKnow log name l → LevelsKnow log name (passed_levels left l)
 levels_passed log name left l known = record {
-  inner = inner_fewer (is_around_dirty l.around) log l.inner.copy.target _ _ (fewer_coming name l.inner.names (let p : Levels = passed left l in p.inner.names) l.around refl) known.inner;
+  inner = inner_fewer (is_around_dirty l.around) log l.inner.copy.target _ _ (fewer_coming name l.inner.names (let p : Levels = passed_levels left l in p.inner.names) l.around refl) known.inner;
   around = known.around;
 }
 
-pub levels_emptied : (log : CallLog) (name : List ℕ) (l : Levels) → LevelsKnow log name l → LevelsKnow log name (emptied l)
+pub levels_emptied : (log : CallLog) (name : List ℕ) (l : Levels) → LevelsKnow log name l → LevelsKnow log name (emptied_levels l)
 levels_emptied log name l known = record {
-  inner = inner_fewer (is_around_dirty l.around) log l.inner.copy.target _ _ (λ k among. absurd (none_coming name (let e : Levels = emptied l in e.inner.names) l.around refl k among)) known.inner;
+  inner = inner_fewer (is_around_dirty l.around) log l.inner.copy.target _ _ (λ k among. absurd (none_coming name (let e : Levels = emptied_levels l in e.inner.names) l.around refl k among)) known.inner;
   around = known.around;
 }
 
@@ -71,8 +71,8 @@ filled_inner true log up names is known = absurd (let f : ⊥ = cc in f)
 filled_inner false log up names is known = known
 
 -- A folder that was made is gone into: the one around it is dirty, and has met its name.
-pub levels_entered : (log : CallLog) (name : List ℕ) (place : OpenFolder) (copy : FolderCopying) (l : Levels) → LevelsKnow log name (passed false l) → is_around_dirty l.around ≡ false → IsNew log copy.target place.names
-    → LevelsKnow log name (entered place copy (dirtied true l))
+pub levels_entered : (log : CallLog) (name : List ℕ) (place : OpenFolder) (copy : FolderCopying) (l : Levels) → LevelsKnow log name (passed_levels false l) → is_around_dirty l.around ≡ false → IsNew log copy.target place.names
+    → LevelsKnow log name (entered_levels place copy (dirtied_levels true l))
 levels_entered log name place copy l known clean new = record {
   inner = new;
   around = (filled_inner (is_around_dirty l.around) log l.inner.copy.target _ clean known.inner, known.around);

@@ -18,7 +18,7 @@ use Rattle.copy_folders.specs.Levels.{Levels, coming, is_around_dirty}
 use Rattle.job_unsynced.specs.Folders.{is_of}
 use Rattle.copy_tree.specs.InPlace.{AreMoved, HoldsTop}
 use Rattle.copy_tree.specs.Standing.{is_fresh}
-use Rattle.copy_tree.specs.Steps.{IsWorkable}
+use Rattle.copy_tree.specs.TreeCopySteps.{IsWorkable}
 use Rattle.copy_job.specs.Standing.{SubtreeCopying}
 use Rattle.copy_job.specs.SubtreeSteps.{SubtreeSteps}
 use Rattle.copy_job.specs.Told.{IsAfter}
@@ -34,7 +34,7 @@ use Rattle.laws_sessions.proofs.CalmLaws.{calm_law}
 use Rattle.laws_sessions.proofs.FilledFolders.{IsFilling, filling_begins}
 use Rattle.laws_sessions.proofs.Intact.{prefix_way}
 use Rattle.laws_sessions.proofs.KnownParts.{HasName}
-use Rattle.laws_sessions.proofs.Knowing.{IsKept, Said}
+use Rattle.laws_sessions.proofs.Knowing.{IsKept, HistoryFacts}
 use Rattle.laws_sessions.proofs.Names.{WorkedMarked}
 use Rattle.laws_sessions.proofs.OpenFolders.{AroundKnow, InnerKnows, LevelsKnow}
 use Rattle.laws_sessions.proofs.OwedModes.{OwedModes}
@@ -46,7 +46,7 @@ use Rattle.laws_sessions.proofs.Restless.{IsUnjoined}
 use Rattle.laws_sessions.proofs.Untouched.{NoneOn, none_joint, none_on, none_over, none_waits}
 
 -- what is known of the log once something was changed
-pub log_has : (told : Said) (dirty : List Route) (marks : Marks) (log : CallLog) (c : SubtreeCopying) → TreeStands dirty c → TreeHas told marks log c → LogHas c.top log c.at
+pub log_has : (told : HistoryFacts) (dirty : List Route) (marks : Marks) (log : CallLog) (c : SubtreeCopying) → TreeStands dirty c → TreeHas told marks log c → LogHas c.top log c.at
 log_has told dirty marks log c stands h = record {
   copy = copy_known told dirty marks log c stands h;
   ends = stands.ends;
@@ -58,7 +58,7 @@ log_has told dirty marks log c stands h = record {
 }
 
 -- It is known, too, where the first change may be made: nothing is owed, the folder stands, and nothing stands at the target, or a file or a link.
-module _ (told : Said) (dirty : List Route) (marks : Marks) (log : CallLog) (kept : IsKept told dirty marks log) (c : SubtreeCopying) (stands : TreeStands dirty c) (fresh : is_fresh c.at.stage ≡ true)
+module _ (told : HistoryFacts) (dirty : List Route) (marks : Marks) (log : CallLog) (kept : IsKept told dirty marks log) (c : SubtreeCopying) (stands : TreeStands dirty c) (fresh : is_fresh c.at.stage ≡ true)
     (owed : NoneOwed (current log) (Copy c) dirty) (f : ℕ) (at : find (current log) (folder_of c.top.target) ≡ Some f) (folder : is_folder (node (current log) f) ≡ true) (open_to : (find (current log) c.top.target ≡ None) ⊎ StandsBare (current log) c.top.target) where
   abbrev up : Route
   up = folder_of c.top.target
@@ -130,13 +130,13 @@ module _ (told : Said) (dirty : List Route) (marks : Marks) (log : CallLog) (kep
         names = λ name q own. (λ waits. absurd (both_ways _ (none_own name q own) waits), apart_own q own);
       }
 
-module _ (told : Said) (dirty dirty_after : List Route) (marks : Marks) (log now : CallLog) (kept : IsKept told dirty marks log) (c new : SubtreeCopying) (did : Did) (free : Route → Bool) (replies : Replies) (count f0 f1 : ℕ)
+module _ (told : HistoryFacts) (dirty dirty_after : List Route) (marks : Marks) (log now : CallLog) (kept : IsKept told dirty marks log) (c new : SubtreeCopying) (did : Did) (free : Route → Bool) (replies : Replies) (count f0 f1 : ℕ)
     (s : SubtreeSteps free replies c new did count dirty dirty_after (Some log) (Some now) f0 f1) (stands : TreeStands dirty c) (name : HasName c.top.target) (told_so : IsAfter did c new) where
   name_then : HasName new.top.target
   name_then = subst (λ (top : Pair). HasName top.target) (sym told_so.top) name
 
   -- once something was changed
-  pub tree_then : LiesOutside c.top → LogHas c.top log c.at → (after : Said) (course : Course) (m : Marks) → OwedModes after.tree new.at → after.folders (folder_of c.top.target) ≡ true → ItemHas after dirty_after m (current now) course new.at.item
+  pub tree_then : LiesOutside c.top → LogHas c.top log c.at → (after : HistoryFacts) (course : Course) (m : Marks) → OwedModes after.tree new.at → after.folders (folder_of c.top.target) ≡ true → ItemHas after dirty_after m (current now) course new.at.item
       → AroundKnows after m (current now) new → TreeKnown after dirty_after m now course new
   tree_then outside has after course m modes folder part around =
       let has_now = log_goes free replies c new did count dirty dirty_after log now f0 f1 s kept.known.guarded.tree kept.known.files has in
@@ -162,7 +162,7 @@ module _ (told : Said) (dirty dirty_after : List Route) (marks : Marks) (log now
       }
 
   -- where nothing was changed still
-  pub tree_fresh : is_fresh c.at.stage ≡ true → is_fresh new.at.stage ≡ true → (after : Said) (course : Course) (m : Marks) → ItemHas after dirty_after m (current now) course new.at.item → TreeKnown after dirty_after m now course new
+  pub tree_fresh : is_fresh c.at.stage ≡ true → is_fresh new.at.stage ≡ true → (after : HistoryFacts) (course : Course) (m : Marks) → ItemHas after dirty_after m (current now) course new.at.item → TreeKnown after dirty_after m now course new
   tree_fresh was still after course m part =
       let law = unbegun_law in
       let before = stands.unbegun was in

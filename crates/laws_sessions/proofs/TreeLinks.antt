@@ -17,13 +17,13 @@ use Rattle.copy_link.specs.LinkCopying.{LinkCopying, Tells, after_clean, has_par
 use Rattle.copy_link.specs.LinkSteps.{LinkCalls, LinkStops, link_text, next_call}
 use Rattle.copy_link.specs.declared.stage.Stage.{Stage}
 use Rattle.copy_link.specs.declared.stage.Stage.TheVariants as at
-use Rattle.copy_tree.specs.declared.item.Item.TheVariants.{Link}
+use Rattle.copy_tree.specs.declared.item.ItemAtWork.TheVariants.{Link}
 use Rattle.copy_tree.specs.declared.progress.Progress.{Progress}
 use Rattle.copy_tree.specs.declared.progress.Progress.TheVariants.{UnderWay, Decided}
-use Rattle.copy_folders.specs.Levels.{Levels, coming, is_around_dirty, passed}
+use Rattle.copy_folders.specs.Levels.{Levels, coming, is_around_dirty, passed_levels}
 use Rattle.copy_tree.specs.Progress.{link_progress}
 use Rattle.copy_tree.specs.Standing.{Seen}
-use Rattle.copy_tree.specs.Steps.{after_link, idle, noted, settled}
+use Rattle.copy_tree.specs.TreeCopySteps.{after_link, idle, noted_copy, copy_after_progress}
 use Rattle.laws_sessions.proofs.FilledCalls.{IsNoneOf}
 use Rattle.laws_sessions.proofs.AtWork.{HasItem}
 use Rattle.laws_sessions.proofs.OpenFolders.{LevelsKnow}
@@ -36,7 +36,7 @@ use Rattle.laws_sessions.proofs.TreeRuns.{row_named, row_quiet, row_renamed}
 link_then : (now : CallLog) (name : List ℕ) (moved : LinkCopying) (did : Did) (old new : Seen) (p : Progress) → link_progress moved.stage ≡ p → new ≡ after_link did moved (idle old) → Needs now name p old.levels → LevelsKnow now name new.levels
 link_then now name moved did old new p p_is stands known =
     subst (λ (s : Seen). LevelsKnow now name s.levels) (sym stands)
-    (subst (λ q. LevelsKnow now name (let s : Seen = settled q (Link moved) (noted did (link.is_dirty moved.folder) (idle old)) in s.levels)) (sym p_is)
+    (subst (λ q. LevelsKnow now name (let s : Seen = copy_after_progress q (Link moved) (noted_copy did (link.is_dirty moved.folder) (idle old)) in s.levels)) (sym p_is)
     (settled_levels now name p (Link moved) did (link.is_dirty moved.folder) (idle old) known))
 
 -- Of a link: where its part stands, and that a part which is begun has the name of nothing that is yet to be met.
@@ -97,16 +97,16 @@ module _ (log now : CallLog) (name : List ℕ) (l : Levels) (c : LinkCopying) (k
       row_named name l known.clean known.nested log now (RemoveFile c.part) work.k (Ok tt) known.tree (row_done log now (RemoveFile c.part) rows)
       (λ q ns off. subst (λ r. IsNoneOf q ns r) (sym work.part_is) off) item.off known.levels
 
-  placed : c.stage ≡ at.Place → AllDone log (Rename c.part c.target ∷ []) (Some now) → LevelsKnow now name (passed false l)
+  placed : c.stage ≡ at.Place → AllDone log (Rename c.part c.target ∷ []) (Some now) → LevelsKnow now name (passed_levels false l)
   placed is rows =
       let item = known.item (ap has_part is) in
-      row_renamed name (passed false l) known.clean known.nested log now c.part c.target (Ok tt) known.tree (row_done log now (Rename c.part c.target) rows) item.work (levels_passed log name false l known.levels)
+      row_renamed name (passed_levels false l) known.clean known.nested log now c.part c.target (Ok tt) known.tree (row_done log now (Rename c.part c.target) rows) item.work (levels_passed log name false l known.levels)
 
   pub link_step : (moved : LinkCopying) (did : Did) (old new : Seen) → old.levels ≡ l → Tells c did moved → LinkCalls c did log (Some now) → new ≡ after_link did moved (idle old) → LevelsKnow now name new.levels
   link_step moved (Began part) old new levels_are (stage, part_is, new_is) (read, rows) stands =
       link_then now name moved (Began part) old new UnderWay (ap (λ (x : LinkCopying). link_progress x.stage) new_is) stands (subst (LevelsKnow now name) (sym levels_are) (begun stage (rows_at at.Make stage rows)))
   link_step moved (Placed path) old new levels_are (stage, path_is, new_is) (read, rows) stands =
-      link_then now name moved (Placed path) old new Decided (ap (λ (x : LinkCopying). link_progress x.stage) new_is) stands (subst (λ (x : Levels). LevelsKnow now name (passed false x)) (sym levels_are) (placed stage (rows_at at.Place stage rows)))
+      link_then now name moved (Placed path) old new Decided (ap (λ (x : LinkCopying). link_progress x.stage) new_is) stands (subst (λ (x : Levels). LevelsKnow now name (passed_levels false x)) (sym levels_are) (placed stage (rows_at at.Place stage rows)))
   link_step moved (Cleaned part) old new levels_are (follows, stage, part_is, new_is) (read, rows) stands =
       link_then now name moved (Cleaned part) old new (link_progress (after_clean follows)) (ap (λ (x : LinkCopying). link_progress x.stage) new_is) stands
       (needs now name (link_progress (after_clean follows)) old.levels (subst (LevelsKnow now name) (sym levels_are) (removed follows stage (rows_at (at.Clean follows) stage rows))))

@@ -9,12 +9,12 @@ use Rattle.tree_trait.proofs.Visible.{same_path-self}
 use Rattle.laws_crash.specs.Guarded.{Marks}
 use Rattle.job_reports.specs.declared.report.Did.{Did}
 use Rattle.copy_folders.specs.FolderCopying as folder
-use Rattle.copy_folders.specs.Levels.{Levels, dirtied, is_around_dirty}
-use Rattle.job_unsynced.specs.Folders.{is_one_of, joined, with_change as change_list}
+use Rattle.copy_folders.specs.Levels.{Levels, dirtied_levels, is_around_dirty}
+use Rattle.job_unsynced.specs.Folders.{is_one_of, joined_folders, with_change as change_list}
 use Rattle.copy_tree.specs.Standing.{Seen}
-use Rattle.copy_tree.specs.Steps.{idle, noted, settled}
-use Rattle.copy_tree.specs.declared.item.Item.{Item}
-use Rattle.copy_tree.specs.declared.item.Item.TheVariants.{Next}
+use Rattle.copy_tree.specs.TreeCopySteps.{idle, noted_copy, copy_after_progress}
+use Rattle.copy_tree.specs.declared.item.ItemAtWork.{ItemAtWork}
+use Rattle.copy_tree.specs.declared.item.ItemAtWork.TheVariants.{Next}
 use Rattle.copy_tree.specs.declared.progress.Progress.{Progress}
 use Rattle.copy_tree.specs.declared.progress.Progress.TheVariants.{UnderWay, Decided, Anew}
 use Rattle.copy_job.specs.Marks.{brings_in, folder_worked, is_dirty_after, is_left_dirty, was_dirty}
@@ -22,7 +22,7 @@ use Rattle.copy_job.specs.Standing.{SubtreeCopying}
 use Rattle.copy_job.proofs.Listed.{of_inner}
 use Rattle.copy_move.specs.declared.run.Course.TheVariants.{GoesOn}
 use Rattle.laws_sessions.proofs.DeletionSteps.{same_dirty}
-use Rattle.laws_sessions.proofs.Knowing.{IsKept, Said}
+use Rattle.laws_sessions.proofs.Knowing.{IsKept, HistoryFacts}
 use Rattle.laws_sessions.proofs.ListSteps.{inner_listed, leaves_listed}
 use Rattle.laws_sessions.proofs.TreeBefore.{Before, Result}
 use Rattle.laws_sessions.proofs.TreeKnown.{ItemHas}
@@ -34,33 +34,33 @@ one_of_among up [] among = absurd among
 one_of_among up (first ∷ dirty) (inl here) = or_left (same_path first up) (is_one_of up dirty) (subst (λ q. same_path q up ≡ true) here (same_path-self up))
 one_of_among up (first ∷ dirty) (inr more) = or_right (same_path first up) (is_one_of up dirty) (one_of_among up dirty more)
 
-joined_same : (up : Route) (dirty : List Route) → Among dirty up → joined up dirty ≡ dirty
+joined_same : (up : Route) (dirty : List Route) → Among dirty up → joined_folders up dirty ≡ dirty
 joined_same up dirty among = ap (λ b. if b then dirty else dirty ++ up ∷ []) (one_of_among up dirty among)
 
 -- a folder that is listed where it is marked, and is changed, joins the list
-pub joins_list : (was : Bool) (up : Route) (dirty : List Route) → (was ≡ true → Among dirty up) → change_list was true up dirty ≡ joined up dirty
+pub joins_list : (was : Bool) (up : Route) (dirty : List Route) → (was ≡ true → Among dirty up) → change_list was true up dirty ≡ joined_folders up dirty
 joins_list true up dirty listed = sym (joined_same up dirty (listed refl))
 joins_list false up dirty listed = refl
 
-noted_names : (p : Progress) (item : Item) (did : Did) (changed : Bool) (c : Seen)
-    → (let s : Seen = settled p item (noted did changed c) in s.levels.inner.copy.names) ≡ (let d : Levels = dirtied changed c.levels in d.inner.copy.names)
+noted_names : (p : Progress) (item : ItemAtWork) (did : Did) (changed : Bool) (c : Seen)
+    → (let s : Seen = copy_after_progress p item (noted_copy did changed c) in s.levels.inner.copy.names) ≡ (let d : Levels = dirtied_levels changed c.levels in d.inner.copy.names)
 noted_names UnderWay item did changed c = refl
 noted_names Decided item did changed c = refl
 noted_names Anew item did changed c = refl
 
 -- a name in the folder that is worked was changed, or none was
-pub noted_dirty : (p : Progress) (item : Item) (did : Did) (changed : Bool) (c new : Seen) → new ≡ settled p item (noted did changed (idle c)) → changed ≡ true → folder.is_dirty new.levels.inner.copy.names ≡ true
+pub noted_dirty : (p : Progress) (item : ItemAtWork) (did : Did) (changed : Bool) (c new : Seen) → new ≡ copy_after_progress p item (noted_copy did changed (idle c)) → changed ≡ true → folder.is_dirty new.levels.inner.copy.names ≡ true
 noted_dirty p item did changed c new is so =
     ap (λ (x : Seen). folder.is_dirty x.levels.inner.copy.names) is
-    ∙ (ap folder.is_dirty (noted_names p item did changed (idle c)) ∙ ap (λ b. (let d : Levels = dirtied b c.levels in folder.is_dirty d.inner.copy.names)) so)
+    ∙ (ap folder.is_dirty (noted_names p item did changed (idle c)) ∙ ap (λ b. (let d : Levels = dirtied_levels b c.levels in folder.is_dirty d.inner.copy.names)) so)
 
-pub noted_clean : (p : Progress) (item : Item) (did : Did) (changed : Bool) (c new : Seen) → new ≡ settled p item (noted did changed (idle c)) → changed ≡ false
+pub noted_clean : (p : Progress) (item : ItemAtWork) (did : Did) (changed : Bool) (c new : Seen) → new ≡ copy_after_progress p item (noted_copy did changed (idle c)) → changed ≡ false
     → folder.is_dirty new.levels.inner.copy.names ≡ folder.is_dirty c.levels.inner.copy.names
 noted_clean p item did changed c new is so =
     ap (λ (x : Seen). folder.is_dirty x.levels.inner.copy.names) is
-    ∙ (ap folder.is_dirty (noted_names p item did changed (idle c)) ∙ ap (λ b. (let d : Levels = dirtied b c.levels in folder.is_dirty d.inner.copy.names)) so)
+    ∙ (ap folder.is_dirty (noted_names p item did changed (idle c)) ∙ ap (λ b. (let d : Levels = dirtied_levels b c.levels in folder.is_dirty d.inner.copy.names)) so)
 
-module _ (told : Said) (dirty dirty_after : List Route) (marks : Marks) (log now : CallLog) (kept : IsKept told dirty marks log) (c : SubtreeCopying) (mid : Seen) (b : Before told dirty marks log c mid) (none : mid.item ≡ Next)
+module _ (told : HistoryFacts) (dirty dirty_after : List Route) (marks : Marks) (log now : CallLog) (kept : IsKept told dirty marks log) (c : SubtreeCopying) (mid : Seen) (b : Before told dirty marks log c mid) (none : mid.item ≡ Next)
     (clean : is_around_dirty mid.levels.around ≡ false) (free : Route → Bool) where
   abbrev Comes_to : Did → Seen → Type 0
   Comes_to did new = Result told dirty dirty_after log now c did new
@@ -86,7 +86,7 @@ module _ (told : Said) (dirty dirty_after : List Route) (marks : Marks) (log now
   pub list_here : (did : Did) (new : Seen) → Listed did new → dirty_after ≡ change_list was (is_left_dirty did new) up dirty
   list_here did new list = list ∙ sym (of_inner mid new did dirty (ap (λ i. brings_in i mid.levels) none ∙ clean))
 
-  pub list_joins : (did : Did) (new : Seen) → Listed did new → is_left_dirty did new ≡ true → dirty_after ≡ joined up dirty
+  pub list_joins : (did : Did) (new : Seen) → Listed did new → is_left_dirty did new ≡ true → dirty_after ≡ joined_folders up dirty
   list_joins did new list dirtied_now = list_here did new list ∙ (ap (λ x. change_list was x up dirty) dirtied_now ∙ joins_list was up dirty inner_there)
 
   pub list_stays : (did : Did) (new : Seen) → Listed did new → is_left_dirty did new ≡ was → dirty_after ≡ dirty

@@ -25,16 +25,16 @@ use Rattle.copy_tree.specs.Parts.{IsPartPlace}
 use Rattle.copy_tree.specs.Reports.{IsToldAs}
 use Rattle.copy_tree.specs.Skipping as machine
 use Rattle.copy_tree.specs.Standing.{Seen, is_fresh}
-use Rattle.copy_tree.specs.Steps.{FolderEnds, TakesNext, WorksOn, at_end}
-use Rattle.copy_tree.specs.declared.item.Item.{Item}
-use Rattle.copy_tree.specs.declared.item.Item.TheVariants.{Next, File, Link, Stays}
+use Rattle.copy_tree.specs.TreeCopySteps.{FolderEnds, TakesNext, WorksOn, at_end}
+use Rattle.copy_tree.specs.declared.item.ItemAtWork.{ItemAtWork}
+use Rattle.copy_tree.specs.declared.item.ItemAtWork.TheVariants.{Next, File, Link, Stays}
 use Rattle.copy_job.specs.Marks.{folder_worked, is_dirty_after, is_left_dirty, was_dirty}
 use Rattle.copy_job.specs.Standing.{SubtreeCopying}
 use Rattle.copy_job.specs.Unbegun.{MayBegin}
 use Rattle.copy_move.specs.declared.run.Course.TheVariants.{GoesOn}
 use Rattle.laws_sessions.proofs.FileMoves.{worked_moves}
 use Rattle.laws_sessions.proofs.GivenModes.{file_owes, link_owes, works_owe}
-use Rattle.laws_sessions.proofs.Knowing.{IsKept, Said}
+use Rattle.laws_sessions.proofs.Knowing.{IsKept, HistoryFacts}
 use Rattle.laws_sessions.proofs.OwedModes.{OwedModes}
 use Rattle.laws_sessions.proofs.TreeBefore.{asks, keeps, Before, Result, ends_refused, ends_synced, finishes, is_begun, merges, stops_before, syncs_around}
 use Rattle.laws_sessions.proofs.TreeBegins.{none_left}
@@ -82,7 +82,7 @@ named_says (name ∷ names) cause old new did (inl s) = inl (_, cause, s.0)
 named_says (name ∷ names) cause old new did (inr (inl rest)) = rest_says cause old new did rest.1
 named_says (name ∷ names) cause old new did (inr (inr room)) = inr (_, room.0)
 
-pub skip_says : (item : Item) (cause : Cause) (old new : Seen) (did : Did) → machine.SkipsAt item cause old did new → SaysPassed did
+pub skip_says : (item : ItemAtWork) (cause : Cause) (old new : Seen) (did : Did) → machine.SkipsAt item cause old did new → SaysPassed did
 skip_says Next cause old new did s = named_says old.levels.inner.names.names cause old new did s
 skip_says (File f) cause old new did (moved, inl s, stands) = inl (_, cause, s.0)
 skip_says (File f) cause old new did (moved, inr room, stands) = inr (_, room.0)
@@ -90,7 +90,7 @@ skip_says (Link l) cause old new did (moved, inl s, stands) = inl (_, cause, s.0
 skip_says (Link l) cause old new did (moved, inr room, stands) = inr (_, room.0)
 skip_says (Stays part) cause old new did s = absurd s
 
-module _ (told : Said) (dirty dirty_after : List Route) (marks : Marks) (log now : CallLog) (kept : IsKept told dirty marks log) (c : SubtreeCopying) (mid : Seen) (b : Before told dirty marks log c mid) (laid : LaidIn mid) (free : Route → Bool) (replies : Replies)
+module _ (told : HistoryFacts) (dirty dirty_after : List Route) (marks : Marks) (log now : CallLog) (kept : IsKept told dirty marks log) (c : SubtreeCopying) (mid : Seen) (b : Before told dirty marks log c mid) (laid : LaidIn mid) (free : Route → Bool) (replies : Replies)
     (did : Did) (new : Seen) (list : dirty_after ≡ change_list (was_dirty mid) (is_dirty_after mid did new) (folder_worked mid) dirty) (first : is_fresh c.at.stage ≡ true → MayBegin did) where
   abbrev Comes_to : Did → Type 0
   Comes_to d = Result told dirty dirty_after log now c d new
@@ -154,7 +154,7 @@ module _ (told : Said) (dirty dirty_after : List Route) (marks : Marks) (log now
       (list_stays told dirty dirty_after marks log now kept c mid b none clean free did new list
       (ap (λ d. is_left_dirty d new) f.says ∙ ap (λ (x : Seen). folder.is_dirty x.levels.inner.copy.names) f.stands)) (some_log now log same)
 
-  pub works : (item : Item) → mid.item ≡ item → WorksOn item (IsPartPlace free mid) replies mid new did (Some log) (Some now) → Comes_to did
+  pub works : (item : ItemAtWork) → mid.item ≡ item → WorksOn item (IsPartPlace free mid) replies mid new did (Some log) (Some now) → Comes_to did
   works Next none (inl s) = syncs_around told dirty dirty_after marks log now kept c mid b none did new first list s
   works Next none (inr (clean, t)) = takes none clean t
   works (File f) is w = works_file told dirty dirty_after marks log now kept c mid b (some_of (λ none. let e : File f ≡ Next = sym is ∙ none in let x : ⊥ = cc in x)) f is (IsPartPlace free mid) did new w list
@@ -162,7 +162,7 @@ module _ (told : Said) (dirty dirty_after : List Route) (marks : Marks) (log now
   works (Stays part) is w = absurd w
 
   -- the modes that are owed, as the history told them before
-  pub owes : (item : Item) → mid.item ≡ item → WorksOn item (IsPartPlace free mid) replies mid new did (Some log) (Some now) → OwedModes told.tree mid → OwedModes told.tree new
+  pub owes : (item : ItemAtWork) → mid.item ≡ item → WorksOn item (IsPartPlace free mid) replies mid new did (Some log) (Some now) → OwedModes told.tree mid → OwedModes told.tree new
   owes Next none w owed =
       let part : told.part ≡ None = subst (λ i. ItemHas told dirty marks (current log) GoesOn i) none b.part in
       let placed = placed_of mid.name mid.levels.inner mid.levels.around laid in

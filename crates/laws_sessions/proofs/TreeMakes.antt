@@ -6,7 +6,7 @@ use Rattle.mc_text.specs.Routes.{Route, same_path}
 use Rattle.mc_text.specs.declared.kind.Kind.TheVariants as kind
 use Rattle.tree_trait.specs.declared.file_system.Node.{Node}
 use Rattle.tree_trait.specs.Calls.{MakeFolder}
-use Rattle.tree_trait.specs.Change.{Change, Makes, CallLog, current, found, with_change}
+use Rattle.tree_trait.specs.Change.{Change, Makes, CallLog, current, found_node, with_change}
 use Rattle.tree_trait.specs.CrashImages.{Among}
 use Rattle.tree_trait.specs.FileSystem.{Spot, Value, find, value}
 use Rattle.tree_trait.proofs.Visible.{same_path-self, same_path-true}
@@ -23,11 +23,11 @@ use Rattle.job_reports.proofs.CallAnswers.{IsDoneCall, one_done}
 use Rattle.job_reports.proofs.PermittedCalls.{IsMaking, making_passes, stat_missing}
 use Rattle.copy_folders.specs.FolderCopying as folder
 use Rattle.copy_folders.specs.Levels.{Levels, is_around_dirty, made_levels}
-use Rattle.job_unsynced.specs.Folders.{joined, with_change as change_list}
+use Rattle.job_unsynced.specs.Folders.{joined_folders, with_change as change_list}
 use Rattle.copy_tree.specs.Parts.{ahead}
 use Rattle.copy_tree.specs.Standing.{Seen, after_report, target_name}
-use Rattle.copy_tree.specs.Steps.{TakesFolder, is_top}
-use Rattle.copy_tree.specs.declared.item.Item.TheVariants.{Next}
+use Rattle.copy_tree.specs.TreeCopySteps.{TakesFolder, is_top}
+use Rattle.copy_tree.specs.declared.item.ItemAtWork.TheVariants.{Next}
 use Rattle.copy_job.specs.Marks.{folder_worked, is_dirty_after, is_left_dirty, was_dirty}
 use Rattle.copy_job.specs.Standing.{SubtreeCopying}
 use Rattle.copy_move.specs.declared.run.Course.TheVariants.{GoesOn}
@@ -35,7 +35,7 @@ use Rattle.copy_move.specs.declared.work.Work.TheVariants.{Copy}
 use Rattle.laws_sessions.specs.Staying.{may_change}
 use Rattle.laws_sessions.proofs.DeletionSteps.{joined_holds, joined_more}
 use Rattle.laws_sessions.proofs.FilledFolders.{IsFilling, met_untouched}
-use Rattle.laws_sessions.proofs.Knowing.{IsKept, IsKnown, Said, nowhere, settled_marks}
+use Rattle.laws_sessions.proofs.Knowing.{IsKept, IsKnown, HistoryFacts, nowhere, settled_marks}
 use Rattle.laws_sessions.proofs.Resting.{folder_at, folder_at_of}
 use Rattle.laws_sessions.proofs.Stepped.{comes_one, said_after}
 use Rattle.laws_sessions.proofs.StepsKnown.{among_next}
@@ -48,7 +48,7 @@ use Rattle.laws_sessions.proofs.TreeListed.{list_joins, list_stays, no_part}
 use Rattle.copy_tree.specs.Taking.{IsTaken}
 use Rattle.copy_tree.specs.declared.looking.Taken.TheVariants as taken
 use Rattle.laws_sessions.proofs.Untouched.{IsUntouched}
-use Rattle.job_reports.specs.Jobs.{Item as JobItem}
+use Rattle.job_reports.specs.Jobs.{ItemOfJob as JobItem}
 use Rattle.job_reports.specs.declared.job.Pair.{Pair}
 use Rattle.copy_folders.specs.FolderCopying.{FolderCopying, folder_mode}
 use Rattle.copy_folders.specs.FolderSteps.{FolderCalls}
@@ -56,7 +56,7 @@ use Rattle.copy_folders.specs.declared.stage.FolderDid.{FolderDid}
 use Rattle.copy_folders.specs.declared.stage.FolderDid.TheVariants as folder_did
 use Rattle.copy_folders.specs.declared.stage.NamesState.TheVariants.{Synced}
 use Rattle.copy_folders.specs.declared.stage.Stage.TheVariants as at
-use Rattle.tree_walk.specs.Places.{opened}
+use Rattle.tree_walk.specs.Places.{opened_folder}
 use Rattle.copy_tree.specs.Reports.{IsToldAs}
 use Rattle.laws_sessions.specs.Replayed.{made_by}
 use Rattle.laws_sessions.proofs.Calming.{still_listed}
@@ -66,7 +66,7 @@ use Rattle.laws_sessions.proofs.MadeFolders.{made_as_said}
 use Rattle.laws_sessions.proofs.MakingThings.{marks_born, new_node, thing_made_known}
 use Rattle.laws_sessions.proofs.TreeCalls.{folder_refused}
 
-module _ (told : Said) (dirty dirty_after : List Route) (marks : Marks) (log now : CallLog) (kept : IsKept told dirty marks log) (c : SubtreeCopying) (mid : Seen) (b : Before told dirty marks log c mid) (none : mid.item ≡ Next)
+module _ (told : HistoryFacts) (dirty dirty_after : List Route) (marks : Marks) (log now : CallLog) (kept : IsKept told dirty marks log) (c : SubtreeCopying) (mid : Seen) (b : Before told dirty marks log c mid) (none : mid.item ≡ Next)
     (clean : is_around_dirty mid.levels.around ≡ false) (free : Route → Bool) (replies : Replies) where
   abbrev Comes_to : Did → Seen → Type 0
   Comes_to did new = Result told dirty dirty_after log now c did new
@@ -103,7 +103,7 @@ module _ (told : Said) (dirty dirty_after : List Route) (marks : Marks) (log now
     name = target_name mid met.name
 
     abbrev Stands : FolderCopying → Type 0
-    Stands moved = new ≡ record mid { stage = after_report did mid.stage; levels = made_levels moved.stage (opened source t.names) moved mid.levels }
+    Stands moved = new ≡ record mid { stage = after_report did mid.stage; levels = made_levels moved.stage (opened_folder source t.names) moved mid.levels }
 
     -- nothing is at work then
     item_none : (moved : FolderCopying) → Stands moved → new.item ≡ Next
@@ -116,7 +116,7 @@ module _ (told : Said) (dirty dirty_after : List Route) (marks : Marks) (log now
         (idle_quiet told dirty dirty_after marks log now kept c mid b none trouble new (item_none moved stands)
         (list_stays told dirty dirty_after marks log now kept c mid b none clean free did new list
         (ap (λ d. is_left_dirty d new) is ∙ (ap (λ (x : Seen). folder.is_dirty x.levels.inner.copy.names) stands
-        ∙ ap (λ (m : FolderCopying). (let l : Levels = made_levels m.stage (opened source t.names) m mid.levels in folder.is_dirty l.inner.copy.names)) moved_is)))
+        ∙ ap (λ (m : FolderCopying). (let l : Levels = made_levels m.stage (opened_folder source t.names) m mid.levels in folder.is_dirty l.inner.copy.names)) moved_is)))
         (folder_refused target (at.Make t.mode) Synced trouble.cause trouble.path log now calls))
 
     -- it is made
@@ -131,7 +131,7 @@ module _ (told : Said) (dirty dirty_after : List Route) (marks : Marks) (log now
       passes = making_passes (current log) name up (folder_mode t.mode) d.permits
 
       abbrev g : ℕ
-      g = found (current log) up
+      g = found_node (current log) up
 
       abbrev makes : Change
       makes = Makes g name made
@@ -142,7 +142,7 @@ module _ (told : Said) (dirty dirty_after : List Route) (marks : Marks) (log now
       looked : IsTaken (current log) (is_top mid) replies t.pair (taken.Folder t.names t.mode)
       looked = t.is log refl
 
-      source_at : find (current log) source ≡ Some (found (current log) source)
+      source_at : find (current log) source ≡ Some (found_node (current log) source)
       source_at = stat-found (current log) source looked.0.0
 
       target_free : find (current log) target ≡ None
@@ -152,7 +152,7 @@ module _ (told : Said) (dirty dirty_after : List Route) (marks : Marks) (log now
       meets = record {
         stands = ap (λ q. folder_at (current log) (folder_of q)) met.target_is ∙ folder_at_of (current log) up g passes.folder passes.holds;
         open_to = inl target_free;
-        n = found (current log) source;
+        n = found_node (current log) source;
         source = source_at;
       }
 
@@ -179,7 +179,7 @@ module _ (told : Said) (dirty dirty_after : List Route) (marks : Marks) (log now
       other : (p : Route) → marks.aside p ≡ true → same_path p made_path ≡ false
       other p aside = false_from_ne_true _ (λ same. both_ways _ (ap marks.aside (same_path-true p made_path same) ∙ untouched.out) aside)
 
-      routes : dirty_after ≡ joined up dirty
+      routes : dirty_after ≡ joined_folders up dirty
       routes = list_joins told dirty dirty_after marks log now kept c mid b none clean free did new list (ap (λ x. is_left_dirty x new) is)
 
       abbrev item : Option JobItem
@@ -193,7 +193,7 @@ module _ (told : Said) (dirty dirty_after : List Route) (marks : Marks) (log now
       said_so = made_as_said log now kept.known.guarded.tree c.top t.pair t.mode told.tree (here_moved told dirty marks log kept c mid b.n b.leaves b.stands none t.pair t.next meets)
           (λ p. ap (λ (s : Spot). s.value) (kept.known.shows p (no_part_at p))) source_at looked.3 made_path met.target_is
 
-      abbrev after : Said
+      abbrev after : HistoryFacts
       after = said_after now (Made made_path) (Copy c) told
 
       inside : IsKept (within told c) dirty marks log

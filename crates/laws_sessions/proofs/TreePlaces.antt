@@ -20,17 +20,17 @@ use Rattle.copy_folders.specs.declared.stage.Stage.TheVariants as at
 use Rattle.job_reports.specs.declared.job.Pair.{Pair}
 use Rattle.copy_link.specs.LinkCopying as link
 use Rattle.copy_link.specs.LinkCopying.{LinkCopying}
-use Rattle.tree_walk.specs.Places.{OpenFolder, is_empty, opened, without_next}
-use Rattle.copy_tree.specs.declared.item.Item.{Item}
-use Rattle.copy_tree.specs.declared.item.Item.TheVariants.{Next, File, Link, Stays}
+use Rattle.tree_walk.specs.Places.{OpenFolder, is_empty, opened_folder, without_next}
+use Rattle.copy_tree.specs.declared.item.ItemAtWork.{ItemAtWork}
+use Rattle.copy_tree.specs.declared.item.ItemAtWork.TheVariants.{Next, File, Link, Stays}
 use Rattle.copy_folders.specs.declared.level.Level.{Level}
 use Rattle.copy_tree.specs.declared.progress.Progress.{Progress}
 use Rattle.copy_tree.specs.declared.progress.Progress.TheVariants.{UnderWay, Decided, Anew}
 use Rattle.job_reports.specs.declared.report.Did.{Did}
-use Rattle.copy_folders.specs.Levels.{IsLeft, Levels, closed, coming, dirtied, emptied, entered, level, made_levels, passed, with_copy}
+use Rattle.copy_folders.specs.Levels.{IsLeft, Levels, levels_closed, coming, dirtied_levels, emptied_levels, entered_levels, level, made_levels, passed_levels, with_copy}
 use Rattle.copy_tree.specs.Progress.{link_progress, progress}
 use Rattle.copy_tree.specs.Standing.{Seen, target_name}
-use Rattle.copy_tree.specs.Steps.{GoesOn, LinkWorks, TakesNext, WorksOn, idle, link_begun, noted, settled}
+use Rattle.copy_tree.specs.TreeCopySteps.{GoesOn, LinkWorks, TakesNext, WorksOn, idle, link_begun, noted_copy, copy_after_progress}
 use Rattle.job_answers.specs.declared.replies.Replies.{Replies}
 use Rattle.laws_sessions.proofs.FileMoves.{FileMoves, taken_moves, worked_moves}
 use Rattle.laws_sessions.proofs.OpenFolders.{later}
@@ -73,7 +73,7 @@ pub next_once : (c : Seen) (name : List ℕ) (names : List (List ℕ)) → c.lev
 next_once c name names is h = by c.levels.around h
   where
     by : (around : List Level) → IsOnce (coming c.name c.levels.inner.names around)
-        → Among (let p : Levels = passed false c.levels in coming c.name p.inner.names around) (if◌then◌else◌ (is_empty around) c.name name) → ⊥
+        → Among (let p : Levels = passed_levels false c.levels in coming c.name p.inner.names around) (if◌then◌else◌ (is_empty around) c.name name) → ⊥
     by [] h among = (let k = subst (λ xs. IsOnce (map (λ (met : List ℕ). c.name) xs)) is h in k.0 (subst (λ xs. Among (map (λ (met : List ℕ). c.name) (drop 1 xs)) c.name) is among))
     by (outer ∷ around) h among = (let k = subst IsOnce is h in k.0 (subst (λ xs. Among (drop 1 xs) name) is among))
 
@@ -95,34 +95,34 @@ module _ (name : List ℕ) where
   abbrev Laid : Levels → Type 0
   Laid l = AreLaid name l.inner l.around
 
-  laid_dirtied : (changed : Bool) (l : Levels) → Laid l → Laid (dirtied changed l)
+  laid_dirtied : (changed : Bool) (l : Levels) → Laid l → Laid (dirtied_levels changed l)
   laid_dirtied true l h = inner_laid name l.inner _ l.around refl (λ p. record { once = p.once; made = p.made }) h
   laid_dirtied false l h = inner_laid name l.inner _ l.around refl (λ p. record { once = p.once; made = p.made }) h
 
-  pub laid_passed : (left : Bool) (l : Levels) → Laid l → Laid (passed left l)
-  laid_passed left l h = inner_laid name l.inner _ l.around refl (λ p. record { once = once_later name l.inner.names (let q : Levels = passed left l in q.inner.names) l.around refl p.once; made = p.made }) h
+  pub laid_passed : (left : Bool) (l : Levels) → Laid l → Laid (passed_levels left l)
+  laid_passed left l h = inner_laid name l.inner _ l.around refl (λ p. record { once = once_later name l.inner.names (let q : Levels = passed_levels left l in q.inner.names) l.around refl p.once; made = p.made }) h
 
-  pub laid_emptied : (l : Levels) → Laid l → Laid (emptied l)
-  laid_emptied l h = inner_laid name l.inner _ l.around refl (λ p. record { once = once_none name (let e : Levels = emptied l in e.inner.names) l.around refl; made = p.made }) h
+  pub laid_emptied : (l : Levels) → Laid l → Laid (emptied_levels l)
+  laid_emptied l h = inner_laid name l.inner _ l.around refl (λ p. record { once = once_none name (let e : Levels = emptied_levels l in e.inner.names) l.around refl; made = p.made }) h
 
   -- a folder is left, and the one around it is worked again
   pub laid_left : (old new : Levels) → IsLeft old new → Laid old → Laid new
   laid_left old new left h = (let outer = subst (AreLaid name old.inner) left.was h in outer.2)
 
-  pub laid_closed : (l : Levels) → Laid l → Laid (closed l)
+  pub laid_closed : (l : Levels) → Laid l → Laid (levels_closed l)
   laid_closed l h = inner_laid name l.inner _ l.around refl (λ p. record { once = p.once; made = closing_not l.inner.copy.stage p.made }) h
 
   pub laid_copy : (moved : FolderCopying) (l : Levels) → moved.target ≡ l.inner.copy.target → ((mode : ℕ) → moved.stage ≡ at.Make mode → ⊥) → Laid l → Laid (with_copy moved l)
   laid_copy moved l same made h = inner_laid name l.inner _ l.around same (λ p. record { once = p.once; made = made }) h
 
-  laid_settled : (p : Progress) (item : Item) (did : Did) (changed : Bool) (c : Seen) → Laid c.levels → Laid (let s : Seen = settled p item (noted did changed c) in s.levels)
+  laid_settled : (p : Progress) (item : ItemAtWork) (did : Did) (changed : Bool) (c : Seen) → Laid c.levels → Laid (let s : Seen = copy_after_progress p item (noted_copy did changed c) in s.levels)
   laid_settled UnderWay item did changed c h = laid_dirtied changed c.levels h
-  laid_settled Decided item did changed c h = laid_passed false (dirtied changed c.levels) (laid_dirtied changed c.levels h)
+  laid_settled Decided item did changed c h = laid_passed false (dirtied_levels changed c.levels) (laid_dirtied changed c.levels h)
   laid_settled Anew item did changed c h = laid_dirtied changed c.levels h
 
   -- a folder that was made is gone into
   laid_entered : (source : Route) (names : List (List ℕ)) (copy : FolderCopying) (k : List ℕ) (l : Levels) → IsAscending names → copy.target ≡ k ∷ l.inner.copy.target → ((mode : ℕ) → copy.stage ≡ at.Make mode → ⊥) → Laid l
-      → Laid (entered (opened source names) copy (dirtied true l))
+      → Laid (entered_levels (opened_folder source names) copy (dirtied_levels true l))
   laid_entered source names copy k l in_order lies made h = (
     record { once = ascending_once names in_order; made = made },
     (k, lies),
@@ -130,10 +130,10 @@ module _ (name : List ℕ) where
   )
 
   laid_made : (pair : Pair) (names : List (List ℕ)) (mode : ℕ) (moved : FolderCopying) (report : FolderDid) (k : List ℕ) (l : Levels) → IsAscending names → pair.target ≡ k ∷ l.inner.copy.target
-      → Tells (copying pair.source pair.target (at.Make mode) Synced) report moved → Laid l → Laid (made_levels moved.stage (opened pair.source names) moved l)
+      → Tells (copying pair.source pair.target (at.Make mode) Synced) report moved → Laid l → Laid (made_levels moved.stage (opened_folder pair.source names) moved l)
   laid_made pair names mode moved (folder_did.Made path) k l in_order lies (mode_now, stage, path_is, new_is) h =
-      subst (λ (c : FolderCopying). Laid (made_levels c.stage (opened pair.source names) c l)) (sym new_is) (laid_entered pair.source names (copying pair.source pair.target (at.Fill (owed_mode mode_now)) Synced) k l in_order lies (λ m is. let f : ⊥ = cc in f) h)
-  laid_made pair names mode moved (folder_did.Troubled trouble) k l in_order lies (barrier, new_is) h = subst (λ (c : FolderCopying). Laid (made_levels c.stage (opened pair.source names) c l)) (sym new_is) h
+      subst (λ (c : FolderCopying). Laid (made_levels c.stage (opened_folder pair.source names) c l)) (sym new_is) (laid_entered pair.source names (copying pair.source pair.target (at.Fill (owed_mode mode_now)) Synced) k l in_order lies (λ m is. let f : ⊥ = cc in f) h)
+  laid_made pair names mode moved (folder_did.Troubled trouble) k l in_order lies (barrier, new_is) h = subst (λ (c : FolderCopying). Laid (made_levels c.stage (opened_folder pair.source names) c l)) (sym new_is) h
   laid_made pair names mode moved (folder_did.Set path) k l in_order lies (mode_now, stage, path_is, new_is) h = absurd (let f : ⊥ = cc in f)
   laid_made pair names mode moved folder_did.Barrier k l in_order lies (stage, dirty, new_is) h = absurd (let f : ⊥ = cc in f)
   laid_made pair names mode moved folder_did.Closed k l in_order lies (stage, synced, new_is) h = absurd (let f : ⊥ = cc in f)
@@ -187,7 +187,7 @@ module _ (unclaimed : Route → Type 0) (replies : Replies) (old new : Seen) (di
 
   laid_next : TakesNext unclaimed replies old new did before after → Then
   laid_next (inl s) = stays_laid s.stands
-  laid_next (inr (inl t)) = laid_file (file.begun old.job t.pair.source t.pair.target) (taken_moves unclaimed replies old new did before after t)
+  laid_next (inr (inl t)) = laid_file (file.begun_copy old.job t.pair.source t.pair.target) (taken_moves unclaimed replies old new did before after t)
   laid_next (inr (inr (inl t))) = laid_link (link_begun t.pair t.part) t.works
   laid_next (inr (inr (inr (inl t)))) =
       let next = next_of old old.levels.inner.names.names t.pair t.next in
@@ -198,7 +198,7 @@ module _ (unclaimed : Route → Type 0) (replies : Replies) (old new : Seen) (di
   laid_next (inr (inr (inr (inr (inr (inl t)))))) = subst (λ (c : Seen). AreLaid old.name c.levels.inner c.levels.around) (sym t.stands) (laid_passed old.name false old.levels h)
   laid_next (inr (inr (inr (inr (inr (inr (inl t))))))) = stays_laid t.stands
   laid_next (inr (inr (inr (inr (inr (inr (inr (next, inl (debt, e))))))))) =
-      subst (λ (c : Seen). AreLaid old.name c.levels.inner c.levels.around) (sym e.stands) (laid_ends old.name (closed old.levels) e.moved e.report e.tells (laid_closed old.name old.levels h))
+      subst (λ (c : Seen). AreLaid old.name c.levels.inner c.levels.around) (sym e.stands) (laid_ends old.name (levels_closed old.levels) e.moved e.report e.tells (laid_closed old.name old.levels h))
   laid_next (inr (inr (inr (inr (inr (inr (inr (next, inr (debt, f, same))))))))) = subst (λ (c : Seen). AreLaid old.name c.levels.inner c.levels.around) (sym f.stands) (laid_closed old.name old.levels h)
 
   laid_goes : GoesOn unclaimed replies old new did before after → Then
@@ -208,7 +208,7 @@ module _ (unclaimed : Route → Type 0) (replies : Replies) (old new : Seen) (di
   laid_goes (inr s) = laid_next s.1
 
   -- so a step leaves them
-  pub laid_works : (item : Item) → WorksOn item unclaimed replies old new did before after → Then
+  pub laid_works : (item : ItemAtWork) → WorksOn item unclaimed replies old new did before after → Then
   laid_works Next w = laid_goes w
   laid_works (File f) w = laid_file f (worked_moves unclaimed f old new did before after w)
   laid_works (Link l) w = laid_link l w

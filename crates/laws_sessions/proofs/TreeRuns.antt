@@ -6,7 +6,7 @@ use Rattle.tree_trait.specs.declared.calls.TreeError.{TreeError}
 use Rattle.tree_trait.specs.declared.file_system.FileSystem.{FileSystem}
 use Rattle.tree_trait.specs.Answers.{Performs}
 use Rattle.tree_trait.specs.Calls.{Call, Rename, SetMode, SyncFile}
-use Rattle.tree_trait.specs.Change.{Change, Sets, Syncs, CallLog, current, found, with_change}
+use Rattle.tree_trait.specs.Change.{Change, Sets, Syncs, CallLog, current, found_node, with_change}
 use Rattle.tree_trait.specs.CrashImages.{Among, says}
 use Rattle.tree_trait.specs.FileSystem.{find, node}
 use Rattle.tree_trait.specs.Refusals.{is_folder}
@@ -17,7 +17,7 @@ use Rattle.job_reports.specs.CallRuns.{AllDone}
 use Rattle.job_reports.proofs.CallAnswers.{done_call}
 use Rattle.copy_file.specs.CopyCalls.{part_mode, placing}
 use Rattle.copy_folders.specs.declared.level.Level.{Level}
-use Rattle.copy_folders.specs.Levels.{Levels, coming, is_around_dirty, passed}
+use Rattle.copy_folders.specs.Levels.{Levels, coming, is_around_dirty, passed_levels}
 use Rattle.laws_sessions.proofs.FilledCalls.{IsNoneOf, MayFill, PlacesBeside}
 use Rattle.laws_sessions.proofs.AtWork.{HasItem, IsAtWork}
 use Rattle.laws_sessions.proofs.OpenFolders.{LevelsKnow}
@@ -87,7 +87,7 @@ pub has_quiet : (name : List ℕ) (l : Levels) (part target : Route) (log : Call
     → HasItem (with_change log c) name l part target
 unfolding at_work_quiet
 has_quiet name l part target log c tree none h = record {
-  work = at_work_quiet log c l.inner.copy.target (let p : Levels = passed false l in coming name p.inner.names p.around) part target tree none h.work;
+  work = at_work_quiet log c l.inner.copy.target (let p : Levels = passed_levels false l in coming name p.inner.names p.around) part target tree none h.work;
   off = h.off;
   free = elim h.free [ inl free ↦ inl (same_quiet log c (none (length (current log).nodes)) target ∙ free) | inr outermost ↦ inr outermost ];
 }
@@ -130,18 +130,18 @@ module _ (name : List ℕ) (l : Levels) (clean : is_around_dirty l.around ≡ fa
   ready_synced log now part target r h =
       let d = done_call log (SyncFile part) now h in
       subst (λ (x : CallLog). Ready x part target) (sym d.is) (record {
-        tree = tree_synced log (found (current log) part) r.tree;
-        known = levels_quiet log (Syncs (found (current log) part)) r.tree (λ n g m. refl) name l r.known;
-        work = at_work_quiet log (Syncs (found (current log) part)) up names part target r.tree (λ n g m. refl) r.work;
+        tree = tree_synced log (found_node (current log) part) r.tree;
+        known = levels_quiet log (Syncs (found_node (current log) part)) r.tree (λ n g m. refl) name l r.known;
+        work = at_work_quiet log (Syncs (found_node (current log) part)) up names part target r.tree (λ n g m. refl) r.work;
       })
 
   ready_moded : (log now : CallLog) (part target : Route) (mode : ℕ) → Ready log part target → Performs {A = Unit {0}} log (SetMode part mode) (Ok tt) (Some now) → Ready now part target
   ready_moded log now part target mode r h =
       let d = done_call log (SetMode part mode) now h in
       subst (λ (x : CallLog). Ready x part target) (sym d.is) (record {
-        tree = tree_moded log (found (current log) part) mode r.tree;
-        known = levels_quiet log (Sets (found (current log) part) mode) r.tree (λ n g m. refl) name l r.known;
-        work = at_work_quiet log (Sets (found (current log) part) mode) up names part target r.tree (λ n g m. refl) r.work;
+        tree = tree_moded log (found_node (current log) part) mode r.tree;
+        known = levels_quiet log (Sets (found_node (current log) part) mode) r.tree (λ n g m. refl) name l r.known;
+        work = at_work_quiet log (Sets (found_node (current log) part) mode) up names part target r.tree (λ n g m. refl) r.work;
       })
 
   -- a full part is placed

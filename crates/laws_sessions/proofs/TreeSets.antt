@@ -25,12 +25,12 @@ use Rattle.copy_folders.specs.declared.stage.Stage.{Stage}
 use Rattle.copy_folders.specs.declared.stage.Stage.TheVariants as at
 use Rattle.copy_folders.specs.declared.level.Level.{Level}
 use Rattle.copy_folders.specs.Levels.{is_around_dirty}
-use Rattle.job_unsynced.specs.Folders.{joined}
+use Rattle.job_unsynced.specs.Folders.{joined_folders}
 use Rattle.copy_tree.specs.InPlace.{AreMoved, IsInPlace, IsMoved, owed_of}
 use Rattle.copy_tree.specs.Parts.{ahead}
 use Rattle.copy_tree.specs.Standing.{Seen, is_fresh}
-use Rattle.copy_tree.specs.Steps.{at_end}
-use Rattle.copy_tree.specs.declared.item.Item.TheVariants.{Next}
+use Rattle.copy_tree.specs.TreeCopySteps.{at_end}
+use Rattle.copy_tree.specs.declared.item.ItemAtWork.TheVariants.{Next}
 use Rattle.copy_tree.proofs.InPlaces.{closed_in_place, leaves_all}
 use Rattle.copy_job.specs.Standing.{SubtreeCopying}
 use Rattle.copy_move.specs.declared.run.Course.TheVariants.{GoesOn}
@@ -45,7 +45,7 @@ use Rattle.laws_sessions.proofs.DeletionSteps.{joined_holds, joined_more}
 use Rattle.laws_sessions.proofs.FilledFolders.{IsFilling}
 use Rattle.laws_sessions.proofs.FoldersLie.{AreNested}
 use Rattle.laws_sessions.proofs.GivenModes.{closed_owe, inner_owes, leaves_owe}
-use Rattle.laws_sessions.proofs.Knowing.{IsKept, IsKnown, Said, settled_marks}
+use Rattle.laws_sessions.proofs.Knowing.{IsKept, IsKnown, HistoryFacts, settled_marks}
 use Rattle.laws_sessions.proofs.OpenFolders.{AroundKnow, LevelsKnow}
 use Rattle.laws_sessions.proofs.OwedModes.{AllOwe, OwedModes, OwesSource}
 use Rattle.laws_sessions.proofs.Quiet.{starts_same, kind_same}
@@ -94,7 +94,7 @@ pub record IsDeep (log : CallLog) (top : Pair) (inner : Level) : Type 0 where
   pub moved : IsMoved top inner.copy.source inner.copy.target
   pub around : IsSureFolder log (folder_of inner.copy.target)
 
-module _ (told : Said) (dirty dirty_after : List Route) (marks : Marks) (log now : CallLog) (kept : IsKept told dirty marks log) (c : SubtreeCopying) (mid : Seen) (b : Before told dirty marks log c mid) (none : mid.item ≡ Next)
+module _ (told : HistoryFacts) (dirty dirty_after : List Route) (marks : Marks) (log now : CallLog) (kept : IsKept told dirty marks log) (c : SubtreeCopying) (mid : Seen) (b : Before told dirty marks log c mid) (none : mid.item ≡ Next)
     (clean : is_around_dirty mid.levels.around ≡ false) (free : Route → Bool) (new : Seen) (path : Route) (some : is_fresh c.at.stage ≡ false) where
   abbrev Comes_to : Did → Seen → Type 0
   Comes_to did new = Result told dirty dirty_after log now c did new
@@ -126,7 +126,7 @@ module _ (told : Said) (dirty dirty_after : List Route) (marks : Marks) (log now
   owed : OwedModes told.tree mid
   owed = leaves_owe told.tree b.n c.at mid b.leaves has_known.modes
 
-  module _ (mode : ℕ) (stage : worked.stage ≡ at.Close (Some mode)) (list : dirty_after ≡ joined up dirty) (item : new.item ≡ Next) (over : owed_of new.levels.inner.copy.stage ≡ None) (same_around : new.levels.around ≡ mid.levels.around) (rows : AllDone log (SetMode up mode ∷ []) (Some now)) where
+  module _ (mode : ℕ) (stage : worked.stage ≡ at.Close (Some mode)) (list : dirty_after ≡ joined_folders up dirty) (item : new.item ≡ Next) (over : owed_of new.levels.inner.copy.stage ≡ None) (same_around : new.levels.around ≡ mid.levels.around) (rows : AllDone log (SetMode up mode ∷ []) (Some now)) where
     levels : LevelsKnow log mid.name mid.levels
     levels = let copy = has.copy in copy.0.0
 
@@ -169,7 +169,7 @@ module _ (told : Said) (dirty dirty_after : List Route) (marks : Marks) (log now
               absurd (both_ways _ stood.bare (subst (λ j. is_folder (node (current log) j) ≡ true) (sym same) stands.folder))
         ]
 
-    abbrev after : Said
+    abbrev after : HistoryFacts
     after = said_after now (Set up) (Copy c) told
 
     abbrev given : Option Value

@@ -25,13 +25,13 @@ use Rattle.copy_tree.specs.Progress.{link_progress, progress}
 use Rattle.copy_tree.specs.Skipping as machine
 use Rattle.copy_tree.specs.Skipping.{SkipsNamed}
 use Rattle.copy_tree.specs.Standing.{Seen, is_fresh}
-use Rattle.copy_tree.specs.Steps.{IsWorkable, idle, settled}
-use Rattle.copy_tree.specs.declared.item.Item.{Item}
-use Rattle.copy_tree.specs.declared.item.Item.TheVariants.{Next, File, Link, Stays}
+use Rattle.copy_tree.specs.TreeCopySteps.{IsWorkable, idle, copy_after_progress}
+use Rattle.copy_tree.specs.declared.item.ItemAtWork.{ItemAtWork}
+use Rattle.copy_tree.specs.declared.item.ItemAtWork.TheVariants.{Next, File, Link, Stays}
 use Rattle.copy_tree.specs.declared.progress.Progress.{Progress}
 use Rattle.copy_tree.specs.declared.progress.Progress.TheVariants.{UnderWay, Decided, Anew}
 use Rattle.copy_tree.proofs.Staying.{staying_law}
-use Rattle.copy_job.specs.Standing.{SubtreeCopying, named_of, retries, started}
+use Rattle.copy_job.specs.Standing.{SubtreeCopying, named_of, retries, begun_subtree_copy}
 use Rattle.copy_job.specs.SubtreeSteps.{SubtreeSkips}
 use Rattle.copy_job.specs.Unbegun.{IsUnbegun}
 use Rattle.copy_job.proofs.Begun.{begins_held}
@@ -42,7 +42,7 @@ use Rattle.laws_sessions.proofs.BareSteps.{retry_bare, skip_bare}
 use Rattle.laws_sessions.proofs.CalmLaws.{calm_law}
 use Rattle.laws_sessions.proofs.EndSteps.{end_law}
 use Rattle.laws_sessions.proofs.KnownParts.{may_fill, FileKnows, HasName, LinkKnows, StageKnows, file_course, stage_anew, stage_skipped}
-use Rattle.laws_sessions.proofs.Knowing.{Said}
+use Rattle.laws_sessions.proofs.Knowing.{HistoryFacts}
 use Rattle.laws_sessions.proofs.ListSteps.{list_law}
 use Rattle.laws_sessions.proofs.NameLaws.{names_law}
 use Rattle.laws_sessions.proofs.SetFolders.{owed_mode_law}
@@ -58,12 +58,12 @@ next_stays (name ∷ names) cause old new did (inr (inl (long, inl done))) = (ap
 next_stays (name ∷ names) cause old new did (inr (inl (long, inr room))) = (ap (λ (c : Seen). c.item) room.1, ap (λ (c : Seen). c.stage) room.1)
 next_stays (name ∷ names) cause old new did (inr (inr room)) = (ap (λ (c : Seen). c.item) room.1, ap (λ (c : Seen). c.stage) room.1)
 
-settled_stage : (p : Progress) (item : Item) (c : Seen) → (let n : Seen = settled p item c in n.stage) ≡ c.stage
+settled_stage : (p : Progress) (item : ItemAtWork) (c : Seen) → (let n : Seen = copy_after_progress p item c in n.stage) ≡ c.stage
 settled_stage UnderWay item c = refl
 settled_stage Decided item c = refl
 settled_stage Anew item c = refl
 
-skips_stage : (item : Item) (cause : Cause) (old new : Seen) (did : Did) → machine.SkipsAt item cause old did new → new.stage ≡ old.stage
+skips_stage : (item : ItemAtWork) (cause : Cause) (old new : Seen) (did : Did) → machine.SkipsAt item cause old did new → new.stage ≡ old.stage
 skips_stage Next cause old new did s = (next_stays old.levels.inner.names.names cause old new did s).1
 skips_stage (File f) cause old new did (moved, skips, stands) = ap (λ (c : Seen). c.stage) stands ∙ settled_stage (progress moved.stage) (File moved) (idle old)
 skips_stage (Link l) cause old new did (moved, skips, stands) = ap (λ (c : Seen). c.stage) stands ∙ settled_stage (link_progress moved.stage) (Link moved) (idle old)
@@ -74,7 +74,7 @@ pub skips_none : (cause : Cause) (old new : Seen) (did : Did) → old.item ≡ N
 skips_none cause old new did none s = (next_stays old.levels.inner.names.names cause old new did (subst (λ i. machine.SkipsAt i cause old did new) none s)).0 ∙ none
 
 -- a link whose part stands, once it is left, or taken anew
-skipped_part : (stage : LinkStage) → link.has_part stage ≡ true → link.has_part (link.skipped stage) ≡ true
+skipped_part : (stage : LinkStage) → link.has_part stage ≡ true → link.has_part (link.skipped_stage stage) ≡ true
 skipped_part link_stage.Place has = refl
 skipped_part (link_stage.Clean follows) has = refl
 skipped_part link_stage.Left has = refl
@@ -90,10 +90,10 @@ anew_part link_stage.Make has = absurd (false≢true has)
 anew_part link_stage.Again has = absurd (false≢true has)
 anew_part link_stage.Decided has = absurd (false≢true has)
 
-module _ (told : Said) (dirty : List Route) (marks : Marks) (s : FileSystem) where
+module _ (told : HistoryFacts) (dirty : List Route) (marks : Marks) (s : FileSystem) where
   -- what is known of the part of a file's copy that goes on, is passed, or is to be begun again
   pub file_has : (course : Course) (f : Copying) (old : Seen) (stage : FileStage) → f.stage ≡ stage → FileKnows told dirty marks s course f
-      → ItemHas told dirty marks s course (let n : Seen = settled (progress stage) (File f) (idle old) in n.item)
+      → ItemHas told dirty marks s course (let n : Seen = copy_after_progress (progress stage) (File f) (idle old) in n.item)
   file_has course f old file_stage.Begin is (name, listed, k) = (subst (λ x. StageKnows told marks s course f x) is k).0
   file_has course f old file_stage.Decided is (name, listed, k) = subst (λ x. StageKnows told marks s course f x) is k
   file_has course f old (file_stage.Fill part said done) is k = k
@@ -102,7 +102,7 @@ module _ (told : Said) (dirty : List Route) (marks : Marks) (s : FileSystem) whe
 
   -- the same of a link's, whose part stands
   pub link_has : (course : Course) (l : LinkCopying) (old : Seen) (stage : LinkStage) → l.stage ≡ stage → link.has_part l.stage ≡ true → LinkKnows told dirty marks s l.source l.target l.part
-      → ItemHas told dirty marks s course (let n : Seen = settled (link_progress stage) (Link l) (idle old) in n.item)
+      → ItemHas told dirty marks s course (let n : Seen = copy_after_progress (link_progress stage) (Link l) (idle old) in n.item)
   link_has course l old link_stage.Place is has k = (has, k)
   link_has course l old (link_stage.Clean follows) is has k = (has, k)
   link_has course l old link_stage.Left is has k = (has, k)
@@ -122,7 +122,7 @@ module _ (told : Said) (dirty : List Route) (marks : Marks) (s : FileSystem) whe
         subst (λ (x : LinkCopying). (link.has_part x.stage ≡ true) × LinkKnows told dirty marks s x.source x.target x.part) (sym done.1) (skipped_part l.stage has, k)
     skipped_link l moved (inr room) has k = subst (λ (x : LinkCopying). (link.has_part x.stage ≡ true) × LinkKnows told dirty marks s x.source x.target x.part) (sym room.1) (has, k)
 
-    pub skipped_item : (item : Item) (old new : Seen) → old.item ≡ item → machine.SkipsAt item cause old did new → ItemHas told dirty marks s course item → ItemHas told dirty marks s other new.item
+    pub skipped_item : (item : ItemAtWork) (old new : Seen) → old.item ≡ item → machine.SkipsAt item cause old did new → ItemHas told dirty marks s course item → ItemHas told dirty marks s other new.item
     skipped_item Next old new is skips none =
         subst (λ i. ItemHas told dirty marks s other i) (sym ((next_stays old.levels.inner.names.names cause old new did skips).0 ∙ is)) none
     skipped_item (File f) old new is (moved, skips, stands) k =
@@ -133,14 +133,14 @@ module _ (told : Said) (dirty : List Route) (marks : Marks) (s : FileSystem) whe
     skipped_item (Stays part) old new is skips k = absurd skips
 
   -- nor does a retry make anything of the part
-  pub retried_item : (course other : Course) (item : Item) (c : Seen) → c.item ≡ item → ItemHas told dirty marks s course item → ItemHas told dirty marks s other (let n : Seen = machine.retried_at item c in n.item)
+  pub retried_item : (course other : Course) (item : ItemAtWork) (c : Seen) → c.item ≡ item → ItemHas told dirty marks s course item → ItemHas told dirty marks s other (let n : Seen = machine.retried_at item c in n.item)
   retried_item course other Next c is none = subst (λ i. ItemHas told dirty marks s other i) (sym is) none
   retried_item course other (File f) c is (name, listed, k) =
       file_has other (record f { stage = file.taken_anew f.stage }) c (file.taken_anew f.stage) refl (name, listed, stage_anew told marks s course other f f.stage k)
   retried_item course other (Link l) c is (has, k) = link_has other (record l { stage = link.taken_anew l.stage }) c (link.taken_anew l.stage) refl (anew_part l.stage has) k
   retried_item course other (Stays part) c is k = subst (λ i. ItemHas told dirty marks s other i) (sym is) k
 
-module _ (told : Said) (dirty : List Route) (marks : Marks) (log : CallLog) where
+module _ (told : HistoryFacts) (dirty : List Route) (marks : Marks) (log : CallLog) where
   -- where nothing was changed yet nothing is at work
   fresh_workable : (c : Seen) → IsUnbegun c → is_fresh c.stage ≡ true → IsWorkable c.item
   fresh_workable c unbegun fresh = let outside = unbegun fresh in subst IsWorkable (sym outside.none) tt
@@ -209,7 +209,7 @@ module _ (told : Said) (dirty : List Route) (marks : Marks) (log : CallLog) wher
     abbrev again : SubtreeCopying
     again = retries c
 
-    retried_stage : (item : Item) → (let n : Seen = machine.retried_at item c.at in n.stage) ≡ c.at.stage
+    retried_stage : (item : ItemAtWork) → (let n : Seen = machine.retried_at item c.at in n.stage) ≡ c.at.stage
     retried_stage Next = refl
     retried_stage (File f) = settled_stage _ _ (idle c.at)
     retried_stage (Link l) = settled_stage _ _ (idle c.at)
@@ -257,7 +257,7 @@ module _ (told : Said) (dirty : List Route) (marks : Marks) (log : CallLog) wher
     }
 
   -- a copy that was planned
-  pub begins_tree : (id : ℕ) (top : Pair) → told.part ≡ None → is_some (parent_of top.source) ≡ true → is_some (parent_of top.target) ≡ true → HasName top.target → TreeKnown told dirty marks log GoesOn (started id top)
+  pub begins_tree : (id : ℕ) (top : Pair) → told.part ≡ None → is_some (parent_of top.source) ≡ true → is_some (parent_of top.target) ≡ true → HasName top.target → TreeKnown told dirty marks log GoesOn (begun_subtree_copy id top)
   begins_tree id top none from to name = record {
     name = name;
     part = none;

@@ -20,15 +20,15 @@ use Rattle.copy_link.specs.declared.stage.Stage.TheVariants as link_stage
 use Rattle.copy_file.specs.declared.stage.Stage.{Stage as FileStage}
 use Rattle.copy_file.specs.declared.stage.Stage.TheVariants as file_stage
 use Rattle.copy_tree.specs.declared.due.Due.TheVariants.{Thing}
-use Rattle.copy_tree.specs.declared.item.Item.{Item}
-use Rattle.copy_tree.specs.declared.item.Item.TheVariants.{Next, File, Link, Stays}
+use Rattle.copy_tree.specs.declared.item.ItemAtWork.{ItemAtWork}
+use Rattle.copy_tree.specs.declared.item.ItemAtWork.TheVariants.{Next, File, Link, Stays}
 use Rattle.job_reports.specs.declared.report.Did.{Did}
-use Rattle.copy_folders.specs.Levels.{closed, is_around_dirty}
+use Rattle.copy_folders.specs.Levels.{levels_closed, is_around_dirty}
 use Rattle.copy_tree.specs.Parts.{IsPartPlace, ahead}
 use Rattle.copy_tree.specs.Standing.{Seen, due_at, pair_of, target_name}
 use Rattle.copy_tree.specs.Progress.{link_progress, progress}
 use Rattle.copy_tree.specs.declared.progress.Progress.TheVariants.{Anew, UnderWay}
-use Rattle.copy_tree.specs.Steps.{CopySteps, GoesOn, LinkWorks, TakesFile, TakesFolder, TakesLink, TakesNext, WorksOn, at_end, link_begun}
+use Rattle.copy_tree.specs.TreeCopySteps.{CopySteps, GoesOn, LinkWorks, TakesFile, TakesFolder, TakesLink, TakesNext, WorksOn, at_end, link_begun}
 use Rattle.laws_sessions.proofs.FileMoves.{FileMoves, taken_moves, worked_moves}
 use Rattle.laws_sessions.proofs.Resting.{IsOfFiles}
 use Rattle.laws_sessions.proofs.AtWork.{ItemKnown}
@@ -95,7 +95,7 @@ module _ (free : Route → Bool) (replies : Replies) (old new : Seen) (did : Did
   same_log is = subst (λ (x : CallLog). LevelsKnow x old.name old.levels) (sym is) known.levels
 
   -- a file is taken up
-  pub taken_file : is_around_dirty old.levels.around ≡ false → (t : TakesFile Unclaimed replies old new did (Some log) (Some now)) → FileKnown Unclaimed log old.name old.levels (file.begun old.job t.pair.source t.pair.target)
+  pub taken_file : is_around_dirty old.levels.around ≡ false → (t : TakesFile Unclaimed replies old new did (Some log) (Some now)) → FileKnown Unclaimed log old.name old.levels (file.begun_copy old.job t.pair.source t.pair.target)
   taken_file clean t =
       let next = next_of old old.levels.inner.names.names t.pair t.next in
       let within : folder_of t.pair.target ≡ old.levels.inner.copy.target = ap folder_of next.target_is in
@@ -149,7 +149,7 @@ module _ (free : Route → Bool) (replies : Replies) (old new : Seen) (did : Did
 
   takes_next : is_around_dirty old.levels.around ≡ false → TakesNext Unclaimed replies old new did (Some log) (Some now) → Stay
   takes_next clean (inl s) = subst (λ (x : Seen). LevelsKnow now old.name x.levels) (sym s.stands) (same_log (some_log now log s.same))
-  takes_next clean (inr (inl t)) = file_works (file.begun old.job t.pair.source t.pair.target) (taken_file clean t) (taken_moves Unclaimed replies old new did (Some log) (Some now) t)
+  takes_next clean (inr (inl t)) = file_works (file.begun_copy old.job t.pair.source t.pair.target) (taken_file clean t) (taken_moves Unclaimed replies old new did (Some log) (Some now) t)
   takes_next clean (inr (inr (inl t))) = link_works (link_begun t.pair t.part) (taken_link clean t) t.works
   takes_next clean (inr (inr (inr (inl t)))) = takes_folder clean t
   takes_next clean (inr (inr (inr (inr (inl t))))) =
@@ -158,7 +158,7 @@ module _ (free : Route → Bool) (replies : Replies) (old new : Seen) (did : Did
       subst (λ (x : Seen). LevelsKnow now old.name x.levels) (sym t.stands) (levels_passed now old.name false old.levels (same_log (some_log now log t.same)))
   takes_next clean (inr (inr (inr (inr (inr (inr (inl t))))))) = subst (λ (x : Seen). LevelsKnow now old.name x.levels) (sym t.stands) (same_log (some_log now log t.same))
   takes_next clean (inr (inr (inr (inr (inr (inr (inr (next, inl (debt, ends))))))))) =
-      folder_ends log now old.name (closed old.levels) (record { tree = known.tree; files = known.files; nested = known.nested; levels = closed_levels log old.name old.levels known.levels }) clean
+      folder_ends log now old.name (levels_closed old.levels) (record { tree = known.tree; files = known.files; nested = known.nested; levels = closed_levels log old.name old.levels known.levels }) clean
       (closing_not old.levels.inner.copy.stage known.made) (at_end old) new did refl ends
   takes_next clean (inr (inr (inr (inr (inr (inr (inr (next, inr (debt, f, same))))))))) =
       subst (λ (x : Seen). LevelsKnow now old.name x.levels) (sym f.stands) (closed_levels now old.name old.levels (same_log (some_log now log same)))
@@ -167,7 +167,7 @@ module _ (free : Route → Bool) (replies : Replies) (old new : Seen) (did : Did
   goes_on (inl s) = syncs_around log now old.name old.levels (record { tree = known.tree; files = known.files; nested = known.nested; levels = known.levels }) old new did refl s
   goes_on (inr (clean, takes)) = takes_next clean takes
 
-  pub works_on : (item : Item) → ItemKnown log old item → WorksOn item Unclaimed replies old new did (Some log) (Some now) → Stay
+  pub works_on : (item : ItemAtWork) → ItemKnown log old item → WorksOn item Unclaimed replies old new did (Some log) (Some now) → Stay
   works_on Next item w = goes_on w
   works_on (File f) item w = file_works f (worked_file f item) (worked_moves Unclaimed f old new did (Some log) (Some now) w)
   works_on (Link l) item w = link_works l (worked_link l item) w

@@ -3,7 +3,7 @@ use Rattle.std.proofs.Common.{◌≡◌, ◌⊎◌, Bool, true, false, List, ◌
 use Rattle.std.proofs.lemmas.Bool.{or_left}
 use Rattle.mc_text.specs.Routes.{Route}
 use Rattle.tree_trait.specs.CrashImages.{Among}
-use Rattle.tree_trait.specs.Change.{Nothing, CallLog, current, found, with_change}
+use Rattle.tree_trait.specs.Change.{Nothing, CallLog, current, found_node, with_change}
 use Rattle.tree_trait.proofs.Visible.{same_path-self}
 use Rattle.tree_trait.proofs.Walking.{stat-found}
 use Rattle.laws_crash.specs.Guarded.{Marks}
@@ -20,12 +20,12 @@ use Rattle.copy_file.specs.Copying.{Copying, places_of}
 use Rattle.copy_file.specs.CopyCalls.{making}
 use Rattle.copy_file.specs.declared.stage.FolderState.TheVariants.{Dirty}
 use Rattle.copy_folders.specs.Levels.{is_around_dirty}
-use Rattle.job_unsynced.specs.Folders.{joined, with_change as change_list}
+use Rattle.job_unsynced.specs.Folders.{joined_folders, with_change as change_list}
 use Rattle.copy_tree.specs.Parts.{IsPartPlace, ahead}
 use Rattle.copy_tree.specs.Progress.{progress}
 use Rattle.copy_tree.specs.Standing.{Seen, target_name}
-use Rattle.copy_tree.specs.Steps.{TakesFile, idle, noted, settled}
-use Rattle.copy_tree.specs.declared.item.Item.TheVariants.{Next, File}
+use Rattle.copy_tree.specs.TreeCopySteps.{TakesFile, idle, noted_copy, copy_after_progress}
+use Rattle.copy_tree.specs.declared.item.ItemAtWork.TheVariants.{Next, File}
 use Rattle.copy_job.specs.Marks.{folder_worked, is_dirty_after, is_left_dirty, was_dirty}
 use Rattle.copy_job.specs.Standing.{SubtreeCopying}
 use Rattle.copy_move.specs.declared.run.Course.TheVariants.{GoesOn}
@@ -38,10 +38,10 @@ use Rattle.laws_sessions.proofs.CopySteps.{copy_begins}
 use Rattle.laws_sessions.proofs.DeletionSteps.{joined_holds, joined_more}
 use Rattle.laws_sessions.proofs.Filling.{making_stands}
 use Rattle.laws_sessions.proofs.FilledFolders.{IsFilling, met_found}
-use Rattle.laws_sessions.proofs.Knowing.{IsKept, Said}
+use Rattle.laws_sessions.proofs.Knowing.{IsKept, HistoryFacts}
 use Rattle.laws_sessions.proofs.KnownParts.{FileKnows, HasName}
 use Rattle.laws_sessions.proofs.Resting.{IsSureFolder}
-use Rattle.laws_sessions.proofs.Stepped.{Comes, comes_map, said_after}
+use Rattle.laws_sessions.proofs.Stepped.{StepRan, comes_map, said_after}
 use Rattle.laws_sessions.proofs.StepsKnown.{among_next}
 use Rattle.laws_sessions.proofs.TreeBefore.{Before, Result, Then, idle_quiet}
 use Rattle.laws_sessions.proofs.TreeBegins.{MayChange, Meets, may_change_now, worked_filled, worked_own}
@@ -52,7 +52,7 @@ use Rattle.laws_sessions.proofs.Untouched.{IsAsFound, IsBare}
 use Rattle.laws_sessions.proofs.TreeListed.{list_joins, list_stays, no_part, noted_clean, noted_dirty}
 use Rattle.copy_file.specs.declared.stage.Stage.TheVariants.{Fill}
 
-module _ (told : Said) (dirty dirty_after : List Route) (marks : Marks) (log now : CallLog) (kept : IsKept told dirty marks log) (c : SubtreeCopying) (mid : Seen) (b : Before told dirty marks log c mid) (none : mid.item ≡ Next)
+module _ (told : HistoryFacts) (dirty dirty_after : List Route) (marks : Marks) (log now : CallLog) (kept : IsKept told dirty marks log) (c : SubtreeCopying) (mid : Seen) (b : Before told dirty marks log c mid) (none : mid.item ≡ Next)
     (clean : is_around_dirty mid.levels.around ≡ false) (free : Route → Bool) (replies : Replies) where
   abbrev Comes_to : Did → Seen → Type 0
   Comes_to did new = Result told dirty dirty_after log now c did new
@@ -69,7 +69,7 @@ module _ (told : Said) (dirty dirty_after : List Route) (marks : Marks) (log now
   -- a file is begun
   module _ (did : Did) (new : Seen) (t : TakesFile (IsPartPlace free mid) replies mid new did (Some log) (Some now)) (list : Listed did new) where
     abbrev f : Copying
-    f = let p = t.pair in file.begun mid.job p.source p.target
+    f = let p = t.pair in file.begun_copy mid.job p.source p.target
 
     met : IsNextOf mid mid.levels.inner.names.names t.pair
     met = next_of mid mid.levels.inner.names.names t.pair t.next
@@ -78,14 +78,14 @@ module _ (told : Said) (dirty dirty_after : List Route) (marks : Marks) (log now
     here = ap folder_of met.target_is
 
     abbrev Works : Copying → Did → Type 0
-    Works moved did = new ≡ settled (progress moved.stage) (File moved) (noted did (file.is_dirty moved.folder) (idle mid))
+    Works moved did = new ≡ copy_after_progress (progress moved.stage) (File moved) (noted_copy did (file.is_dirty moved.folder) (idle mid))
 
     -- the trouble of it
     file_stops : (trouble : Trouble) (moved : Copying) → did ≡ Troubled trouble → moved ≡ f → Works moved did → MoveCalls (IsPartPlace free mid) f (Troubled trouble) moved log (Some now) → Comes_to did new
     file_stops trouble moved is moved_is stands calls =
         subst (λ d. Comes_to d new) (sym is)
         (idle_quiet told dirty dirty_after marks log now kept c mid b none trouble new
-        (ap (λ (x : Seen). x.item) stands ∙ ap (λ (m : Copying). (let x : Seen = settled (progress m.stage) (File m) (noted did (file.is_dirty m.folder) (idle mid)) in x.item)) moved_is)
+        (ap (λ (x : Seen). x.item) stands ∙ ap (λ (m : Copying). (let x : Seen = copy_after_progress (progress m.stage) (File m) (noted_copy did (file.is_dirty m.folder) (idle mid)) in x.item)) moved_is)
         (list_stays told dirty dirty_after marks log now kept c mid b none clean free did new list
         (ap (λ d. is_left_dirty d new) is ∙ noted_clean (progress moved.stage) (File moved) did (file.is_dirty moved.folder) mid new stands (ap (λ (m : Copying). file.is_dirty m.folder) moved_is)))
         (how calls))
@@ -104,7 +104,7 @@ module _ (told : Said) (dirty dirty_after : List Route) (marks : Marks) (log now
           record {
             stands = making_stands log now f made.0 (one_done log (making (current log) (places_of f) made.0) now made.3);
             open_to = free_or_bare (current log) p.target ready.bare;
-            n = found (current log) p.source;
+            n = found_node (current log) p.source;
             source = stat-found (current log) p.source ready.source;
           }
 
@@ -137,17 +137,17 @@ module _ (told : Said) (dirty dirty_after : List Route) (marks : Marks) (log now
       changed : file.is_dirty moved.folder ≡ true
       changed = ap (λ (x : Copying). file.is_dirty x.folder) moved_is
 
-      joins : dirty_after ≡ joined up dirty
+      joins : dirty_after ≡ joined_folders up dirty
       joins = list_joins told dirty dirty_after marks log now kept c mid b none clean free did new list
           (ap (λ d. is_left_dirty d new) is ∙ noted_dirty (progress moved.stage) (File moved) did (file.is_dirty moved.folder) mid new stands changed)
 
-      abbrev after : Said
+      abbrev after : HistoryFacts
       after = said_after now (Began part) (Copy c) told
 
-      come : Comes told after dirty_after log now (λ m. FileKnows after dirty_after m (current now) GoesOn moved)
+      come : StepRan told after dirty_after log now (λ m. FileKnows after dirty_after m (current now) GoesOn moved)
       come = copy_begins told dirty dirty_after marks log now kept f moved part (IsPartPlace free mid) (folder_of c.top.target) (may_change (Copies c.top.source c.top.target)) name part_none tells calls.0 (calls.1, calls.2) found_so
           (subst (IsSureFolder log) (sym here) firm) may.firm (subst (λ q. may_change (Copies c.top.source c.top.target) q ≡ true) (sym here) own) may.calm
-          (subst (λ xs. Among xs (folder_of f.target)) (sym joins) (subst (λ q. Among (joined q dirty) (folder_of f.target)) here (joined_holds (folder_of f.target) dirty))) (λ q among. subst (λ xs. Among xs q) (sym joins) (joined_more up q dirty among))
+          (subst (λ xs. Among xs (folder_of f.target)) (sym joins) (subst (λ q. Among (joined_folders q dirty) (folder_of f.target)) here (joined_holds (folder_of f.target) dirty))) (λ q among. subst (λ xs. Among xs q) (sym joins) (joined_more up q dirty among))
 
       pub file_begins : Comes_to did new
       file_begins =
@@ -155,7 +155,7 @@ module _ (told : Said) (dirty dirty_after : List Route) (marks : Marks) (log now
           (comes_map told after dirty_after log now (λ m. FileKnows after dirty_after m (current now) GoesOn moved) (Then told dirty_after log now c (Began part) new)
           (λ m kept_then known. record {
             part = subst (λ (x : Seen). ItemHas after dirty_after m (current now) GoesOn x.item) (sym stands)
-                (file_has after dirty_after m (current now) GoesOn moved (noted did (file.is_dirty moved.folder) mid) moved.stage refl known);
+                (file_has after dirty_after m (current now) GoesOn moved (noted_copy did (file.is_dirty moved.folder) mid) moved.stage refl known);
             around = λ some. inl (or_left _ _ (or_left _ _ (same_path-self (folder_of c.top.target))));
             had = λ some. (may.outside, may.has);
             modes = λ h. h;

@@ -6,7 +6,7 @@ use Rattle.mc_text.specs.Routes.{Route}
 use Rattle.mc_text.specs.declared.kind.Kind.TheVariants as kind
 use Rattle.tree_trait.specs.declared.file_system.Node.{Node}
 use Rattle.tree_trait.specs.Calls.{MakeLink}
-use Rattle.tree_trait.specs.Change.{Change, Makes, Nothing, CallLog, current, found, with_change}
+use Rattle.tree_trait.specs.Change.{Change, Makes, Nothing, CallLog, current, found_node, with_change}
 use Rattle.tree_trait.specs.CrashImages.{Among}
 use Rattle.tree_trait.specs.FileSystem.{find, node}
 use Rattle.tree_trait.proofs.Visible.{same_path-self, same_path-true}
@@ -27,12 +27,12 @@ use Rattle.copy_link.specs.LinkCopying as link
 use Rattle.copy_link.specs.LinkCopying.{LinkCopying}
 use Rattle.copy_link.specs.LinkSteps.{LinkCalls, link_text}
 use Rattle.copy_folders.specs.Levels.{is_around_dirty}
-use Rattle.job_unsynced.specs.Folders.{joined, with_change as change_list}
+use Rattle.job_unsynced.specs.Folders.{joined_folders, with_change as change_list}
 use Rattle.copy_tree.specs.Parts.{IsPartPlace, ahead}
 use Rattle.copy_tree.specs.Progress.{link_progress}
 use Rattle.copy_tree.specs.Standing.{Seen, target_name}
-use Rattle.copy_tree.specs.Steps.{TakesLink, idle, link_begun, noted, settled, is_top}
-use Rattle.copy_tree.specs.declared.item.Item.TheVariants.{Next, Link}
+use Rattle.copy_tree.specs.TreeCopySteps.{TakesLink, idle, link_begun, noted_copy, copy_after_progress, is_top}
+use Rattle.copy_tree.specs.declared.item.ItemAtWork.TheVariants.{Next, Link}
 use Rattle.copy_job.specs.Marks.{folder_worked, is_dirty_after, is_left_dirty, was_dirty}
 use Rattle.copy_job.specs.Standing.{SubtreeCopying}
 use Rattle.copy_move.specs.declared.run.Course.TheVariants.{GoesOn}
@@ -43,7 +43,7 @@ use Rattle.laws_sessions.proofs.BareTargets.{free_or_bare}
 use Rattle.laws_sessions.proofs.Calming.{stopped_is}
 use Rattle.laws_sessions.proofs.DeletionSteps.{joined_holds, joined_more}
 use Rattle.laws_sessions.proofs.FilledFolders.{IsFilling, met_found}
-use Rattle.laws_sessions.proofs.Knowing.{IsKept, IsKnown, Said, settled_marks}
+use Rattle.laws_sessions.proofs.Knowing.{IsKept, IsKnown, HistoryFacts, settled_marks}
 use Rattle.laws_sessions.proofs.KnownParts.{HasName, IsLinkOf, LinkKnows, link_knows_settled}
 use Rattle.laws_sessions.proofs.LinkParts.{has_link, link_known}
 use Rattle.laws_sessions.proofs.MakingParts.{MakesPart, marks_new, new_node, off_part, part_node, with_part}
@@ -62,7 +62,7 @@ use Rattle.copy_tree.specs.Taking.{IsTaken}
 use Rattle.copy_tree.specs.declared.looking.Taken.TheVariants as taken
 use Rattle.laws_sessions.proofs.Untouched.{IsAsFound, IsBare}
 
-module _ (told : Said) (dirty dirty_after : List Route) (marks : Marks) (log now : CallLog) (kept : IsKept told dirty marks log) (c : SubtreeCopying) (mid : Seen) (b : Before told dirty marks log c mid) (none : mid.item ≡ Next)
+module _ (told : HistoryFacts) (dirty dirty_after : List Route) (marks : Marks) (log now : CallLog) (kept : IsKept told dirty marks log) (c : SubtreeCopying) (mid : Seen) (b : Before told dirty marks log c mid) (none : mid.item ≡ Next)
     (clean : is_around_dirty mid.levels.around ≡ false) (free : Route → Bool) (replies : Replies) where
   abbrev Comes_to : Did → Seen → Type 0
   Comes_to did new = Result told dirty dirty_after log now c did new
@@ -94,14 +94,14 @@ module _ (told : Said) (dirty dirty_after : List Route) (marks : Marks) (log now
     here = ap folder_of met.target_is
 
     abbrev Works : LinkCopying → Did → Type 0
-    Works moved did = new ≡ settled (link_progress moved.stage) (Link moved) (noted did (link.is_dirty moved.folder) (idle mid))
+    Works moved did = new ≡ copy_after_progress (link_progress moved.stage) (Link moved) (noted_copy did (link.is_dirty moved.folder) (idle mid))
 
     -- the trouble of it
     pub link_stops : (trouble : Trouble) (moved : LinkCopying) → did ≡ Troubled trouble → moved ≡ l → Works moved did → LinkCalls l (Troubled trouble) log (Some now) → Comes_to did new
     link_stops trouble moved is moved_is stands calls =
         subst (λ d. Comes_to d new) (sym is)
         (idle_quiet told dirty dirty_after marks log now kept c mid b none trouble new
-        (ap (λ (x : Seen). x.item) stands ∙ ap (λ (m : LinkCopying). (let x : Seen = settled (link_progress m.stage) (Link m) (noted did (link.is_dirty m.folder) (idle mid)) in x.item)) moved_is)
+        (ap (λ (x : Seen). x.item) stands ∙ ap (λ (m : LinkCopying). (let x : Seen = copy_after_progress (link_progress m.stage) (Link m) (noted_copy did (link.is_dirty m.folder) (idle mid)) in x.item)) moved_is)
         (list_stays told dirty dirty_after marks log now kept c mid b none clean free did new list
         (ap (λ d. is_left_dirty d new) is ∙ noted_clean (link_progress moved.stage) (Link moved) did (link.is_dirty moved.folder) mid new stands (ap (λ (m : LinkCopying). link.is_dirty m.folder) moved_is)))
         (how calls))
@@ -137,7 +137,7 @@ module _ (told : Said) (dirty dirty_after : List Route) (marks : Marks) (log now
       made = record { kind = kind.Link; bytes = text; mode = 0; mtime = pos 0; unnamed = 0 }
 
       abbrev g : ℕ
-      g = found (current log) folder_in
+      g = found_node (current log) folder_in
 
       abbrev makes : Change
       makes = Makes g name made
@@ -148,7 +148,7 @@ module _ (told : Said) (dirty dirty_after : List Route) (marks : Marks) (log now
       looked : IsTaken (current log) (is_top mid) replies t.pair taken.Link
       looked = t.is log refl
 
-      source_at : find (current log) source ≡ Some (found (current log) source)
+      source_at : find (current log) source ≡ Some (found_node (current log) source)
       source_at = stat-found (current log) source looked.0.0
 
       -- no folder stands at the target
@@ -159,7 +159,7 @@ module _ (told : Said) (dirty dirty_after : List Route) (marks : Marks) (log now
       meets = record {
         stands = folder_at_of (current log) folder_in g passes.folder passes.holds;
         open_to = free_or_bare (current log) target bare;
-        n = found (current log) source;
+        n = found_node (current log) source;
         source = source_at;
       }
 
@@ -185,11 +185,11 @@ module _ (told : Said) (dirty dirty_after : List Route) (marks : Marks) (log now
       changed : link.is_dirty moved.folder ≡ true
       changed = ap (λ (x : LinkCopying). link.is_dirty x.folder) tells.2
 
-      routes : dirty_after ≡ joined folder_in dirty
+      routes : dirty_after ≡ joined_folders folder_in dirty
       routes =
           list_joins told dirty dirty_after marks log now kept c mid b none clean free did new list
           (ap (λ d. is_left_dirty d new) is ∙ noted_dirty (link_progress moved.stage) (Link moved) did (link.is_dirty moved.folder) mid new stands changed)
-          ∙ ap (λ q. joined q dirty) (sym here)
+          ∙ ap (λ q. joined_folders q dirty) (sym here)
 
       listed : Among dirty_after folder_in
       listed = subst (λ xs. Among xs folder_in) (sym routes) (joined_holds folder_in dirty)
@@ -215,7 +215,7 @@ module _ (told : Said) (dirty dirty_after : List Route) (marks : Marks) (log now
       abbrev marks_then : Marks
       marks_then = marks_firm (marks_new marks (name ∷ folder_in) n) n
 
-      abbrev after : Said
+      abbrev after : HistoryFacts
       after = with_part told (folder_of c.top.target) may_in (name ∷ folder_in)
 
       node_made : node (current (with_change log makes)) n ≡ made
@@ -224,17 +224,17 @@ module _ (told : Said) (dirty dirty_after : List Route) (marks : Marks) (log now
       unread : source ≡ (name ∷ folder_in) → ⊥
       unread same = (let open_to = first.free in open_to.unread (sym same))
 
-      source_then : find (current (with_change log makes)) source ≡ Some (found (current log) source)
+      source_then : find (current (with_change log makes)) source ≡ Some (found_node (current log) source)
       source_then =
           off_part told dirty dirty_after marks log kept.known name folder_in g made kept.roams m refl new_mode source
           (false_from_ne_true _ (λ same. unread (same_path-true source (name ∷ folder_in) same))) ∙ source_at
 
-      source_same : node (current (with_change log makes)) (found (current log) source) ≡ node (current log) (found (current log) source)
-      source_same = unaltered_law log makes (found (current log) source) refl (found_there (current log) kept.known.guarded.tree source (found (current log) source) source_at)
+      source_same : node (current (with_change log makes)) (found_node (current log) source) ≡ node (current log) (found_node (current log) source)
+      source_same = unaltered_law log makes (found_node (current log) source) refl (found_there (current log) kept.known.guarded.tree source (found_node (current log) source) source_at)
 
       is_link : IsLinkOf (current (with_change log makes)) source (name ∷ folder_in) n
       is_link = record {
-        n = found (current log) source;
+        n = found_node (current log) source;
         source_leads = source_then;
         apart = unread;
         link = ap (λ (x : Node). x.kind) source_same ∙ looked.0.1;
@@ -273,7 +273,7 @@ module _ (told : Said) (dirty dirty_after : List Route) (marks : Marks) (log now
       at_part : (q : Route) → q ≡ t.part → (k : Marks) → Knows q k now → Then told dirty_after log now c (Began q) new k
       at_part q same k known = record {
         part = subst (λ (x : Seen). ItemHas (said_after now (Began q) (Copy c) told) dirty_after k (current now) GoesOn x.item) (sym stands)
-            (link_has (said_after now (Began q) (Copy c) told) dirty_after k (current now) GoesOn moved (noted did (link.is_dirty moved.folder) mid) moved.stage refl stands_part (of_moved q k same known));
+            (link_has (said_after now (Began q) (Copy c) told) dirty_after k (current now) GoesOn moved (noted_copy did (link.is_dirty moved.folder) mid) moved.stage refl stands_part (of_moved q k same known));
         around = λ some. inl (or_left _ _ (or_left _ _ (same_path-self (folder_of c.top.target))));
         had = λ some. (may.outside, may.has);
         modes = λ h. h;

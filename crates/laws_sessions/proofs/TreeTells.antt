@@ -17,7 +17,7 @@ use Rattle.job_reports.proofs.CallAnswers.{some_log}
 use Rattle.copy_tree.specs.InPlace.{AreMoved, HoldsTop}
 use Rattle.copy_tree.specs.Skipping as machine
 use Rattle.copy_tree.specs.Standing.{Seen, after_report, is_fresh}
-use Rattle.copy_tree.specs.Steps.{LeavesAll}
+use Rattle.copy_tree.specs.TreeCopySteps.{LeavesAll}
 use Rattle.copy_job.specs.Passing.{OrPassedOver}
 use Rattle.copy_job.specs.Reporting.{MayTell}
 use Rattle.copy_job.specs.Standing.{SubtreeCopying, at_barrier}
@@ -33,10 +33,10 @@ use Rattle.copy_move.specs.declared.work.Work.TheVariants.{Copy}
 use Rattle.laws_sessions.proofs.DeletionSteps.{Steps}
 use Rattle.laws_sessions.proofs.GivenModes.{leaves_owe}
 use Rattle.laws_sessions.proofs.JobKnows.{KnowsAfter, may_fill}
-use Rattle.laws_sessions.proofs.Knowing.{IsKept, Said}
+use Rattle.laws_sessions.proofs.Knowing.{IsKept, HistoryFacts}
 use Rattle.laws_sessions.proofs.OwedModes.{AllOwe, OwedModes}
 use Rattle.laws_sessions.proofs.SetFolders.{owed_mode_law}
-use Rattle.laws_sessions.proofs.Stepped.{Comes, comes_map, comes_none, said_after}
+use Rattle.laws_sessions.proofs.Stepped.{StepRan, comes_map, comes_none, said_after}
 use Rattle.laws_sessions.proofs.TreeBefore.{Before, Result, Then, had_begun, is_begun}
 use Rattle.laws_sessions.proofs.TreeCalls.{around_at, left_item}
 use Rattle.laws_sessions.proofs.TreeGoing.{fresh_before, leaves_laid}
@@ -46,7 +46,7 @@ use Rattle.laws_sessions.proofs.TreeMachine.{SaysPassed, owes, passed_trouble, s
 use Rattle.laws_sessions.proofs.TreeSkipped.{skipped_item, skips_none}
 use Rattle.laws_sessions.proofs.TreeSkips.{LaidIn}
 
-module _ (told : Said) (dirty dirty_after : List Route) (marks : Marks) (log now : CallLog) (kept : IsKept told dirty marks log) (replies : Replies) (c new : SubtreeCopying) (did : Did) (k : TreeKnown told dirty marks log GoesOn c) (tells : Tells replies c did new)
+module _ (told : HistoryFacts) (dirty dirty_after : List Route) (marks : Marks) (log now : CallLog) (kept : IsKept told dirty marks log) (replies : Replies) (c new : SubtreeCopying) (did : Did) (k : TreeKnown told dirty marks log GoesOn c) (tells : Tells replies c did new)
     (settled : is_fresh c.at.stage ≡ true → NoneOwed (current log) (Copy c) dirty) (free : Route → Bool) (count f0 f1 : ℕ) (s : SubtreeSteps free replies c new did count dirty dirty_after (Some log) (Some now) f0 f1) where
   abbrev mid : Seen
   mid = s.mid
@@ -88,8 +88,8 @@ module _ (told : Said) (dirty dirty_after : List Route) (marks : Marks) (log now
   short : (trouble : Trouble) → s.moved ≡ mid → dirty_after ≡ dirty → now ≡ log → Comes_to (Troubled trouble) s.moved
   short trouble stays list same =
       subst (λ (x : Seen). Comes_to (Troubled trouble) x) (sym stays)
-      (subst (λ routes. Comes told told routes log now (Then told routes log now c (Troubled trouble) mid)) (sym list)
-      (subst (λ (l : CallLog). Comes told told dirty log l (Then told dirty log l c (Troubled trouble) mid)) (sym same)
+      (subst (λ routes. StepRan told told routes log now (Then told routes log now c (Troubled trouble) mid)) (sym list)
+      (subst (λ (l : CallLog). StepRan told told dirty log l (Then told dirty log l c (Troubled trouble) mid)) (sym same)
       (comes_none told told dirty log log (Then told dirty log log c (Troubled trouble) mid) marks refl kept (record {
         part = item_course told dirty marks (current log) GoesOn (course_after (Troubled trouble)) mid.item (λ e. refl) before.part;
         around = before.around;
@@ -166,7 +166,7 @@ module _ (told : Said) (dirty dirty_after : List Route) (marks : Marks) (log now
             (let law = owed_mode_law in law.skip why s.moved new.at did told.tree skips owed_worked),
           )
 
-  abbrev after : Said
+  abbrev after : HistoryFacts
   after = said_after now did (Copy c) told
 
   -- what was begun is known to be in a folder on the disk
@@ -176,7 +176,7 @@ module _ (told : Said) (dirty dirty_after : List Route) (marks : Marks) (log now
   still_so : is_fresh c.at.stage ≡ false → told.folders (folder_of c.top.target) ≡ true
   still_so some = (let h = goes.begun some in h.folder)
 
-  folder_then : (d : Did) → did ≡ d → is_fresh (after_report d c.at.stage) ≡ false → (let x : Said = said_after now d (Copy c) told in x.folders (folder_of c.top.target)) ≡ true
+  folder_then : (d : Did) → did ≡ d → is_fresh (after_report d c.at.stage) ≡ false → (let x : HistoryFacts = said_after now d (Copy c) told in x.folders (folder_of c.top.target)) ≡ true
   folder_then (Began part) is some = or_left _ _ (or_left _ _ (same_path-self (folder_of c.top.target)))
   folder_then (Made path) is some = or_left _ _ (or_left _ _ (same_path-self (folder_of c.top.target)))
   folder_then (Set path) is some = or_left _ _ (or_left _ _ (same_path-self (folder_of c.top.target)))

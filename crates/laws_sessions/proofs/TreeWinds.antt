@@ -25,19 +25,19 @@ use Rattle.job_reports.specs.Stops.{sync_answer}
 use Rattle.copy_file.specs.LastSteps.{Winds}
 use Rattle.copy_tree.specs.Ending.{FoldersWind, WindsAt, stays_if}
 use Rattle.copy_tree.specs.Standing.{Seen}
-use Rattle.copy_tree.specs.Steps.{idle}
-use Rattle.copy_tree.specs.declared.item.Item.{Item}
-use Rattle.copy_tree.specs.declared.item.Item.TheVariants.{Next, File, Link, Stays}
+use Rattle.copy_tree.specs.TreeCopySteps.{idle}
+use Rattle.copy_tree.specs.declared.item.ItemAtWork.{ItemAtWork}
+use Rattle.copy_tree.specs.declared.item.ItemAtWork.TheVariants.{Next, File, Link, Stays}
 use Rattle.copy_job.specs.LastCalls.{LastCalls, TellsTried}
 use Rattle.copy_job.specs.LastCalls as calls
-use Rattle.copy_job.specs.Reporting.{IsWound, part_wound}
+use Rattle.copy_job.specs.Reporting.{IsAfterLastStep, part_after_last_step}
 use Rattle.copy_job.specs.Standing.{SubtreeCopying, part_of}
 use Rattle.copy_job.specs.SubtreeSteps.{LastSubtreeStep}
 use Rattle.copy_move.specs.declared.work.Work.{Work}
 use Rattle.copy_move.specs.declared.work.Work.TheVariants.{Copy}
 use Rattle.copy_move.specs.declared.run.Course.TheVariants.{Ends}
 use Rattle.delete_job.specs.DeletionSteps.{after_try}
-use Rattle.copy_move.specs.Steps.{LastLeaves}
+use Rattle.copy_move.specs.JobStepReports.{LastLeaves}
 use Rattle.laws_sessions.specs.Doubt.{way_waits}
 use Rattle.laws_sessions.proofs.Calming.{refused_is}
 use Rattle.laws_sessions.proofs.Changing.{removed_known}
@@ -46,9 +46,9 @@ use Rattle.laws_sessions.proofs.DeletionSteps.{Steps, tried}
 use Rattle.laws_sessions.proofs.JobKnows.{HasName, none_of_part}
 use Rattle.laws_sessions.proofs.JobSteps.{ends_left, removed_part}
 use Rattle.laws_sessions.proofs.KnownParts.{IsLeftPart}
-use Rattle.laws_sessions.proofs.Knowing.{IsKept, IsKnown, Said}
+use Rattle.laws_sessions.proofs.Knowing.{IsKept, IsKnown, HistoryFacts}
 use Rattle.laws_sessions.proofs.Resting.{folder_at}
-use Rattle.laws_sessions.proofs.Stepped.{Comes, comes_one, comes_then, said_after}
+use Rattle.laws_sessions.proofs.Stepped.{StepRan, comes_one, comes_then, said_after}
 use Rattle.laws_sessions.proofs.TreeKnown.{ItemHas, LeavesPart, TreeKnown, leaves_part}
 
 some_route : (p q : Route) → (let o : Option Route = Some p in o) ≡ Some q → p ≡ q
@@ -62,7 +62,7 @@ folders_item ending part old new last before after f0 f1 w = elim w.winds [
   | inr e ↦ (None, ap (λ (c : Seen). c.item) e.stands)
 ]
 
-wound_item : (item : Item) (ending : Ending) (old new : Seen) (last : LastStepResult) (before after : Option CallLog) (f0 f1 : ℕ) → WindsAt item ending old new last before after f0 f1 → (p : Option Route) × (new.item ≡ stays_if p)
+wound_item : (item : ItemAtWork) (ending : Ending) (old new : Seen) (last : LastStepResult) (before after : Option CallLog) (f0 f1 : ℕ) → WindsAt item ending old new last before after f0 f1 → (p : Option Route) × (new.item ≡ stays_if p)
 wound_item Next ending old new last before after f0 f1 w = folders_item ending None old new last before after f0 f1 w
 wound_item (File f) ending old new last before after f0 f1 w = (let m = w.moved in file.part_at m.stage, ap (λ (c : Seen). c.item) w.stands)
 wound_item (Link l) ending old new last before after f0 f1 (inl w) = (None, ap (λ (c : Seen). c.item) w.stands)
@@ -73,8 +73,8 @@ part_stays : (p : Option Route) → part_of (stays_if p) ≡ p
 part_stays None = refl
 part_stays (Some part) = refl
 
-left_item : (ending : Ending) (c new : SubtreeCopying) (last : LastStepResult) (dirty dirty_after : List Route) (before after : Option CallLog) (f0 f1 : ℕ) → IsWound ending c last.did new
-    → LastSubtreeStep ending c new last dirty dirty_after before after f0 f1 → new.at.item ≡ stays_if (part_wound last.did (part_of c.at.item))
+left_item : (ending : Ending) (c new : SubtreeCopying) (last : LastStepResult) (dirty dirty_after : List Route) (before after : Option CallLog) (f0 f1 : ℕ) → IsAfterLastStep ending c last.did new
+    → LastSubtreeStep ending c new last dirty dirty_after before after f0 f1 → new.at.item ≡ stays_if (part_after_last_step last.did (part_of c.at.item))
 left_item ending c new last dirty dirty_after before after f0 f1 wound s =
     let x = wound_item c.at.item ending c.at new.at last before after f0 f1 s.winds in
     x.1 ∙ ap stays_if (sym (part_stays x.0) ∙ (ap part_of (sym x.1) ∙ wound.part))
@@ -87,12 +87,12 @@ no_removal ending part old new last before after f0 f1 path is w = elim w.winds 
   | inr e ↦ absurd (let same : Cleaned path ≡ Ended ending part = sym is ∙ ap (λ (l : LastStepResult). l.did) e.says in let f : ⊥ = cc in f)
 ]
 
-left_has : (told : Said) (routes : List Route) (m : Marks) (s : FileSystem) (ending : Ending) (part : Option Route) → LeavesPart told s part → ItemHas told routes m s (Ends ending) (stays_if part)
+left_has : (told : HistoryFacts) (routes : List Route) (m : Marks) (s : FileSystem) (ending : Ending) (part : Option Route) → LeavesPart told s part → ItemHas told routes m s (Ends ending) (stays_if part)
 left_has told routes m s ending None none = none
 left_has told routes m s ending (Some part) left = left
 
 -- what is known of such a copy
-over : (told : Said) (routes : List Route) (m : Marks) (l : CallLog) (ending : Ending) (c new : SubtreeCopying) (part : Option Route) → HasName c.top.target → new.top ≡ c.top → new.at.item ≡ stays_if part
+over : (told : HistoryFacts) (routes : List Route) (m : Marks) (l : CallLog) (ending : Ending) (c new : SubtreeCopying) (part : Option Route) → HasName c.top.target → new.top ≡ c.top → new.at.item ≡ stays_if part
     → LeavesPart told (current l) part → TreeKnown told routes m l (Ends ending) new
 over told routes m l ending c new part name top item left = record {
   name = subst (λ (p : Pair). HasName p.target) (sym top) name;
@@ -100,10 +100,10 @@ over told routes m l ending c new part name top item left = record {
   goes = λ on. absurd (true≢false on);
 }
 
-module _ (told : Said) (dirty dirty_after : List Route) (marks : Marks) (log now : CallLog) (kept : IsKept told dirty marks log) where
+module _ (told : HistoryFacts) (dirty dirty_after : List Route) (marks : Marks) (log now : CallLog) (kept : IsKept told dirty marks log) where
   -- the part that stands is removed
   pub part_gone : (part : Route) (work : Work) (knows : Marks → Type 0) → IsLeftPart told (current log) part → Among dirty (folder_of part) × (told.folders (folder_of part) ≡ true) → Performs {A = Unit {0}} log (RemoveFile part) (Ok tt) (Some now)
-      → ((m : Marks) → knows m) → Comes told (said_after now (Cleaned part) work told) dirty log now knows
+      → ((m : Marks) → knows m) → StepRan told (said_after now (Cleaned part) work told) dirty log now knows
   part_gone part work knows left (listed, firm) done known_of = at (removal_done log now part kept.known.guarded.tree done)
     where
       aside : marks.aside part ≡ true
@@ -121,7 +121,7 @@ module _ (told : Said) (dirty dirty_after : List Route) (marks : Marks) (log now
       way : (it : IsRemoval log now part) → way_waits log it.r.up ≡ false
       way it = (let sure = kept.known.stand (folder_of part) firm in ap (way_waits log) (sym (ap folder_of it.r.path_is)) ∙ sure.sure)
 
-      at : IsRemoval log now part → Comes told (said_after now (Cleaned part) work told) dirty log now knows
+      at : IsRemoval log now part → StepRan told (said_after now (Cleaned part) work told) dirty log now knows
       at it =
           let known = removed_known told (said_after now (Cleaned part) work told) dirty dirty marks log kept.known part it.r it.k (record {
             named = kept.known.aside;
@@ -143,7 +143,7 @@ module _ (told : Said) (dirty dirty_after : List Route) (marks : Marks) (log now
           (known_of _)
 
   -- the folder that holds it is listed, and on the disk
-  part_listed : (item : Item) (ending : Ending) (old new : Seen) (last : LastStepResult) (before after : Option CallLog) (f0 f1 : ℕ) (part : Route) → last.did ≡ Cleaned part
+  part_listed : (item : ItemAtWork) (ending : Ending) (old new : Seen) (last : LastStepResult) (before after : Option CallLog) (f0 f1 : ℕ) (part : Route) → last.did ≡ Cleaned part
       → ItemHas told dirty marks (current log) (Ends ending) item → IsLeftPart told (current log) part → WindsAt item ending old new last before after f0 f1 → Among dirty (folder_of part) × (told.folders (folder_of part) ≡ true)
   part_listed Next ending old new last before after f0 f1 part is k left w = no_removal ending None old new last before after f0 f1 part is w
   part_listed (File f) ending old new last before after f0 f1 part is (name, listed, stage) left w =
@@ -170,7 +170,7 @@ module _ (told : Said) (dirty dirty_after : List Route) (marks : Marks) (log now
     left = leaves_part told dirty marks (current log) (Ends ending) c.at.item k.part
 
     -- a folder's sync was tried, after the removal of a part was refused or not
-    tries : (folder : Route) (refusal : Option TreeError) → IsWound ending c Barrier new → new.at.item ≡ stays_if part → after_try Barrier refusal folder dirty ≡ dirty_after
+    tries : (folder : Route) (refusal : Option TreeError) → IsAfterLastStep ending c Barrier new → new.at.item ≡ stays_if part → after_try Barrier refusal folder dirty ≡ dirty_after
         → TellsTried part Barrier refusal folder log (Some now) → In Barrier
     tries folder refusal wound item list (mid, how, answer) = by how
       where
@@ -201,14 +201,14 @@ module _ (told : Said) (dirty dirty_after : List Route) (marks : Marks) (log now
             (λ m kept_then still. ends_left told dirty dirty_after m mid now kept_then how (Copy c) stays
             (subst (LeavesPart told (current mid)) (sym is) (leaves_part told dirty m (current mid) (Ends ending) c.at.item still.part)) list now_is)
 
-    pub tree_winds : (did : Did) (count : ℕ) (tells : Option TreeError) (f0 f1 : ℕ) → IsWound ending c did new → LastSubtreeStep ending c new (record { did = did; calls = count; left = tells }) dirty dirty_after (Some log) (Some now) f0 f1
+    pub tree_winds : (did : Did) (count : ℕ) (tells : Option TreeError) (f0 f1 : ℕ) → IsAfterLastStep ending c did new → LastSubtreeStep ending c new (record { did = did; calls = count; left = tells }) dirty dirty_after (Some log) (Some now) f0 f1
         → LastCalls part did log (Some now) → LastLeaves (Copy c) did dirty dirty_after (Some log) (Some now) → In did
     tree_winds (Cleaned path) count tells f0 f1 wound s rows leaves =
         let item = left_item ending c new (record { did = Cleaned path; calls = count; left = tells }) dirty dirty_after (Some log) (Some now) f0 f1 wound s in
         let stands : IsLeftPart told (current log) path = subst (LeavesPart told (current log)) wound.may left in
         let listed = part_listed c.at.item ending c.at new.at (record { did = Cleaned path; calls = count; left = tells }) (Some log) (Some now) f0 f1 path refl k.part stands s.winds in
         let after = said_after now (Cleaned path) (Copy c) told in
-        subst (λ routes. Comes told after routes log now (λ m. TreeKnown after routes m now (Ends ending) new)) (sym leaves.dirty_is)
+        subst (λ routes. StepRan told after routes log now (λ m. TreeKnown after routes m now (Ends ending) new)) (sym leaves.dirty_is)
         (part_gone path (Copy c) (λ m. TreeKnown after dirty m now (Ends ending) new) stands listed
         (subst (λ (l : CallLog). Performs {A = Unit {0}} log (RemoveFile path) (Ok tt) (Some l)) (sym (some_log now rows.0 rows.2)) rows.1)
         (λ m. over after dirty m now ending c new None k.name wound.top item refl))

@@ -28,8 +28,8 @@ use Rattle.job_unsynced.specs.Folders.{with_change as change_list}
 use Rattle.copy_tree.specs.InPlace.{IsInPlace, IsMoved, ItemMoved, AreMoved, HoldsTop, owed_of}
 use Rattle.copy_tree.specs.Progress.{link_progress, progress}
 use Rattle.copy_tree.specs.Standing.{Seen, is_fresh}
-use Rattle.copy_tree.specs.Steps.{FileWorks, LinkWorks, idle, noted, settled}
-use Rattle.copy_tree.specs.declared.item.Item.TheVariants.{Next, File, Link}
+use Rattle.copy_tree.specs.TreeCopySteps.{FileWorks, LinkWorks, idle, noted_copy, copy_after_progress}
+use Rattle.copy_tree.specs.declared.item.ItemAtWork.TheVariants.{Next, File, Link}
 use Rattle.copy_tree.specs.declared.progress.Progress.{Progress}
 use Rattle.copy_tree.specs.declared.progress.Progress.TheVariants.{UnderWay, Decided, Anew}
 use Rattle.copy_tree.proofs.InPlaces.{leaves_all}
@@ -42,14 +42,14 @@ use Rattle.copy_move.specs.declared.work.Work.TheVariants.{Copy}
 use Rattle.session_entries.specs.Moves.{moved_from}
 use Rattle.laws_sessions.specs.Replayed.{mode_placed, placed_by, placed_copy}
 use Rattle.copy_folders.specs.declared.level.Level.{Level}
-use Rattle.copy_tree.specs.declared.item.Item.{Item as CopyItem}
+use Rattle.copy_tree.specs.declared.item.ItemAtWork.{ItemAtWork as CopyItem}
 use Rattle.copy_file.specs.Copying as file
 use Rattle.laws_sessions.proofs.AtWork.{ItemKnown}
 use Rattle.laws_sessions.proofs.Calm.{PartCalm}
 use Rattle.laws_sessions.proofs.Calming.{stopped_is}
 use Rattle.laws_sessions.proofs.CopySteps.{not_decided}
 use Rattle.laws_sessions.proofs.FileLeads.{file_comes}
-use Rattle.laws_sessions.proofs.Knowing.{IsKept, Said, settled_marks}
+use Rattle.laws_sessions.proofs.Knowing.{IsKept, HistoryFacts, settled_marks}
 use Rattle.laws_sessions.proofs.KnownParts.{FileKnows, LinkKnows, StageKnows, link_knows_settled, link_left}
 use Rattle.laws_sessions.proofs.LinkParts.{whole_link}
 use Rattle.laws_sessions.proofs.ListSteps.{left_marks}
@@ -57,7 +57,7 @@ use Rattle.laws_sessions.proofs.Moved.{moved_below}
 use Rattle.laws_sessions.proofs.Names.{WorkedMarked}
 use Rattle.laws_sessions.proofs.PlacingSteps.{whole_placed}
 use Rattle.laws_sessions.proofs.QuietRuns.{row_done}
-use Rattle.laws_sessions.proofs.Stepped.{Comes, comes_map, said_after}
+use Rattle.laws_sessions.proofs.Stepped.{StepRan, comes_map, said_after}
 use Rattle.laws_sessions.proofs.TreeBefore.{Before, Result, Then, had_begun}
 use Rattle.laws_sessions.proofs.TreeCalls.{idle_refused, none_stops}
 use Rattle.laws_sessions.proofs.TreeGoing.{LogHas, leaves_has}
@@ -92,7 +92,7 @@ free_shown : {told s : Spot} → s ≡ told → s.value ≡ None → told.value 
 free_shown is free = ap (λ (x : Spot). x.value) (sym is) ∙ free
 
 -- a step of a file or a link leaves the folders around, and the stage of the one that is worked
-settled_around : (p : Progress) (item : CopyItem) (did : Did) (changed : Bool) (c : Seen) → (let s : Seen = settled p item (noted did changed (idle c)) in s.levels.around) ≡ c.levels.around
+settled_around : (p : Progress) (item : CopyItem) (did : Did) (changed : Bool) (c : Seen) → (let s : Seen = copy_after_progress p item (noted_copy did changed (idle c)) in s.levels.around) ≡ c.levels.around
 settled_around UnderWay item did true c = refl
 settled_around UnderWay item did false c = refl
 settled_around Decided item did true c = refl
@@ -100,7 +100,7 @@ settled_around Decided item did false c = refl
 settled_around Anew item did true c = refl
 settled_around Anew item did false c = refl
 
-settled_copy : (p : Progress) (item : CopyItem) (did : Did) (changed : Bool) (c : Seen) → (let s : Seen = settled p item (noted did changed (idle c)) in s.levels.inner.copy.stage) ≡ c.levels.inner.copy.stage
+settled_copy : (p : Progress) (item : CopyItem) (did : Did) (changed : Bool) (c : Seen) → (let s : Seen = copy_after_progress p item (noted_copy did changed (idle c)) in s.levels.inner.copy.stage) ≡ c.levels.inner.copy.stage
 settled_copy UnderWay item did true c = refl
 settled_copy UnderWay item did false c = refl
 settled_copy Decided item did true c = refl
@@ -111,7 +111,7 @@ settled_copy Anew item did false c = refl
 owe_none : (v : View) (inner : Level) (around : List Level) → around ≡ [] → owed_of inner.copy.stage ≡ None → AllOwe v inner around
 owe_none v inner around is none = subst (λ (a : List Level). AllOwe v inner a) (sym is) (λ mode owed. absurd (let e : (let o : Option ℕ = None in o) ≡ Some mode = sym none ∙ owed in let f : ⊥ = cc in f))
 
-module _ (told : Said) (dirty dirty_after : List Route) (marks : Marks) (log now : CallLog) (kept : IsKept told dirty marks log) (c : SubtreeCopying) (mid : Seen) (b : Before told dirty marks log c mid) (some : is_fresh c.at.stage ≡ false) where
+module _ (told : HistoryFacts) (dirty dirty_after : List Route) (marks : Marks) (log now : CallLog) (kept : IsKept told dirty marks log) (c : SubtreeCopying) (mid : Seen) (b : Before told dirty marks log c mid) (some : is_fresh c.at.stage ≡ false) where
   abbrev Comes_to : Did → Seen → Type 0
   Comes_to did new = Result told dirty dirty_after log now c did new
 
@@ -122,7 +122,7 @@ module _ (told : Said) (dirty dirty_after : List Route) (marks : Marks) (log now
   in_place = let s = b.stands in leaves_all c.top b.n c.at mid b.leaves s.in_place
 
   -- the outermost folder is to be given no mode
-  outermost_owes : (v : View) → mid.levels.around ≡ [] → (p : Progress) (item : CopyItem) (did : Did) (changed : Bool) (new : Seen) → new ≡ settled p item (noted did changed (idle mid)) → OwedModes v new
+  outermost_owes : (v : View) → mid.levels.around ≡ [] → (p : Progress) (item : CopyItem) (did : Did) (changed : Bool) (new : Seen) → new ≡ copy_after_progress p item (noted_copy did changed (idle mid)) → OwedModes v new
   outermost_owes v outermost p item did changed new is =
       let holds : HoldsTop c.top mid.levels.inner = subst (AreMoved c.top mid.levels.inner) outermost in_place.levels in
       owe_none v new.levels.inner new.levels.around (ap (λ (x : Seen). x.levels.around) is ∙ (settled_around p item did changed mid ∙ outermost))
@@ -159,7 +159,7 @@ module _ (told : Said) (dirty dirty_after : List Route) (marks : Marks) (log now
           | inr outermost ↦ inr outermost
         ]
 
-    file_modes : (did : Did) (moved : Copying) → Tells f did moved → (new : Seen) → new ≡ settled (progress moved.stage) (File moved) (noted did (file.is_dirty moved.folder) (idle mid)) → OwedModes told.tree new → OwedModes (let s : Said = said_after now did (Copy c) told in s.tree) new
+    file_modes : (did : Did) (moved : Copying) → Tells f did moved → (new : Seen) → new ≡ copy_after_progress (progress moved.stage) (File moved) (noted_copy did (file.is_dirty moved.folder) (idle mid)) → OwedModes told.tree new → OwedModes (let s : HistoryFacts = said_after now did (Copy c) told in s.tree) new
     file_modes (Placed path) moved (part, said, stage, path_is, new_is) new stands h =
         subst (λ q. OwedModes (placed_by (Some (Copies c.top.source c.top.target)) q told.tree) new) (sym path_is)
         (elim (file_free part said stage) [
@@ -203,7 +203,7 @@ module _ (told : Said) (dirty dirty_after : List Route) (marks : Marks) (log now
     k = part_has.1
 
     abbrev Works : Did → LinkCopying → Type 0
-    Works did moved = new ≡ settled (link_progress moved.stage) (Link moved) (noted did (link.is_dirty moved.folder) (idle mid))
+    Works did moved = new ≡ copy_after_progress (link_progress moved.stage) (Link moved) (noted_copy did (link.is_dirty moved.folder) (idle mid))
 
     abbrev was : Bool
     was = folder.is_dirty mid.levels.inner.copy.names
@@ -233,11 +233,11 @@ module _ (told : Said) (dirty dirty_after : List Route) (marks : Marks) (log now
 
     link_quiet : (trouble : Trouble) (moved : LinkCopying) → moved ≡ l → Works (Troubled trouble) moved → Listed (Troubled trouble) new → (now ≡ log) ⊎ (now ≡ with_change log Nothing) → Comes_to (Troubled trouble) new
     link_quiet trouble moved is stands list how =
-        subst (λ routes. Comes told told routes log now (Then told routes log now c (Troubled trouble) new)) (sym (list_same (Troubled trouble) moved stands list))
+        subst (λ routes. StepRan told told routes log now (Then told routes log now c (Troubled trouble) new)) (sym (list_same (Troubled trouble) moved stands list))
         (comes_map told told dirty log now (λ m. Stays moved m (current now)) (Then told dirty log now c (Troubled trouble) new)
         (λ m kept_then known. record {
           part = subst (λ (x : Seen). ItemHas told dirty m (current now) (course_after (Troubled trouble)) x.item) (sym stands)
-              (link_has told dirty m (current now) (course_after (Troubled trouble)) moved (noted (Troubled trouble) (link.is_dirty moved.folder) mid) moved.stage refl known.0 known.1);
+              (link_has told dirty m (current now) (course_after (Troubled trouble)) moved (noted_copy (Troubled trouble) (link.is_dirty moved.folder) mid) moved.stage refl known.0 known.1);
           around = λ begun. inl calm_link;
           had = λ begun. had_begun told dirty marks log c mid b some;
           modes = λ owed. owed;
@@ -245,11 +245,11 @@ module _ (told : Said) (dirty dirty_after : List Route) (marks : Marks) (log now
         (idle_refused (Stays moved) (stays_settled moved) told dirty marks log now kept (subst (λ (x : LinkCopying). Stays x marks (current log)) (sym is) part_has) how))
 
     -- what is at work is done with
-    nothing_left : (did : Did) (moved : LinkCopying) → Works did moved → (stage : LinkStage) → moved.stage ≡ stage → (let x : Seen = settled (link_progress stage) (Link moved) (idle mid) in x.item) ≡ Next → new.item ≡ Next
+    nothing_left : (did : Did) (moved : LinkCopying) → Works did moved → (stage : LinkStage) → moved.stage ≡ stage → (let x : Seen = copy_after_progress (link_progress stage) (Link moved) (idle mid) in x.item) ≡ Next → new.item ≡ Next
     nothing_left did moved stands stage is none =
-        ap (λ (x : Seen). x.item) stands ∙ (ap (λ s. (let x : Seen = settled (link_progress s) (Link moved) (noted did (link.is_dirty moved.folder) (idle mid)) in x.item)) is ∙ (settled_item (link_progress stage) ∙ none))
+        ap (λ (x : Seen). x.item) stands ∙ (ap (λ s. (let x : Seen = copy_after_progress (link_progress s) (Link moved) (noted_copy did (link.is_dirty moved.folder) (idle mid)) in x.item)) is ∙ (settled_item (link_progress stage) ∙ none))
       where
-        settled_item : (p : Progress) → (let x : Seen = settled p (Link moved) (noted did (link.is_dirty moved.folder) (idle mid)) in x.item) ≡ (let x : Seen = settled p (Link moved) (idle mid) in x.item)
+        settled_item : (p : Progress) → (let x : Seen = copy_after_progress p (Link moved) (noted_copy did (link.is_dirty moved.folder) (idle mid)) in x.item) ≡ (let x : Seen = copy_after_progress p (Link moved) (idle mid) in x.item)
         settled_item UnderWay = refl
         settled_item Decided = refl
         settled_item Anew = refl
@@ -261,8 +261,8 @@ module _ (told : Said) (dirty dirty_after : List Route) (marks : Marks) (log now
         let copies = k.copies in
         let h = k.has in
         let item_moved : IsMoved c.top l.source l.target = subst (λ i. ItemMoved c.top i) item in_place.item in
-        subst (λ routes. Comes told (said_after now (Placed l.target) (Copy c) told) routes log now (Then told routes log now c (Placed l.target) new)) (sym (list_same (Placed l.target) moved stands list))
-        (comes_map told (said_after now (Placed l.target) (Copy c) told) dirty log now (λ m. (let s : Said = said_after now (Placed l.target) (Copy c) told in s.part) ≡ None) (Then told dirty log now c (Placed l.target) new)
+        subst (λ routes. StepRan told (said_after now (Placed l.target) (Copy c) told) routes log now (Then told routes log now c (Placed l.target) new)) (sym (list_same (Placed l.target) moved stands list))
+        (comes_map told (said_after now (Placed l.target) (Copy c) told) dirty log now (λ m. (let s : HistoryFacts = said_after now (Placed l.target) (Copy c) told in s.part) ≡ None) (Then told dirty log now c (Placed l.target) new)
         (λ m kept_then gone. record {
           part = subst (λ i. ItemHas (said_after now (Placed l.target) (Copy c) told) dirty m (current now) GoesOn i) (sym (nothing_left (Placed l.target) moved stands link_stage.Decided stage refl)) gone;
           around = λ begun. inl calm_link;
@@ -305,7 +305,7 @@ module _ (told : Said) (dirty dirty_after : List Route) (marks : Marks) (log now
     link_cleaned : (moved : LinkCopying) (follows : LinkNext) → moved.stage ≡ link.after_clean follows → Works (Cleaned l.part) moved → Listed (Cleaned l.part) new → AllDone log (RemoveFile l.part ∷ []) (Some now) → Comes_to (Cleaned l.part) new
     link_cleaned moved follows stage stands list rows =
         let h = k.has in
-        subst (λ routes. Comes told (said_after now (Cleaned l.part) (Copy c) told) routes log now (Then told routes log now c (Cleaned l.part) new)) (sym (list_same (Cleaned l.part) moved stands list))
+        subst (λ routes. StepRan told (said_after now (Cleaned l.part) (Copy c) told) routes log now (Then told routes log now c (Cleaned l.part) new)) (sym (list_same (Cleaned l.part) moved stands list))
         (part_gone told dirty dirty_after marks log now kept l.part (Copy c) (Then told dirty log now c (Cleaned l.part) new) (link_left told marks (current log) l.target l.part k.text k.i h)
         (subst (λ q. Among dirty q × (told.folders q ≡ true)) (sym (ap folder_of h.beside)) (k.listed, k.folder)) (row_done log now (RemoveFile l.part) rows)
         (λ m. record {
@@ -315,7 +315,7 @@ module _ (told : Said) (dirty dirty_after : List Route) (marks : Marks) (log now
           modes = λ owed. owed;
         }))
       where
-        anew : (x : LinkNext) → (let n : Seen = settled (link_progress (link.after_clean x)) (Link moved) (idle mid) in n.item) ≡ Next
+        anew : (x : LinkNext) → (let n : Seen = copy_after_progress (link_progress (link.after_clean x)) (Link moved) (idle mid) in n.item) ≡ Next
         anew link_next.Again = refl
         anew link_next.Decided = refl
 

@@ -6,7 +6,7 @@ use Rattle.mc_text.specs.Routes.{Route}
 use Rattle.tree_trait.specs.Change.{CallLog}
 use Rattle.laws_crash.specs.Guarded.{Marks}
 use Rattle.job_reports.specs.declared.job.Job.{Job}
-use Rattle.job_reports.specs.Jobs.{Item, item_of}
+use Rattle.job_reports.specs.Jobs.{ItemOfJob, item_of}
 use Rattle.job_reports.specs.declared.report.Ending.TheVariants.{Finished, Aborted, Killed, NoMemory}
 use Rattle.job_reports.specs.declared.report.Did.TheVariants.{Began, Chunk, Placed, Removed, Made, Set, Kept, Skipped, Cleaned, Barrier, Asked, Merges, Moved, Troubled, Ended}
 use Rattle.session_entries.specs.declared.history.Event.{Event}
@@ -16,9 +16,9 @@ use Rattle.session_entries.specs.Sources.{IsDoneWith, item_in as item_first}
 use Rattle.copy_move.specs.declared.run.Course.TheVariants.{GoesOn}
 use Rattle.copy_move.specs.declared.work.Work.{Work}
 use Rattle.copy_move.specs.Jobs.{Running, begun_work, first_work}
-use Rattle.copy_move.specs.Told.{turned, with_next}
+use Rattle.copy_move.specs.Told.{turned_job, with_next}
 use Rattle.laws_sessions.proofs.JobKnows.{WorkKnows}
-use Rattle.laws_sessions.proofs.Knowing.{Said}
+use Rattle.laws_sessions.proofs.Knowing.{HistoryFacts}
 use Rattle.laws_sessions.specs.Traces.{with_job}
 use Rattle.laws_sessions.proofs.Reports.{first_knows, with_one}
 use Rattle.laws_sessions.proofs.Sources.{first_item, item_in}
@@ -30,7 +30,7 @@ pub record Turned (plan : Job) (job next : Running) : Type 0 where
   pub first : first_work job.id plan ≡ Some work
   pub next_is : next ≡ with_next job work
 
-pub turned_to : (plan : Job) (job next : Running) → turned plan job ≡ Some next → Turned plan job next
+pub turned_to : (plan : Job) (job next : Running) → turned_job plan job ≡ Some next → Turned plan job next
 turned_to plan job next is = by (first_work job.id plan) refl
   where
     over : Work → Running
@@ -80,7 +80,7 @@ pub one_turned : (id : ℕ) (was : List Running) (job next : Running) (jobs : Li
 one_turned id was job next jobs was_is id_is is =
     is ∙ (ap (with_job id (Some next)) was_is ∙ (ap (λ n. with_job n (Some next) (job ∷ [])) (sym id_is) ∙ with_one job (Some next)))
 
-module _ (told : Said) (dirty : List Route) (marks : Marks) (log : CallLog) where
+module _ (told : HistoryFacts) (dirty : List Route) (marks : Marks) (log : CallLog) where
   -- what is known of the next source, where no part stands
   pub turned_knows : (plan : Job) (job next : Running) → told.part ≡ None → (t : Turned plan job next) → WorkKnows told dirty marks log next.course next.work
   turned_knows plan job next none t =
@@ -106,4 +106,4 @@ begun_item id (source ∷ more) = first_item id source
 
 pub turned_item : (plan : Job) (job next : Running) → Turned plan job next → item_of plan ≡ Some (item_in next.work)
 turned_item plan job next t =
-    first_item job.id plan ∙ (ap (option_map item_in) t.first ∙ ap (λ i. (let o : Option Item = Some i in o)) (sym (ap (λ (x : Running). item_in x.work) t.next_is)))
+    first_item job.id plan ∙ (ap (option_map item_in) t.first ∙ ap (λ i. (let o : Option ItemOfJob = Some i in o)) (sym (ap (λ (x : Running). item_in x.work) t.next_is)))

@@ -33,7 +33,7 @@ use Rattle.mode_job.specs.declared.setting.Stage.TheVariants as setting
 use Rattle.mode_job.specs.Settings as settings
 use Rattle.copy_move.specs.Jobs.{JobTells, PassesOver, Running, TellsOn, WorkTells, WorkWinds, copies, deletes, first_work, makes, moves, removes_emptied, sets}
 use Rattle.job_reports.specs.Reports.{ends}
-use Rattle.copy_move.specs.Told.{after_step, cleaned, merged, placed, skipped, spared, synced, told, work_told}
+use Rattle.copy_move.specs.Told.{after_step, cleaned_work, merged_work, placed_work, skipped_work, spared_work, synced_work, told_job, work_told}
 use Rattle.copy_move.specs.declared.run.Course.{Course}
 use Rattle.copy_move.specs.declared.run.Course.TheVariants.{GoesOn, Asking, InTrouble, OwedSyncFailed, Skips, Ends}
 use Rattle.copy_job.specs.Standing.{SubtreeCopying}
@@ -73,7 +73,7 @@ item_begun top path stage clean = by (same_path path top)
     by true = refl
     by false = clean
 
-skip_making : (stage : MakingStage) → makings.is_dirty (makings.skipped stage) ≡ makings.is_dirty stage
+skip_making : (stage : MakingStage) → makings.is_dirty (makings.skipped_stage stage) ≡ makings.is_dirty stage
 skip_making making.Make = refl
 skip_making making.Sync = refl
 skip_making making.Finish = refl
@@ -85,7 +85,7 @@ synced_making making.Sync = refl
 synced_making making.Finish = refl
 synced_making making.PassedOver = refl
 
-skip_moving : (stage : MovingStage) → movings.is_dirty (movings.skipped stage) ≡ movings.is_dirty stage
+skip_moving : (stage : MovingStage) → movings.is_dirty (movings.skipped_stage stage) ≡ movings.is_dirty stage
 skip_moving moving.Take = refl
 skip_moving moving.SyncTarget = refl
 skip_moving moving.SyncSource = refl
@@ -100,7 +100,7 @@ synced_moving pair moving.SyncSource clean = absurd (true≢false clean)
 synced_moving pair moving.Finish clean = refl
 synced_moving pair moving.PassedOver clean = refl
 
-pub skip_setting : (stage : SettingStage) → settings.is_dirty (settings.skipped stage) ≡ settings.is_dirty stage
+pub skip_setting : (stage : SettingStage) → settings.is_dirty (settings.skipped_stage stage) ≡ settings.is_dirty stage
 skip_setting setting.Give = refl
 skip_setting setting.Sync = refl
 skip_setting setting.Done = refl
@@ -110,7 +110,7 @@ synced_setting setting.Give = refl
 synced_setting setting.Sync = refl
 synced_setting setting.Done = refl
 
-skip_removal : (stage : RemovalStage) → removals.is_dirty (removals.skipped stage) ≡ removals.is_dirty stage
+skip_removal : (stage : RemovalStage) → removals.is_dirty (removals.skipped_stage stage) ≡ removals.is_dirty stage
 skip_removal removal.Remove = refl
 skip_removal removal.Sync = refl
 skip_removal removal.Finish = refl
@@ -122,7 +122,7 @@ synced_removal removal.Sync = refl
 synced_removal removal.Finish = refl
 synced_removal removal.PassedOver = refl
 
-skipped_begun : (path : Route) (work : Work) → has_begun work ≡ false → has_begun (skipped path work) ≡ false
+skipped_begun : (path : Route) (work : Work) → has_begun work ≡ false → has_begun (skipped_work path work) ≡ false
 skipped_begun path (Copy c) clean = clean
 skipped_begun path (Delete d) clean = item_begun d.path path d.stage clean
 skipped_begun path (Make m) clean = skip_making m.stage ∙ clean
@@ -130,7 +130,7 @@ skipped_begun path (Move m) clean = skip_moving m.stage ∙ clean
 skipped_begun path (SetMode s) clean = skip_setting s.stage ∙ clean
 skipped_begun path (RemoveEmptied r) clean = skip_removal r.stage ∙ clean
 
-spared_begun : (path : Route) (work : Work) → has_begun work ≡ false → has_begun (spared path work) ≡ false
+spared_begun : (path : Route) (work : Work) → has_begun work ≡ false → has_begun (spared_work path work) ≡ false
 spared_begun path (Copy c) clean = clean
 spared_begun path (Delete d) clean = item_begun d.path path d.stage clean
 spared_begun path (Make m) clean = clean
@@ -138,7 +138,7 @@ spared_begun path (Move m) clean = refl
 spared_begun path (SetMode s) clean = clean
 spared_begun path (RemoveEmptied r) clean = refl
 
-merged_begun : (work : Work) → has_begun work ≡ false → has_begun (merged work) ≡ false
+merged_begun : (work : Work) → has_begun work ≡ false → has_begun (merged_work work) ≡ false
 merged_begun (Copy c) clean = clean
 merged_begun (Delete d) clean = clean
 merged_begun (Make m) clean = clean
@@ -212,7 +212,7 @@ told_tree id (Move m) = refl
 told_tree id (SetMode s) = refl
 told_tree id (RemoveEmptied r) = refl
 
-placed_begun : (work : Work) → is_tree work ≡ false → has_begun (placed work) ≡ has_begun work
+placed_begun : (work : Work) → is_tree work ≡ false → has_begun (placed_work work) ≡ has_begun work
 placed_begun (Copy c) other = absurd (true≢false other)
 placed_begun (Delete d) other = refl
 placed_begun (Make m) other = refl
@@ -220,7 +220,7 @@ placed_begun (Move m) other = refl
 placed_begun (SetMode s) other = refl
 placed_begun (RemoveEmptied r) other = refl
 
-cleaned_begun : (course : Course) (work : Work) → is_tree work ≡ false → has_begun (cleaned course work) ≡ has_begun work
+cleaned_begun : (course : Course) (work : Work) → is_tree work ≡ false → has_begun (cleaned_work course work) ≡ has_begun work
 cleaned_begun course (Copy c) other = absurd (true≢false other)
 cleaned_begun course (Delete d) other = refl
 cleaned_begun course (Make m) other = refl
@@ -228,7 +228,7 @@ cleaned_begun course (Move m) other = refl
 cleaned_begun course (SetMode s) other = refl
 cleaned_begun course (RemoveEmptied r) other = refl
 
-synced_begun : (work : Work) → has_begun work ≡ false → has_begun (synced work) ≡ false
+synced_begun : (work : Work) → has_begun work ≡ false → has_begun (synced_work work) ≡ false
 synced_begun (Copy c) clean = clean
 synced_begun (Delete d) clean = clean
 synced_begun (Make m) clean = synced_making m.stage
@@ -245,15 +245,15 @@ clean_after (Began part) job new other none h clean = absurd (true≢false none)
 clean_after (Removed path) job new other none h clean = absurd (true≢false none)
 clean_after (Chunk count) job new other none h clean = some_job job new h ∙ clean
 clean_after (Set path) job new other none h clean = absurd (true≢false none)
-clean_after (Placed path) job new other none h clean = some_job (record job { work = placed job.work }) new h ∙ (placed_begun job.work other ∙ clean)
+clean_after (Placed path) job new other none h clean = some_job (record job { work = placed_work job.work }) new h ∙ (placed_begun job.work other ∙ clean)
 clean_after (Made path) job new other none h clean = absurd (true≢false none)
-clean_after (Kept path) job new other none h clean = some_job (record job { work = spared path job.work }) new h ∙ spared_begun path job.work clean
+clean_after (Kept path) job new other none h clean = some_job (record job { work = spared_work path job.work }) new h ∙ spared_begun path job.work clean
 clean_after (Asked question) job new other none h clean = some_job (record job { course = Rattle.copy_move.specs.declared.run.Course.TheVariants.Asking }) new h ∙ clean
-clean_after (Merges transfer pair names) job new other none h clean = some_job (record job { work = merged job.work }) new h ∙ merged_begun job.work clean
+clean_after (Merges transfer pair names) job new other none h clean = some_job (record job { work = merged_work job.work }) new h ∙ merged_begun job.work clean
 clean_after (Moved pair) job new other none h clean = absurd (true≢false none)
-clean_after (Skipped path why) job new other none h clean = some_job (record job { work = skipped path job.work; course = Rattle.copy_move.specs.declared.run.Course.TheVariants.GoesOn }) new h ∙ skipped_begun path job.work clean
-clean_after (Cleaned part) job new other none h clean = some_job (record job { work = cleaned job.course job.work }) new h ∙ (cleaned_begun job.course job.work other ∙ clean)
-clean_after Barrier job new other none h clean = some_job (record job { work = synced job.work }) new h ∙ synced_begun job.work clean
+clean_after (Skipped path why) job new other none h clean = some_job (record job { work = skipped_work path job.work; course = Rattle.copy_move.specs.declared.run.Course.TheVariants.GoesOn }) new h ∙ skipped_begun path job.work clean
+clean_after (Cleaned part) job new other none h clean = some_job (record job { work = cleaned_work job.course job.work }) new h ∙ (cleaned_begun job.course job.work other ∙ clean)
+clean_after Barrier job new other none h clean = some_job (record job { work = synced_work job.work }) new h ∙ synced_begun job.work clean
 clean_after (Troubled trouble) job new other none h clean = some_job (record job { course = Rattle.copy_move.specs.Told.course_told job.work trouble }) new h ∙ clean
 clean_after (Ended ending part) job new other none h clean = absurd (let f : ⊥ = cc in f)
 
@@ -306,7 +306,7 @@ pub step_clean : (job new : Running) (did : Did) → JobTells job did new → en
 step_clean job new did tells on none clean = by job.work refl
   where
     other : is_tree job.work ≡ false → has_begun new.work ≡ false
-    other is = sym (told_begun new.id new.work) ∙ clean_after did (told job) (told new) (told_tree job.id job.work ∙ is) none (told_follows job new did tells on) (told_begun job.id job.work ∙ clean)
+    other is = sym (told_begun new.id new.work) ∙ clean_after did (told_job job) (told_job new) (told_tree job.id job.work ∙ is) none (told_follows job new did tells on) (told_begun job.id job.work ∙ clean)
 
     by : (work : Work) → job.work ≡ work → has_begun new.work ≡ false
     by (Copy c) is = tree_clean job new did c job.course is tells none clean

@@ -9,7 +9,7 @@ use Rattle.tree_trait.specs.CrashImages.{Among}
 use Rattle.tree_trait.proofs.Visible.{same_path-self}
 use Rattle.job_reports.specs.declared.report.Did.{Did}
 use Rattle.job_reports.specs.declared.report.Did.TheVariants.{Began, Chunk, Placed, Removed, Made, Set, Kept, Skipped, Cleaned, Barrier, Asked, Merges, Moved, Troubled, Ended}
-use Rattle.job_reports.specs.Jobs.{Item, Copies, Moves, Removes, Makes, MakesLink, Sets, RemovesEmptied}
+use Rattle.job_reports.specs.Jobs.{ItemOfJob, Copies, Moves, Removes, Makes, MakesLink, Sets, RemovesEmptied}
 use Rattle.session_entries.specs.declared.history.Event.{Event}
 use Rattle.session_entries.specs.declared.history.Event.TheVariants.{Key, Look, Sought, Order, Step, Next, Closed}
 use Rattle.session_entries.specs.declared.history.Event.TheVariants as event
@@ -24,7 +24,7 @@ use Rattle.laws_sessions.proofs.MovedPaths.{kept_off, moved_off, named_off}
 use Rattle.laws_sessions.proofs.Owing.{in_filter}
 
 -- a path that an entry doesn't name has what it had
-placed_unnamed : (item : Option Item) (target : Route) (v : View) (path : Route) → same_path path target ≡ false → placed_by item target v path ≡ v path
+placed_unnamed : (item : Option ItemOfJob) (target : Route) (v : View) (path : Route) → same_path path target ≡ false → placed_by item target v path ≡ v path
 placed_unnamed (Some (Copies source to)) target v path unnamed = put_off v target (Rattle.std.specs.Option.option_map placed_copy (v (moved_from source to target)).value) path unnamed
 placed_unnamed (Some (Moves source to)) target v path unnamed = refl
 placed_unnamed (Some (Removes file)) target v path unnamed = refl
@@ -34,7 +34,7 @@ placed_unnamed (Some (Sets thing mode)) target v path unnamed = refl
 placed_unnamed (Some (RemovesEmptied folder)) target v path unnamed = refl
 placed_unnamed None target v path unnamed = refl
 
-set_unnamed : (item : Option Item) (changed : Route) (v : View) (path : Route) → same_path path changed ≡ false → set_by item changed v path ≡ v path
+set_unnamed : (item : Option ItemOfJob) (changed : Route) (v : View) (path : Route) → same_path path changed ≡ false → set_by item changed v path ≡ v path
 set_unnamed (Some (Copies source target)) changed v path unnamed = put_off v changed (Rattle.std.specs.Option.option_map (with_mode_of (v (moved_from source target changed)).value) (v changed).value) path unnamed
 set_unnamed (Some (Moves source target)) changed v path unnamed = refl
 set_unnamed (Some (Removes file)) changed v path unnamed = refl
@@ -44,7 +44,7 @@ set_unnamed (Some (Sets thing mode)) changed v path unnamed = put_off v changed 
 set_unnamed (Some (RemovesEmptied folder)) changed v path unnamed = refl
 set_unnamed None changed v path unnamed = refl
 
-pub step_unnamed : (log : CallLog) (did : Did) (item : Option Item) (v : View) (path : Route) → names did path ≡ false → replayed_step log did item v path ≡ v path
+pub step_unnamed : (log : CallLog) (did : Did) (item : Option ItemOfJob) (v : View) (path : Route) → names did path ≡ false → replayed_step log did item v path ≡ v path
 step_unnamed log (Removed file) item v path unnamed = put_off v file None path unnamed
 step_unnamed log (Placed target) item v path unnamed = placed_unnamed item target v path unnamed
 step_unnamed log (Ended ending (Some part)) item v path unnamed = put_off v part (value_at (current log) part) path unnamed

@@ -18,7 +18,7 @@ use Rattle.job_reports.proofs.PermittedCalls.{stat_missing}
 use Rattle.copy_move.specs.declared.work.Work.{Work}
 use Rattle.copy_move.specs.Settling.{LiesApart, LiesOff, NoneOwed, changed_folder, left_folder}
 use Rattle.laws_sessions.specs.Doubt.{is_pending, name_waits, way_waits}
-use Rattle.laws_sessions.proofs.Knowing.{IsKept, IsKnown, Said}
+use Rattle.laws_sessions.proofs.Knowing.{IsKept, IsKnown, HistoryFacts}
 use Rattle.laws_sessions.proofs.Restless.{IsUnjoined, is_restless, joint_restless}
 use Rattle.laws_sessions.proofs.WaitsFor.{waits_for}
 
@@ -50,11 +50,11 @@ pub as_found : (marks : Marks) (s : FileSystem) (target : Route) → IsUntouched
 as_found marks s target u = record { bare = bare_free s target u.free; was = λ out. u.was ∙ sym u.free; stood = λ is. absurd (both_ways _ u.out is) }
 
 -- a path at which no folder stands, and of whose name nothing waits
-pub found_bare : (told : Said) (dirty : List Route) (marks : Marks) (log : CallLog) (p : Route) → IsKept told dirty marks log → way_waits log p ≡ false → IsBare (current log) p → IsAsFound marks (current log) p
+pub found_bare : (told : HistoryFacts) (dirty : List Route) (marks : Marks) (log : CallLog) (p : Route) → IsKept told dirty marks log → way_waits log p ≡ false → IsBare (current log) p → IsAsFound marks (current log) p
 found_bare told dirty marks log p kept sure bare = record { bare = bare; was = λ out. kept.was p out sure; stood = λ is. elim (kept.aside p is) [ inl waits ↦ absurd (both_ways _ sure waits) | inr stands ↦ stands ] }
 
 -- a path at which nothing stands, and of whose name nothing waits
-pub untouched_free : (told : Said) (dirty : List Route) (marks : Marks) (log : CallLog) (p : Route) → IsKept told dirty marks log → way_waits log p ≡ false → find (current log) p ≡ None → IsUntouched marks (current log) p
+pub untouched_free : (told : HistoryFacts) (dirty : List Route) (marks : Marks) (log : CallLog) (p : Route) → IsKept told dirty marks log → way_waits log p ≡ false → find (current log) p ≡ None → IsUntouched marks (current log) p
 untouched_free told dirty marks log p kept sure free =
     let out = not_aside (marks.aside p) refl in
     record { out = out; free = free; was = kept.was p out sure ∙ free }
@@ -92,7 +92,7 @@ pub none_on : (s : FileSystem) (work : Work) (dirty : List Route) → NoneOwed s
 none_on s work dirty none = over_it s (changed_folder work) dirty (none_over s work dirty none)
 
 -- Where no dirty folder lies on the mount of this one, each folder there is at rest, so nothing waits in it, nor a renaming for it and another folder.
-module _ (told : Said) (dirty : List Route) (marks : Marks) (log : CallLog) (up : Route) (known : IsKnown told dirty marks log) (none : NoneOn (current log) up dirty) where
+module _ (told : HistoryFacts) (dirty : List Route) (marks : Marks) (log : CallLog) (up : Route) (known : IsKnown told dirty marks log) (none : NoneOn (current log) up dirty) where
   at_rest : (q : Route) (f : ℕ) → find (current log) q ≡ Some f → mount_of (current log) q ≡ mount_of (current log) up → is_restless f log.changes ≡ true → ⊥
   at_rest q f at beside restless = elim (known.tracked f restless) [
     | inl t ↦ listed t.0 t.1 t.2
@@ -127,7 +127,7 @@ module _ (told : Said) (dirty : List Route) (marks : Marks) (log : CallLog) (up 
       by (Some f) is = ap (λ x. option_map_or (λ f. is_pending f m log.changes) x false) is ∙ no_more f is
 
 -- nor is the folder itself in doubt, nor one above it, where none lies on the mount of a folder on the way
-pub way_sure : (told : Said) (dirty : List Route) (marks : Marks) (log : CallLog) (up : Route) → IsKnown told dirty marks log → NoneOver (current log) up dirty → way_waits log up ≡ false
+pub way_sure : (told : HistoryFacts) (dirty : List Route) (marks : Marks) (log : CallLog) (up : Route) → IsKnown told dirty marks log → NoneOver (current log) up dirty → way_waits log up ≡ false
 way_sure told dirty marks log [] known none = refl
 way_sure told dirty marks log (name ∷ up) known none =
     let above : NoneOver (current log) up dirty = λ kept among. elim (none kept among) [ inl gone ↦ inl gone | inr off ↦ inr off.1 ] in

@@ -20,7 +20,7 @@ use Rattle.mode_job.specs.SettingSteps.{sync_of}
 use Rattle.make_job.specs.declared.new_thing.NewThing.TheVariants as thing
 use Rattle.move_job.specs.declared.moving.MovingStage.{MovingStage}
 use Rattle.move_job.specs.declared.moving.MovingStage.TheVariants.{Take, SyncTarget, SyncSource}
-use Rattle.move_job.specs.Movings.{Moving, started}
+use Rattle.move_job.specs.Movings.{Moving, begun_move}
 use Rattle.move_job.specs.Takings.{MayMove, Stands}
 use Rattle.copy_move.specs.declared.run.Course.TheVariants.{GoesOn}
 use Rattle.copy_move.specs.declared.work.Work.TheVariants.{Move}
@@ -48,7 +48,7 @@ abbrev renaming : Change
 renaming = Moves 1 (1 ∷ []) 0 (3 ∷ []) 2 None
 
 abbrev job : MovingStage → Running
-job stage = record { id = 1; work = Move (let m : Moving = record (started pair) { stage = stage } in m); course = GoesOn; replies = no_replies }
+job stage = record { id = 1; work = Move (let m : Moving = record (begun_move pair) { stage = stage } in m); course = GoesOn; replies = no_replies }
 
 abbrev begun_entries : List Entry
 begun_entries = entry 0 (Began 1 (plan.Move (pair ∷ [])) false) ∷ []
@@ -79,7 +79,7 @@ moved_traced : IsTraced (log []) moved_entries (stand (job SyncTarget ∷ []) (r
 moved_traced =
     own_step (log []) 1 1 (Moved pair) begun_entries (stand (job Take ∷ []) []) (stand (job SyncTarget ∷ []) (root ∷ top ∷ [])) (log []) moved_log (job Take) (job SyncTarget) begun_traced (inl (refl, refl))
     (record {
-      tells = (Move (let m : Moving = record (started pair) { stage = SyncTarget } in m), (refl, refl, refl), refl);
+      tells = (Move (let m : Moving = record (begun_move pair) { stage = SyncTarget } in m), (refl, refl, refl), refl);
       called = (may, (refl, (pos 0, refl)));
       settled = λ goes fresh kept among. absurd among;
       cleared = λ goes fresh kept among. absurd among;
@@ -98,7 +98,7 @@ half_traced : IsTraced (log []) half_entries (stand (job SyncSource ∷ []) (top
 half_traced =
     own_step (log []) 1 2 Barrier moved_entries (stand (job SyncTarget ∷ []) (root ∷ top ∷ [])) (stand (job SyncSource ∷ []) (top ∷ [])) moved_log half_log (job SyncTarget) (job SyncSource) moved_traced (inl (refl, refl))
     (record {
-      tells = (Move (let m : Moving = record (started pair) { stage = SyncSource } in m), (refl, refl), refl);
+      tells = (Move (let m : Moving = record (begun_move pair) { stage = SyncSource } in m), (refl, refl), refl);
       called = (refl, (pos 0, refl));
       settled = λ goes fresh. absurd (true≢false (sym fresh));
       cleared = λ goes fresh. absurd (true≢false (sym fresh));
@@ -200,7 +200,7 @@ abbrev folder_renaming : Change
 folder_renaming = Moves 0 (1 ∷ []) 0 (3 ∷ []) 1 None
 
 abbrev folder_job : MovingStage → Running
-folder_job stage = record { id = 1; work = Move (let m : Moving = record (started folder_pair) { stage = stage } in m); course = GoesOn; replies = no_replies }
+folder_job stage = record { id = 1; work = Move (let m : Moving = record (begun_move folder_pair) { stage = stage } in m); course = GoesOn; replies = no_replies }
 
 abbrev folder_begun : List Entry
 folder_begun = entry 0 (Began 1 (plan.Move (folder_pair ∷ [])) false) ∷ []
@@ -231,7 +231,7 @@ folder_traced =
     own_step (log []) 1 1 (Moved folder_pair) folder_begun (stand (folder_job Take ∷ []) []) (stand (folder_job SyncTarget ∷ []) (root ∷ [])) (log []) folder_log (folder_job Take) (folder_job SyncTarget)
     folder_begun_traced (inl (refl, refl))
     (record {
-      tells = (Move (let m : Moving = record (started folder_pair) { stage = SyncTarget } in m), (refl, refl, refl), refl);
+      tells = (Move (let m : Moving = record (begun_move folder_pair) { stage = SyncTarget } in m), (refl, refl, refl), refl);
       called = (folder_may, (refl, (pos 0, refl)));
       settled = λ goes fresh kept among. absurd among;
       cleared = λ goes fresh kept among. absurd among;

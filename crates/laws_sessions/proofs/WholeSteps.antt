@@ -7,7 +7,7 @@ use Rattle.mc_text.specs.Routes.{Route, same_path}
 use Rattle.tree_trait.specs.declared.file_system.FileSystem.{FileSystem}
 use Rattle.tree_trait.specs.FileSystem.{Spot, View, find, node, value, value_at}
 use Rattle.tree_trait.specs.Calls.{Rename}
-use Rattle.tree_trait.specs.Change.{Change, Moves, Nothing, CallLog, current, found, with_change}
+use Rattle.tree_trait.specs.Change.{Change, Moves, Nothing, CallLog, current, found_node, with_change}
 use Rattle.tree_trait.specs.Answers.{Performs}
 use Rattle.laws_crash.specs.Guarded.{Marks}
 use Rattle.laws_crash.specs.Possible.{IsImage}
@@ -29,7 +29,7 @@ use Rattle.laws_sessions.specs.Traces.{IsUnclaimed, StepLeads, before_others}
 use Rattle.laws_sessions.specs.Whole.{StandsAllAt}
 use Rattle.laws_sessions.proofs.AtRest.{RestsBelow}
 use Rattle.laws_sessions.proofs.JobKnows.{WorkKnows, none_over, way_sure}
-use Rattle.laws_sessions.proofs.Knowing.{IsKept, Said, clean_now}
+use Rattle.laws_sessions.proofs.Knowing.{IsKept, HistoryFacts, clean_now}
 use Rattle.laws_sessions.proofs.KnownParts.{HasName}
 use Rattle.laws_sessions.proofs.MoveKnown.{MoveKnown}
 use Rattle.laws_sessions.proofs.PathsBelow.{not_below}
@@ -51,7 +51,7 @@ pub record IsWholly (log now : CallLog) (source target : Route) (parts : List Ro
   pub change : Change
   pub is : now ≡ with_change log change
 
-module _ (told : Said) (dirty : List Route) (marks : Marks) (log now : CallLog) (kept : IsKept told dirty marks log) where
+module _ (told : HistoryFacts) (dirty : List Route) (marks : Marks) (log now : CallLog) (kept : IsKept told dirty marks log) where
   -- by the last names of both paths
   module _ (none : told.part ≡ None) (old : List ℕ) (from : Route) (new : List ℕ) (to : Route) (other : same_path (old ∷ from) (new ∷ to) ≡ false)
       (rests : RestsBelow marks log (old ∷ from)) (source_sure : way_waits log (old ∷ from) ≡ false) (to_sure : way_waits log to ≡ false)
@@ -63,13 +63,13 @@ module _ (told : Said) (dirty : List Route) (marks : Marks) (log now : CallLog) 
     target = new ∷ to
 
     abbrev f : ℕ
-    f = found (current log) from
+    f = found_node (current log) from
 
     abbrev g : ℕ
-    g = found (current log) to
+    g = found_node (current log) to
 
     abbrev i : ℕ
-    i = found (current log) source
+    i = found_node (current log) source
 
     abbrev moves : Change
     moves = Moves f old g new i (find (current log) target)
@@ -241,7 +241,7 @@ module _ (told : Said) (dirty : List Route) (marks : Marks) (log now : CallLog) 
     step_whole (inl (new, inl works, after_is)) = by_course new job.course refl works.tells works.called works.settled after_is
     step_whole (inl (new, inr syncs, after_is)) = absurd (none_synced syncs.synced)
       where
-        none_synced : Rattle.copy_move.specs.Steps.SyncsOwed job syncs.path (Moved pair) new dirty dirty_after (Some log) (Some now) → ⊥
+        none_synced : Rattle.copy_move.specs.JobStepReports.SyncsOwed job syncs.path (Moved pair) new dirty dirty_after (Some log) (Some now) → ⊥
         none_synced (inl s) = let is = s.did_is in cc
         none_synced (inr s) = let is = s.did_is in cc
     step_whole (inr (gives, after_is)) = let is = gives.did_is in absurd (let e : ⊥ = cc in e)

@@ -10,7 +10,7 @@ use Rattle.job_reports.specs.declared.report.Did.TheVariants.{Moved}
 use Rattle.job_reports.specs.Paths.{folder_of}
 use Rattle.session_entries.specs.declared.history.Event.TheVariants.{Step}
 use Rattle.session_entries.specs.declared.history.Entry.{Entry}
-use Rattle.job_reports.specs.Jobs.{Item, folder_changed}
+use Rattle.job_reports.specs.Jobs.{ItemOfJob, folder_changed}
 use Rattle.laws_sessions.specs.Doubt.{name_waits, node_waits}
 use Rattle.session_entries.specs.LiveJobs.{live_jobs, live_item}
 use Rattle.laws_sessions.specs.Owed.{IsApart}
@@ -23,7 +23,7 @@ use Rattle.laws_sessions.specs.Traces.{IsTraced, Stand}
 pub record HasBegun (e : Entry) (older : List Entry) (folder : Route) : Type 0 where
   pub id : ℕ
   pub did : Did
-  pub item : Item
+  pub item : ItemOfJob
   pub reports : e.what ≡ Step id did
   pub begins : begins_change did ≡ true
   pub unchanged : has_changed id older ≡ false

@@ -18,7 +18,7 @@ use Rattle.copy_move.specs.declared.work.Work.{Work}
 use Rattle.copy_move.specs.declared.work.Work.TheVariants.{Move, SetMode}
 use Rattle.copy_move.specs.Jobs.{Running, is_fresh}
 use Rattle.copy_move.specs.Settling.{IsMountOf, changed_folder, is_own}
-use Rattle.copy_move.specs.Steps.{RunStep, step_made}
+use Rattle.copy_move.specs.JobStepReports.{RunStep, step_made}
 use Rattle.laws_sessions.specs.Traces.{IsUnclaimed, IsTraced, Stand, StepLeads, WorkLeads, unless_ended}
 use Rattle.laws_sessions.specs.Doubt.{IsJoined, IsMountInDoubt, is_unsettled, name_waits, node_waits, way_waits}
 

@@ -4,19 +4,19 @@ use Rattle.std.specs.Option.{option_map}
 use Rattle.mc_text.specs.Routes.{Route, is_prefix}
 use Rattle.mc_text.specs.declared.kind.Kind.{Kind}
 use Rattle.mc_text.specs.declared.kind.Kind.TheVariants.{File, Folder, Link, Other}
-use Rattle.tree_trait.specs.FileSystem.{Spot, Value, View, put, value_at, visible_tree}
+use Rattle.tree_trait.specs.FileSystem.{Spot, Value, View, view_with, value_at, visible_tree}
 use Rattle.tree_trait.specs.Change.{CallLog, current}
 use Rattle.job_reports.specs.declared.job.Pair.{Pair}
 use Rattle.job_reports.specs.declared.report.Did.{Did}
 use Rattle.job_reports.specs.declared.report.Did.TheVariants.{Began, Chunk, Placed, Removed, Made, Set, Kept, Skipped, Cleaned, Barrier, Asked, Merges, Moved, Troubled, Ended}
 use Rattle.session_entries.specs.Moves.{is_of_move, moved_from}
 use Rattle.session_entries.specs.Named.{changed_by}
-use Rattle.copy_file.specs.Copied.{copied}
+use Rattle.copy_file.specs.Copied.{copied_value}
 use Rattle.session_entries.specs.declared.history.Event.{Event}
 use Rattle.session_entries.specs.declared.history.Event.TheVariants.{Key, Look, Sought, Order, Step, Next, Closed}
 use Rattle.session_entries.specs.declared.history.Event.TheVariants as event
 use Rattle.session_entries.specs.declared.history.Entry.{Entry}
-use Rattle.job_reports.specs.Jobs.{Item, Copies, Moves, Removes, Makes, MakesLink, Sets, RemovesEmptied, new_folder_mode}
+use Rattle.job_reports.specs.Jobs.{ItemOfJob, Copies, Moves, Removes, Makes, MakesLink, Sets, RemovesEmptied, new_folder_mode}
 use Rattle.session_entries.specs.LiveJobs.{LiveJob, live_jobs, live_item}
 
 -- the log as it was when so many calls had been made since the opening
@@ -32,11 +32,11 @@ mode_placed Other mode = mode
 
 -- what is placed as a copy of a thing
 abbrev pub placed_copy : Value → Value
-placed_copy v = record (copied v) { mode = mode_placed v.kind v.mode }
+placed_copy v = record (copied_value v) { mode = mode_placed v.kind v.mode }
 
 -- what is placed is a copy of what stands where it comes from
-abbrev pub placed_by : Option Item → Route → View → View
-placed_by (Some (Copies source target)) path v = put v path (option_map placed_copy (v (moved_from source target path)).value)
+abbrev pub placed_by : Option ItemOfJob → Route → View → View
+placed_by (Some (Copies source target)) path v = view_with v path (option_map placed_copy (v (moved_from source target path)).value)
 placed_by (Some (Moves source target)) path v = v
 placed_by (Some (Removes file)) path v = v
 placed_by (Some (Makes folder)) path v = v
@@ -55,13 +55,13 @@ abbrev pub with_mode : ℕ → Value → Value
 with_mode mode x = record x { mode = mode }
 
 -- a folder that was copied is given its source's mode, and a thing whose mode is set that one
-abbrev pub set_by : Option Item → Route → View → View
-set_by (Some (Copies source target)) path v = put v path (option_map (with_mode_of (v (moved_from source target path)).value) (v path).value)
+abbrev pub set_by : Option ItemOfJob → Route → View → View
+set_by (Some (Copies source target)) path v = view_with v path (option_map (with_mode_of (v (moved_from source target path)).value) (v path).value)
 set_by (Some (Moves source target)) path v = v
 set_by (Some (Removes file)) path v = v
 set_by (Some (Makes folder)) path v = v
 set_by (Some (MakesLink link text)) path v = v
-set_by (Some (Sets thing mode)) path v = put v path (option_map (with_mode mode) (v path).value)
+set_by (Some (Sets thing mode)) path v = view_with v path (option_map (with_mode mode) (v path).value)
 set_by (Some (RemovesEmptied folder)) path v = v
 set_by None path v = v
 
@@ -79,7 +79,7 @@ copied_folder None = new_folder
 copied_folder (Some from) = record new_folder { mode = bit_or from.mode 0o700 }
 
 -- what a job makes at a path: the link that it is to make, or a folder, which of a copy is that of where it comes from
-abbrev pub made_by : Option Item → Route → View → Value
+abbrev pub made_by : Option ItemOfJob → Route → View → Value
 made_by (Some (MakesLink link text)) path v = new_link text
 made_by (Some (Makes folder)) path v = new_folder
 made_by (Some (Copies source target)) path v = copied_folder (v (moved_from source target path)).value
@@ -100,15 +100,15 @@ moved_by pair v path =
 
 -- What a step makes of the tree, which has this log then: a removed path has nothing any more, one that was made an empty
 -- folder or a link, one that was given a mode has that, and a part that an end names is from then on what it then is.
-abbrev pub replayed_step : CallLog → Did → Option Item → View → View
-replayed_step log (Removed path) item v = put v path None
+abbrev pub replayed_step : CallLog → Did → Option ItemOfJob → View → View
+replayed_step log (Removed path) item v = view_with v path None
 replayed_step log (Placed path) item v = placed_by item path v
-replayed_step log (Ended ending (Some part)) item v = put v part (value_at (current log) part)
+replayed_step log (Ended ending (Some part)) item v = view_with v part (value_at (current log) part)
 replayed_step log (Ended ending None) item v = v
 replayed_step log (Began part) item v = v
 replayed_step log (Chunk count) item v = v
 replayed_step log (Set path) item v = set_by item path v
-replayed_step log (Made path) item v = put v path (Some (made_by item path v))
+replayed_step log (Made path) item v = view_with v path (Some (made_by item path v))
 replayed_step log (Kept kept) item v = v
 replayed_step log (Asked question) item v = v
 replayed_step log (Merges transfer pair names) item v = v
@@ -136,7 +136,7 @@ replayed_tree opening now (e ∷ older) = replayed_event (log_prefix opening e.c
 -- these paths as they are shown, and all others as before
 abbrev pub keeping : List Route → View → View → View
 keeping [] v before = before
-keeping (path ∷ more) v before = keeping more v (put before path (v path).value)
+keeping (path ∷ more) v before = keeping more v (view_with before path (v path).value)
 
 -- the paths of a move as they are shown, and all others as before
 abbrev pub keeping_moved : Pair → View → View → View

@@ -11,7 +11,7 @@ use Rattle.job_reports.specs.declared.report.Did.TheVariants.{Ended}
 use Rattle.job_reports.specs.declared.report.Ending.TheVariants.{Finished}
 use Rattle.job_reports.specs.Paths.{folder_of}
 use Rattle.session_entries.specs.declared.history.Entry.{Entry}
-use Rattle.job_reports.specs.Jobs.{Item, Copies, Moves, Removes, Makes, MakesLink, Sets, RemovesEmptied}
+use Rattle.job_reports.specs.Jobs.{ItemOfJob, Copies, Moves, Removes, Makes, MakesLink, Sets, RemovesEmptied}
 use Rattle.copy_move.specs.Jobs.{Running}
 use Rattle.laws_sessions.specs.Owed.{IsNoMatter, is_own_path}
 use Rattle.laws_sessions.specs.Doubt.{IsMountInDoubt, name_waits, node_waits}
@@ -49,7 +49,7 @@ FinishedStaysLaw = (opening now after : CallLog) (newest older standing coming :
 
 -- a folder in which a job may change names: the one that holds what it places, makes or removes; where it copies or deletes, also the
 -- thing itself and what lies in it; where it moves, so of both its paths
-abbrev pub may_change : Item → Route → Bool
+abbrev pub may_change : ItemOfJob → Route → Bool
 may_change (Copies source target) folder = same_path folder (folder_of target) || is_prefix target folder
 may_change (Moves source target) folder =
     (same_path folder (folder_of source) || is_prefix source folder) || (same_path folder (folder_of target) || is_prefix target folder)
@@ -60,12 +60,12 @@ may_change (Sets path mode) folder = false
 may_change (RemovesEmptied path) folder = same_path folder (folder_of path)
 
 -- a path that a job may change: one in such a folder, or the thing to which it gives a mode
-abbrev pub may_change_path : Item → Route → Bool
+abbrev pub may_change_path : ItemOfJob → Route → Bool
 may_change_path (Sets thing mode) path = same_path path thing
 may_change_path item path = may_change item (folder_of path)
 
 -- a mount in doubt is no matter of a job that changes names around it
-abbrev pub IsNoMatterOf : Item → CallLog → Route → Type 0
+abbrev pub IsNoMatterOf : ItemOfJob → CallLog → Route → Type 0
 IsNoMatterOf (Sets thing mode) log path = ⊥
 IsNoMatterOf item log path = IsMountInDoubt log path
 
@@ -73,7 +73,7 @@ IsNoMatterOf item log path = IsMountInDoubt log path
 -- something, and it may have changed this path.
 pub record HasFinished (e : Entry) (older : List Entry) (path : Route) : Type 0 where
   pub id : ℕ
-  pub item : Item
+  pub item : ItemOfJob
   pub ended : IsDoneWith id e.what
   pub changed : has_changed id older ≡ true
   pub its : live_item id (live_jobs older) ≡ Some item

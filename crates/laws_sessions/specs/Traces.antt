@@ -16,12 +16,12 @@ use Rattle.session_entries.specs.declared.history.JobOrder.{JobOrder}
 use Rattle.session_entries.specs.declared.history.JobOrder.TheVariants.{Answered}
 use Rattle.session_entries.specs.declared.history.Entry.{Entry}
 use Rattle.copy_move.specs.declared.run.Course.TheVariants.{GoesOn}
-use Rattle.copy_move.specs.Jobs.{Running, JobTells, JobCalls, answered, begun_work, closed_job, is_fresh, part_of}
+use Rattle.copy_move.specs.Jobs.{Running, JobTells, JobCalls, answered_job, begun_work, closed_job, is_fresh, part_of}
 use Rattle.job_reports.specs.Reports.{ends}
 use Rattle.copy_move.specs.Settling.{NoneForFolder, NoneOwed}
-use Rattle.copy_move.specs.Steps.{LeavesDirty, SyncsOwed, WalksOn}
+use Rattle.copy_move.specs.JobStepReports.{LeavesDirty, SyncsOwed, WalksOn}
 use Rattle.session_entries.specs.Entries.{is_closed}
-use Rattle.copy_move.specs.Told.{running, turned}
+use Rattle.copy_move.specs.Told.{running, turned_job}
 
 -- where a session stands: its live jobs, and the folders with a change of names that no sync has brought onto the disk
 pub record Stand : Type 0 where
@@ -82,12 +82,12 @@ StepLeads job did after dirty dirty_after log now =
     ⊎ (GivesUp job did dirty dirty_after log now × (after ≡ None))
 
 -- the job that a plan begins
-abbrev pub begun : ℕ → Job → List Running
-begun id plan = option_map_or (λ work. running id work ∷ []) (begun_work id (sources_of plan)) []
+abbrev pub begun_jobs : ℕ → Job → List Running
+begun_jobs id plan = option_map_or (λ work. running id work ∷ []) (begun_work id (sources_of plan)) []
 
 -- an order to the job with this number
-abbrev pub ordered : ℕ → JobOrder → Running → Running
-ordered id (Answered answer) job = if job.id == id then answered answer job else job
+abbrev pub ordered_job : ℕ → JobOrder → Running → Running
+ordered_job id (Answered answer) job = if job.id == id then answered_job answer job else job
 
 -- the live job with this number makes a step, and stands so then, or has ended
 pub record JobSteps (was : Stand) (id : ℕ) (did : Did) (after : Stand) (log now : CallLog) : Type 0 where
@@ -105,13 +105,13 @@ pub record JobTurns (was : Stand) (id : ℕ) (plan : Job) (after : Stand) (log n
   pub over : Running
   pub done : WorkLeads job (Ended Finished None) over was.dirty after.dirty log now
   pub next : Running
-  pub next_is : turned plan job ≡ Some next
+  pub next_is : turned_job plan job ≡ Some next
   pub jobs_is : after.jobs ≡ with_job id (Some next) was.jobs
 
 -- a plan begins a job, where none is live
 pub record JobBegins (was : Stand) (id : ℕ) (plan : Job) (after : Stand) (log now : CallLog) : Type 0 where
   pub none_live : was.jobs ≡ []
-  pub after_is : after ≡ record was { jobs = begun id plan }
+  pub after_is : after ≡ record was { jobs = begun_jobs id plan }
   pub now_is : now ≡ log
 
 -- the session stands so then, and the tree's log stays
@@ -124,7 +124,7 @@ abbrev pub EventLeads : Stand → Event → Stand → CallLog → CallLog → Ty
 EventLeads was (Step id did) after log now = JobSteps was id did after log now
 EventLeads was (Next id plan) after log now = JobTurns was id plan after log now
 EventLeads was (Began id plan background) after log now = JobBegins was id plan after log now
-EventLeads was (Order id order) after log now = StandsAt (record was { jobs = map (ordered id order) was.jobs }) after log now
+EventLeads was (Order id order) after log now = StandsAt (record was { jobs = map (ordered_job id order) was.jobs }) after log now
 EventLeads was (Key key time refusals lost) after log now = StandsAt was after log now
 EventLeads was (Look refusals) after log now = StandsAt was after log now
 EventLeads was Sought after log now = StandsAt was after log now

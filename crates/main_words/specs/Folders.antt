@@ -3,7 +3,7 @@
 use Rattle.std.specs.Prelude.{ℕ, Bool, not, ◌||◌, nat_lt, is_none, is_some, if◌then◌else◌, List, [], ◌∷◌, length, filter, Option, Some, None, option_map}
 use Rattle.std.specs.Str.{bytes_eq}
 use Rattle.mc_text.specs.Names.{name_fault}
-use Rattle.mc_text.specs.Routes.{Route, spelled, path_text, components_of, is_empty, begins_with_slash, path_fault, route_of}
+use Rattle.mc_text.specs.Routes.{Route, spelled_route, path_text, components_of, is_empty, begins_with_slash, path_fault, route_of}
 use Rattle.main_words.specs.declared.folders.StartPath.{StartPath}
 
 -- the folder in which the program was started; the root where its text is no absolute path
@@ -22,7 +22,7 @@ above (name ∷ folder) = folder
 
 -- a folder can't have this entry: it is no name, or the path would be too long
 abbrev pub is_refused_in : Route → List ℕ → Bool
-is_refused_in folder component = is_some (name_fault component) || nat_lt 4096 (length (spelled (component ∷ folder)))
+is_refused_in folder component = is_some (name_fault component) || nat_lt 4096 (length (spelled_route (component ∷ folder)))
 
 -- where a component leads: dot-dot to the folder above, any other to the folder's entry, if there can be one
 abbrev pub step_below : Route → List ℕ → Option Route

@@ -12,7 +12,7 @@ use Rattle.job_reports.specs.declared.report.Did.TheVariants.{Skipped, Troubled}
 use Rattle.job_reports.specs.CallRuns.{HasMore}
 use Rattle.job_reports.specs.Reports.{IsFault}
 use Rattle.job_reports.specs.Stops.{out_of_memory_at}
-use Rattle.make_job.specs.Makings.{LastMakingCalls, Making, MakingCalls, MakingLeaves, Tells, Winds, at_barrier, skipped}
+use Rattle.make_job.specs.Makings.{LastMakingCalls, Making, MakingCalls, MakingLeaves, Tells, Winds, at_barrier, skipped_stage}
 
 -- A step: what it reports is allowed, the making is then as it says, it is the call of the tree that it says, and it
 -- reports a fault only where the tree's count has risen. It counts the changing calls that it made.
@@ -39,5 +39,5 @@ pub record LastMakingStep (ending : Ending) (old new : Making) (did : Did) (call
 -- a skip reports the path as skipped, or that there is no memory for the report, and then it changes nothing
 abbrev pub MakingSkips : Cause → Making → Did → Making → Type 0
 MakingSkips cause old did new =
-    ((did ≡ Skipped old.path cause) × (new ≡ record old { stage = skipped old.stage }))
+    ((did ≡ Skipped old.path cause) × (new ≡ record old { stage = skipped_stage old.stage }))
     ⊎ ((did ≡ Troubled (out_of_memory_at (at_barrier old.stage))) × (new ≡ old))

@@ -31,11 +31,11 @@ at_barrier Finish = true
 at_barrier PassedOver = true
 
 -- a thing that is skipped is not made
-abbrev pub skipped : MakingStage → MakingStage
-skipped Make = PassedOver
-skipped Sync = Sync
-skipped Finish = Finish
-skipped PassedOver = PassedOver
+abbrev pub skipped_stage : MakingStage → MakingStage
+skipped_stage Make = PassedOver
+skipped_stage Sync = Sync
+skipped_stage Finish = Finish
+skipped_stage PassedOver = PassedOver
 
 -- nothing is left to be done
 abbrev pub is_done : MakingStage → Bool

@@ -3,7 +3,7 @@
 ghost use Rattle.std.specs.Prelude.{◌≡◌, Some};
 ghost use Rattle.mc_text.specs.Routes.{parent_of};
 ghost use Rattle.job_reports.specs.Paths.{folder_of};
-ghost use Rattle.make_job.specs.Makings.{at_barrier, is_dirty, is_fresh, skipped as skipped_to};
+ghost use Rattle.make_job.specs.Makings.{at_barrier, is_dirty, is_fresh, skipped_stage as skipped_to};
 ghost use Rattle.make_job.specs.MakingSteps.{LastMakingStep, MakingSkips, MakingStep};
 ghost use Rattle.make_job.specs.NewThings.{IsMakable};
 

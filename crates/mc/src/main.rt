@@ -5,7 +5,7 @@ mod surroundings;
 mod terminal;
 
 use crate::surroundings::{NoWords, fill_size, surroundings, words_of};
-use crate::terminal::{Terminal, begin_line, clear_screen, make_raw, put_back, put_usage};
+use crate::terminal::{TerminalChange, begin_line, clear_screen, make_raw, put_back, put_usage};
 use host_devices::{HostClock, ShSpawner, StdinSource, StdoutSink};
 use host_tree::HostTree;
 use mc_main::{Beginning, Env, Gate, beginning_of, mc_run};
@@ -70,9 +70,9 @@ fn run(rt: HostRuntime, words: &[Text], env: &Env) -> u8 {
 }
 
 /// Makes the terminal ready for a session, and asks it for its size. Where a text is printed alone it isn't touched.
-fn enter(rt: &HostRuntime, words: &[Text], env: &mut Env) -> Terminal {
+fn enter(rt: &HostRuntime, words: &[Text], env: &mut Env) -> TerminalChange {
     if prints_alone(rt.alloc(), words, env) {
-        return Terminal::Untouched;
+        return TerminalChange::Untouched;
     }
     let _filled = fill_size(rt, env);
     make_raw(rt)
@@ -87,8 +87,8 @@ fn prints_alone(alloc: Global, words: &[Text], env: &Env) -> bool {
 }
 
 /// Leaves the terminal as it was. The line of a path that was refused stays.
-fn leave(rt: &HostRuntime, terminal: &Terminal, status: u8) {
-    if let Terminal::Untouched = terminal {
+fn leave(rt: &HostRuntime, terminal: &TerminalChange, status: u8) {
+    if let TerminalChange::Untouched = terminal {
         return;
     }
     if status == 2 {

@@ -5,7 +5,7 @@ use std::process::{Command, Stdio};
 
 /// What a run did to the terminal, and so what has to be done at its end.
 #[derive(Drop)]
-pub enum Terminal {
+pub enum TerminalChange {
     /// Nothing: the words ask for no session.
     Untouched,
     /// It was made raw, and this is what it was like before, as `stty` says it.
@@ -21,21 +21,21 @@ pub fn put_usage(rt: &HostRuntime) -> io::Result<()> {
 }
 
 /// Lets each byte of the keyboard come at once, and not be shown.
-pub fn make_raw(rt: &HostRuntime) -> Terminal {
+pub fn make_raw(rt: &HostRuntime) -> TerminalChange {
     let before = modes(rt);
     let _done = stty(rt, &["raw", "-echo"]);
     match before {
-        Ok(modes) => Terminal::RawAfter(modes),
-        Err(_) => Terminal::Raw,
+        Ok(modes) => TerminalChange::RawAfter(modes),
+        Err(_) => TerminalChange::Raw,
     }
 }
 
 /// Makes the terminal what it was before; where that isn't known, what a shell wants.
-pub fn put_back(rt: &HostRuntime, terminal: &Terminal) {
+pub fn put_back(rt: &HostRuntime, terminal: &TerminalChange) {
     let _done = match terminal {
-        Terminal::Untouched => Ok(()),
-        Terminal::RawAfter(modes) => stty(rt, &[modes.as_str()]),
-        Terminal::Raw => stty(rt, &["sane"]),
+        TerminalChange::Untouched => Ok(()),
+        TerminalChange::RawAfter(modes) => stty(rt, &[modes.as_str()]),
+        TerminalChange::Raw => stty(rt, &["sane"]),
     };
 }
 

@@ -19,14 +19,14 @@ use Rattle.session_entries.specs.declared.history.JobOrder.TheVariants.{Answered
 use Rattle.job_reports.specs.declared.answer.Answer.{Answer}
 use Rattle.job_reports.specs.declared.job.Job.{Job}
 use Rattle.session_entries.specs.declared.refusal.Refusal.{Refusal}
-use Rattle.copy_move.specs.Jobs.{Running, answered, begun_work, closed_job, part_of, waits_on}
+use Rattle.copy_move.specs.Jobs.{Running, answered_job, begun_work, closed_job, part_of, waits_on}
 use Rattle.job_reports.specs.Reports.{ends}
-use Rattle.copy_move.specs.Told.{after_step, if_closed, running, told}
+use Rattle.copy_move.specs.Told.{after_step, if_closed, running, told_job}
 use Rattle.copy_move.specs.declared.work.Work.{Work}
 use Rattle.copy_move.specs.declared.run.Course.TheVariants.{OwedSyncFailed}
-use Rattle.copy_move.specs.Steps.{OwnStep, RunStep, OwedSyncStep, SyncsOwed, step_made}
+use Rattle.copy_move.specs.JobStepReports.{OwnStep, RunStep, OwedSyncStep, SyncsOwed, step_made}
 use Rattle.session_entries.specs.Refusals.{AreRefused}
-use Rattle.laws_sessions.specs.Traces.{IsUnclaimed, EventLeads, IsJob, Stand, StepLeads, before_others, begun, ordered, with_job}
+use Rattle.laws_sessions.specs.Traces.{IsUnclaimed, EventLeads, IsJob, Stand, StepLeads, before_others, begun_jobs, ordered_job, with_job}
 use Rattle.copy_move.proofs.OwedSyncs.{owed_tells}
 use Rattle.copy_move.proofs.StillTelling.{StillTells, step_tells}
 use Rattle.copy_move.proofs.Telling.{answered_told, began_told, closed_told, fresh_told, step_told, sync_told}
@@ -38,7 +38,7 @@ use Rattle.mc_ui.specs.Screens.{Begins, Answers, Ends, LookLeads, Screen}
 use Rattle.ui_plans.specs.Refused.{has_fault}
 use Rattle.session_log.specs.Told.{news_left, waits_told}
 use Rattle.mc_desk.specs.Tallies.{Tally, faults_in, can_step, end_unseen_event, next_id}
-use Rattle.mc_desk.specs.Desks.{Seen, noted, stand_of, stand_with, with_end}
+use Rattle.mc_desk.specs.Desks.{Seen, noted_screen, stand_of, stand_with, with_end}
 use Rattle.mc_desk.specs.LiveRows.{row_of, rows_told}
 use Rattle.mc_desk.specs.Granting.{KeyWorks}
 use Rattle.mc_ui.specs.Seekings.{is_seeking}
@@ -60,15 +60,15 @@ open_job : (closed : Bool) (job : Option Running) → closed ≡ false → job �
 open_job closed job unclosed = ap (λ b. if_closed b job) (sym unclosed)
 
 -- where the end wasn't asked for, nothing is noted on the screen
-pub unasked_screen : (desk : Seen) → desk.quit ≡ false → noted desk ≡ desk.screen
+pub unasked_screen : (desk : Seen) → desk.quit ≡ false → noted_screen desk ≡ desk.screen
 unasked_screen desk unasked = ap (λ b. with_end b desk.screen) unasked
 
 -- what is noted stays
-pub same_noted : (old new : Seen) → new.screen ≡ old.screen → new.quit ≡ old.quit → noted new ≡ noted old
+pub same_noted : (old new : Seen) → new.screen ≡ old.screen → new.quit ≡ old.quit → noted_screen new ≡ noted_screen old
 same_noted old new screen quit = ap (λ b. with_end b new.screen) quit ∙ ap (with_end old.quit) screen
 
 -- nothing else waits than the end
-pub may_end : (desk : Seen) → desk.screen.planned ≡ None → MayEnd (noted desk).planned
+pub may_end : (desk : Seen) → desk.screen.planned ≡ None → MayEnd (noted_screen desk).planned
 may_end desk settled = go desk.quit
   where
     go : (b : Bool) → MayEnd (with_end b desk.screen).planned
@@ -80,12 +80,12 @@ pub end_noted : (quit : Bool) (screen : Screen) → screen.planned ≡ None → 
 end_noted true screen settled = refl
 end_noted false screen settled = settled
 
-unplanned : (desk : Seen) → desk.quit ≡ false → desk.screen.planned ≡ None → (noted desk).planned ≡ None
+unplanned : (desk : Seen) → desk.quit ≡ false → desk.screen.planned ≡ None → (noted_screen desk).planned ≡ None
 unplanned desk unasked settled = ap (λ (s : Screen). s.planned) (unasked_screen desk unasked) ∙ settled
 
 -- what was asked for is carried out
 carried_out : (old new : Seen) → new.screen ≡ (let s : Screen = record old.screen { planned = None } in s) → new.quit ≡ old.quit → old.quit ≡ false
-    → noted new ≡ (let s : Screen = record (noted old) { planned = None } in s)
+    → noted_screen new ≡ (let s : Screen = record (noted_screen old) { planned = None } in s)
 carried_out old new screen quit unasked =
     unasked_screen new (quit ∙ unasked) ∙ (screen ∙ ap (λ (s : Screen). let c : Screen = record s { planned = None } in c) (sym (unasked_screen old unasked)))
 
@@ -108,7 +108,7 @@ module _ (contents contents_after : Option CallLog) (same : contents_after ≡ c
 
 -- a job that was begun is the one that is live
 begins : (id : ℕ) (plan : Job) (run : Running) (old new : Seen) → option_map (running id) (begun_work id (sources_of plan)) ≡ Some run → new.dirty ≡ old.dirty
-    → stand_with (Some run) new.dirty ≡ record (stand_of old) { jobs = begun id plan }
+    → stand_with (Some run) new.dirty ≡ record (stand_of old) { jobs = begun_jobs id plan }
 begins id plan run old new started dirty =
     ap (stand_with (Some run)) dirty ∙ ap (λ jobs. let s : Stand = record { jobs = jobs; dirty = old.dirty } in s) (sym (one (begun_work id (sources_of plan)) started))
   where
@@ -117,7 +117,7 @@ begins id plan run old new started dirty =
     one (Some work) is = let same : running id work ≡ run = cc in ap (λ j. j ∷ []) same
 
 -- it is told whole
-began_first : (id : ℕ) (sources : List Job) → option_map told (option_map (running id) (begun_work id sources)) ≡ option_map (running id) (begun_work id sources)
+began_first : (id : ℕ) (sources : List Job) → option_map told_job (option_map (running id) (begun_work id sources)) ≡ option_map (running id) (begun_work id sources)
 began_first id [] = refl
 began_first id (source ∷ more) = began_told id source
 
@@ -144,11 +144,11 @@ in_turn id (Troubled trouble) left h = tt
 
 -- the live job is the one that was ordered
 answers : (answer : Answer) (live : Running) (old new : Seen) → old.job ≡ Some live → new.dirty ≡ old.dirty
-    → stand_with (Some (answered answer live)) new.dirty ≡ record (stand_of old) { jobs = map (ordered live.id (Answered answer)) (before_others old.job []) }
+    → stand_with (Some (answered_job answer live)) new.dirty ≡ record (stand_of old) { jobs = map (ordered_job live.id (Answered answer)) (before_others old.job []) }
 answers answer live old new is dirty =
-    ap (stand_with (Some (answered answer live))) dirty
-    ∙ (ap (λ b. let s : Stand = record { jobs = (if b then answered answer live else live) ∷ []; dirty = old.dirty } in s) (sym (eq-eqb live.id live.id refl))
-    ∙ ap (λ j. let s : Stand = record { jobs = map (ordered live.id (Answered answer)) (before_others j []); dirty = old.dirty } in s) (sym is))
+    ap (stand_with (Some (answered_job answer live))) dirty
+    ∙ (ap (λ b. let s : Stand = record { jobs = (if b then answered_job answer live else live) ∷ []; dirty = old.dirty } in s) (sym (eq-eqb live.id live.id refl))
+    ∙ ap (λ j. let s : Stand = record { jobs = map (ordered_job live.id (Answered answer)) (before_others j []); dirty = old.dirty } in s) (sym is))
 
 -- the live job is the one that made the step
 steps : (old new : Seen) (live : Running) (did : Did) (after : Option Running) (log now : CallLog) → old.job ≡ Some live → StepLeads live did after old.dirty new.dirty log now
@@ -164,10 +164,10 @@ steps old new live did after log now is leads = record {
 module _ (contents contents_after : Option CallLog) (faults : ℕ) (old new : Seen) (seat count shown : ℕ) (main : seat ≡ 0) where
   -- a key that was worked
   pub adds_key : (key : KeyType) (now : ℕ) (refusals : List Refusal) → new.newest ≡ entry seat old.tally.calls count shown (Key key now refusals false) ∷ old.newest → new.tally ≡ old.tally → new.job ≡ old.job
-      → new.tally.job ≡ option_map told new.job → old.tally.closed ≡ false → old.tally.due ≡ None → is_seeking old.screen ≡ false → old.tally.lost ≡ false → old.screen.planned ≡ None → contents_after ≡ contents
+      → new.tally.job ≡ option_map told_job new.job → old.tally.closed ≡ false → old.tally.due ≡ None → is_seeking old.screen ≡ false → old.tally.lost ≡ false → old.screen.planned ≡ None → contents_after ≡ contents
       → faults_in faults old.newest ≤ count → (has_fault refusals ≡ true → HasRisen (faults_in faults old.newest) count) → IfKnown contents (λ log. AreRefused log refusals)
-      → KeyWorks contents (rows_told old.newest) (next_id old.tally.last) now key refusals (noted old) (noted new) → old.quit ≡ false → new.dirty ≡ old.dirty → new.later ≡ old.later
-      → DrawsFrame (none_before old.newest) (frame_due (noted new) (next_id old.tally.last) (rows_told old.newest)) shown old.out.put new.out.put
+      → KeyWorks contents (rows_told old.newest) (next_id old.tally.last) now key refusals (noted_screen old) (noted_screen new) → old.quit ≡ false → new.dirty ≡ old.dirty → new.later ≡ old.later
+      → DrawsFrame (none_before old.newest) (frame_due (noted_screen new) (next_id old.tally.last) (rows_told old.newest)) shown old.out.put new.out.put
       → Adds contents contents_after faults old new (entry seat old.tally.calls count shown (Key key now refusals false))
   adds_key key now refusals more tally job tells unclosed looked sought unlost settled same later fault refused leads unasked dirty left draws = record {
     turn = tt;
@@ -187,7 +187,7 @@ module _ (contents contents_after : Option CallLog) (faults : ℕ) (old new : Se
 
   -- a key that was lost
   pub adds_lost : (key : KeyType) (now : ℕ) → new.newest ≡ entry seat old.tally.calls count shown (Key key now [] true) ∷ old.newest
-      → new.tally ≡ record old.tally { lost = true } → new.job ≡ old.job → new.tally.job ≡ option_map told new.job
+      → new.tally ≡ record old.tally { lost = true } → new.job ≡ old.job → new.tally.job ≡ option_map told_job new.job
       → old.tally.closed ≡ false → old.tally.due ≡ None → is_seeking old.screen ≡ false → old.tally.lost ≡ false → old.screen.planned ≡ None → contents_after ≡ contents
       → faults_in faults old.newest ≤ count → new.screen ≡ old.screen → new.quit ≡ old.quit → old.quit ≡ false → new.dirty ≡ old.dirty → new.later ≡ old.later → PutsNothing shown old.out.put new.out.put
       → Adds contents contents_after faults old new (entry seat old.tally.calls count shown (Key key now [] true))
@@ -209,11 +209,11 @@ module _ (contents contents_after : Option CallLog) (faults : ℕ) (old new : Se
 
   -- a look
   pub adds_look : (refusals : List Refusal) → new.newest ≡ entry seat old.tally.calls count shown (Look refusals) ∷ old.newest
-      → new.tally ≡ record old.tally { has_unseen_end = false; due = if can_step old.tally.job then old.tally.due else None } → new.job ≡ old.job → new.tally.job ≡ option_map told new.job
+      → new.tally ≡ record old.tally { has_unseen_end = false; due = if can_step old.tally.job then old.tally.due else None } → new.job ≡ old.job → new.tally.job ≡ option_map told_job new.job
       → old.tally.closed ≡ false → IsSome old.tally.due → old.screen.planned ≡ None → contents_after ≡ contents
       → faults_in faults old.newest ≤ count → (has_fault refusals ≡ true → HasRisen (faults_in faults old.newest) count) → IfKnown contents (λ log. AreRefused log refusals)
       → LookLeads contents (rows_told old.newest) old.tally.has_unseen_end (news_left old.newest) refusals old.screen new.screen → new.quit ≡ old.quit → old.quit ≡ false → new.dirty ≡ old.dirty → new.later ≡ old.later
-      → DrawsFrame (none_before old.newest) (frame_due (noted new) (next_id old.tally.last) (rows_told old.newest)) shown old.out.put new.out.put
+      → DrawsFrame (none_before old.newest) (frame_due (noted_screen new) (next_id old.tally.last) (rows_told old.newest)) shown old.out.put new.out.put
       → Adds contents contents_after faults old new (entry seat old.tally.calls count shown (Look refusals))
   adds_look refusals more tally job tells unclosed is_due settled same later fault refused leads quit unasked dirty left draws = record {
     turn = tt;
@@ -228,7 +228,7 @@ module _ (contents contents_after : Option CallLog) (faults : ℕ) (old new : Se
     leads = (
       unclosed,
       is_due,
-      subst (λ s. LookLeads contents (rows_told old.newest) old.tally.has_unseen_end (news_left old.newest) refusals s (noted new)) (sym (unasked_screen old unasked))
+      subst (λ s. LookLeads contents (rows_told old.newest) old.tally.has_unseen_end (news_left old.newest) refusals s (noted_screen new)) (sym (unasked_screen old unasked))
           (subst (λ s. LookLeads contents (rows_told old.newest) old.tally.has_unseen_end (news_left old.newest) refusals old.screen s) (sym (unasked_screen new (quit ∙ unasked))) leads),
     );
     sought = tt;
@@ -238,10 +238,10 @@ module _ (contents contents_after : Option CallLog) (faults : ℕ) (old new : Se
   }
 
   -- steps of a search
-  pub adds_sought : new.newest ≡ entry seat old.tally.calls count shown Sought ∷ old.newest → new.tally ≡ old.tally → new.job ≡ old.job → new.tally.job ≡ option_map told new.job
+  pub adds_sought : new.newest ≡ entry seat old.tally.calls count shown Sought ∷ old.newest → new.tally ≡ old.tally → new.job ≡ old.job → new.tally.job ≡ option_map told_job new.job
       → old.tally.closed ≡ false → old.tally.due ≡ None → is_seeking old.screen ≡ true → old.screen.planned ≡ None → contents_after ≡ contents
       → (from : ℕ) → faults_in faults old.newest ≤ from → from ≤ count → HasSought contents from count old.screen new.screen → new.quit ≡ old.quit → old.quit ≡ false → new.dirty ≡ old.dirty → new.later ≡ old.later
-      → DrawsFrame (none_before old.newest) (frame_due (noted new) (next_id old.tally.last) (rows_told old.newest)) shown old.out.put new.out.put
+      → DrawsFrame (none_before old.newest) (frame_due (noted_screen new) (next_id old.tally.last) (rows_told old.newest)) shown old.out.put new.out.put
       → Adds contents contents_after faults old new (entry seat old.tally.calls count shown Sought)
   adds_sought more tally job tells unclosed looked seeking settled same from had later made quit unasked dirty left draws = record {
     turn = tt;
@@ -256,7 +256,7 @@ module _ (contents contents_after : Option CallLog) (faults : ℕ) (old new : Se
     sought = (
       from,
       had,
-      subst (λ s. HasSought contents from count s (noted new)) (sym (unasked_screen old unasked))
+      subst (λ s. HasSought contents from count s (noted_screen new)) (sym (unasked_screen old unasked))
           (subst (λ s. HasSought contents from count old.screen s) (sym (unasked_screen new (quit ∙ unasked))) made),
     );
     caused = λ log known. tt;
@@ -266,7 +266,7 @@ module _ (contents contents_after : Option CallLog) (faults : ℕ) (old new : Se
 
   -- a job that was begun
   pub adds_began : (id : ℕ) (plan : Job) (background : Bool) (run : Running) → new.newest ≡ entry seat old.tally.calls count 0 (Began id plan background) ∷ old.newest
-      → option_map (running id) (begun_work id (sources_of plan)) ≡ Some run → new.job ≡ Some run → new.tally ≡ record old.tally { job = Some (told run); last = id; due = Some id }
+      → option_map (running id) (begun_work id (sources_of plan)) ≡ Some run → new.job ≡ Some run → new.tally ≡ record old.tally { job = Some (told_job run); last = id; due = Some id }
       → old.tally.closed ≡ false → rows_told old.newest ≡ [] → are_workable plan ≡ true → old.screen.planned ≡ Some (Begins plan background) → contents_after ≡ contents → faults_in faults old.newest ≤ count
       → next_id old.tally.last ≡ Some id → new.screen ≡ record old.screen { planned = None } → new.quit ≡ old.quit → old.quit ≡ false → old.job ≡ None → new.dirty ≡ old.dirty → new.later ≡ rest_of (sources_of plan) → new.out.put ≡ old.out.put
       → Adds contents contents_after faults old new (entry seat old.tally.calls count 0 (Began id plan background))
@@ -278,7 +278,7 @@ module _ (contents contents_after : Option CallLog) (faults : ℕ) (old new : Se
     tally = tally
         ∙ (ap (λ j. let r : Tally = record old.tally { job = j; last = id; due = Some id } in r) told_then
         ∙ ap (λ b. let r : Tally = record old.tally { job = if_closed b (option_map (running id) (begun_work id (sources_of plan))); last = id; due = Some id } in r) (sym unclosed));
-    told = ap (λ (t : Tally). t.job) tally ∙ sym (ap (option_map told) job);
+    told = ap (λ (t : Tally). t.job) tally ∙ sym (ap (option_map told_job) job);
     timely = tt;
     counts = record { seat = main; later = later; fault = λ h. absurd h; calls = omega arith; most = omega arith };
     leads = record {
@@ -295,14 +295,14 @@ module _ (contents contents_after : Option CallLog) (faults : ℕ) (old new : Se
     unknown = still_unknown contents contents_after same;
   }
     where
-      told_then : Some (told run) ≡ option_map (running id) (begun_work id (sources_of plan))
-      told_then = sym (ap (option_map told) started) ∙ began_first id (sources_of plan)
+      told_then : Some (told_job run) ≡ option_map (running id) (begun_work id (sources_of plan))
+      told_then = sym (ap (option_map told_job) started) ∙ began_first id (sources_of plan)
 
   -- a trouble that was answered
   pub adds_order : (answer : Answer) (live : Running) → new.newest ≡ entry seat old.tally.calls count 0 (Order live.id (Answered answer)) ∷ old.newest
-      → old.job ≡ Some live → rows_told old.newest ≡ row_of live (waits_told old.newest) ∷ [] → takes_answer (row_of live (waits_told old.newest)) answer ≡ true → old.tally.job ≡ option_map told old.job
-      → new.job ≡ Some (answered answer live)
-      → new.tally ≡ record old.tally { job = Some (told (answered answer live)); due = Some live.id }
+      → old.job ≡ Some live → rows_told old.newest ≡ row_of live (waits_told old.newest) ∷ [] → takes_answer (row_of live (waits_told old.newest)) answer ≡ true → old.tally.job ≡ option_map told_job old.job
+      → new.job ≡ Some (answered_job answer live)
+      → new.tally ≡ record old.tally { job = Some (told_job (answered_job answer live)); due = Some live.id }
       → old.tally.closed ≡ false → old.screen.planned ≡ Some (Answers answer) → contents_after ≡ contents → faults_in faults old.newest ≤ count
       → new.screen ≡ record old.screen { planned = None } → new.quit ≡ old.quit → old.quit ≡ false → new.dirty ≡ old.dirty → new.later ≡ old.later → new.out.put ≡ old.out.put
       → Adds contents contents_after faults old new (entry seat old.tally.calls count 0 (Order live.id (Answered answer)))
@@ -312,10 +312,10 @@ module _ (contents contents_after : Option CallLog) (faults : ℕ) (old new : Se
     draws = record { same = put; none = refl };
     more = more;
     tally = tally
-        ∙ (ap (λ j. let r : Tally = record old.tally { job = j; due = Some live.id } in r) (ap Some (answered_told answer live) ∙ sym (ap (option_map (answered answer)) told_is))
-        ∙ (ap (λ d. let r : Tally = record old.tally { job = option_map (answered answer) old.tally.job; due = d } in r) (sym (ap (option_map (λ (j : Running). j.id)) told_is))
-        ∙ ap (λ b. let r : Tally = record old.tally { job = if_closed b (option_map (answered answer) old.tally.job); due = option_map (λ (j : Running). j.id) old.tally.job } in r) (sym unclosed)));
-    told = ap (λ (t : Tally). t.job) tally ∙ sym (ap (option_map told) job);
+        ∙ (ap (λ j. let r : Tally = record old.tally { job = j; due = Some live.id } in r) (ap Some (answered_told answer live) ∙ sym (ap (option_map (answered_job answer)) told_is))
+        ∙ (ap (λ d. let r : Tally = record old.tally { job = option_map (answered_job answer) old.tally.job; due = d } in r) (sym (ap (option_map (λ (j : Running). j.id)) told_is))
+        ∙ ap (λ b. let r : Tally = record old.tally { job = if_closed b (option_map (answered_job answer) old.tally.job); due = option_map (λ (j : Running). j.id) old.tally.job } in r) (sym unclosed)));
+    told = ap (λ (t : Tally). t.job) tally ∙ sym (ap (option_map told_job) job);
     timely = tt;
     counts = record { seat = main; later = later; fault = λ h. absurd h; calls = omega arith; most = omega arith };
     leads = record {
@@ -328,17 +328,17 @@ module _ (contents contents_after : Option CallLog) (faults : ℕ) (old new : Se
     };
     sought = tt;
     caused = λ log known. tt;
-    traced = leads_on contents contents_after same old new (entry seat old.tally.calls count 0 (Order live.id (Answered answer))) (Some (answered answer live)) refl
-        (λ log known. record { after_is = answers answer live old new is dirty; now_is = refl }) (job ∙ open_job old.tally.closed (Some (answered answer live)) unclosed);
+    traced = leads_on contents contents_after same old new (entry seat old.tally.calls count 0 (Order live.id (Answered answer))) (Some (answered_job answer live)) refl
+        (λ log known. record { after_is = answers answer live old new is dirty; now_is = refl }) (job ∙ open_job old.tally.closed (Some (answered_job answer live)) unclosed);
     unknown = still_unknown contents contents_after same;
   }
     where
-      told_is : old.tally.job ≡ Some (told live)
-      told_is = tells ∙ ap (option_map told) is
+      told_is : old.tally.job ≡ Some (told_job live)
+      told_is = tells ∙ ap (option_map told_job) is
 
   -- the end of keys
   pub adds_closed : new.newest ≡ entry seat old.tally.calls count 0 Closed ∷ old.newest
-      → new.tally ≡ record old.tally { job = option_map closed_job old.tally.job; closed = true; due = None } → new.job ≡ option_map closed_job old.job → new.tally.job ≡ option_map told new.job
+      → new.tally ≡ record old.tally { job = option_map closed_job old.tally.job; closed = true; due = None } → new.job ≡ option_map closed_job old.job → new.tally.job ≡ option_map told_job new.job
       → old.screen.planned ≡ None → contents_after ≡ contents → faults_in faults old.newest ≤ count → new.screen ≡ old.screen → new.quit ≡ old.quit → new.dirty ≡ old.dirty → new.later ≡ old.later → new.out.put ≡ old.out.put
       → Adds contents contents_after faults old new (entry seat old.tally.calls count 0 Closed)
   adds_closed more tally job tells settled same later screen quit dirty left put = record {
@@ -398,11 +398,11 @@ module _ (contents contents_after : Option CallLog) (faults : ℕ) (old new : Se
       )
 
   -- a step of the job's own
-  pub adds_step : (live stepped : Running) (did : Did) (made calls before after : ℕ) → old.job ≡ Some live → old.tally.job ≡ option_map told old.job
+  pub adds_step : (live stepped : Running) (did : Did) (made calls before after : ℕ) → old.job ≡ Some live → old.tally.job ≡ option_map told_job old.job
       → OwnStep IsUnclaimed (step_made live stepped did made old.dirty new.dirty contents contents_after before after) → calls ≡ old.tally.calls + made
       → new.newest ≡ entry seat calls count 0 (Step live.id did) ∷ old.newest
       → new.job ≡ if_closed old.tally.closed (if ends did then None else Some stepped)
-      → new.tally ≡ record old.tally { job = option_map told new.job; has_unseen_end = ends did || old.tally.has_unseen_end; calls = calls }
+      → new.tally ≡ record old.tally { job = option_map told_job new.job; has_unseen_end = ends did || old.tally.has_unseen_end; calls = calls }
       → old.screen.planned ≡ None → faults_in faults old.newest ≤ before → after ≤ count → new.screen ≡ old.screen → new.quit ≡ old.quit → new.out.put ≡ old.out.put
       → (finishes did ≡ true → old.later ≡ []) → new.later ≡ left_by did old.later
       → Adds contents contents_after faults old new (entry seat calls count 0 (Step live.id did))
@@ -414,7 +414,7 @@ module _ (contents contents_after : Option CallLog) (faults : ℕ) (old new : Se
         draws = record { same = put; none = refl };
         more = more;
         tally = tally ∙ stepped_tally old.tally _ _ _ _ calls
-            (ap (option_map told) job ∙ (closed_told old.tally.closed (if ends did then None else Some stepped)
+            (ap (option_map told_job) job ∙ (closed_told old.tally.closed (if ends did then None else Some stepped)
             ∙ ap (if_closed old.tally.closed) (step_told live stepped did s.tells ∙ sym (ap (λ j. option_and_then (after_step did) j) told_is)))) (unseen_step live.id did old.tally.has_unseen_end);
         told = ap (λ (t : Tally). t.job) tally;
         timely = may_end old settled;
@@ -425,22 +425,22 @@ module _ (contents contents_after : Option CallLog) (faults : ℕ) (old new : Se
           calls = omega (arith, calls_is);
           most = let few = s.few in omega (arith, calls_is, few);
         };
-        leads = (same_noted old new screen quit, (told live, told_is, refl, inl (live, stepped, refl, s.tells)));
+        leads = (same_noted old new screen quit, (told_job live, told_is, refl, inl (live, stepped, refl, s.tells)));
         sought = tt;
         caused = λ log known. tt;
         traced = step_traced live stepped did made calls before after is (inl o) calls_is job s.counted (λ log known. step_tells IsUnclaimed live did stepped log contents_after (s.called log known));
         unknown = s.unknown;
       }
     where
-      told_is : old.tally.job ≡ Some (told live)
-      told_is = tells ∙ ap (option_map told) is
+      told_is : old.tally.job ≡ Some (told_job live)
+      told_is = tells ∙ ap (option_map told_job) is
 
   -- the sync of what an ended job left dirty
-  pub adds_settled : (live stepped : Running) (did : Did) (made calls before after : ℕ) → old.job ≡ Some live → old.tally.job ≡ option_map told old.job
+  pub adds_settled : (live stepped : Running) (did : Did) (made calls before after : ℕ) → old.job ≡ Some live → old.tally.job ≡ option_map told_job old.job
       → OwedSyncStep (step_made live stepped did made old.dirty new.dirty contents contents_after before after) → calls ≡ old.tally.calls + made
       → new.newest ≡ entry seat calls count 0 (Step live.id did) ∷ old.newest
       → new.job ≡ if_closed old.tally.closed (if ends did then None else Some stepped)
-      → new.tally ≡ record old.tally { job = option_map told new.job; has_unseen_end = ends did || old.tally.has_unseen_end; calls = calls }
+      → new.tally ≡ record old.tally { job = option_map told_job new.job; has_unseen_end = ends did || old.tally.has_unseen_end; calls = calls }
       → old.screen.planned ≡ None → faults_in faults old.newest ≤ before → after ≤ count → new.screen ≡ old.screen → new.quit ≡ old.quit → new.out.put ≡ old.out.put
       → (finishes did ≡ true → old.later ≡ []) → new.later ≡ left_by did old.later
       → Adds contents contents_after faults old new (entry seat calls count 0 (Step live.id did))
@@ -450,7 +450,7 @@ module _ (contents contents_after : Option CallLog) (faults : ℕ) (old new : Se
     draws = record { same = put; none = refl };
     more = more;
     tally = tally ∙ stepped_tally old.tally _ _ _ _ calls
-        (ap (option_map told) (job ∙ ap (if_closed old.tally.closed) goes_on) ∙ (closed_told old.tally.closed (Some stepped)
+        (ap (option_map told_job) (job ∙ ap (if_closed old.tally.closed) goes_on) ∙ (closed_told old.tally.closed (Some stepped)
         ∙ ap (if_closed old.tally.closed) (sync_told live did (Some stepped) s.fresh reported ∙ sym (ap (λ j. option_and_then (after_step did) j) told_is)))) (unseen_step live.id did old.tally.has_unseen_end);
     told = ap (λ (t : Tally). t.job) tally;
     timely = may_end old settled;
@@ -461,15 +461,15 @@ module _ (contents contents_after : Option CallLog) (faults : ℕ) (old new : Se
       calls = omega (arith, calls_is);
       most = let few = s.few in omega (arith, calls_is, few);
     };
-    leads = (same_noted old new screen quit, (told live, told_is, refl, inr (inr (s.goes, fresh_told live.id live.work ∙ s.fresh, reports s.synced))));
+    leads = (same_noted old new screen quit, (told_job live, told_is, refl, inr (inr (s.goes, fresh_told live.id live.work ∙ s.fresh, reports s.synced))));
     sought = tt;
     caused = λ log known. tt;
     traced = step_traced live stepped did made calls before after is (inr s) calls_is job s.counted (λ log known. owed_tells live stepped s.path did old.dirty new.dirty contents contents_after log known s.synced);
     unknown = s.unknown;
   }
     where
-      told_is : old.tally.job ≡ Some (told live)
-      told_is = tells ∙ ap (option_map told) is
+      told_is : old.tally.job ≡ Some (told_job live)
+      told_is = tells ∙ ap (option_map told_job) is
 
       Syncs : Type 0
       Syncs = SyncsOwed live s.path did stepped old.dirty new.dirty contents contents_after
@@ -493,7 +493,7 @@ module _ (contents contents_after : Option CallLog) (faults : ℕ) (old new : Se
       reports (inr h) = inr (h.trouble, h.did_is, h.barred)
 
   -- the end of a job that ran out of memory
-  pub adds_given_up : (live : Running) (part : Option Route) → old.job ≡ Some live → old.tally.job ≡ option_map told old.job → waits_on live.course ≡ false → part ≡ part_of live.work
+  pub adds_given_up : (live : Running) (part : Option Route) → old.job ≡ Some live → old.tally.job ≡ option_map told_job old.job → waits_on live.course ≡ false → part ≡ part_of live.work
       → new.newest ≡ entry seat old.tally.calls count 0 (Step live.id (Ended NoMemory part)) ∷ old.newest
       → new.job ≡ None → new.tally ≡ record old.tally { job = None; has_unseen_end = true }
       → old.screen.planned ≡ None → contents_after ≡ contents → faults_in faults old.newest ≤ count → new.screen ≡ old.screen → new.quit ≡ old.quit → new.dirty ≡ old.dirty → new.out.put ≡ old.out.put → new.later ≡ []
@@ -504,10 +504,10 @@ module _ (contents contents_after : Option CallLog) (faults : ℕ) (old new : Se
     draws = record { same = put; none = refl };
     more = more;
     tally = tally ∙ stepped_tally old.tally _ _ _ _ old.tally.calls (none_left old.tally.closed ∙ ap (if_closed old.tally.closed) (sym (ap (λ j. option_and_then (after_step (Ended NoMemory part)) j) told_is))) refl;
-    told = ap (λ (t : Tally). t.job) tally ∙ sym (ap (option_map told) job);
+    told = ap (λ (t : Tally). t.job) tally ∙ sym (ap (option_map told_job) job);
     timely = may_end old settled;
     counts = record { seat = main; later = later; fault = λ h. absurd (subst (λ x. StepFault x (Ended NoMemory part)) told_is h); calls = omega arith; most = omega arith };
-    leads = (same_noted old new screen quit, (told live, told_is, refl, inr (inl (waiting_told live ∙ ready, ap (Ended NoMemory) (part_is ∙ sym (part_told live))))));
+    leads = (same_noted old new screen quit, (told_job live, told_is, refl, inr (inl (waiting_told live ∙ ready, ap (Ended NoMemory) (part_is ∙ sym (part_told live))))));
     sought = tt;
     caused = λ log known. tt;
     traced = leads_on contents contents_after same old new (entry seat old.tally.calls count 0 (Step live.id (Ended NoMemory part))) None refl
@@ -515,8 +515,8 @@ module _ (contents contents_after : Option CallLog) (faults : ℕ) (old new : Se
     unknown = still_unknown contents contents_after same;
   }
     where
-      told_is : old.tally.job ≡ Some (told live)
-      told_is = tells ∙ ap (option_map told) is
+      told_is : old.tally.job ≡ Some (told_job live)
+      told_is = tells ∙ ap (option_map told_job) is
 
       none_left : (closed : Bool) → (let o : Option Running = None in o) ≡ if_closed closed None
       none_left true = refl

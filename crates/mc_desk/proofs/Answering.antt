@@ -8,7 +8,7 @@ use Rattle.job_reports.specs.declared.waits.Waits.{Waits}
 use Rattle.job_reports.specs.declared.row.JobKind.{JobKind}
 use Rattle.job_reports.specs.declared.row.JobRow.{JobRow}
 use Rattle.copy_move.specs.Jobs.{Running, kind_of, part_of, path_of, waits_on}
-use Rattle.copy_move.specs.Told.{told, work_told}
+use Rattle.copy_move.specs.Told.{told_job, work_told}
 use Rattle.copy_job.specs.Standing as tree
 use Rattle.copy_tree.specs.Ending.{stays_if}
 use Rattle.mc_desk.specs.LiveRows.{question_in, rows_of, state_with, trouble_in, waits_in}
@@ -27,13 +27,13 @@ work_part id (Move m) = refl
 work_part id (SetMode s) = refl
 work_part id (RemoveEmptied r) = refl
 
-pub part_told : (job : Running) → part_of (told job).work ≡ part_of job.work
+pub part_told : (job : Running) → part_of (told_job job).work ≡ part_of job.work
 part_told job = work_part job.id job.work
 
-pub waiting_told : (job : Running) → waits_on (told job).course ≡ waits_on job.course
+pub waiting_told : (job : Running) → waits_on (told_job job).course ≡ waits_on job.course
 waiting_told job = refl
 
-pub steps_told : (job : Option Running) → can_step (option_map told job) ≡ can_step job
+pub steps_told : (job : Option Running) → can_step (option_map told_job job) ≡ can_step job
 steps_told None = refl
 steps_told (Some job) = refl
 
@@ -67,7 +67,7 @@ row_with job t kind path =
     }
 
 -- the row of a job is that of the job as its history tells it
-pub rows_untold : (job : Option Running) (t : Option Waits) → rows_of (option_map told job) t ≡ rows_of job t
+pub rows_untold : (job : Option Running) (t : Option Waits) → rows_of (option_map told_job job) t ≡ rows_of job t
 rows_untold None t = refl
 rows_untold (Some job) t =
     ap (λ kind. row_with job t kind (path_of (work_told job.id job.work)) ∷ []) (kind_told job.id job.work)

@@ -10,7 +10,7 @@ use Rattle.mc_ui.specs.declared.asks.Ask.{Ask}
 use Rattle.mc_ui.specs.declared.asks.Ask.TheVariants as ask
 use Rattle.mc_ui.specs.declared.asks.Told.{Told}
 use Rattle.mc_ui.specs.declared.asks.Told.TheVariants as told
-use Rattle.mc_ui.specs.Screens.{Answers, Begins, Ends, KeyLeads, Screen, WellAsked, at_second, is_request, settled, told_refusal, with_ask}
+use Rattle.mc_ui.specs.Screens.{Answers, Begins, Ends, KeyLeads, Screen, WellAsked, at_second, is_request, settled_screen, told_refusal, with_ask}
 use Rattle.mc_ui.specs.Screens.{HasSameSize}
 use Rattle.mc_desk.specs.declared.granting.Deed.{Deed}
 use Rattle.mc_desk.specs.declared.granting.Deed.TheVariants as deed
@@ -24,7 +24,7 @@ module _ (contents : Option CallLog) (rows : List JobRow) (next : Option ℕ) (s
       subst (λ rs. KeyLeads contents rows second key rs before after) (sym refused)
       (subst (λ s. KeyLeads contents rows second key own before s) (sym there) (subst (λ a. KeyLeads contents rows second key own before (with_ask a screen)) same leads))
 
-  works : (done : Deed) → IsGranted next asked own done refusals → now ≡ settled (told_of done) screen → (is_request asked ≡ true → screen ≡ at_second second before) → (is_request asked ≡ true → own ≡ [])
+  works : (done : Deed) → IsGranted next asked own done refusals → now ≡ settled_screen (told_of done) screen → (is_request asked ≡ true → screen ≡ at_second second before) → (is_request asked ≡ true → own ≡ [])
       → KeyWorks contents rows next second key refusals before (with_deed done now)
   works deed.Nothing g is stays alone = inl (leads_to ask.Nothing refusals now g.0 g.1 is)
   works deed.End g is stays alone =
@@ -53,7 +53,7 @@ module _ (contents : Option CallLog) (rows : List JobRow) (next : Option ℕ) (s
   can (deed.Answer answer) g well = subst (WellAsked rows) g.0 well
 
 -- what the screen is told leaves nothing to be carried out
-settled_none : (t : Told) (screen : Screen) → screen.planned ≡ None → (settled t screen).planned ≡ None
+settled_none : (t : Told) (screen : Screen) → screen.planned ≡ None → (settled_screen t screen).planned ≡ None
 settled_none told.Nothing screen none = none
 settled_none told.Begun screen none = none
 settled_none told.Answered screen none = none
@@ -63,7 +63,7 @@ settled_none told.Lost screen none = none
 -- a key that the screen worked, and of which the desk decided
 pub worked : (contents : Option CallLog) (rows : List JobRow) (next : Option ℕ) (second : ℕ) (key : KeyType) (own : List Refusal) (asked : Ask) (before screen : Screen) (refusals : List Refusal) (now : Screen) (done : Deed)
     → KeyLeads contents rows second key own before (with_ask asked screen) → WellAsked rows asked → (is_request asked ≡ true → screen ≡ at_second second before) → (is_request asked ≡ true → own ≡ []) → screen.planned ≡ None
-    → IsGranted next asked own done refusals → now ≡ settled (told_of done) screen → HasSameSize before now → IsWorked contents rows next second key before now done refusals
+    → IsGranted next asked own done refusals → now ≡ settled_screen (told_of done) screen → HasSameSize before now → IsWorked contents rows next second key before now done refusals
 worked contents rows next second key own asked before screen refusals now done leads well stays alone none granted is size = record {
   works = works contents rows next second key own asked before screen refusals now leads done granted is stays alone;
   can = can contents rows next second key own asked before screen refusals now leads done granted well;
@@ -72,10 +72,10 @@ worked contents rows next second key own asked before screen refusals now done l
 }
 
 -- what the screen is told keeps its size
-pub keeps_size : (t : Told) (before screen now : Screen) → HasSameSize before screen → now ≡ settled t screen → HasSameSize before now
+pub keeps_size : (t : Told) (before screen now : Screen) → HasSameSize before screen → now ≡ settled_screen t screen → HasSameSize before now
 keeps_size t before screen now size is = subst (HasSameSize before) (sym is) (go t)
   where
-    go : (t : Told) → HasSameSize before (settled t screen)
+    go : (t : Told) → HasSameSize before (settled_screen t screen)
     go told.Nothing = size
     go told.Begun = record { same_lines = size.same_lines; same_columns = size.same_columns }
     go told.Answered = record { same_lines = size.same_lines; same_columns = size.same_columns }

@@ -12,7 +12,7 @@ use Rattle.mc_desk.specs.declared.granting.Deed.{Deed}
 use Rattle.mc_desk.specs.declared.granting.Deed.TheVariants as deed
 use Rattle.mc_desk.specs.declared.standing.Standing.{Standing}
 use Rattle.mc_desk.specs.Granting.{IsWorked, KeyWorks, with_deed}
-use Rattle.mc_desk.specs.Standings.{after_deed, awaited}
+use Rattle.mc_desk.specs.Standings.{after_deed, awaited_look}
 
 plans_nothing : (contents : Option CallLog) (rows : List JobRow) (next : Option ℕ) (now : ℕ) (key : KeyType) (before after : Screen) (done : Deed) (refusals : List Refusal) → key.base ≡ Unknown → before.planned ≡ None
     → IsWorked contents rows next now key before after done refusals → (with_deed done after).planned ≡ None
@@ -23,10 +23,10 @@ plans_nothing contents rows next now key before after done refusals unknown sett
     go (inr none) = ap (λ (s : Screen). s.planned) none.told ∙ settled
 
 pub unknown_due : (contents : Option CallLog) (rows : List JobRow) (next : Option ℕ) (now : ℕ) (key : KeyType) (before after : Screen) (done : Deed) (refusals : List Refusal) (was : Standing) → key.base ≡ Unknown → before.planned ≡ None
-    → IsWorked contents rows next now key before after done refusals → awaited was.due ≡ None → was.quit ≡ false → (awaited (after_deed done was).due ≡ None) × ((after_deed done was).quit ≡ false)
+    → IsWorked contents rows next now key before after done refusals → awaited_look was.due ≡ None → was.quit ≡ false → (awaited_look (after_deed done was).due ≡ None) × ((after_deed done was).quit ≡ false)
 unknown_due contents rows next now key before after done refusals was unknown settled w looked unasked = go done (plans_nothing contents rows next now key before after done refusals unknown settled w)
   where
-    go : (done : Deed) → (with_deed done after).planned ≡ None → (awaited (after_deed done was).due ≡ None) × ((after_deed done was).quit ≡ false)
+    go : (done : Deed) → (with_deed done after).planned ≡ None → (awaited_look (after_deed done was).due ≡ None) × ((after_deed done was).quit ≡ false)
     go deed.Nothing h = (looked, unasked)
     go deed.Refuse h = (looked, unasked)
     go deed.End h = absurd cc

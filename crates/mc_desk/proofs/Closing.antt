@@ -12,7 +12,7 @@ use Rattle.mc_desk.specs.declared.standing.Standing.{Standing}
 use Rattle.session_log.specs.Logs.{Logged, plain_entry}
 use Rattle.mc_desk.specs.Outputs.{Output}
 use Rattle.mc_desk.specs.Shown.{PutsNothing}
-use Rattle.mc_desk.specs.Standings.{awaited, closed_standing}
+use Rattle.mc_desk.specs.Standings.{awaited_look, closed_standing}
 use Rattle.mc_desk.specs.Tallies.{Tally, faults_in}
 use Rattle.mc_desk.specs.Desks.{IsDesk, seen_of}
 use Rattle.mc_desk.proofs.Adding.{entry}
@@ -31,7 +31,7 @@ module _ (start : Option Start) (opening contents : Option CallLog) (faults : �
       (ap (λ j. let t : Tally = record (closed_tally was.lost) { job = j } in t) (closed_told true was.job)) refl refl refl refl room refl refl refl)
 
   -- a key that was lost, and the end of keys
-  pub lost_whole : (key : KeyType) (now shown : ℕ) → was.quit ≡ false → awaited was.due ≡ None → is_seeking screen ≡ false
+  pub lost_whole : (key : KeyType) (now shown : ℕ) → was.quit ≡ false → awaited_look was.due ≡ None → is_seeking screen ≡ false
       → log_after.newest ≡ plain_entry was.calls count Closed ∷ (entry 0 was.calls count shown (Key key now [] true) ∷ log.newest) → 1 ≤ log_after.spare → now_is ≡ closed_standing (record was { lost = true }) → PutsNothing shown out.put out.put
       → IsDesk start opening contents faults (seen_of log_after screen now_is dirty out taken pending)
   lost_whole key now shown unasked looked sought more room closed puts =

@@ -8,7 +8,7 @@ use Rattle.session_entries.specs.declared.history.Entry.{Entry}
 use Rattle.session_entries.specs.declared.history.Event.{Event}
 use Rattle.session_entries.specs.declared.history.Event.TheVariants.{Key, Look, Sought, Began, Order, Step, Next, Closed}
 use Rattle.copy_move.specs.Jobs.{Running}
-use Rattle.copy_move.specs.Told.{told, if_closed}
+use Rattle.copy_move.specs.Told.{told_job, if_closed}
 use Rattle.session_entries.specs.Entries.{closes, is_closed, calls_in}
 use Rattle.session_entries.specs.Sources.{AreInTurn, IsInTurn, left_after, sources_left}
 use Rattle.laws_sessions.specs.Traces.{IsTraced, IsTracedTo, at_rest}
@@ -29,7 +29,7 @@ use Rattle.mc_desk.specs.Outputs.{FitsScreen, Output}
 use Rattle.mc_desk.specs.Searches.{EventSeeks}
 use Rattle.mc_desk.specs.Shown.{EventDraws, HasPutNothing, Put, frame_due, none_before}
 use Rattle.mc_desk.specs.Standings.{fresh_standing}
-use Rattle.mc_desk.specs.Desks.{Seen, IsWritten, IsDesk, noted, seen_of, stand_of, stand_with, state_of}
+use Rattle.mc_desk.specs.Desks.{Seen, IsWritten, IsDesk, noted_screen, seen_of, stand_of, stand_with, state_of}
 
 -- nothing waits to be carried out as a session opens
 plans_nothing : (mode : StartMode) (contents : Option CallLog) (home : Option Route) (lines columns : ℕ) (screen : Screen) → IsOpeningIn mode contents home lines columns screen → screen.planned ≡ None
@@ -74,7 +74,7 @@ Leads contents contents_after old new e =
 
 -- how a desk stands before an entry
 abbrev pub before : Option CallLog → Seen → Before
-before contents desk = record { contents = contents; tally = desk.tally; rows = rows_told desk.newest; news = news_left desk.newest; screen = noted desk }
+before contents desk = record { contents = contents; tally = desk.tally; rows = rows_told desk.newest; news = news_left desk.newest; screen = noted_screen desk }
 
 -- an entry that may follow: what it makes of the desk, of the screen and of the tree
 pub record Adds (contents contents_after : Option CallLog) (faults : ℕ) (old new : Seen) (e : Entry) : Type 0 where
@@ -83,14 +83,14 @@ pub record Adds (contents contents_after : Option CallLog) (faults : ℕ) (old n
   pub told : new.tally.job ≡ option_map told new.job
   pub turn : IsInTurn e.what old.later
   pub left : new.later ≡ left_after e.what old.later
-  pub timely : IsTimely e.what (noted old)
+  pub timely : IsTimely e.what (noted_screen old)
   pub counts : Counts (faults_in faults old.newest) old.tally.calls old.tally.job e
-  pub leads : EventLeads (before contents old) e.what (noted new)
-  pub sought : EventSeeks e.what contents (faults_in faults old.newest) e.faults (noted old) (noted new)
+  pub leads : EventLeads (before contents old) e.what (noted_screen new)
+  pub sought : EventSeeks e.what contents (faults_in faults old.newest) e.faults (noted_screen old) (noted_screen new)
   pub caused : IfKnown contents (HasCauses e.what)
   pub traced : Leads contents contents_after old new e
   pub unknown : contents ≡ None → contents_after ≡ None
-  pub draws : EventDraws e.what (none_before old.newest) (frame_due (noted new) (next_id old.tally.last) (rows_told old.newest)) e.shown old.out.put new.out.put
+  pub draws : EventDraws e.what (none_before old.newest) (frame_due (noted_screen new) (next_id old.tally.last) (rows_told old.newest)) e.shown old.out.put new.out.put
 
 -- the sources of each job are worked in turn
 pub session_in_turn : (start : Option Start) (opening : Option CallLog) (faults : ℕ) (newest : List Entry) (now : SessionState) → IsSession start opening faults newest now → AreInTurn newest
@@ -166,12 +166,12 @@ module _ (faults : ℕ) (old new : Seen) (e : Entry) where
         timely = adds.timely;
         turn = subst (IsInTurn e.what) written.left adds.turn;
         counts = subst (λ (t : Tally). Counts (faults_in faults old.newest) t.calls t.job e) written.tally adds.counts;
-        leads = subst (λ t. EventLeads (let b : Before = record { contents = contents; tally = t; rows = rows_told old.newest; news = news_left old.newest; screen = noted old } in b) e.what (noted new)) written.tally
+        leads = subst (λ t. EventLeads (let b : Before = record { contents = contents; tally = t; rows = rows_told old.newest; news = news_left old.newest; screen = noted_screen old } in b) e.what (noted_screen new)) written.tally
             adds.leads;
         sought = adds.sought;
         caused = adds.caused;
         traced = traced_more start opening contents contents_after written adds;
-        draws = subst (λ n. EventDraws e.what (none_before old.newest) (frame_due (noted new) (next_id n) (rows_told old.newest)) e.shown old.out.put new.out.put) (ap (λ (t : Tally). t.last) written.tally) adds.draws;
+        draws = subst (λ n. EventDraws e.what (none_before old.newest) (frame_due (noted_screen new) (next_id n) (rows_told old.newest)) e.shown old.out.put new.out.put) (ap (λ (t : Tally). t.last) written.tally) adds.draws;
       },
     );
     tally = adds.tally ∙ (ap (after_entry e) written.tally ∙ ap tally (sym adds.more));

@@ -10,7 +10,7 @@ use Rattle.job_reports.specs.declared.row.JobRow.{JobRow}
 use Rattle.session_entries.specs.declared.history.Event.TheVariants.{Look}
 use Rattle.session_entries.specs.declared.refusal.Refusal.{Refusal}
 use Rattle.session_entries.specs.Refusals.{AreRefused}
-use Rattle.copy_move.specs.Told.{told}
+use Rattle.copy_move.specs.Told.{told_job}
 use Rattle.mc_ui.specs.Screens.{LookLeads, Screen}
 use Rattle.ui_words.specs.declared.message.Message.{Message}
 use Rattle.ui_plans.specs.Refused.{has_fault}
@@ -24,7 +24,7 @@ use Rattle.mc_desk.specs.Outputs.{FitsScreen, Output, ShowsFrame}
 use Rattle.mc_desk.specs.Shown.{frame_at, frame_due, rows_then}
 use Rattle.screen_draw.specs.Drawings.{Display}
 use Rattle.mc_ui.specs.Frames.{frame_of}
-use Rattle.mc_desk.specs.Standings.{after_look, awaited, tally_of}
+use Rattle.mc_desk.specs.Standings.{after_look, awaited_look, tally_of}
 use Rattle.mc_desk.specs.Tallies.{Tally, can_step, faults_in, next_id}
 use Rattle.mc_desk.specs.Desks.{IsDesk, Seen, seen_of, with_end}
 use Rattle.mc_desk.proofs.Adding.{entry}
@@ -34,7 +34,7 @@ use Rattle.mc_desk.proofs.Whole.{desk_looked, rows_are}
 use Rattle.mc_desk.proofs.Worked.{draws_written}
 
 -- what is due after a look, by its number
-due_by_number : (steps : Bool) (due : Due) → awaited (after_look steps due) ≡ (if steps then awaited due else None)
+due_by_number : (steps : Bool) (due : Due) → awaited_look (after_look steps due) ≡ (if steps then awaited_look due else None)
 due_by_number true due = refl
 due_by_number false due = refl
 
@@ -63,7 +63,7 @@ abbrev taken_up : Standing → Standing
 taken_up was = record was { has_unseen_end = false; due = after_look (can_step was.job) was.due }
 
 module _ (start : Option Start) (opening contents contents_after : Option CallLog) (faults : ℕ) (log log_after : Logged) (screen screen_after : Screen) (was now_is : Standing) (dirty : List Route) (out out_after : Output) (taken : ℕ)
-    (pending : List ℕ) (count : ℕ) (desk : IsDesk start opening contents faults (seen_of log screen was dirty out taken pending)) (unclosed : was.closed ≡ false) (unasked : was.quit ≡ false) (is_due : IsSome (awaited was.due))
+    (pending : List ℕ) (count : ℕ) (desk : IsDesk start opening contents faults (seen_of log screen was dirty out taken pending)) (unclosed : was.closed ≡ false) (unasked : was.quit ≡ false) (is_due : IsSome (awaited_look was.due))
     (same : contents_after ≡ contents) (later : faults_in faults log.newest ≤ count) where
   pub looked_whole : (refusals : List Refusal) (rows : List JobRow) (news : Option Message) → rows ≡ rows_of was.job (waits_told log.newest) → news ≡ news_left log.newest
       → (has_fault refusals ≡ true → HasRisen (faults_in faults log.newest) count) → IfKnown contents (λ l. AreRefused l refusals) → LookLeads contents rows was.has_unseen_end news refusals screen screen_after
@@ -75,7 +75,7 @@ module _ (start : Option Start) (opening contents contents_after : Option CallLo
       (desk_looked start opening contents contents_after faults _ (seen_of log_after screen_after (taken_up was) dirty out_after taken pending) count out_after.shown refusals rows news rows_is news_is desk unclosed is_due same later fault
       refused leads more
       (ap (λ d. let t : Tally = record (tally_of was) { has_unseen_end = false; due = d } in t)
-      (due_by_number (can_step was.job) was.due ∙ ap (λ b. if b then awaited was.due else None) (sym (steps_told was.job))))
+      (due_by_number (can_step was.job) was.due ∙ ap (λ b. if b then awaited_look was.due else None) (sym (steps_told was.job))))
       refl refl settled refl room refl refl unasked
       (shown_drawn (seen_of log_after screen_after (taken_up was) dirty out_after taken pending) fits
       (subst (λ es. out_after.put.is_cut ≡ false → out_after.display ≡ (let d : Display = record { grid = frame_of screen_after (rows_of was.job (waits_told es)); has_drawn = true } in d)) (sym more)
@@ -86,9 +86,9 @@ module _ (start : Option Start) (opening contents contents_after : Option CallLo
       (frame_is_due start opening contents faults log screen was dirty out taken pending desk unasked screen_after settled)))
     where
       -- a job that can't be stepped was not due, or is due no longer
-      still : was.closed ≡ false → awaited (after_look (can_step was.job) was.due) ≡ None → can_step (option_map told was.job) ≡ false
+      still : was.closed ≡ false → awaited_look (after_look (can_step was.job) was.due) ≡ None → can_step (option_map told_job was.job) ≡ false
       still unclosed none = go (can_step was.job) refl none
         where
-          go : (b : Bool) → can_step was.job ≡ b → awaited (after_look b was.due) ≡ None → can_step (option_map told was.job) ≡ false
+          go : (b : Bool) → can_step was.job ≡ b → awaited_look (after_look b was.due) ≡ None → can_step (option_map told_job was.job) ≡ false
           go true is due = desk.shown.still unclosed due
           go false is due = steps_told was.job ∙ is

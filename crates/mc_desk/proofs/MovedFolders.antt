@@ -10,7 +10,7 @@ use Rattle.job_reports.specs.declared.report.Ending.TheVariants.{Finished, Abort
 use Rattle.job_reports.specs.declared.report.Did.{Did}
 use Rattle.job_reports.specs.declared.report.Did.TheVariants.{Began, Chunk, Placed, Removed, Made, Set, Kept, Skipped, Cleaned, Barrier, Asked, Merges, Moved, Troubled, Ended}
 use Rattle.job_reports.specs.Paths.{folder_of, without}
-use Rattle.job_unsynced.specs.Folders.{joined, with_change}
+use Rattle.job_unsynced.specs.Folders.{joined_folders, with_change}
 use Rattle.move_job.specs.declared.moving.MovingStage.{MovingStage}
 use Rattle.move_job.specs.declared.moving.MovingStage.TheVariants.{Take, SyncTarget, SyncSource, Finish, PassedOver}
 use Rattle.move_job.specs.Movings.{Moving, Tells, after_sync, is_dirty, owes_target, with_moves}
@@ -19,7 +19,7 @@ use Rattle.move_job.specs.Movings.{Moving, Tells, after_sync, is_dirty, owes_tar
 abbrev pub FoldersMove : Did → Pair → List Route → List Route → Type 0
 FoldersMove did pair dirty dirty_after =
     (dirty_after ≡ dirty)
-    ⊎ (((did ≡ Moved pair) × (dirty_after ≡ joined (folder_of pair.source) (joined (folder_of pair.target) dirty)))
+    ⊎ (((did ≡ Moved pair) × (dirty_after ≡ joined_folders (folder_of pair.source) (joined_folders (folder_of pair.target) dirty)))
     ⊎ ((folder : Route) × (did ≡ Barrier) × (dirty_after ≡ without folder dirty)))
 
 -- what is left out twice is left out

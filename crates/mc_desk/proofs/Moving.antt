@@ -29,10 +29,10 @@ use Rattle.emptied_job.specs.Removals as removals
 use Rattle.mode_job.specs.Settings as settings
 use Rattle.copy_move.specs.Jobs.{Running, TellsOn, WorkTells}
 use Rattle.copy_move.specs.Settling.{WorkLeaves, is_own, with_change}
-use Rattle.job_unsynced.specs.Folders.{joined}
+use Rattle.job_unsynced.specs.Folders.{joined_folders}
 use Rattle.tree_trait.proofs.Visible.{same_path-self}
 use Rattle.job_reports.specs.Paths.{folder_of, without}
-use Rattle.copy_move.specs.Steps.{LeavesDirty, RunStep, step_made}
+use Rattle.copy_move.specs.JobStepReports.{LeavesDirty, RunStep, step_made}
 use Rattle.laws_sessions.proofs.Intact.{own_folder}
 use Rattle.mc_desk.specs.Desks.{HasMoved, HasRemoved, HasSynced, MovesDirty}
 use Rattle.mc_desk.proofs.Adding.{entry}
@@ -130,10 +130,10 @@ module _ (job : Option Running) (newest older : List Entry) (dirty dirty_after :
   synced : (folder : Route) → did ≡ Barrier → dirty_after ≡ without folder dirty → Moves
   synced folder is left = inr (inr (inr (inr (folder, left, subst HasSynced (sym more) (number, ap (Step number) is)))))
 
-  joins : (live : Running) (folder : Route) → job ≡ Some live → is_own live.work folder ≡ true → dirty_after ≡ joined folder dirty → Moves
+  joins : (live : Running) (folder : Route) → job ≡ Some live → is_own live.work folder ≡ true → dirty_after ≡ joined_folders folder dirty → Moves
   joins live folder is own left = inr (inl (record { live = live; job_is = is; folder = folder; own = own; joins = left }))
 
-  removes : (path : Route) → did ≡ Removed path → dirty_after ≡ without path (joined (folder_of path) dirty) → Moves
+  removes : (path : Route) → did ≡ Removed path → dirty_after ≡ without path (joined_folders (folder_of path) dirty) → Moves
   removes path is left = inr (inr (inl (record { path = path; removed = subst (λ es. HasRemoved es path) (sym more) (number, ap (Step number) is); leaves = left })))
 
   -- of a move both folders join with the renaming, and each leaves with its sync

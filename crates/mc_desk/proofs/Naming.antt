@@ -15,10 +15,10 @@ use Rattle.copy_move.specs.declared.run.Course.{Course}
 use Rattle.copy_move.specs.declared.run.Course.TheVariants.{GoesOn, Asking, InTrouble, OwedSyncFailed, Skips, Ends}
 use Rattle.job_reports.specs.declared.job.Job.{Job}
 use Rattle.session_entries.specs.Sources.{sources_of}
-use Rattle.copy_move.specs.Jobs.{Running, answered, answered_on, begun_work, first_work}
+use Rattle.copy_move.specs.Jobs.{Running, answered_job, answered_on, begun_work, first_work}
 use Rattle.laws_sessions.specs.ToldJob.{live_job, after_event}
 use Rattle.session_entries.specs.Entries.{is_closed}
-use Rattle.copy_move.specs.Told.{if_closed, after_step, running, turned, with_next}
+use Rattle.copy_move.specs.Told.{if_closed, after_step, running, turned_job, with_next}
 use Rattle.mc_desk.specs.Tallies.{due_in, due_after, can_step}
 
 -- the number of a job, if there is one, is this
@@ -87,7 +87,7 @@ began_numbered : (n id : ℕ) (work : Option Work) → id ≡ n → Numbered n (
 began_numbered n id None is live at = absurd cc
 began_numbered n id (Some work) is live at = let same : id ≡ live.id = cc in sym same ∙ is
 
-turned_numbered : (n : ℕ) (plan : Job) (job : Option Running) → Numbered n job → Numbered n (option_and_then (turned plan) job)
+turned_numbered : (n : ℕ) (plan : Job) (job : Option Running) → Numbered n job → Numbered n (option_and_then (turned_job plan) job)
 turned_numbered n plan None h = λ live is. absurd cc
 turned_numbered n plan (Some job) h = go (first_work job.id plan)
   where
@@ -95,11 +95,11 @@ turned_numbered n plan (Some job) h = go (first_work job.id plan)
     go None live at = absurd cc
     go (Some work) live at = let same : job.id ≡ live.id = cc in sym same ∙ h job refl
 
-order_numbered : (n : ℕ) (answer : Answer) (job : Option Running) → option_map (λ (live : Running). live.id) job ≡ Some n → Numbered n (option_map (answered answer) job)
+order_numbered : (n : ℕ) (answer : Answer) (job : Option Running) → option_map (λ (live : Running). live.id) job ≡ Some n → Numbered n (option_map (answered_job answer) job)
 order_numbered n answer None is live at = absurd cc
 order_numbered n answer (Some job) is live at =
     let number : job.id ≡ n = cc in
-    let same : (answered answer job).id ≡ live.id = let e : answered answer job ≡ live = cc in ap (λ (j : Running). j.id) e in
+    let same : (answered_job answer job).id ≡ live.id = let e : answered_job answer job ≡ live = cc in ap (λ (j : Running). j.id) e in
     sym same ∙ (answered_id answer job.course job ∙ number)
 
 event_numbered : (n : ℕ) (what : Event) (job : Option Running) (due : Option ℕ) → ((m : ℕ) → due ≡ Some m → Numbered m job) → due_after what job due ≡ Some n → Numbered n (after_event what job)

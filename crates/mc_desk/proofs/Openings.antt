@@ -15,7 +15,7 @@ use Rattle.resolving.specs.declared.error.ResolveError.{ResolveError}
 use Rattle.resolving.specs.declared.error.ResolveError.TheVariants.{Tree, TooManyLinks, TooLong, BadName, Fault, Memory}
 use Rattle.resolving.specs.declared.walking.Wanted.TheVariants.{AnyThing, FolderAlone}
 use Rattle.resolving.specs.Errors.{Answers}
-use Rattle.resolving.specs.Resolution.{resolved}
+use Rattle.resolving.specs.Resolution.{resolved_path}
 use Rattle.panel_state.specs.Panels.{PanelState}
 use Rattle.panel_state.specs.Goings.{ShowsResolved}
 use Rattle.panel_pair.specs.declared.side.Side.{Side}
@@ -46,7 +46,7 @@ shown_leads log (Ok folder) panel h = ap (option_map (λ (e : TreeError). Tree f
 shown_leads log (Err e) panel h = absurd cc
 
 pub path_shown : (log : CallLog) (path : Route) (panel : PanelState) → ShowsPath log path (Ok panel) → path_refusal (current log) path ≡ None
-path_shown log path panel h = shown_leads log (resolved (current log) FolderAlone [] (path_text path)) panel h
+path_shown log path panel h = shown_leads log (resolved_path (current log) FolderAlone [] (path_text path)) panel h
 
 -- why a folder isn't shown is why the path leads to none that can be listed
 tree_refuses : (log : CallLog) (found : Result Route ResolveError) (at : Route) (cause : TreeError) → ShowsResolved log found (Err (Tree at cause)) → refusal_at_end (current log) found ≡ Some (Tree at cause)
@@ -66,7 +66,7 @@ bad_name log (Ok folder) h = absurd h
 bad_name log (Err e) h = cc
 
 abbrev found_at : CallLog → Route → Result Route ResolveError
-found_at log path = resolved (current log) FolderAlone [] (path_text path)
+found_at log path = resolved_path (current log) FolderAlone [] (path_text path)
 
 -- a path that was refused is why the session doesn't start
 pub start_refused : (log : CallLog) (left right : Route) (side : Side) (e : ResolveError) → RefusesSide log left right side e → IsStartCause (current log) (Panels left right) (start_error (place_of side) e)
@@ -115,10 +115,10 @@ no_memory s path BadName some h = h
 no_way : (contents : Option CallLog) (path : Route) (lines columns : ℕ) (e : ResolveError) → OpensThing contents [] (path_text path) lines columns (NoWay e)
     → IfKnown contents (λ log. IsStartCause (current log) (View path) (start_error place.File e))
 no_way contents path lines columns e (some, answers) log known =
-    no_memory (current log) path e some (way_refuses (current log) (resolved (current log) AnyThing [] (path_text path)) e some (answers log known))
+    no_memory (current log) path e some (way_refuses (current log) (resolved_path (current log) AnyThing [] (path_text path)) e some (answers log known))
 
 -- and so is a file that can't be read
-at_end : (s : FileSystem) (path at file : Route) (e : TreeError) → at ≡ file → resolved s AnyThing [] (path_text path) ≡ Ok file → refusal_of s (ReadAt file 0 0) ≡ Some e → file_refusal s path ≡ Some (Tree at e)
+at_end : (s : FileSystem) (path at file : Route) (e : TreeError) → at ≡ file → resolved_path s AnyThing [] (path_text path) ≡ Ok file → refusal_of s (ReadAt file 0 0) ≡ Some e → file_refusal s path ≡ Some (Tree at e)
 at_end s path at file e same leads refused =
     ap (unread_at_end s) leads ∙ (ap (option_map (λ (e : TreeError). Tree file e)) refused ∙ ap (λ (p : Route). Some (Tree p e)) (sym same))
 

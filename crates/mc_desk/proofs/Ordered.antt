@@ -18,8 +18,8 @@ use Rattle.session_entries.specs.Sources.{sources_of}
 use Rattle.copy_move.specs.declared.run.Course.{Course}
 use Rattle.copy_move.specs.declared.run.Course.TheVariants.{GoesOn, Asking, InTrouble, OwedSyncFailed, Skips, Ends}
 use Rattle.copy_move.specs.declared.work.Work.{Work}
-use Rattle.copy_move.specs.Jobs.{Running, answered, answered_on, begun_work, closed_course, first_work, halt_of, is_fresh}
-use Rattle.copy_move.specs.Told.{after_step, course_told, if_closed, running, turned, with_next}
+use Rattle.copy_move.specs.Jobs.{Running, answered_job, answered_on, begun_work, closed_course, first_work, halt_of, is_fresh}
+use Rattle.copy_move.specs.Told.{after_step, course_told, if_closed, running, turned_job, with_next}
 use Rattle.laws_sessions.specs.ToldJob.{after_event, live_job}
 
 abbrev pub NeverSo : Course → Type 0
@@ -92,7 +92,7 @@ answered_never GoesOn answer job h = h
 answered_never (Skips cause) answer job h = h
 answered_never (Ends ending) answer job h = h
 
-order_never : (answer : Answer) (job : Option Running) → Never job → Never (option_map (answered answer) job)
+order_never : (answer : Answer) (job : Option Running) → Never job → Never (option_map (answered_job answer) job)
 order_never answer None h = tt
 order_never answer (Some job) h = answered_never job.course answer job h
 
@@ -100,7 +100,7 @@ began_never : (id : ℕ) (work : Option Work) → Never (option_map (running id)
 began_never id None = tt
 began_never id (Some work) = goes_never
 
-turned_never : (plan : Job) (job : Option Running) → Never (option_and_then (turned plan) job)
+turned_never : (plan : Job) (job : Option Running) → Never (option_and_then (turned_job plan) job)
 turned_never plan None = tt
 turned_never plan (Some job) = go (first_work job.id plan)
   where

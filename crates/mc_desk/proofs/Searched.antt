@@ -16,7 +16,7 @@ use Rattle.mc_desk.specs.Shown.{frame_due}
 use Rattle.screen_draw.specs.Drawings.{Display}
 use Rattle.mc_ui.specs.Frames.{frame_of}
 use Rattle.mc_desk.specs.Searches.{HasSought}
-use Rattle.mc_desk.specs.Standings.{awaited}
+use Rattle.mc_desk.specs.Standings.{awaited_look}
 use Rattle.mc_desk.specs.Tallies.{faults_in, next_id}
 use Rattle.mc_desk.specs.Desks.{IsDesk, Seen, seen_of, seeks, with_end}
 use Rattle.mc_desk.proofs.Adding.{entry}
@@ -41,7 +41,7 @@ of_ok (Ok x) P ok h = h
 of_ok (Err e) P ok h = absurd cc
 
 module _ (start : Option Start) (opening contents contents_after : Option CallLog) (faults : ℕ) (log log_after : Logged) (screen screen_after : Screen) (was : Standing) (dirty : List Route) (out out_after : Output) (taken : ℕ)
-    (pending : List ℕ) (from count : ℕ) (desk : IsDesk start opening contents faults (seen_of log screen was dirty out taken pending)) (unclosed : was.closed ≡ false) (unasked : was.quit ≡ false) (looked : awaited was.due ≡ None)
+    (pending : List ℕ) (from count : ℕ) (desk : IsDesk start opening contents faults (seen_of log screen was dirty out taken pending)) (unclosed : was.closed ≡ false) (unasked : was.quit ≡ false) (looked : awaited_look was.due ≡ None)
     (seeking : is_seeking screen ≡ true) (same : contents_after ≡ contents) (had : faults_in faults log.newest ≤ from) (later : from ≤ count) where
   pub sought_whole : HasSought contents from count screen screen_after → screen_after.planned ≡ None → log_after.newest ≡ entry 0 was.calls count out_after.shown Sought ∷ log.newest → 2 ≤ log_after.spare
       → (r : Result (Unit {0}) SinkError) → FitsScreen out_after.display.grid screen_after → ShowsFrame (frame_of screen_after (rows_of was.job (waits_told log.newest))) r out out_after

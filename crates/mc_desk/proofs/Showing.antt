@@ -6,11 +6,11 @@ use Rattle.tree_trait.specs.declared.devices.SinkError.{SinkError}
 use Rattle.key_screen.specs.Grids.{CellGrid}
 use Rattle.session_entries.specs.declared.history.Entry.{Entry}
 use Rattle.copy_move.specs.Jobs.{Running, waits_on}
-use Rattle.copy_move.specs.Told.{told}
+use Rattle.copy_move.specs.Told.{told_job}
 use Rattle.mc_ui.specs.Screens.{Screen}
 use Rattle.mc_desk.specs.declared.granting.Deed.{Deed}
 use Rattle.mc_desk.specs.declared.granting.Deed.TheVariants as deed
-use Rattle.session_log.specs.Logs.{followed}
+use Rattle.session_log.specs.Logs.{entries_with_event}
 use Rattle.mc_desk.specs.Standings.{event_of}
 use Rattle.session_log.specs.Told.{waits_told}
 use Rattle.mc_desk.specs.Desks.{IsShown, Seen, ShowsDesk, frame_now}
@@ -60,13 +60,13 @@ looked_written [] none = absurd cc
 looked_written (e ∷ older) none = refl
 
 -- a job that can be stepped is due, so the frame needs not be drawn yet
-pub shown_stepping : (old new : Seen) (live : Running) → IsShown old → old.tally ≡ tally old.newest → old.tally.job ≡ Some (told live) → waits_on live.course ≡ false → new.tally.closed ≡ old.tally.closed → new.tally.due ≡ old.tally.due
+pub shown_stepping : (old new : Seen) (live : Running) → IsShown old → old.tally ≡ tally old.newest → old.tally.job ≡ Some (told_job live) → waits_on live.course ≡ false → new.tally.closed ≡ old.tally.closed → new.tally.due ≡ old.tally.due
     → new.out ≡ old.out → new.screen ≡ old.screen → IsShown new
 shown_stepping old new live shown written is ready closed due out screen = record {
   size = subst (λ s. FitsScreen new.out.display.grid s) (sym screen) (subst (λ (o : Output). FitsScreen o.display.grid old.screen) (sym out) shown.size);
   drawn = λ unclosed uncut some.
       ap (λ (o : Output). o.display.has_drawn) out
-      ∙ shown.drawn (sym closed ∙ unclosed) (sym (ap (λ (o : Output). o.put.is_cut) out) ∙ uncut) (some_written old.newest (told live) (sym (ap (λ (t : Tally). t.job) written) ∙ is));
+      ∙ shown.drawn (sym closed ∙ unclosed) (sym (ap (λ (o : Output). o.put.is_cut) out) ∙ uncut) (some_written old.newest (told_job live) (sym (ap (λ (t : Tally). t.job) written) ∙ is));
   current = λ unclosed uncut looked. absurd (no unclosed looked);
   still = λ unclosed looked. absurd (no unclosed looked);
 }
@@ -89,7 +89,7 @@ shows_drawn desk r before s uncut last bytes known =
     subst (λ (d : Display). ShowsOverAny bytes d.grid) is (last (ap (λ (d : Display). d.has_drawn) is) bytes known)
 
 -- what is written down of a request tells of no trouble
-pub waits_followed : (calls faults : ℕ) (done : Deed) (job : Option Running) (newest : List Entry) → waits_told (followed calls faults (event_of done job) newest) ≡ waits_told newest
+pub waits_followed : (calls faults : ℕ) (done : Deed) (job : Option Running) (newest : List Entry) → waits_told (entries_with_event calls faults (event_of done job) newest) ≡ waits_told newest
 waits_followed calls faults deed.Nothing job newest = refl
 waits_followed calls faults deed.Refuse job newest = refl
 waits_followed calls faults deed.End job newest = refl

@@ -2,7 +2,7 @@
 use Rattle.std.proofs.Common.{◌≡◌, ℕ, ◌+◌, true, List, [], ◌∷◌, ◌++◌, refl, sym, ◌∙◌, ap, inl, inr, Some, None, Result, Ok, Err}
 use Rattle.key_screen.specs.declared.keys.Key.{Key}
 use Rattle.key_screen.specs.declared.keys.Fed.{Fed}
-use Rattle.key_screen.specs.DecodedKeys.{Decoded, decoded_keys, followed_by, listed, keys_fed}
+use Rattle.key_screen.specs.DecodedKeys.{Decoded, decoded_keys, followed_by, list_of_key, keys_fed}
 use Rattle.key_screen.proofs.CutLemmas.{decoded_keys-append}
 use Rattle.mc_desk.specs.declared.replies.DeskReply.{DeskReply}
 use Rattle.mc_desk.specs.declared.replies.DeskError.{DeskError}
@@ -47,19 +47,19 @@ module _ (bytes : List ℕ) (byte : ℕ) (old new : Seen) (fed : Fed) (rest : Li
   -- no key was completed
   pub takes_none : (r : Result DeskReply DeskError) → fed.first ≡ None → fed.second ≡ None → keys_in new.newest ≡ keys_in old.newest → TakesByte r bytes byte old new
   takes_none r first second keys =
-      takes_all r (keys ∙ (sym (append_none (keys_in old.newest)) ∙ ap (λ ks. keys_in old.newest ++ ks) (sym (ap (λ f. listed f ++ listed fed.second) first ∙ ap listed second))))
+      takes_all r (keys ∙ (sym (append_none (keys_in old.newest)) ∙ ap (λ ks. keys_in old.newest ++ ks) (sym (ap (λ f. list_of_key f ++ list_of_key fed.second) first ∙ ap list_of_key second))))
 
   -- one key was completed, and worked
   pub takes_one : (r : Result DeskReply DeskError) (key : Key) → fed.first ≡ Some key → fed.second ≡ None → keys_in new.newest ≡ keys_in old.newest ++ key ∷ [] → TakesByte r bytes byte old new
   takes_one r key first second keys =
-      takes_all r (keys ∙ ap (λ ks. keys_in old.newest ++ ks) (sym (ap (λ f. listed f ++ listed fed.second) first ∙ ap (λ s. key ∷ listed s) second)))
+      takes_all r (keys ∙ ap (λ ks. keys_in old.newest ++ ks) (sym (ap (λ f. list_of_key f ++ list_of_key fed.second) first ∙ ap (λ s. key ∷ list_of_key s) second)))
 
   -- two keys were completed, and worked
   pub takes_two : (r : Result DeskReply DeskError) (key next : Key) → fed.first ≡ Some key → fed.second ≡ Some next → keys_in new.newest ≡ (keys_in old.newest ++ key ∷ []) ++ next ∷ []
       → TakesByte r bytes byte old new
   takes_two r key next first second keys =
       takes_all r (keys ∙ (sym (append_two (keys_in old.newest) key next)
-      ∙ ap (λ ks. keys_in old.newest ++ ks) (sym (ap (λ f. listed f ++ listed fed.second) first ∙ ap (λ s. key ∷ listed s) second))))
+      ∙ ap (λ ks. keys_in old.newest ++ ks) (sym (ap (λ f. list_of_key f ++ list_of_key fed.second) first ∙ ap (λ s. key ∷ list_of_key s) second))))
 
   -- two keys were completed, and working the first failed
   pub lacks_second : (error : DeskError) (key next : Key) → fed.first ≡ Some key → fed.second ≡ Some next → keys_in new.newest ≡ keys_in old.newest ++ key ∷ [] → new.tally.closed ≡ true
@@ -76,7 +76,7 @@ module _ (bytes : List ℕ) (byte : ℕ) (old new : Seen) (fed : Fed) (rest : Li
           second = next;
           bytes_are = refl;
           completed = ap (λ (d : Decoded). d.keys) all
-              ∙ (ap (λ ks. keys_in old.newest ++ ks) (ap (λ f. listed f ++ listed fed.second) first ∙ ap (λ s. key ∷ listed s) second)
+              ∙ (ap (λ ks. keys_in old.newest ++ ks) (ap (λ f. list_of_key f ++ list_of_key fed.second) first ∙ ap (λ s. key ∷ list_of_key s) second)
               ∙ ap (λ ks. ks ++ key ∷ next ∷ []) before);
           has = keys ∙ ap (λ ks. ks ++ key ∷ []) before;
         };

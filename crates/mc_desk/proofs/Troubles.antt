@@ -22,10 +22,10 @@ use Rattle.session_entries.specs.Sources.{sources_of}
 use Rattle.copy_move.specs.declared.work.Work.{Work}
 use Rattle.copy_move.specs.declared.run.Course.{Course}
 use Rattle.copy_move.specs.declared.run.Course.TheVariants.{GoesOn, Asking, InTrouble, OwedSyncFailed, Skips, Ends}
-use Rattle.copy_move.specs.Jobs.{Running, MayAnswer, TellsOn, answered, answered_on, begun_work, closed_course, closed_job, first_work, halt_of, is_fresh, waiting_on, waits_on}
-use Rattle.copy_move.specs.Told.{IsAllowedStep, after_step, course_told, if_closed, running, told, turned, with_next}
+use Rattle.copy_move.specs.Jobs.{Running, MayAnswer, TellsOn, answered_job, answered_on, begun_work, closed_course, closed_job, first_work, halt_of, is_fresh, waiting_on, waits_on}
+use Rattle.copy_move.specs.Told.{IsAllowedStep, after_step, course_told, if_closed, running, told_job, turned_job, with_next}
 use Rattle.laws_sessions.specs.ToldJob.{after_event, live_job}
-use Rattle.job_answers.specs.Answers.{answered as then_after, waiting_of}
+use Rattle.job_answers.specs.Answers.{answer_result as then_after, waiting_of}
 use Rattle.job_answers.specs.declared.answer.Waiting.TheVariants as waiting
 use Rattle.ui_job_boxes.specs.LiveJobs.{takes_answer, waiting_with}
 use Rattle.mc_ui.specs.Screens.{Screen}
@@ -124,7 +124,7 @@ answered_waits GoesOn answer job t h = h
 answered_waits (Skips cause) answer job t h = h
 answered_waits (Ends ending) answer job t h = h
 
-ordered_waits : (answer : Answer) (job : Option Running) (t : Option Waits) → WaitsIn job t → WaitsIn (option_map (answered answer) job) t
+ordered_waits : (answer : Answer) (job : Option Running) (t : Option Waits) → WaitsIn job t → WaitsIn (option_map (answered_job answer) job) t
 ordered_waits answer None t h = tt
 ordered_waits answer (Some job) t h = answered_waits job.course answer job t h
 
@@ -132,7 +132,7 @@ began_waits : (id : ℕ) (work : Option Work) (t : Option Waits) → WaitsIn (op
 began_waits id None t = tt
 began_waits id (Some work) t = λ waits. absurd (false≢true waits)
 
-turned_waits : (plan : Job) (job : Option Running) (t : Option Waits) → WaitsIn (option_and_then (turned plan) job) t
+turned_waits : (plan : Job) (job : Option Running) (t : Option Waits) → WaitsIn (option_and_then (turned_job plan) job) t
 turned_waits plan None t = tt
 turned_waits plan (Some job) t = go (first_work job.id plan)
   where
@@ -180,7 +180,7 @@ row_waits (Some (waits_with.Question question)) = refl
 row_waits (Some (waits_with.Trouble trouble)) = refl
 
 -- a job whose row can be answered so may be answered so
-pub may_answer : (job : Running) (t : Option Waits) (answer : Answer) → WaitsIn (Some (told job)) t → takes_answer (row_of job t) answer ≡ true → MayAnswer job answer
+pub may_answer : (job : Running) (t : Option Waits) (answer : Answer) → WaitsIn (Some (told_job job)) t → takes_answer (row_of job t) answer ≡ true → MayAnswer job answer
 may_answer job t answer waits takes =
     go (waits_on job.course) refl (sym (ap (λ w. is_ok (then_after (option_map waiting_with w) answer)) (row_waits (waits_in job t))) ∙ takes)
   where

@@ -12,8 +12,8 @@ use Rattle.session_entries.specs.declared.history.Event.TheVariants.{Next, Step}
 use Rattle.session_entries.specs.Sources.{later as rest_of}
 use Rattle.copy_move.specs.declared.run.Course.TheVariants.{Ends, GoesOn}
 use Rattle.copy_move.specs.Jobs.{Running, part_of, waits_on}
-use Rattle.copy_move.specs.Steps.{OwnStep, RunStep, SyncsOwed, step_made}
-use Rattle.copy_move.specs.Told.{if_closed, told, turned}
+use Rattle.copy_move.specs.JobStepReports.{OwnStep, RunStep, SyncsOwed, step_made}
+use Rattle.copy_move.specs.Told.{if_closed, told_job, turned_job}
 use Rattle.copy_move.proofs.Finishing.{Finishes, finish_stays, turned_alike, turned_told}
 use Rattle.copy_move.proofs.Telling.{closed_told}
 use Rattle.laws_sessions.specs.Traces.{IsJob, IsUnclaimed, WorkLeads, before_others, with_job}
@@ -42,10 +42,10 @@ own_leads job new made dirty dirty_after log before after own = record {
 }
 
 module _ (contents contents_after : Option CallLog) (same : contents_after ≡ contents) (faults : ℕ) (old new : Seen) (seat count : ℕ) (main : seat ≡ 0) where
-  pub adds_turned : (live stepped run : Running) (plan : Job) (made before after : ℕ) → old.job ≡ Some live → old.tally.job ≡ option_map told old.job → live.course ≡ GoesOn
-      → OwnStep IsUnclaimed (step_made live stepped (Ended Finished None) made old.dirty new.dirty contents contents_after before after) → turned plan live ≡ Some run → is_workable plan ≡ true
+  pub adds_turned : (live stepped run : Running) (plan : Job) (made before after : ℕ) → old.job ≡ Some live → old.tally.job ≡ option_map told_job old.job → live.course ≡ GoesOn
+      → OwnStep IsUnclaimed (step_made live stepped (Ended Finished None) made old.dirty new.dirty contents contents_after before after) → turned_job plan live ≡ Some run → is_workable plan ≡ true
       → new.newest ≡ entry seat old.tally.calls count 0 (Next live.id plan) ∷ old.newest → old.later ≡ plan ∷ new.later → new.job ≡ if_closed old.tally.closed (Some run)
-      → new.tally ≡ record old.tally { job = option_map told new.job } → old.screen.planned ≡ None → faults_in faults old.newest ≤ count → new.screen ≡ old.screen → new.quit ≡ old.quit → new.out.put ≡ old.out.put
+      → new.tally ≡ record old.tally { job = option_map told_job new.job } → old.screen.planned ≡ None → faults_in faults old.newest ≤ count → new.screen ≡ old.screen → new.quit ≡ old.quit → new.out.put ≡ old.out.put
       → Adds contents contents_after faults old new (entry seat old.tally.calls count 0 (Next live.id plan))
   adds_turned live stepped run plan made before after is tells goes own run_is workable more left job tally settled later screen quit put = record {
     turn = (new.later, left);
@@ -54,12 +54,12 @@ module _ (contents contents_after : Option CallLog) (same : contents_after ≡ c
     more = more;
     tally = tally
         ∙ ap (λ j. let r : Tally = record old.tally { job = j } in r)
-        (ap (option_map told) job ∙ (closed_told old.tally.closed (Some run)
-        ∙ ap (if_closed old.tally.closed) (sym (ap (option_map told) run_is) ∙ (turned_told plan live ∙ sym (ap (λ j. option_and_then (turned plan) j) told_is)))));
+        (ap (option_map told_job) job ∙ (closed_told old.tally.closed (Some run)
+        ∙ ap (if_closed old.tally.closed) (sym (ap (option_map told_job) run_is) ∙ (turned_told plan live ∙ sym (ap (λ j. option_and_then (turned_job plan) j) told_is)))));
     told = ap (λ (t : Tally). t.job) tally;
     timely = may_end old settled;
     counts = record { seat = main; later = later; fault = λ h. absurd h; calls = omega arith; most = omega arith };
-    leads = (same_noted old new screen quit, (told live, told_is, refl, (goes, (live, stepped, refl, (let s = own.own in s.tells)), workable)));
+    leads = (same_noted old new screen quit, (told_job live, told_is, refl, (goes, (live, stepped, refl, (let s = own.own in s.tells)), workable)));
     sought = tt;
     caused = λ log known. tt;
     traced = λ log known. (
@@ -83,15 +83,15 @@ module _ (contents contents_after : Option CallLog) (same : contents_after ≡ c
     unknown = λ none. same ∙ none;
   }
     where
-      told_is : old.tally.job ≡ Some (told live)
-      told_is = tells ∙ ap (option_map told) is
+      told_is : old.tally.job ≡ Some (told_job live)
+      told_is = tells ∙ ap (option_map told_job) is
 
 -- the step that finishes a source, and the one that goes on, written down
 module _ (start : Option Start) (opening contents contents_after : Option CallLog) (faults : ℕ) (old new : Seen) (seat count made calls before after : ℕ) (live stepped : Running) (part : Option Route) (main : seat ≡ 0)
     (desk : IsDesk start opening contents faults old) (is : old.job ≡ Some live) (steps : RunStep IsUnclaimed (step_made live stepped (Ended Finished part) made old.dirty new.dirty contents contents_after before after))
     (had : faults_in faults old.newest ≤ before) (now : after ≤ count) (ready : waits_on live.course ≡ false) where
-  abbrev told_is : old.tally.job ≡ Some (told live)
-  told_is = desk.written.told ∙ ap (option_map told) is
+  abbrev told_is : old.tally.job ≡ Some (told_job live)
+  told_is = desk.written.told ∙ ap (option_map told_job) is
 
   -- no job ends so by order
   never : live.course ≡ Ends Finished → ⊥
@@ -123,8 +123,8 @@ module _ (start : Option Start) (opening contents contents_after : Option CallLo
   counted : faults_in faults old.newest ≤ count
   counted = (let s = own.own in let l = s.later in omega (arith, l, had, now))
 
-  pub desk_turned : (plan : Job) (run : Running) → turned plan stepped ≡ Some run → is_workable plan ≡ true → calls ≡ old.tally.calls → new.newest ≡ entry seat calls count 0 (Next live.id plan) ∷ old.newest → old.later ≡ plan ∷ new.later
-      → new.job ≡ if_closed old.tally.closed (Some run) → new.tally ≡ record old.tally { job = option_map told new.job } → new.screen ≡ old.screen → new.quit ≡ old.quit → 2 ≤ new.spare → new.out ≡ old.out
+  pub desk_turned : (plan : Job) (run : Running) → turned_job plan stepped ≡ Some run → is_workable plan ≡ true → calls ≡ old.tally.calls → new.newest ≡ entry seat calls count 0 (Next live.id plan) ∷ old.newest → old.later ≡ plan ∷ new.later
+      → new.job ≡ if_closed old.tally.closed (Some run) → new.tally ≡ record old.tally { job = option_map told_job new.job } → new.screen ≡ old.screen → new.quit ≡ old.quit → 2 ≤ new.spare → new.out ≡ old.out
       → IsDesk start opening contents_after faults new
   desk_turned plan run run_is workable all more left job tally screen quit room out =
       let f = finished in

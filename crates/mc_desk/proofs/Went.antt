@@ -11,10 +11,10 @@ use Rattle.job_reports.specs.declared.report.Ending.TheVariants.{Finished, NoMem
 use Rattle.job_reports.specs.Reports.{ends}
 use Rattle.session_entries.specs.declared.history.Event.TheVariants.{Next, Step}
 use Rattle.copy_move.specs.Jobs.{Running, part_of, waits_on}
-use Rattle.copy_move.specs.Steps.{RunStep, step_made}
+use Rattle.copy_move.specs.JobStepReports.{RunStep, step_made}
 use Rattle.copy_move.proofs.Finishing.{Finishes}
 use Rattle.copy_move.proofs.Merging.{merge_stays}
-use Rattle.copy_move.specs.Told.{if_closed, told}
+use Rattle.copy_move.specs.Told.{if_closed, told_job}
 use Rattle.laws_sessions.specs.Traces.{IsUnclaimed}
 use Rattle.mc_desk.specs.declared.starts.Start.{Start}
 use Rattle.job_sources.specs.declared.turning.Stepped.{Stepped}
@@ -94,20 +94,20 @@ module _ (start : Option Start) (opening contents contents_after : Option CallLo
       subst (λ j. rank_left new.dirty j new.later < rank_of old) (sym job)
       (subst (λ j. rank_left new.dirty (if_closed old.tally.closed went.job) new.later < rank_left old.dirty j old.later) (sym is)
       (goes_nearer IsUnclaimed old.tally.closed live stepped did made made old.dirty new.dirty contents contents_after before after old.later new.later went
-      (λ ends. (subst Never (sym (ap (λ (t : Tally). t.job) desk.written.tally) ∙ (desk.written.told ∙ ap (option_map told) is)) (live_never old.newest)) ends) steps goes))
+      (λ ends. (subst Never (sym (ap (λ (t : Tally). t.job) desk.written.tally) ∙ (desk.written.told ∙ ap (option_map told_job) is)) (live_never old.newest)) ends) steps goes))
 
   module _ (fits : length old.newest + 3 ≤ 2 ^ 56) (total_is : total ≡ min (old.tally.calls + went.calls) (2 ^ 64 - 1)) (more : new.newest ≡ entry seat total count 0 went.what ∷ old.newest)
-      (job : new.job ≡ if_closed old.tally.closed went.job) (tally : new.tally ≡ record old.tally { job = option_map told new.job; has_unseen_end = is_none went.job || old.tally.has_unseen_end; calls = total })
+      (job : new.job ≡ if_closed old.tally.closed went.job) (tally : new.tally ≡ record old.tally { job = option_map told_job new.job; has_unseen_end = is_none went.job || old.tally.has_unseen_end; calls = total })
       (screen : new.screen ≡ old.screen) (quit : new.quit ≡ old.quit) (room : 2 ≤ new.spare) (out : new.out ≡ old.out) where
     -- where nothing is counted
     same_total : went.calls ≡ 0 → total ≡ old.tally.calls
     same_total none = let few = desk.written.calls in omega (arith, total_is, none, fits, few)
 
-    tally_so : (gone : Bool) → is_none went.job ≡ gone → went.calls ≡ 0 → new.tally ≡ record old.tally { job = option_map told new.job; has_unseen_end = gone || old.tally.has_unseen_end }
+    tally_so : (gone : Bool) → is_none went.job ≡ gone → went.calls ≡ 0 → new.tally ≡ record old.tally { job = option_map told_job new.job; has_unseen_end = gone || old.tally.has_unseen_end }
     tally_so gone is_gone none =
         tally
-        ∙ (ap (λ b. let t : Tally = record old.tally { job = option_map told new.job; has_unseen_end = b || old.tally.has_unseen_end; calls = total } in t) is_gone
-        ∙ ap (λ n. let t : Tally = record old.tally { job = option_map told new.job; has_unseen_end = gone || old.tally.has_unseen_end; calls = n } in t) (same_total none))
+        ∙ (ap (λ b. let t : Tally = record old.tally { job = option_map told_job new.job; has_unseen_end = b || old.tally.has_unseen_end; calls = total } in t) is_gone
+        ∙ ap (λ n. let t : Tally = record old.tally { job = option_map told_job new.job; has_unseen_end = gone || old.tally.has_unseen_end; calls = n } in t) (same_total none))
 
     pub desk_went : IsDesk start opening contents_after faults new
     desk_went = by goes
@@ -117,7 +117,7 @@ module _ (start : Option Start) (opening contents contents_after : Option CallLo
             desk_stepped start opening contents contents_after faults old new seat count made total before after live stepped did main desk is steps fits
             (total_is ∙ ap (λ n. min (old.tally.calls + n) (2 ^ 64 - 1)) r.counted) had now (more ∙ ap (λ w. entry seat total count 0 w ∷ old.newest) (r.told ∙ ap (λ n. Step n did) number))
             (job ∙ ap (if_closed old.tally.closed) r.stands)
-            (tally ∙ ap (λ b. let t : Tally = record old.tally { job = option_map told new.job; has_unseen_end = b || old.tally.has_unseen_end; calls = total } in t) (ap is_none r.stands ∙ none_unless (ends did) stepped))
+            (tally ∙ ap (λ b. let t : Tally = record old.tally { job = option_map told_job new.job; has_unseen_end = b || old.tally.has_unseen_end; calls = total } in t) (ap is_none r.stands ∙ none_unless (ends did) stepped))
             screen quit room ready out last r.rest
         by (inr (inl (h, source, left_is, t))) =
             let p = finish_so did h in
@@ -127,5 +127,5 @@ module _ (start : Option Start) (opening contents contents_after : Option CallLo
             let gone : new.job ≡ None = job ∙ (ap (if_closed old.tally.closed) r.stands ∙ closed_none old.tally.closed) in
             desk_short start opening contents contents_after faults old new seat count total before after live stepped main desk is (stays_so h) unknown had rises now ready (same_total r.uncounted)
             (more ∙ ap (λ w. entry seat total count 0 w ∷ old.newest) (r.told ∙ ap (λ n. Step n (Ended NoMemory (part_of stepped.work))) number)) gone
-            (tally_so true (ap is_none r.stands) r.uncounted ∙ ap (λ j. let t : Tally = record old.tally { job = option_map told j; has_unseen_end = true } in t) gone) screen quit
+            (tally_so true (ap is_none r.stands) r.uncounted ∙ ap (λ j. let t : Tally = record old.tally { job = option_map told_job j; has_unseen_end = true } in t) gone) screen quit
             (let two = room_two old.tally.closed None in omega (arith, two, room)) none out

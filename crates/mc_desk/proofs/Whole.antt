@@ -19,12 +19,12 @@ use Rattle.job_reports.specs.declared.answer.Answer.{Answer}
 use Rattle.session_entries.specs.declared.refusal.Refusal.{Refusal}
 use Rattle.copy_move.specs.declared.run.Course.{Course}
 use Rattle.copy_move.specs.declared.run.Course.TheVariants.{GoesOn, Asking, InTrouble, OwedSyncFailed, Skips, Ends}
-use Rattle.copy_move.specs.Jobs.{Running, MayAnswer, answered, begun_work, closed_course, closed_job, part_of, waits_on}
+use Rattle.copy_move.specs.Jobs.{Running, MayAnswer, answered_job, begun_work, closed_course, closed_job, part_of, waits_on}
 use Rattle.job_reports.specs.Reports.{ends}
 use Rattle.laws_sessions.specs.ToldJob.{after_event, live_job}
-use Rattle.copy_move.specs.Told.{if_closed, running, told}
+use Rattle.copy_move.specs.Told.{if_closed, running, told_job}
 use Rattle.session_entries.specs.Entries.{is_closed}
-use Rattle.copy_move.specs.Steps.{RunStep, step_made}
+use Rattle.copy_move.specs.JobStepReports.{RunStep, step_made}
 use Rattle.session_entries.specs.Refusals.{AreRefused}
 use Rattle.laws_sessions.specs.Traces.{IsUnclaimed}
 use Rattle.ui_job_boxes.specs.LiveJobs.{takes_answer}
@@ -41,7 +41,7 @@ use Rattle.mc_ui.specs.Seekings.{is_seeking}
 use Rattle.mc_desk.specs.Searches.{HasSought}
 use Rattle.job_sources.specs.Turning.{finishes}
 use Rattle.mc_desk.specs.Shown.{DrawsFrame, PutsNothing, frame_due, none_before}
-use Rattle.mc_desk.specs.Desks.{Seen, kept_room, IsShown, IsWritten, IsDesk, noted, state_of}
+use Rattle.mc_desk.specs.Desks.{Seen, kept_room, IsShown, IsWritten, IsDesk, noted_screen, state_of}
 use Rattle.mc_desk.proofs.Showing.{shown_closed, shown_stepping}
 use Rattle.mc_desk.proofs.Adding.{adds_began, adds_closed, adds_given_up, adds_key, adds_look, adds_lost, adds_order, adds_settled, adds_sought, adds_step, entry, unasked_screen}
 use Rattle.mc_desk.proofs.Answering.{rows_untold}
@@ -77,11 +77,11 @@ never_waits (Some job) live is = let same : closed_job job ≡ live = cc in sym 
 pub closed_goes_on : (start : Option Start) (opening contents : Option CallLog) (faults : ℕ) (old : Seen) (live : Running) → IsDesk start opening contents faults old → old.tally.closed ≡ true → old.job ≡ Some live → waits_on live.course ≡ false
 closed_goes_on start opening contents faults old live desk closed is =
     waits old.newest (sym (ap (λ (t : Tally). t.closed) desk.written.tally) ∙ closed)
-    (sym (ap (λ (t : Tally). t.job) desk.written.tally) ∙ (desk.written.told ∙ ap (option_map told) is))
+    (sym (ap (λ (t : Tally). t.job) desk.written.tally) ∙ (desk.written.told ∙ ap (option_map told_job) is))
   where
-    waits : (newest : List Entry) → is_closed newest ≡ true → live_job newest ≡ Some (told live) → waits_on live.course ≡ false
+    waits : (newest : List Entry) → is_closed newest ≡ true → live_job newest ≡ Some (told_job live) → waits_on live.course ≡ false
     waits [] shut at = absurd cc
-    waits (e ∷ older) shut at = never_waits (after_event e.what (live_job older)) (told live) (ap (λ b. if_closed b (after_event e.what (live_job older))) (sym shut) ∙ at)
+    waits (e ∷ older) shut at = never_waits (after_event e.what (live_job older)) (told_job live) (ap (λ b. if_closed b (after_event e.what (live_job older))) (sym shut) ∙ at)
 
 -- an open desk has lost no key
 unlost : (start : Option Start) (opening contents : Option CallLog) (faults : ℕ) (old : Seen) → IsDesk start opening contents faults old → old.tally.closed ≡ false → old.tally.lost ≡ false
@@ -108,7 +108,7 @@ pub answers_live : (start : Option Start) (opening contents : Option CallLog) (f
     → takes_answer (row_of live (waits_told desk.newest)) answer ≡ true → MayAnswer live answer
 answers_live start opening contents faults desk live answer written is takes =
     may_answer live (waits_told desk.newest) answer
-    (subst (λ j. WaitsIn j (waits_told desk.newest)) (sym (ap (λ (t : Tally). t.job) written.tally) ∙ (written.told ∙ ap (option_map told) is))
+    (subst (λ j. WaitsIn j (waits_told desk.newest)) (sym (ap (λ (t : Tally). t.job) written.tally) ∙ (written.told ∙ ap (option_map told_job) is))
     (session_waits start opening faults desk.newest (state_of contents desk) written.session)) takes
 
 same_fits : (old new : Seen) → new.screen ≡ old.screen → new.out ≡ old.out → FitsScreen old.out.display.grid old.screen → FitsScreen new.out.display.grid new.screen
@@ -118,7 +118,7 @@ module _ (start : Option Start) (opening contents contents_after : Option CallLo
     (unclosed : old.tally.closed ≡ false) (unasked : old.quit ≡ false) (looked : old.tally.due ≡ None) (sought : is_seeking old.screen ≡ false) (same : contents_after ≡ contents) (later : faults_in faults old.newest ≤ count) where
   -- a key that was lost, and the end of keys
   pub desk_lost : new.newest ≡ entry 0 old.tally.calls count 0 Closed ∷ (entry 0 old.tally.calls count shown (Key key now [] true) ∷ old.newest)
-      → new.tally ≡ record old.tally { job = option_map closed_job old.tally.job; closed = true; due = None; lost = true } → new.job ≡ option_map closed_job old.job → new.tally.job ≡ option_map told new.job
+      → new.tally ≡ record old.tally { job = option_map closed_job old.tally.job; closed = true; due = None; lost = true } → new.job ≡ option_map closed_job old.job → new.tally.job ≡ option_map told_job new.job
       → new.screen ≡ old.screen → new.quit ≡ old.quit → 1 ≤ new.spare → new.dirty ≡ old.dirty → new.later ≡ old.later → new.out ≡ old.out → PutsNothing shown old.out.put old.out.put
       → IsDesk start opening contents_after faults new
   desk_lost more is job tells screen quit room dirty left out puts = record {
@@ -141,9 +141,9 @@ module _ (start : Option Start) (opening contents contents_after : Option CallLo
   module _ (refusals : List Refusal) (fault : has_fault refusals ≡ true → HasRisen (faults_in faults old.newest) count) (refused : IfKnown contents (λ log. AreRefused log refusals))
       (settled : new.screen.planned ≡ None) (room : 2 ≤ new.spare) (shown_now : IsShown new) where
     -- a key that was worked
-    pub desk_keyed : new.newest ≡ entry 0 old.tally.calls count shown (Key key now refusals false) ∷ old.newest → new.tally ≡ old.tally → new.job ≡ old.job → new.tally.job ≡ option_map told new.job
-        → KeyWorks contents (rows_told old.newest) (next_id old.tally.last) now key refusals (noted old) (noted new) → new.dirty ≡ old.dirty → new.later ≡ old.later
-        → DrawsFrame (none_before old.newest) (frame_due (noted new) (next_id old.tally.last) (rows_told old.newest)) shown old.out.put new.out.put → IsDesk start opening contents_after faults new
+    pub desk_keyed : new.newest ≡ entry 0 old.tally.calls count shown (Key key now refusals false) ∷ old.newest → new.tally ≡ old.tally → new.job ≡ old.job → new.tally.job ≡ option_map told_job new.job
+        → KeyWorks contents (rows_told old.newest) (next_id old.tally.last) now key refusals (noted_screen old) (noted_screen new) → new.dirty ≡ old.dirty → new.later ≡ old.later
+        → DrawsFrame (none_before old.newest) (frame_due (noted_screen new) (next_id old.tally.last) (rows_told old.newest)) shown old.out.put new.out.put → IsDesk start opening contents_after faults new
     desk_keyed more is job tells works dirty left draws =
         desk_of start opening contents_after faults new
         (written_more faults old new _ start opening contents contents_after desk.written
@@ -159,20 +159,20 @@ module _ (start : Option Start) (opening contents contents_after : Option CallLo
     abbrev pub keyed : Screen → Seen
     keyed screen = record old { newest = entry 0 old.tally.calls count shown (Key key now refusals false) ∷ old.newest; screen = screen; out = new.out }
 
-    keyed_written : (screen : Screen) → KeyWorks contents (rows_told old.newest) (next_id old.tally.last) now key refusals (noted old) screen
+    keyed_written : (screen : Screen) → KeyWorks contents (rows_told old.newest) (next_id old.tally.last) now key refusals (noted_screen old) screen
         → DrawsFrame (none_before old.newest) (frame_due screen (next_id old.tally.last) (rows_told old.newest)) shown old.out.put new.out.put → IsWritten start opening contents_after faults (keyed screen)
     keyed_written screen works draws =
         written_more faults old (keyed screen) _ start opening contents contents_after desk.written
         (adds_key contents contents_after faults old (keyed screen) 0 count shown refl key now refusals refl refl refl desk.written.told unclosed looked sought (unlost start opening contents faults old desk unclosed) desk.settled same later fault
-        refused (subst (λ s. KeyWorks contents (rows_told old.newest) (next_id old.tally.last) now key refusals (noted old) s) (sym (unasked_screen (keyed screen) unasked)) works) unasked refl refl
+        refused (subst (λ s. KeyWorks contents (rows_told old.newest) (next_id old.tally.last) now key refusals (noted_screen old) s) (sym (unasked_screen (keyed screen) unasked)) works) unasked refl refl
         (subst (λ s. DrawsFrame (none_before old.newest) (frame_due s (next_id old.tally.last) (rows_told old.newest)) shown old.out.put new.out.put) (sym (unasked_screen (keyed screen) unasked)) draws))
 
     -- a key that confirmed a job, and the job that it begins
     pub desk_began : (plan : Job) (background : Bool) (run : Running) (id began_count : ℕ) → run.id ≡ id → next_id old.tally.last ≡ Some run.id → old.job ≡ None → are_workable plan ≡ true
         → option_map (running run.id) (begun_work run.id (sources_of plan)) ≡ Some run
         → new.newest ≡ entry 0 old.tally.calls began_count 0 (Began id plan background) ∷ (entry 0 old.tally.calls count shown (Key key now refusals false) ∷ old.newest)
-        → count ≤ began_count → new.job ≡ Some run → new.tally ≡ record old.tally { job = Some (told run); last = id; due = Some id } → new.quit ≡ old.quit → new.dirty ≡ old.dirty → new.later ≡ rest_of (sources_of plan)
-        → KeyWorks contents (rows_told old.newest) (next_id old.tally.last) now key refusals (noted old) (record new.screen { planned = Some (Begins plan background) })
+        → count ≤ began_count → new.job ≡ Some run → new.tally ≡ record old.tally { job = Some (told_job run); last = id; due = Some id } → new.quit ≡ old.quit → new.dirty ≡ old.dirty → new.later ≡ rest_of (sources_of plan)
+        → KeyWorks contents (rows_told old.newest) (next_id old.tally.last) now key refusals (noted_screen old) (record new.screen { planned = Some (Begins plan background) })
         → DrawsFrame (none_before old.newest) (frame_due (record new.screen { planned = Some (Begins plan background) }) (next_id old.tally.last) (rows_told old.newest)) shown old.out.put new.out.put → IsDesk start opening contents_after faults new
     desk_began plan background run id began_count number numbered idle workable started more counted job is quit dirty left works draws =
         let written = keyed_written screen works draws in
@@ -191,9 +191,9 @@ module _ (start : Option Start) (opening contents contents_after : Option CallLo
     -- a key that answers the job's trouble, and the order
     pub desk_ordered : (answer : Answer) (live : Running) (order_count : ℕ) → old.job ≡ Some live → takes_answer (row_of live (waits_told old.newest)) answer ≡ true
         → new.newest ≡ entry 0 old.tally.calls order_count 0 (Order live.id (Answered answer)) ∷ (entry 0 old.tally.calls count shown (Key key now refusals false) ∷ old.newest)
-        → count ≤ order_count → new.job ≡ Some (answered answer live)
-        → new.tally ≡ record old.tally { job = Some (told (answered answer live)); due = Some live.id } → new.quit ≡ old.quit → new.dirty ≡ old.dirty → new.later ≡ old.later
-        → KeyWorks contents (rows_told old.newest) (next_id old.tally.last) now key refusals (noted old) (record new.screen { planned = Some (Answers answer) })
+        → count ≤ order_count → new.job ≡ Some (answered_job answer live)
+        → new.tally ≡ record old.tally { job = Some (told_job (answered_job answer live)); due = Some live.id } → new.quit ≡ old.quit → new.dirty ≡ old.dirty → new.later ≡ old.later
+        → KeyWorks contents (rows_told old.newest) (next_id old.tally.last) now key refusals (noted_screen old) (record new.screen { planned = Some (Answers answer) })
         → DrawsFrame (none_before old.newest) (frame_due (record new.screen { planned = Some (Answers answer) }) (next_id old.tally.last) (rows_told old.newest)) shown old.out.put new.out.put → IsDesk start opening contents_after faults new
     desk_ordered answer live order_count was takes more counted job is quit dirty left works draws =
         let written = keyed_written screen works draws in
@@ -215,7 +215,7 @@ closed_room (Some job) spare spare_after had left = omega (arith, had, left)
 -- the end of keys, written down in the room that was kept for it
 pub desk_closed : (start : Option Start) (opening contents : Option CallLog) (faults : ℕ) (old new : Seen) (count : ℕ) → IsDesk start opening contents faults old → old.tally.closed ≡ false → faults_in faults old.newest ≤ count
     → new.newest ≡ entry 0 old.tally.calls count 0 Closed ∷ old.newest
-    → new.tally ≡ record old.tally { job = option_map closed_job old.tally.job; closed = true; due = None } → new.job ≡ option_map closed_job old.job → new.tally.job ≡ option_map told new.job
+    → new.tally ≡ record old.tally { job = option_map closed_job old.tally.job; closed = true; due = None } → new.job ≡ option_map closed_job old.job → new.tally.job ≡ option_map told_job new.job
     → new.screen ≡ old.screen → new.quit ≡ old.quit → old.spare ≤ new.spare + 1 → new.dirty ≡ old.dirty → new.later ≡ old.later → new.out ≡ old.out → IsDesk start opening contents faults new
 desk_closed start opening contents faults old new count desk unclosed later more is job tells screen quit room dirty left out = record {
   written = written_more faults old new _ start opening contents contents desk.written
@@ -234,9 +234,9 @@ pub desk_looked : (start : Option Start) (opening contents contents_after : Opti
     → old.tally.closed ≡ false → IsSome old.tally.due → contents_after ≡ contents → faults_in faults old.newest ≤ count → (has_fault refusals ≡ true → HasRisen (faults_in faults old.newest) count)
     → IfKnown contents (λ log. AreRefused log refusals) → LookLeads contents rows old.tally.has_unseen_end news refusals old.screen new.screen
     → new.newest ≡ entry 0 old.tally.calls count shown (Look refusals) ∷ old.newest
-    → new.tally ≡ record old.tally { has_unseen_end = false; due = if can_step old.tally.job then old.tally.due else None } → new.job ≡ old.job → new.tally.job ≡ option_map told new.job
+    → new.tally ≡ record old.tally { has_unseen_end = false; due = if can_step old.tally.job then old.tally.due else None } → new.job ≡ old.job → new.tally.job ≡ option_map told_job new.job
     → new.screen.planned ≡ None → new.quit ≡ old.quit → 2 ≤ new.spare → new.dirty ≡ old.dirty → new.later ≡ old.later → old.quit ≡ false → IsShown new
-    → DrawsFrame (none_before old.newest) (frame_due (noted new) (next_id old.tally.last) (rows_told old.newest)) shown old.out.put new.out.put
+    → DrawsFrame (none_before old.newest) (frame_due (noted_screen new) (next_id old.tally.last) (rows_told old.newest)) shown old.out.put new.out.put
     → IsDesk start opening contents_after faults new
 desk_looked start opening contents contents_after faults old new count shown refusals rows news rows_is news_is desk unclosed is_due same later fault refused leads more is job tells settled quit room dirty left unasked shown_now draws =
     desk_of start opening contents_after faults new
@@ -249,9 +249,9 @@ desk_looked start opening contents contents_after faults old new count shown ref
 -- the steps of a search, written down
 pub desk_sought : (start : Option Start) (opening contents contents_after : Option CallLog) (faults : ℕ) (old new : Seen) (from count shown : ℕ) → IsDesk start opening contents faults old
     → old.tally.closed ≡ false → old.tally.due ≡ None → is_seeking old.screen ≡ true → contents_after ≡ contents → faults_in faults old.newest ≤ from → from ≤ count → HasSought contents from count old.screen new.screen
-    → new.newest ≡ entry 0 old.tally.calls count shown Sought ∷ old.newest → new.tally ≡ old.tally → new.job ≡ old.job → new.tally.job ≡ option_map told new.job
+    → new.newest ≡ entry 0 old.tally.calls count shown Sought ∷ old.newest → new.tally ≡ old.tally → new.job ≡ old.job → new.tally.job ≡ option_map told_job new.job
     → new.screen.planned ≡ None → new.quit ≡ old.quit → 2 ≤ new.spare → new.dirty ≡ old.dirty → new.later ≡ old.later → old.quit ≡ false → IsShown new
-    → DrawsFrame (none_before old.newest) (frame_due (noted new) (next_id old.tally.last) (rows_told old.newest)) shown old.out.put new.out.put
+    → DrawsFrame (none_before old.newest) (frame_due (noted_screen new) (next_id old.tally.last) (rows_told old.newest)) shown old.out.put new.out.put
     → IsDesk start opening contents_after faults new
 desk_sought start opening contents contents_after faults old new from count shown desk unclosed looked seeking same had later made more is job tells settled quit room dirty left unasked shown_now draws =
     desk_of start opening contents_after faults new
@@ -272,7 +272,7 @@ pub desk_stepped : (start : Option Start) (opening contents contents_after : Opt
     → calls ≡ min (old.tally.calls + made) (2 ^ 64 - 1) → faults_in faults old.newest ≤ before → after ≤ count
     → new.newest ≡ entry seat calls count 0 (Step live.id did) ∷ old.newest
     → new.job ≡ if_closed old.tally.closed (if ends did then None else Some stepped)
-    → new.tally ≡ record old.tally { job = option_map told new.job; has_unseen_end = ends did || old.tally.has_unseen_end; calls = calls } → new.screen ≡ old.screen
+    → new.tally ≡ record old.tally { job = option_map told_job new.job; has_unseen_end = ends did || old.tally.has_unseen_end; calls = calls } → new.screen ≡ old.screen
     → new.quit ≡ old.quit → 2 ≤ new.spare → waits_on live.course ≡ false → new.out ≡ old.out
     → (finishes did ≡ true → old.later ≡ []) → new.later ≡ left_by did old.later → IsDesk start opening contents_after faults new
 desk_stepped start opening contents contents_after faults old new seat count made calls before after live stepped did main desk is steps fits calls_is had now more job tally screen quit room ready out turn left =
@@ -286,7 +286,7 @@ desk_stepped start opening contents contents_after faults old new seat count mad
     (ap (λ (s : Screen). s.planned) screen ∙ desk.settled) (λ h. ap (λ (t : Tally). t.closed) tally ∙ desk.lost (sym (ap (λ (t : Tally). t.lost) tally) ∙ h))
     (λ h. ap (λ (t : Tally). t.due) tally ∙ desk.asked (sym quit ∙ h))
     (λ h. ap (λ (t : Tally). t.due) tally ∙ desk.shut (sym (ap (λ (t : Tally). t.closed) tally) ∙ h)) room
-    (shown_stepping old new live desk.shown desk.written.tally (desk.written.told ∙ ap (option_map told) is) ready (ap (λ (t : Tally). t.closed) tally) (ap (λ (t : Tally). t.due) tally) out screen)
+    (shown_stepping old new live desk.shown desk.written.tally (desk.written.told ∙ ap (option_map told_job) is) ready (ap (λ (t : Tally). t.closed) tally) (ap (λ (t : Tally). t.due) tally) out screen)
 
 pub room_left : (closed : Bool) (job : Option Running) (live : Running) (spare reserved left : ℕ) → job ≡ Some live → kept_room closed job ≤ spare → spare ≤ reserved → reserved ≤ left + 1 → kept_room closed None ≤ left
 room_left closed job live spare reserved left is had kept noted = go closed (subst (λ j. kept_room closed j ≤ spare) is had)
@@ -302,7 +302,7 @@ pub desk_gave_up : (start : Option Start) (opening contents contents_after : Opt
     → new.job ≡ None → new.tally ≡ record old.tally { job = None; has_unseen_end = true } → new.screen ≡ old.screen → new.quit ≡ old.quit → kept_room old.tally.closed None ≤ new.spare → new.dirty ≡ old.dirty → new.later ≡ []
     → new.out ≡ old.out → IsDesk start opening contents_after faults new
 desk_gave_up start opening contents contents_after faults old new seat count live part same main desk is ready part_is later more job tally screen quit room dirty left out = record {
-  shown = shown_stepping old new live desk.shown desk.written.tally (desk.written.told ∙ ap (option_map told) is) ready (ap (λ (t : Tally). t.closed) tally) (ap (λ (t : Tally). t.due) tally) out screen;
+  shown = shown_stepping old new live desk.shown desk.written.tally (desk.written.told ∙ ap (option_map told_job) is) ready (ap (λ (t : Tally). t.closed) tally) (ap (λ (t : Tally). t.due) tally) out screen;
   written = written_more faults old new _ start opening contents contents_after desk.written
       (adds_given_up contents contents_after faults old new seat count 0 main live part is desk.written.told ready part_is more job tally desk.settled same later screen quit dirty (ap (λ (o : Output). o.put) out) left);
   settled = ap (λ (s : Screen). s.planned) screen ∙ desk.settled;

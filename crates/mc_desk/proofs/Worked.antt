@@ -17,16 +17,16 @@ use Rattle.job_reports.specs.declared.answer.Answer.{Answer}
 use Rattle.job_reports.specs.declared.answer.Answer.TheVariants.{Yes, No, All, Update, Nothing, SizeDiffers, Retry, Skip, SkipAll, Abort}
 use Rattle.job_reports.specs.declared.job.Job.{Job as JobPlan}
 use Rattle.job_reports.specs.declared.waits.Waits.{Waits}
-use Rattle.job_answers.specs.Answers.{answered as then_after, to_barrier, to_trouble}
+use Rattle.job_answers.specs.Answers.{answer_result as then_after, to_barrier, to_trouble}
 use Rattle.job_answers.specs.declared.answer.Waiting.TheVariants as waiting
 use Rattle.job_reports.specs.declared.report.Cause.{Cause}
 use Rattle.copy_move.specs.declared.work.Work.{Work}
 use Rattle.copy_move.specs.declared.work.Work.TheVariants.{Copy, Delete, Make, Move, SetMode, RemoveEmptied}
 use Rattle.copy_move.specs.declared.run.Course.{Course}
 use Rattle.copy_move.specs.declared.run.Course.TheVariants.{GoesOn, Asking, InTrouble, OwedSyncFailed, Skips, Ends}
-use Rattle.copy_move.specs.Jobs.{MayAnswer, Running, answered, answered_on, begun_work, kind_of, path_of, taken_anew, waiting_on, waits_on}
+use Rattle.copy_move.specs.Jobs.{MayAnswer, Running, answered_job, answered_on, begun_work, kind_of, path_of, taken_anew, waiting_on, waits_on}
 use Rattle.session_entries.specs.Sources.{sources_of}
-use Rattle.copy_move.specs.Told.{running, told}
+use Rattle.copy_move.specs.Told.{running, told_job}
 use Rattle.ui_job_boxes.specs.LiveJobs.{can_answer, takes_answer}
 use Rattle.mc_ui.specs.Screens.{Answers, Begins, Screen}
 use Rattle.mc_ui.specs.Seekings.{is_seeking}
@@ -38,12 +38,12 @@ use Rattle.mc_desk.specs.declared.standing.Standing.{Standing}
 use Rattle.mc_desk.specs.Granting.{CanBeDone, IsWorked, KeyWorks, with_deed}
 use Rattle.session_log.specs.Told.{waits_told}
 use Rattle.mc_desk.specs.LiveRows.{question_in, row_of, rows_of, rows_told, state_with, trouble_in}
-use Rattle.session_log.specs.Logs.{Logged, followed}
+use Rattle.session_log.specs.Logs.{Logged, entries_with_event}
 use Rattle.mc_desk.specs.Outputs.{FitsScreen, Output, ShowsFrame}
 use Rattle.mc_desk.specs.Shown.{DrawsBehind, DrawsFrame, Put, begun_rows, frame_at, frame_due, ready_row, rows_then, none_before}
 use Rattle.screen_draw.specs.Drawings.{Display}
 use Rattle.mc_ui.specs.Frames.{frame_of}
-use Rattle.mc_desk.specs.Standings.{MayCarryOut, after_answer, after_deed, awaited, event_of, order_of}
+use Rattle.mc_desk.specs.Standings.{MayCarryOut, after_answer, after_deed, awaited_look, event_of, order_of}
 use Rattle.mc_desk.specs.Tallies.{can_step, faults_in, next_id}
 use Rattle.mc_desk.specs.Desks.{IsDesk, IsShown, Seen, seen_of, with_end}
 use Rattle.mc_desk.proofs.Adding.{entry, unasked_screen}
@@ -205,7 +205,7 @@ cleared s h = ap (λ o. let c : Screen = record s { planned = o } in c) h
 
 module _ (start : Option Start) (opening contents contents_after : Option CallLog) (faults : ℕ) (log log_after : Logged) (screen screen_after : Screen) (was : Standing) (dirty : List Route) (out out_after : Output) (taken : ℕ)
     (pending : List ℕ) (count : ℕ) (key : KeyType) (now : ℕ) (desk : IsDesk start opening contents faults (seen_of log screen was dirty out taken pending)) (unclosed : was.closed ≡ false) (unasked : was.quit ≡ false)
-    (looked : awaited was.due ≡ None) (sought : is_seeking screen ≡ false) (same : contents_after ≡ contents) (later : faults_in faults log.newest ≤ count) (refusals : List Refusal)
+    (looked : awaited_look was.due ≡ None) (sought : is_seeking screen ≡ false) (same : contents_after ≡ contents) (later : faults_in faults log.newest ≤ count) (refusals : List Refusal)
     (fault : has_fault refusals ≡ true → HasRisen (faults_in faults log.newest) count) (refused : IfKnown contents (λ l. AreRefused l refusals)) (room : 2 ≤ log_after.spare)
     (rows : List JobRow) (rows_is : rows ≡ rows_of was.job (waits_told log.newest)) (r : Result (Unit {0}) SinkError) where
   abbrev pub old : Seen
@@ -261,18 +261,18 @@ module _ (start : Option Start) (opening contents contents_after : Option CallLo
       let is : was.job ≡ Some live = here.1 in
       let may : MayAnswer live answer = answers_live start opening contents faults old live answer desk.written is here.2 in
       let ready = answered_ready live.course answer live may.fits in
-      let told : rows_told log.newest ≡ row_of live (waits_told log.newest) ∷ [] = told_is ∙ ap (λ j. rows_of j (waits_told log.newest)) is in
+      let told_job : rows_told log.newest ≡ row_of live (waits_told log.newest) ∷ [] = told_is ∙ ap (λ j. rows_of j (waits_told log.newest)) is in
       ap (λ j. frame_of screen_after (rows_of (after_answer answer j was).job (waits_told log.newest))) is
-      ∙ (ap (λ row. frame_of screen_after (row ∷ [])) (ready_is (answered answer live) (waits_told log.newest) (waits_told log.newest) ready ∙ still_does live.course answer live (waits_told log.newest))
+      ∙ (ap (λ row. frame_of screen_after (row ∷ [])) (ready_is (answered_job answer live) (waits_told log.newest) (waits_told log.newest) ready ∙ still_does live.course answer live (waits_told log.newest))
       ∙ (ap (λ s. frame_of s (ready_row (row_of live (waits_told log.newest)) ∷ [])) (cleared screen_after w.settled)
-      ∙ ap (λ rs. frame_at screen_after (rows_then (Some (Answers answer)) (next_id was.last_id) rs)) (sym told)))
+      ∙ ap (λ rs. frame_at screen_after (rows_then (Some (Answers answer)) (next_id was.last_id) rs)) (sym told_job)))
 
   -- what the terminal shows of it
   abbrev pub Shown : Deed → Type 0
   Shown done = ShowsFrame (frame_of screen_after (rows_of (after_deed done was).job (waits_told log.newest))) r out out_after
 
   shows_new : (standing : Standing) → FitsScreen out_after.display.grid screen_after → ShowsFrame (frame_of screen_after (rows_of standing.job (waits_told log.newest))) r out out_after
-      → waits_told log_after.newest ≡ waits_told log.newest → (standing.closed ≡ false → awaited standing.due ≡ None → can_step (option_map told standing.job) ≡ false) → IsShown (new standing)
+      → waits_told log_after.newest ≡ waits_told log.newest → (standing.closed ≡ false → awaited_look standing.due ≡ None → can_step (option_map told_job standing.job) ≡ false) → IsShown (new standing)
   shows_new standing fits s same still =
       shown_drawn (new standing) fits
       (subst (λ t. out_after.put.is_cut ≡ false → out_after.display ≡ (let d : Display = record { grid = frame_of screen_after (rows_of standing.job t); has_drawn = true } in d)) (sym same)
@@ -289,7 +289,7 @@ module _ (start : Option Start) (opening contents contents_after : Option CallLo
   drawn_noted d = subst (λ b. DrawsFrame (none_before log.newest) (frame_due (with_end b screen_after) (next_id was.last_id) (rows_told log.newest)) shown out.put out_after.put) (sym unasked) d
 
   pub desk_worked : (done : Deed) → IsWorked contents rows (next_id was.last_id) now key screen screen_after done refusals → FitsScreen out_after.display.grid screen_after → Shown done
-      → log_after.newest ≡ followed was.calls count (event_of done was.job) (entry 0 was.calls count shown (Key key now refusals false) ∷ log.newest) → IsDesk start opening contents_after faults (new (after_deed done was))
+      → log_after.newest ≡ entries_with_event was.calls count (event_of done was.job) (entry 0 was.calls count shown (Key key now refusals false) ∷ log.newest) → IsDesk start opening contents_after faults (new (after_deed done was))
   desk_worked deed.Nothing w fits s more =
       desk_keyed start opening contents contents_after faults old (new was) count shown key now desk unclosed unasked looked sought same later refusals fault refused w.settled room
       (shows_new was fits s (ap waits_told more) desk.shown.still) more refl refl refl (still_noted w.works) refl refl (drawn_noted (drawn_for deed.Nothing w s))
@@ -307,8 +307,8 @@ module _ (start : Option Start) (opening contents contents_after : Option CallLo
   desk_worked (deed.Answer answer) w fits s more =
       let here = live_of start opening contents faults old desk rows rows_is answer w.can in
       let is : was.job ≡ Some here.0 = here.1 in
-      let followed_is : log_after.newest ≡ followed was.calls count (order_of answer (Some here.0)) (entry 0 was.calls count shown (Key key now refusals false) ∷ log.newest) =
-      more ∙ ap (λ j. followed was.calls count (order_of answer j) (entry 0 was.calls count shown (Key key now refusals false) ∷ log.newest)) is in
+      let followed_is : log_after.newest ≡ entries_with_event was.calls count (order_of answer (Some here.0)) (entry 0 was.calls count shown (Key key now refusals false) ∷ log.newest) =
+      more ∙ ap (λ j. entries_with_event was.calls count (order_of answer j) (entry 0 was.calls count shown (Key key now refusals false) ∷ log.newest)) is in
       subst (λ s. IsDesk start opening contents_after faults (new s)) (sym (ap (λ j. after_answer answer j was) is))
       (desk_ordered start opening contents contents_after faults old (new (after_answer answer (Some here.0) was)) count shown key now desk unclosed unasked looked sought same later refusals fault refused w.settled room
       (shows_new (after_answer answer (Some here.0) was) fits

@@ -13,9 +13,9 @@ use Rattle.session_entries.specs.declared.history.Event.TheVariants.{Step}
 use Rattle.session_entries.specs.declared.history.Entry.{Entry}
 use Rattle.session_entries.specs.Sources.{sources_left}
 use Rattle.copy_move.specs.Jobs.{Running}
-use Rattle.copy_move.specs.Told.{told}
+use Rattle.copy_move.specs.Told.{told_job}
 use Rattle.copy_move.specs.Settling.{is_own}
-use Rattle.job_unsynced.specs.Folders.{joined}
+use Rattle.job_unsynced.specs.Folders.{joined_folders}
 use Rattle.job_reports.specs.Paths.{folder_of, without}
 use Rattle.job_reports.specs.declared.job.Pair.{Pair}
 use Rattle.laws_sessions.specs.Traces.{Stand, before_others}
@@ -81,8 +81,8 @@ abbrev pub with_end : Bool → Screen → Screen
 with_end true screen = record screen { planned = Some Ends }
 with_end false screen = screen
 
-abbrev pub noted : Seen → Screen
-noted desk = with_end desk.quit desk.screen
+abbrev pub noted_screen : Seen → Screen
+noted_screen desk = with_end desk.quit desk.screen
 
 -- where a session stands with this live job, or none, and these dirty folders
 abbrev pub stand_with : Option Running → List Route → Stand
@@ -93,7 +93,7 @@ stand_of desk = stand_with desk.job desk.dirty
 
 -- what the session of a desk has come to, over a tree that holds this
 abbrev pub state_of : Option CallLog → Seen → SessionState
-state_of contents desk = record { screen = noted desk; stand = stand_of desk; contents = contents; put = desk.out.put }
+state_of contents desk = record { screen = noted_screen desk; stand = stand_of desk; contents = contents; put = desk.out.put }
 
 -- What is written down is a session in the folders in which it began, over the tree, which was opened with the one contents, and
 -- so many faults, and has the other now; it has come to the live job and the dirty folders; and the rest of the desk is what the
@@ -240,19 +240,19 @@ pub record JoinsDirty (job : Option Running) (dirty dirty_after : List Route) : 
   pub job_is : job ≡ Some live
   pub folder : Route
   pub own : is_own live.work folder ≡ true
-  pub joins : dirty_after ≡ joined folder dirty
+  pub joins : dirty_after ≡ joined_folders folder dirty
 
 -- a folder was removed: the one that held it joined the dirty ones, and it is no longer one itself
 pub record RemovesDirty (newest : List Entry) (dirty dirty_after : List Route) : Type 0 where
   pub path : Route
   pub removed : HasRemoved newest path
-  pub leaves : dirty_after ≡ without path (joined (folder_of path) dirty)
+  pub leaves : dirty_after ≡ without path (joined_folders (folder_of path) dirty)
 
 -- a thing was moved: the folder where it went joined the dirty ones, and the one where it was
 pub record JoinsBoth (newest : List Entry) (dirty dirty_after : List Route) : Type 0 where
   pub pair : Pair
   pub moved : HasMoved newest pair
-  pub join : dirty_after ≡ joined (folder_of pair.source) (joined (folder_of pair.target) dirty)
+  pub join : dirty_after ≡ joined_folders (folder_of pair.source) (joined_folders (folder_of pair.target) dirty)
 
 -- What a step makes of the dirty folders: one of the live job's own may join them, or both where something was moved, and one leaves them only with
 -- the report of its removal, or of a sync.

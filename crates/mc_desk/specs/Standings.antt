@@ -7,8 +7,8 @@ use Rattle.session_entries.specs.declared.history.JobOrder.TheVariants.{Answered
 use Rattle.session_entries.specs.declared.history.Entry.{Entry}
 use Rattle.job_reports.specs.declared.answer.Answer.{Answer as AnswerType}
 use Rattle.job_reports.specs.declared.job.Job.{Job as JobPlan}
-use Rattle.copy_move.specs.Jobs.{MayAnswer, Running, answered, closed_job}
-use Rattle.copy_move.specs.Told.{told}
+use Rattle.copy_move.specs.Jobs.{MayAnswer, Running, answered_job, closed_job}
+use Rattle.copy_move.specs.Told.{told_job}
 use Rattle.mc_desk.specs.declared.granting.Deed.{Deed}
 use Rattle.mc_desk.specs.declared.granting.Deed.TheVariants as deed
 use Rattle.mc_desk.specs.declared.replies.DeskReply.{DeskReply}
@@ -23,19 +23,19 @@ abbrev pub fresh_standing : Standing
 fresh_standing = record { job = None; later = []; last_id = 0; calls = 0; has_unseen_end = false; due = First; closed = false; quit = false; lost = false }
 
 -- what is to be looked at before the next key, by its number
-abbrev pub awaited : Due → Option ℕ
-awaited Nothing = None
-awaited First = Some 0
-awaited (Job id) = Some id
+abbrev pub awaited_look : Due → Option ℕ
+awaited_look Nothing = None
+awaited_look First = Some 0
+awaited_look (Job id) = Some id
 
 -- the same as the history tells it
 abbrev pub tally_of : Standing → Tally
 tally_of standing = record {
-  job = option_map told standing.job;
+  job = option_map told_job standing.job;
   last = standing.last_id;
   has_unseen_end = standing.has_unseen_end;
   closed = standing.closed;
-  due = awaited standing.due;
+  due = awaited_look standing.due;
   lost = standing.lost;
   calls = standing.calls;
 }
@@ -55,7 +55,7 @@ after_start run later standing = record standing { job = Some run; later = later
 -- the live job is answered and due
 abbrev pub after_answer : AnswerType → Option Running → Standing → Standing
 after_answer answer None standing = standing
-after_answer answer (Some live) standing = record standing { job = Some (answered answer live); due = Job live.id }
+after_answer answer (Some live) standing = record standing { job = Some (answered_job answer live); due = Job live.id }
 
 -- what carrying out makes of a session
 abbrev pub after_deed : Deed → Standing → Standing

@@ -12,7 +12,7 @@ use Rattle.resolving.specs.declared.error.ResolveError.{ResolveError}
 use Rattle.resolving.specs.declared.error.ResolveError.TheVariants as resolve
 use Rattle.resolving.specs.declared.walking.Wanted.TheVariants.{AnyThing, FolderAlone}
 use Rattle.resolving.specs.Errors.{refused_by}
-use Rattle.resolving.specs.Resolution.{resolved}
+use Rattle.resolving.specs.Resolution.{resolved_path}
 use Rattle.panel_pair.specs.declared.side.Side.{Side}
 use Rattle.panel_pair.specs.declared.side.Side.TheVariants.{Left, Right}
 use Rattle.mc_ui.specs.Screens.{Screen}
@@ -41,7 +41,7 @@ refusal_at_end s (Err e) = Some e
 
 -- why a path leads to no folder that can be listed, if it leads to none
 abbrev pub path_refusal : FileSystem → Route → Option ResolveError
-path_refusal s path = refusal_at_end s (resolved s FolderAlone [] (path_text path))
+path_refusal s path = refusal_at_end s (resolved_path s FolderAlone [] (path_text path))
 
 -- why the file to which a way leads can't be read, if it can't
 abbrev pub unread_at_end : FileSystem → Result Route ResolveError → Option ResolveError
@@ -50,7 +50,7 @@ unread_at_end s (Err e) = Some e
 
 -- why a path leads to no file that can be read, if it leads to none
 abbrev pub file_refusal : FileSystem → Route → Option ResolveError
-file_refusal s path = unread_at_end s (resolved s AnyThing [] (path_text path))
+file_refusal s path = unread_at_end s (resolved_path s AnyThing [] (path_text path))
 
 -- This is why a path is refused, or the tree failed; want of memory is no refusal of a path.
 abbrev pub IsRefusal : Option ResolveError → ResolveError → Type 0

@@ -9,7 +9,7 @@ ghost use Rattle.mc_ui.specs.Frames.{frame_of};
 use crate::granting::Deed;
 use crate::standing::Standing;
 use crate::tag::Tag;
-use crate::terminal::Terminal;
+use crate::terminal::SessionTerminal;
 use mc_ui::Ui;
 use session_entries::Event;
 use session_log::Log;
@@ -30,7 +30,7 @@ pub fn carry_out<N: Tag, S: Sink>(
     ui: &Ui,
     log: &Log,
     standing: &mut Standing,
-    terminal: &mut Terminal<N, S>,
+    terminal: &mut SessionTerminal<N, S>,
 ) -> Carried
     requires may { MayCarryOut standing.old.job deed }
     requires uncut { terminal.old.put.is_cut ≡ false }

@@ -10,7 +10,7 @@ ghost use Rattle.mc_desk.specs.Searches.{HasSought, steps_ahead};
 ghost use Rattle.mc_desk.specs.Standings.{sought_entry as entry_of_steps};
 
 use crate::tag::Tag;
-use crate::terminal::Terminal;
+use crate::terminal::SessionTerminal;
 use copy_move::Run;
 use mc_text::NoMemory;
 use mc_ui::Ui;
@@ -36,7 +36,7 @@ pub fn seek_and_show<N: Tag, T: ReadTree, S: Sink>(
     tree: &mut T,
     job: &Option<Run>,
     log: &Log,
-    terminal: &mut Terminal<N, S>,
+    terminal: &mut SessionTerminal<N, S>,
 ) -> Shown
     requires settled { ui.old.planned ≡ None }
     requires seeking { is_seeking ui.old ≡ true }

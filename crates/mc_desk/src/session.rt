@@ -11,7 +11,7 @@ mod steps;
 
 use crate::standing::Standing;
 use crate::tag::Tag;
-use crate::terminal::Terminal;
+use crate::terminal::SessionTerminal;
 use copy_move::Dirty;
 use key_screen::KeyReader;
 use mc_ui::Ui;
@@ -25,7 +25,7 @@ use tree_trait::{Sink, Spawner, Tree};
 #[derive(Drop)]
 pub struct Session<N: Tag, T: Tree, S: Sink, P: Spawner> {
     tree: T,
-    terminal: Terminal<N, S>,
+    terminal: SessionTerminal<N, S>,
     spawner: P,
     keys: KeyReader,
     ui: Ui,
@@ -75,7 +75,7 @@ impl<N: Tag, T: Tree, S: Sink, P: Spawner> Session<N, T, S, P> {
     {
         Session {
             tree,
-            terminal: Terminal::new(screen, blank),
+            terminal: SessionTerminal::new(screen, blank),
             spawner,
             keys: KeyReader::new(),
             ui,

@@ -1,9 +1,9 @@
 //! What a session has come to: its live job, what is due, what was asked, and what was counted.
 ghost use Rattle.std.specs.Prelude.{◌≡◌, true, false, None};
 ghost use Rattle.std.specs.Option.{option_map};
-ghost use Rattle.copy_move.specs.Jobs.{MayAnswer, answered, closed_job};
+ghost use Rattle.copy_move.specs.Jobs.{MayAnswer, answered_job, closed_job};
 ghost use Rattle.mc_desk.specs.Tallies.{can_step, next_id as number_after};
-ghost use Rattle.mc_desk.specs.Standings.{MayCarryOut, after_deed, after_look, after_start, awaited, awaited_by, closed_standing, event_of, fresh_standing, is_quit};
+ghost use Rattle.mc_desk.specs.Standings.{MayCarryOut, after_deed, after_look, after_start, awaited_look, awaited_by, closed_standing, event_of, fresh_standing, is_quit};
 
 use crate::confirmed::Confirmed;
 use crate::granting::Deed;
@@ -132,9 +132,9 @@ impl Standing {
 
     /// The reply to a key: whether the end was asked for, or what is due.
     pub fn reply(&self) -> DeskReply
-        requires ended { self.now.quit ≡ true → awaited self.now.due ≡ None }
+        requires ended { self.now.quit ≡ true → awaited_look self.now.due ≡ None }
         ensures quit { is_quit result ≡ self.now.quit }
-        ensures awaits { awaited_by result ≡ awaited self.now.due }
+        ensures awaits { awaited_by result ≡ awaited_look self.now.due }
     {
         if self.quit {
             return DeskReply::Quit;
@@ -169,7 +169,7 @@ impl Standing {
 /// Answers a job that may be answered so.
 fn answer_run(run: &mut Run, answer: Answer)
     requires may { MayAnswer run.old answer }
-    ensures { run.new ≡ answered answer run.old }
+    ensures { run.new ≡ answered_job answer run.old }
 {
     let Ok(()) = run.answer(answer) else {
         unreachable!()

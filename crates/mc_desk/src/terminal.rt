@@ -23,7 +23,7 @@ const MOST_SHOWN: u128 = 1 << 127;
 
 /// A terminal. Contracts see what was put, and the frame that it shows.
 #[derive(Drop)]
-pub struct Terminal<N: Tag, S: Sink> {
+pub struct SessionTerminal<N: Tag, S: Sink> {
     sink: S,
     screen: Screen,
     shown: u128,
@@ -32,7 +32,7 @@ pub struct Terminal<N: Tag, S: Sink> {
     of: PhantomData<N>,
 }
 
-impl<N: Tag, S: Sink> Model for Terminal<N, S> {
+impl<N: Tag, S: Sink> Model for SessionTerminal<N, S> {
     ghost use Rattle.mc_desk.specs.Outputs.{Output, IsTerminal, output_of};
 
     ghost Value = { Output };
@@ -43,15 +43,15 @@ impl<N: Tag, S: Sink> Model for Terminal<N, S> {
         (output_of N.given (S.given t.sink) t.screen t.shown t.failed t.is_cut) };
 }
 
-impl<N: Tag, S: Sink> Terminal<N, S> {
+impl<N: Tag, S: Sink> SessionTerminal<N, S> {
     /// One on which nothing was drawn yet.
-    pub fn new(sink: S, screen: Screen) -> Terminal<N, S>
+    pub fn new(sink: S, screen: Screen) -> SessionTerminal<N, S>
         requires given { S.given sink ≡ N.given }
         requires faults { N.sink_faults ≤ S.fault_count sink }
         requires fresh { screen.has_drawn ≡ false }
         ensures { IsFirstOutput screen result }
     {
-        Terminal {
+        SessionTerminal {
             sink,
             screen,
             shown: 0,

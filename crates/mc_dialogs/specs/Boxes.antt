@@ -1,7 +1,7 @@
 -- How a box is painted over a screen: lines in a frame of `+`, `-` and `|`, in the middle. Own.
 use Rattle.std.specs.Prelude.{ℕ, ◌+◌, ◌-◌, ◌/◌, min, List, [], ◌∷◌, ◌++◌, length, replicate}
-use Rattle.mc_text.specs.Fit.{fitted}
-use Rattle.mc_text.specs.Drawn.{drawn}
+use Rattle.mc_text.specs.Fit.{fitted_text}
+use Rattle.mc_text.specs.Drawn.{drawn_text}
 use Rattle.key_screen.specs.declared.cells.Attr.{Attr}
 use Rattle.key_screen.specs.declared.cells.Attr.TheVariants.{Plain}
 use Rattle.key_screen.specs.Grids.{CellGrid, written_at}
@@ -11,7 +11,7 @@ use Rattle.mc_dialogs.specs.declared.frame.Line.{Line}
 abbrev pub with_line : CellGrid → ℕ → ℕ → ℕ → Line → CellGrid
 with_line grid row column inside line =
     let left = written_at grid row column (124 ∷ 32 ∷ []) Plain in
-    let text = written_at left row (column + 2) (fitted (drawn line.text) inside) line.attr in
+    let text = written_at left row (column + 2) (fitted_text (drawn_text line.text) inside) line.attr in
     written_at text row (column + 2 + inside) (32 ∷ 124 ∷ []) Plain
 
 -- its lines, each below the one before

@@ -3,8 +3,8 @@
 use Rattle.std.specs.Prelude.{ℕ, ◌+◌, ◌-◌, true, nat_le, if◌then◌else◌, List, [], ◌∷◌}
 use Rattle.std.specs.List.{sum_by}
 use Rattle.unicode_segmentation.specs.Grapheme.{graphemes}
-use Rattle.mc_text.specs.Fit.{cluster_columns, columns_in, fitted}
-use Rattle.mc_text.specs.Drawn.{drawn}
+use Rattle.mc_text.specs.Fit.{cluster_columns, columns_in, fitted_text}
+use Rattle.mc_text.specs.Drawn.{drawn_text}
 use Rattle.key_screen.specs.declared.cells.Attr.TheVariants.{Plain, Reverse}
 use Rattle.key_screen.specs.Grids.{CellGrid, written_at}
 use Rattle.mc_dialogs.specs.declared.frame.Line.{Line}
@@ -19,7 +19,7 @@ left_out room (cluster ∷ rest) =
 
 -- what a field shows before the cursor: the end of the drawn text that leaves a column for the cursor
 abbrev pub shown_before : List ℕ → ℕ → List ℕ
-shown_before before inside = later_clusters (left_out (inside - 1) (graphemes true (drawn before))) (drawn before)
+shown_before before inside = later_clusters (left_out (inside - 1) (graphemes true (drawn_text before))) (drawn_text before)
 
 -- A field of so many columns, from a cell on. What it shows from the cursor on fills the columns that are left, and the first
 -- cluster of that is in reverse.
@@ -27,7 +27,7 @@ abbrev pub with_field : CellGrid → ℕ → ℕ → ℕ → List ℕ → List �
 with_field grid row column inside before behind =
     let start = shown_before before inside in
     let room = inside - columns_in start in
-    let end = fitted (drawn behind) room in
+    let end = fitted_text (drawn_text behind) room in
     let cursor = column + (inside - room) in
     let started = written_at grid row column start Plain in
     let whole = written_at started row cursor end Plain in

@@ -50,8 +50,8 @@ abbrev pub at_end : InputState → InputState
 at_end s = record s { before = s.before ++ s.behind; behind = [] }
 
 -- control with a letter: `a` and `e` go to the ends, `k` cuts to the end, `u` empties
-abbrev pub controlled : InputState → ℕ → InputState
-controlled s letter =
+abbrev pub controlled_input : InputState → ℕ → InputState
+controlled_input s letter =
     if letter == 97 then at_start s
     else if letter == 101 then at_end s
     else if letter == 107 then record s { behind = [] }
@@ -61,7 +61,7 @@ controlled s letter =
 -- an input line after a key without meta
 abbrev pub input_typed : InputState → Base → InputState
 input_typed s (Char code) = with_char s code
-input_typed s (Ctrl letter) = controlled s letter
+input_typed s (Ctrl letter) = controlled_input s letter
 input_typed s Backspace = record s { before = all_but_last s.before }
 input_typed s Delete = record s { behind = later_clusters 1 s.behind }
 input_typed s Left = record s { before = all_but_last s.before; behind = last_cluster s.before ++ s.behind }

@@ -1,6 +1,6 @@
 //! The line that asks for a text.
 ghost use Rattle.std.specs.Prelude.{◌≡◌, ◌++◌, ◌+◌, [], true, false, Ok, length, string_bytes, encode_utf8, nat_le, IfOk, OnOk, OnErr};
-ghost use Rattle.mc_dialogs.specs.InputKeys.{first_clusters, later_clusters, all_but_last, last_cluster, with_char, at_start, at_end, controlled, input_typed, input_after, closed_with, input_meta, input_closed, input_shut, letter_takes_memory, plain_takes_memory, meta_takes_memory, takes_memory};
+ghost use Rattle.mc_dialogs.specs.InputKeys.{first_clusters, later_clusters, all_but_last, last_cluster, with_char, at_start, at_end, controlled_input, input_typed, input_after, closed_with, input_meta, input_closed, input_shut, letter_takes_memory, plain_takes_memory, meta_takes_memory, takes_memory};
 ghost use Rattle.mc_dialogs.specs.InputField.{with_input};
 
 use crate::clusters::{before_last, first_clusters, joined, later_clusters};
@@ -125,7 +125,7 @@ impl InputLine {
 
     /// What control with a letter does.
     fn control(&mut self, alloc: Global, letter: u8) -> Result<(), NoMemory>
-        ensures done { OnOk result (self.new ≡ controlled self.old letter) }
+        ensures done { OnOk result (self.new ≡ controlled_input self.old letter) }
         ensures refused { OnErr result (self.new ≡ self.old) }
         ensures memory { OnErr result (letter_takes_memory letter ≡ true) }
     {

@@ -9,7 +9,7 @@ use Rattle.std.proofs.lemmas.Bool.{cond-false, ne_eqb, false_from_ne_true}
 use Rattle.std.specs.Str.{bytes_eq}
 use Rattle.std.proofs.lemmas.Slice.Eq.{bytes_eq-Decides}
 use Rattle.mc_edit.specs.declared.error.EditError.TheVariants.{NotFound, TooLarge}
-use Rattle.mc_edit.specs.Edits.{EditedText, spliced, largest_text}
+use Rattle.mc_edit.specs.Edits.{EditedText, spliced_bytes, largest_text}
 use Rattle.mc_edit.proofs.SpliceLemmas.{length-spliced}
 use Rattle.mc_edit.proofs.ChangeLemmas.{settled-large}
 use Rattle.mc_edit.specs.Commands.{places_replaced, all_replaced}
@@ -138,12 +138,12 @@ module _ (what new rest : List ℕ) (some : 0 < length what) (e : EditedText) (i
       let same_run : length (replaced_run rest what new 0 (place ∷ places)) ≡ length run =
       ap (λ l. length (replaced_run l what new 0 (place ∷ places))) is_rest in
       let inside : end ≤ length bytes = omega (arith, within, point_in, ap length is_rest, length-drop point bytes) in
-      let long : length (spliced bytes point end run) ≡ size =
+      let long : length (spliced_bytes bytes point end run) ≡ size =
       omega (arith, length-spliced bytes point end (omega arith) inside run, is_size, same_run, inside) in
-      let differs : bytes_eq (spliced bytes point end run) bytes ≡ false =
+      let differs : bytes_eq (spliced_bytes bytes point end run) bytes ≡ false =
       false_from_ne_true _
-      (λ same. omega (arith, ap length ((bytes_eq-Decides (spliced bytes point end run) bytes).0 same), long, small, large)) in
-      settled-large (record { bytes = spliced bytes point end run; point = point + length run }) e differs (omega (arith, long, large))
+      (λ same. omega (arith, ap length ((bytes_eq-Decides (spliced_bytes bytes point end run) bytes).0 same), long, small, large)) in
+      settled-large (record { bytes = spliced_bytes bytes point end run; point = point + length run }) e differs (omega (arith, long, large))
       ∙ ap (λ (n : ℕ). Err (TooLarge n)) long
 
   pub all_replaced-large : (end run size : ℕ) → end ≡ last_end what 0 (matches rest what 0) → (end ≡ 0 → ⊥) → end ≤ length rest

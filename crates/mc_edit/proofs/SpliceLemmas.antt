@@ -5,8 +5,8 @@ use Rattle.std.proofs.lemmas.Bool.{false_from_ne_true, false≢true}
 use Rattle.std.proofs.lemmas.List.{take_at, drop_at, append_cancel_left, append_cancel_right}
 use Rattle.std.proofs.lemmas.Slice.Eq.{bytes_eq-Decides}
 use Rattle.std.specs.Str.{bytes_eq}
-use Rattle.gap_text.specs.PointedText.{moved_to, inserted, deleted}
-use Rattle.mc_edit.specs.Edits.{spliced}
+use Rattle.gap_text.specs.PointedText.{moved_to, inserted_text, deleted_text}
+use Rattle.mc_edit.specs.Edits.{spliced_bytes}
 
 -- two tests that say the same
 same_answers : (a b : Bool) → (a ≡ true → b ≡ true) → (b ≡ true → a ≡ true) → a ≡ b
@@ -31,15 +31,15 @@ module _ (bytes : List ℕ) (from to : ℕ) (ordered : from ≤ to) (within : to
     front_length : length (take from bytes) ≡ from
     front_length = length-take-le from bytes (omega arith)
 
-    pub length-spliced : length (spliced bytes from to new) ≡ from + (length new + (length bytes - to))
+    pub length-spliced : length (spliced_bytes bytes from to new) ≡ from + (length new + (length bytes - to))
     length-spliced =
         length-append (take from bytes) (new ++ drop to bytes)
         ∙ omega (arith, front_length, length-append new (drop to bytes), length-drop to bytes)
 
     -- what was put in gives way to what was taken out
-    pub spliced-back : spliced (spliced bytes from to new) from (from + length new) (slice_range bytes from to) ≡ bytes
+    pub spliced-back : spliced_bytes (spliced_bytes bytes from to new) from (from + length new) (slice_range bytes from to) ≡ bytes
     spliced-back =
-        let whole = spliced bytes from to new in
+        let whole = spliced_bytes bytes from to new in
         let front : take from whole ≡ take from bytes = take_at (take from bytes) (new ++ drop to bytes) from front_length in
         let regrouped : whole ≡ (take from bytes ++ new) ++ drop to bytes = sym (append_assoc (take from bytes) new (drop to bytes)) in
         let head_length : length (take from bytes ++ new) ≡ from + length new =
@@ -51,18 +51,18 @@ module _ (bytes : List ℕ) (from to : ℕ) (ordered : from ≤ to) (within : to
         ∙ three_parts
 
     -- the text stays as it was exactly where the new bytes are those that they replace
-    pub bytes_eq-spliced : bytes_eq new (slice_range bytes from to) ≡ bytes_eq (spliced bytes from to new) bytes
+    pub bytes_eq-spliced : bytes_eq new (slice_range bytes from to) ≡ bytes_eq (spliced_bytes bytes from to new) bytes
     bytes_eq-spliced =
         let between = bytes_eq-Decides new (slice_range bytes from to) in
-        let whole = bytes_eq-Decides (spliced bytes from to new) bytes in
+        let whole = bytes_eq-Decides (spliced_bytes bytes from to new) bytes in
         same_answers _ _
-        (λ is_same. whole.1 (ap (λ l. spliced bytes from to l) (between.0 is_same) ∙ three_parts))
+        (λ is_same. whole.1 (ap (λ l. spliced_bytes bytes from to l) (between.0 is_same) ∙ three_parts))
         (λ stays. between.1 (append_cancel_right new (slice_range bytes from to) (drop to bytes)
         (append_cancel_left (take from bytes) (new ++ drop to bytes) (slice_range bytes from to ++ drop to bytes) (whole.0 stays ∙ sym three_parts))))
 
     -- a move, a deletion and an insertion splice
     pub replaced-spliced : (point : ℕ)
-        → (inserted (deleted (moved_to (record { bytes = bytes; point = point }) from) (to - from)) new).bytes ≡ spliced bytes from to new
+        → (inserted_text (deleted_text (moved_to (record { bytes = bytes; point = point }) from) (to - from)) new).bytes ≡ spliced_bytes bytes from to new
     replaced-spliced point =
         let place : from + (to - from) ≡ to = omega arith in
         let rest = drop (from + (to - from)) bytes in

@@ -1,7 +1,7 @@
 -- A text that is edited: its point, its block, its past and its future. Own; mcedit(1) has undo without its rules.
 use Rattle.std.specs.Prelude.{ℕ, ◌==◌, min, max, nat_lt, Option, Some, None, List, [], ◌∷◌, ◌++◌, take, drop, length, Result, Ok, Err, if◌then◌else◌}
 use Rattle.std.specs.Str.{bytes_eq}
-use Rattle.gap_text.specs.PointedText.{PointedText, opened}
+use Rattle.gap_text.specs.PointedText.{PointedText, opened_text}
 use Rattle.mc_edit.specs.declared.block.Block.{Block}
 use Rattle.mc_edit.specs.declared.block.Block.TheVariants.{Absent, Open, Fixed}
 use Rattle.mc_edit.specs.declared.error.EditError.{EditError}
@@ -28,17 +28,17 @@ unfoldable pub undo_depth : ℕ
 undo_depth = 32768
 
 -- these bytes, with the point before the first
-abbrev pub started : List ℕ → EditedText
-started bytes = record { text = opened bytes; block = Absent; past = []; future = [] }
+abbrev pub begun_text : List ℕ → EditedText
+begun_text bytes = record { text = opened_text bytes; block = Absent; past = []; future = [] }
 
 -- the bytes from one place up to another give way to new ones
-abbrev pub spliced : List ℕ → ℕ → ℕ → List ℕ → List ℕ
-spliced bytes from to new = take from bytes ++ (new ++ drop to bytes)
+abbrev pub spliced_bytes : List ℕ → ℕ → ℕ → List ℕ → List ℕ
+spliced_bytes bytes from to new = take from bytes ++ (new ++ drop to bytes)
 
 -- a change puts what was before the past, the oldest past the depth is dropped, and so is all that was undone; no block
 -- stays
-abbrev pub changed : PointedText → EditedText → EditedText
-changed new edited =
+abbrev pub after_edit : PointedText → EditedText → EditedText
+after_edit new edited =
     record {
       text = new;
       block = Absent;
@@ -47,11 +47,11 @@ changed new edited =
     }
 
 -- a text that is asked for: where the bytes stay as they are the point alone moves, and nothing is noted
-abbrev pub settled : PointedText → EditedText → Result EditedText EditError
-settled new edited =
+abbrev pub requested_text : PointedText → EditedText → Result EditedText EditError
+requested_text new edited =
     if bytes_eq new.bytes edited.text.bytes then Ok (record edited { text = new })
     else if nat_lt largest_text (length new.bytes) then Err (TooLarge (length new.bytes))
-    else Ok (changed new edited)
+    else Ok (after_edit new edited)
 
 -- the newest change is taken back
 abbrev pub undone_by : List Edit → EditedText → Result EditedText EditError

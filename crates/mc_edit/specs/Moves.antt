@@ -38,6 +38,6 @@ down_of bytes at =
     if end == length bytes then at else place_at bytes (end + 1) (column_at bytes at)
 
 -- so many times that move
-abbrev pub repeated : (ℕ → ℕ) → ℕ → ℕ → ℕ
-repeated move zero at = at
-repeated move (suc count) at = move (repeated move count at)
+abbrev pub repeated_move : (ℕ → ℕ) → ℕ → ℕ → ℕ
+repeated_move move zero at = at
+repeated_move move (suc count) at = move (repeated_move move count at)

@@ -1,8 +1,8 @@
 //! Changes of a text: made, taken back, made again.
 ghost use Rattle.std.specs.Prelude.{◌≡◌, ◌+◌, ◌≤◌, OnOk, OnErr, length};
 ghost use Rattle.std.specs.Str.{bytes_eq};
-ghost use Rattle.mc_edit.specs.Edits.{spliced};
-ghost use Rattle.mc_edit.specs.Changes.{unmade, made, Leads};
+ghost use Rattle.mc_edit.specs.Edits.{spliced_bytes};
+ghost use Rattle.mc_edit.specs.Changes.{text_before_change, text_after_change, Leads};
 
 use crate::lines::slice_of;
 use gap_text::{Change, GapText};
@@ -13,7 +13,7 @@ use mc_text::{Bytes, NoMemory};
 pub fn put(text: &mut GapText, from: usize, to: usize, new: &[u8]) -> Result<(), NoMemory>
     requires ordered { from ≤ to }
     requires within { to ≤ length text.old.bytes }
-    ensures done { OnOk result (text.new.bytes ≡ spliced text.old.bytes from to new.now) }
+    ensures done { OnOk result (text.new.bytes ≡ spliced_bytes text.old.bytes from to new.now) }
     ensures same { OnErr result (text.new.bytes ≡ text.old.bytes) }
 {
     text.move_to(from);
@@ -24,8 +24,8 @@ pub fn put(text: &mut GapText, from: usize, to: usize, new: &[u8]) -> Result<(),
 /// Takes a change back in the text to which it led.
 #[tactic(auto, unfolding(crate::specs::Changes::unmade, crate::specs::Edits::largest_text))]
 pub fn take_back(text: &mut GapText, change: &Change) -> Result<(), NoMemory>
-    requires { Leads change.now (unmade change.now text.old.bytes) text.old.bytes }
-    ensures done { OnOk result (text.new.bytes ≡ unmade change.now text.old.bytes) }
+    requires { Leads change.now (text_before_change change.now text.old.bytes) text.old.bytes }
+    ensures done { OnOk result (text.new.bytes ≡ text_before_change change.now text.old.bytes) }
     ensures same { OnErr result (text.new.bytes ≡ text.old.bytes) }
 {
     let inserted = slice_of(&change.inserted);
@@ -40,8 +40,8 @@ pub fn take_back(text: &mut GapText, change: &Change) -> Result<(), NoMemory>
 /// Makes a change again in the text from which it leads on.
 #[tactic(auto, unfolding(crate::specs::Changes::made, crate::specs::Edits::largest_text))]
 pub fn make_again(text: &mut GapText, change: &Change) -> Result<(), NoMemory>
-    requires { Leads change.now text.old.bytes (made change.now text.old.bytes) }
-    ensures done { OnOk result (text.new.bytes ≡ made change.now text.old.bytes) }
+    requires { Leads change.now text.old.bytes (text_after_change change.now text.old.bytes) }
+    ensures done { OnOk result (text.new.bytes ≡ text_after_change change.now text.old.bytes) }
     ensures same { OnErr result (text.new.bytes ≡ text.old.bytes) }
 {
     let removed = slice_of(&change.removed);

@@ -8,7 +8,7 @@ mod viewing;
 
 ghost use Rattle.std.specs.Prelude.{◌≡◌, ◌≢◌, ◌+◌, ◌≤◌, ◌<◌, [], IfOk, OnOk, IfErr, OnErr, Ok, Err, length};
 ghost use Rattle.mc_edit.specs.declared.error.EditError.TheVariants.{Memory, TooLarge};
-ghost use Rattle.mc_edit.specs.Edits.{EditedText, started, largest_text, undone_by, redone_by, spliced, marked_at};
+ghost use Rattle.mc_edit.specs.Edits.{EditedText, begun_text, largest_text, undone_by, redone_by, spliced_bytes, marked_at};
 ghost use Rattle.mc_edit.specs.Commands.{after_command};
 
 use crate::block::Block;
@@ -69,7 +69,7 @@ impl Editor {
     /// A text of these bytes, with the point before the first, and nothing to undo.
     #[tactic(auto, unfolding(crate::specs::Edits::largest_text, crate::specs::Edits::undo_depth))]
     pub fn start(alloc: Global, bytes: &[u8]) -> Result<Editor, EditError>
-        ensures done { IfOk result (λ editor. editor ≡ started bytes.now) }
+        ensures done { IfOk result (λ editor. editor ≡ begun_text bytes.now) }
         ensures large { IfErr result (λ error. error ≢ Memory →
             (error ≡ TooLarge (length bytes.now)) × (largest_text < length bytes.now)) }
         ensures small { IfOk result (λ editor. length bytes.now ≤ largest_text) }
@@ -105,7 +105,7 @@ impl Editor {
         requires ordered { splice.from ≤ splice.to }
         requires within { splice.to ≤ length self.old.text.bytes }
         requires point { splice.point ≤ length
-            (spliced self.old.text.bytes splice.from splice.to splice.new) }
+            (spliced_bytes self.old.text.bytes splice.from splice.to splice.new) }
         ensures done { OnOk result (after_splice splice self.old ≡ Ok self.new) }
         ensures refused { IfErr result (λ error. error ≢ Memory → after_splice splice self.old
             ≡ Err error) }

@@ -1,6 +1,6 @@
 //! Where a point goes: by a unit, by a line, by a page.
 ghost use Rattle.std.specs.Prelude.{◌≡◌, ◌*◌, ◌≤◌, ◌<◌, ◌^◌, length, IfOk};
-ghost use Rattle.mc_edit.specs.Moves.{right_of, left_of, up_of, down_of, column_at, place_at, repeated};
+ghost use Rattle.mc_edit.specs.Moves.{right_of, left_of, up_of, down_of, column_at, place_at, repeated_move};
 
 use crate::columns::{column_of, end_after, place_in_column, start_before};
 use crate::lines::{line_end, line_start, slice_of};
@@ -96,7 +96,7 @@ fn place_at(alloc: Global, text: &GapText, within: usize, column: usize) -> Resu
 pub fn page_up(alloc: Global, text: &GapText, at: usize, count: u16) -> Result<usize, NoMemory>
     requires within { at ≤ length text.now.bytes }
     requires small { length text.now.bytes < 2 ^ 60 }
-    ensures value { IfOk result (λ to. to ≡ repeated (up_of text.now.bytes) count at) }
+    ensures value { IfOk result (λ to. to ≡ repeated_move (up_of text.now.bytes) count at) }
     ensures high { IfOk result (λ to. to ≤ length text.now.bytes) }
 {
     let mut to = at;
@@ -110,7 +110,7 @@ pub fn page_up(alloc: Global, text: &GapText, at: usize, count: u16) -> Result<u
 pub fn page_down(alloc: Global, text: &GapText, at: usize, count: u16) -> Result<usize, NoMemory>
     requires within { at ≤ length text.now.bytes }
     requires small { length text.now.bytes < 2 ^ 60 }
-    ensures value { IfOk result (λ to. to ≡ repeated (down_of text.now.bytes) count at) }
+    ensures value { IfOk result (λ to. to ≡ repeated_move (down_of text.now.bytes) count at) }
     ensures high { IfOk result (λ to. to ≤ length text.now.bytes) }
 {
     let mut to = at;

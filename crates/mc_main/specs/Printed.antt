@@ -1,6 +1,6 @@
 -- What is printed where no session begins, since a folder or the file can't be read, or a text was asked for in its place.
 use Rattle.std.specs.Prelude.{◌≡◌, ◌⊎◌, ℕ, ⊤, true, List, [], ◌∷◌, ◌++◌, take, Option, Some, None, IsSome, codes}
-use Rattle.mc_text.specs.Drawn.{drawn}
+use Rattle.mc_text.specs.Drawn.{drawn_text}
 use Rattle.resolving.specs.declared.error.ResolveError.{ResolveError}
 use Rattle.tree_trait.specs.Change.{CallLog, current}
 use Rattle.tree_trait.specs.Answers.{HasRisen, IfKnown}
@@ -18,7 +18,7 @@ use Rattle.mc_main.specs.Beginnings.{printed_for, session_start, start_word, tex
 
 -- the line for a path that is refused: `mc: WORD: CAUSE`, the word as it is drawn
 abbrev pub start_line : List ℕ → ResolveError → List ℕ
-start_line word cause = codes "mc: " ++ (drawn word ++ (codes ": " ++ (resolve_words cause ++ 10 ∷ [])))
+start_line word cause = codes "mc: " ++ (drawn_text word ++ (codes ": " ++ (resolve_words cause ++ 10 ∷ [])))
 
 -- the screen was given its line after these bytes
 abbrev pub PrintsCause : Typed → StartError → List ℕ → Option (List ℕ) → Type 0

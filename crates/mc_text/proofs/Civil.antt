@@ -14,7 +14,7 @@ use Rattle.jiff_core.proofs.CalendarLemmas.{day_count-epoch, day_count-lt_year, 
 use Rattle.jiff_core.proofs.MarchLemmas.{day_count-early}
 use Rattle.jiff_core.proofs.DateLemmas.{civil}
 use Rattle.jiff_core.proofs.DateTimeLemmas.{civil_nanos-parts, time_nanos_bound}
-use Rattle.mc_text.specs.Civil.{count_to, counted, has_begun, year_on, month_on, day_on, civil_of}
+use Rattle.mc_text.specs.Civil.{count_to, counted_day, has_begun, year_on, month_on, day_on, civil_of}
 
 test : (a b : ℕ) → a ≤ b → nat_le a b ≡ true
 test a b h = grind (arith, nat_tests)
@@ -151,7 +151,7 @@ time_of-secs secs dt e = omega (arith, signed_arith, civil_nanos-parts dt, time_
 hour_of-secs : (secs : ℕ) (t : Time) → t.hour * 3600 + t.minute * 60 + t.second ≡ secs % 86400 → (t.hour ≡ secs % 86400 / 3600) × (t.minute ≡ secs % 3600 / 60)
 hour_of-secs secs t e = (omega arith, omega arith)
 
-counted-day : (d : Date) (day : ℕ) → epoch_day d ≡ pos day → count_of d ≡ counted day
+counted-day : (d : Date) (day : ℕ) → epoch_day d ≡ pos day → count_of d ≡ counted_day day
 unfolding count_of
 counted-day d day e = omega (arith, signed_arith, days_from_civil-day_count d.year d.month d.day, e, day_count-epoch)
 

@@ -4,7 +4,7 @@ use Rattle.std.proofs.lemmas.Iterator.{YieldsList}
 use Rattle.std.specs.List.{onto_first, All}
 use Rattle.std.proofs.lemmas.List.Splits.{slice_split_none, length-slice_split}
 use Rattle.std.proofs.lemmas.List.Elements.{All-nil, All-cons, filter-append}
-use Rattle.mc_text.specs.Routes.{Route, spelled, route_of, begins_with_slash, components_of, is_empty, bad_component, path_fault}
+use Rattle.mc_text.specs.Routes.{Route, spelled_route, route_of, begins_with_slash, components_of, is_empty, bad_component, path_fault}
 use Rattle.std.proofs.lemmas.List.{reverse-append, length-append}
 use Rattle.std.proofs.lemmas.Bool.Decides.{nat_tests}
 use Rattle.mc_text.specs.Names.{name_fault, first_bad_byte}
@@ -90,9 +90,9 @@ fault-not_absolute (byte ∷ rest) h =
 
 -- the bytes of one more name
 pub spelled-more : (names : Route) (name : List ℕ)
-    → length (spelled (reverse (names ++ name ∷ []))) ≡ length (spelled (reverse names)) + (1 + length name)
+    → length (spelled_route (reverse (names ++ name ∷ []))) ≡ length (spelled_route (reverse names)) + (1 + length name)
 spelled-more names name =
-    rw (reverse-append names (name ∷ []), length-append (spelled (reverse names)) (47 ∷ name)) (omega arith)
+    rw (reverse-append names (name ∷ []), length-append (spelled_route (reverse names)) (47 ∷ name)) (omega arith)
 
 -- ---- reading what was written
 
@@ -102,16 +102,16 @@ onto_first-append byte [] more h = absurd (omega arith)
 onto_first-append byte (part ∷ parts) more h = refl
 
 -- a slash ends a component
-components-slash : (front rest : List ℕ) → components_of (front ++ 47 ∷ rest) ≡ components_of front ++ components_of rest
+components-slash : (prefix rest : List ℕ) → components_of (prefix ++ 47 ∷ rest) ≡ components_of prefix ++ components_of rest
 components-slash [] rest = refl
-components-slash (byte ∷ front) rest =
-    let some : 0 < length (components_of front) = omega (arith, length-slice_split (λ b. b == 47) front) in
-    let ih = components-slash front rest in
+components-slash (byte ∷ prefix) rest =
+    let some : 0 < length (components_of prefix) = omega (arith, length-slice_split (λ b. b == 47) prefix) in
+    let ih = components-slash prefix rest in
     rw ih
-    (elim (byte == 47) as (λ b. cond b ([] ∷ (components_of front ++ components_of rest)) (onto_first byte (components_of front ++ components_of rest))
-    ≡ cond b ([] ∷ components_of front) (onto_first byte (components_of front)) ++ components_of rest) [
+    (elim (byte == 47) as (λ b. cond b ([] ∷ (components_of prefix ++ components_of rest)) (onto_first byte (components_of prefix ++ components_of rest))
+    ≡ cond b ([] ∷ components_of prefix) (onto_first byte (components_of prefix)) ++ components_of rest) [
       | true ↦ refl
-      | false ↦ onto_first-append byte (components_of front) (components_of rest) some
+      | false ↦ onto_first-append byte (components_of prefix) (components_of rest) some
     ])
 
 -- a chain of faults that comes to none has passed each test
@@ -141,48 +141,48 @@ name-bytes name h =
     (some_bytes, passed_all (first_bad_byte 0 name) _ short.1)
 
 -- one more name is one more component
-components-name : (front name : List ℕ) → name_fault name ≡ None → components_of (front ++ 47 ∷ name) ≡ components_of front ++ name ∷ []
-components-name front name h =
-    components-slash front name ∙ ap (λ parts. components_of front ++ parts) (slice_split_none (λ byte. byte == 47) name (no_slash 0 name (name-bytes name h).1))
+components-name : (prefix name : List ℕ) → name_fault name ≡ None → components_of (prefix ++ 47 ∷ name) ≡ components_of prefix ++ name ∷ []
+components-name prefix name h =
+    components-slash prefix name ∙ ap (λ parts. components_of prefix ++ parts) (slice_split_none (λ byte. byte == 47) name (no_slash 0 name (name-bytes name h).1))
 
 -- a path's text and one more name is the text of a path in it
-pub route-name : (front name : List ℕ) → name_fault name ≡ None → route_of (front ++ 47 ∷ name) ≡ name ∷ route_of front
-route-name front name h =
-    rw (components-name front name h, filter-append (λ component. not (is_empty component)) (components_of front) (name ∷ []))
-    (rw (names-some name [] (name-bytes name h).0) (reverse-append (names_of (components_of front)) (name ∷ [])))
+pub route-name : (prefix name : List ℕ) → name_fault name ≡ None → route_of (prefix ++ 47 ∷ name) ≡ name ∷ route_of prefix
+route-name prefix name h =
+    rw (components-name prefix name h, filter-append (λ component. not (is_empty component)) (components_of prefix) (name ∷ []))
+    (rw (names-some name [] (name-bytes name h).0) (reverse-append (names_of (components_of prefix)) (name ∷ [])))
 
 -- behind sound components the next ones decide
-fault-append : (at : ℕ) (front more : List (List ℕ)) → bad_component at front ≡ None
-    → bad_component at (front ++ more) ≡ bad_component (at + bytes_of front) more
+fault-append : (at : ℕ) (prefix more : List (List ℕ)) → bad_component at prefix ≡ None
+    → bad_component at (prefix ++ more) ≡ bad_component (at + bytes_of prefix) more
 fault-append at [] more h = rw add-zero refl
-fault-append at (component ∷ front) more h =
+fault-append at (component ∷ prefix) more h =
     let first = passed (not (is_empty component) && is_some (name_fault component)) (BadName at) _ h in
-    let rest = fault-append (at + (length component + 1)) front more first.1 in
-    let bytes : at + bytes_of (component ∷ front) ≡ at + (length component + 1) + bytes_of front = omega (arith, bytes-cons component front) in
+    let rest = fault-append (at + (length component + 1)) prefix more first.1 in
+    let bytes : at + bytes_of (component ∷ prefix) ≡ at + (length component + 1) + bytes_of prefix = omega (arith, bytes-cons component prefix) in
     rw (first.0, bytes) rest
 
 -- one more name keeps a text sound
-pub fault-more : (front name : List ℕ) → bad_component 0 (components_of front) ≡ None → name_fault name ≡ None
-    → bad_component 0 (components_of (front ++ 47 ∷ name)) ≡ None
-fault-more front name h is =
-    rw (components-name front name is)
-    (fault-append 0 (components_of front) (name ∷ []) h
-    ∙ fault-name (0 + bytes_of (components_of front)) name [] (name-bytes name is).0 is)
+pub fault-more : (prefix name : List ℕ) → bad_component 0 (components_of prefix) ≡ None → name_fault name ≡ None
+    → bad_component 0 (components_of (prefix ++ 47 ∷ name)) ≡ None
+fault-more prefix name h is =
+    rw (components-name prefix name is)
+    (fault-append 0 (components_of prefix) (name ∷ []) h
+    ∙ fault-name (0 + bytes_of (components_of prefix)) name [] (name-bytes name is).0 is)
 
 -- the text of a path with names begins with a slash
-begins-append : (front rest : List ℕ) → begins_with_slash front ≡ true → begins_with_slash (front ++ rest) ≡ true
+begins-append : (prefix rest : List ℕ) → begins_with_slash prefix ≡ true → begins_with_slash (prefix ++ rest) ≡ true
 begins-append [] rest h = cc
-begins-append (byte ∷ front) rest h = h
+begins-append (byte ∷ prefix) rest h = h
 
-pub begins-spelled : (name : List ℕ) (folder : Route) → begins_with_slash (spelled (name ∷ folder)) ≡ true
+pub begins-spelled : (name : List ℕ) (folder : Route) → begins_with_slash (spelled_route (name ∷ folder)) ≡ true
 begins-spelled name [] = refl
-begins-spelled name (last ∷ folder) = begins-append (spelled (last ∷ folder)) (47 ∷ name) (begins-spelled last folder)
+begins-spelled name (last ∷ folder) = begins-append (spelled_route (last ∷ folder)) (47 ∷ name) (begins-spelled last folder)
 
 -- the text of a path of names is one that is read
-pub fault-spelled : (route : Route) → length route ≢ 0 → length (spelled route) ≤ 4096
-    → bad_component 0 (components_of (spelled route)) ≡ None → path_fault (spelled route) ≡ None
+pub fault-spelled : (route : Route) → length route ≢ 0 → length (spelled_route route) ≤ 4096
+    → bad_component 0 (components_of (spelled_route route)) ≡ None → path_fault (spelled_route route) ≡ None
 fault-spelled [] some h e = absurd (some refl)
 fault-spelled (name ∷ folder) some h e =
     let begins = begins-spelled name folder in
-    let short : nat_lt 4096 (length (spelled (name ∷ folder))) ≡ false = grind (arith, nat_tests) in
+    let short : nat_lt 4096 (length (spelled_route (name ∷ folder))) ≡ false = grind (arith, nat_tests) in
     rw (begins, short) e

@@ -14,24 +14,24 @@ same_path-lengths (m ∷ a) [] h = refl
 same_path-lengths (m ∷ a) (n ∷ b) h = rw (same_path-lengths a b (λ e. h (ap suc e))) (grind (arith, common_steps))
 
 -- no longer route is a prefix
-pub is_prefix-long : (front route : Route) → length route < length front → is_prefix front route ≡ false
-is_prefix-long front [] h = same_path-lengths front [] (omega arith)
-is_prefix-long front (n ∷ route) h =
-    rw (same_path-lengths front (n ∷ route) (omega arith), is_prefix-long front route (omega arith)) refl
+pub is_prefix-long : (prefix route : Route) → length route < length prefix → is_prefix prefix route ≡ false
+is_prefix-long prefix [] h = same_path-lengths prefix [] (omega arith)
+is_prefix-long prefix (n ∷ route) h =
+    rw (same_path-lengths prefix (n ∷ route) (omega arith), is_prefix-long prefix route (omega arith)) refl
 
-pub is_prefix-drop : (front route : Route) → length front ≤ length route
-    → is_prefix front route ≡ same_path front (drop (length route - length front) route)
+pub is_prefix-drop : (prefix route : Route) → length prefix ≤ length route
+    → is_prefix prefix route ≡ same_path prefix (drop (length route - length prefix) route)
 is_prefix-drop [] [] h = refl
-is_prefix-drop (m ∷ front) [] h = absurd (omega arith)
-is_prefix-drop front (n ∷ route) h =
+is_prefix-drop (m ∷ prefix) [] h = absurd (omega arith)
+is_prefix-drop prefix (n ∷ route) h =
     ⊎_elim
-    (λ (lt : length route < length front).
-    let all : length (n ∷ route) - length front ≡ 0 = omega arith in
-    rw (all, is_prefix-long front route lt) (grind (arith, common_steps)))
-    (λ (le : length front ≤ length route).
-    let more : length (n ∷ route) - length front ≡ suc (length route - length front) = omega arith in
-    rw (more, same_path-lengths front (n ∷ route) (omega arith)) (is_prefix-drop front route le))
-    (cases_lt (length route) (length front))
+    (λ (lt : length route < length prefix).
+    let all : length (n ∷ route) - length prefix ≡ 0 = omega arith in
+    rw (all, is_prefix-long prefix route lt) (grind (arith, common_steps)))
+    (λ (le : length prefix ≤ length route).
+    let more : length (n ∷ route) - length prefix ≡ suc (length route - length prefix) = omega arith in
+    rw (more, same_path-lengths prefix (n ∷ route) (omega arith)) (is_prefix-drop prefix route le))
+    (cases_lt (length route) (length prefix))
 
 -- the first names of a path, the last one first, are what is left of its route
 reverse-take : (n : ℕ) (names : Route) → n ≤ length names
@@ -44,15 +44,15 @@ reverse-take n names h =
     rw (parts, size) (drop-append_seam (reverse (drop n names)) (reverse (take n names)))
 
 -- a test of the first names tells whether a path begins with others
-pub begins-within : (front names : Route) → length front ≤ length names
-    → is_prefix (reverse front) (reverse names) ≡ same_path (reverse front) (reverse (take (length front) names))
-begins-within front names h =
-    let shorter : length (reverse front) ≤ length (reverse names) =
-    omega (arith, length-reverse front, length-reverse names) in
-    is_prefix-drop (reverse front) (reverse names) shorter
-    ∙ rw (length-reverse front, length-reverse names, reverse-take (length front) names h) refl
+pub begins-within : (prefix names : Route) → length prefix ≤ length names
+    → is_prefix (reverse prefix) (reverse names) ≡ same_path (reverse prefix) (reverse (take (length prefix) names))
+begins-within prefix names h =
+    let shorter : length (reverse prefix) ≤ length (reverse names) =
+    omega (arith, length-reverse prefix, length-reverse names) in
+    is_prefix-drop (reverse prefix) (reverse names) shorter
+    ∙ rw (length-reverse prefix, length-reverse names, reverse-take (length prefix) names h) refl
 
-pub begins-longer : (front names : Route) → length names < length front
-    → is_prefix (reverse front) (reverse names) ≡ false
-begins-longer front names h =
-    is_prefix-long (reverse front) (reverse names) (omega (arith, length-reverse front, length-reverse names))
+pub begins-longer : (prefix names : Route) → length names < length prefix
+    → is_prefix (reverse prefix) (reverse names) ≡ false
+begins-longer prefix names h =
+    is_prefix-long (reverse prefix) (reverse names) (omega (arith, length-reverse prefix, length-reverse names))

@@ -5,7 +5,7 @@ use Rattle.std.proofs.lemmas.List.Sums.{sum_by-cons}
 use Rattle.std.proofs.lemmas.Bool.Decides.{nat_tests}
 use Rattle.unicode_segmentation.specs.Grapheme.{graphemes}
 use Rattle.std.proofs.lemmas.Bool.{cases_lt}
-use Rattle.mc_text.specs.Fit.{cluster_columns, columns_in, run_within, blanks, cut_short, fitted, IsLongestRun}
+use Rattle.mc_text.specs.Fit.{cluster_columns, columns_in, run_within, blanks, cut_short, fitted_text, IsLongestRun}
 
 -- the first cluster fits
 pub run_within-fits : (room : ℕ) (p : List ℕ) (ps : List (List ℕ)) → cluster_columns p ≤ room → run_within room (p ∷ ps) ≡ p ∷ run_within (room - cluster_columns p) ps
@@ -62,14 +62,14 @@ longest_run room (p ∷ ps) =
     longer_one room p ps n h f zero a b = absurd (omega arith)
     longer_one room p ps n h f (suc k) a b = let m = f k (omega arith) (omega arith) in rw (sum_by-cons cluster_columns p (take k ps)) (omega (arith, m))
 
-pub fitted-none : (text : List ℕ) → fitted text 0 ≡ []
-unfolding fitted
+pub fitted-none : (text : List ℕ) → fitted_text text 0 ≡ []
+unfolding fitted_text
 fitted-none text = refl
 
-pub fitted-filled : (text : List ℕ) (n : ℕ) → 0 < n → columns_in text ≤ n → fitted text n ≡ text ++ blanks (n - columns_in text)
-unfolding fitted
+pub fitted-filled : (text : List ℕ) (n : ℕ) → 0 < n → columns_in text ≤ n → fitted_text text n ≡ text ++ blanks (n - columns_in text)
+unfolding fitted_text
 fitted-filled text n h le = grind (arith, nat_tests)
 
-pub fitted-cut : (text : List ℕ) (n : ℕ) → 0 < n → n < columns_in text → fitted text n ≡ cut_short (run_within (n - 1) (graphemes true text)) n
-unfolding fitted
+pub fitted-cut : (text : List ℕ) (n : ℕ) → 0 < n → n < columns_in text → fitted_text text n ≡ cut_short (run_within (n - 1) (graphemes true text)) n
+unfolding fitted_text
 fitted-cut text n h lt = grind (arith, nat_tests)

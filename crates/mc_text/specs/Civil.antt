@@ -10,8 +10,8 @@ count_to p zero = 0
 count_to p (suc n) = count_to p n + (if p (suc n) then 1 else 0)
 
 -- a day, as `day_count` counts it, of a day counted from 1970-01-01
-abbrev pub counted : ℕ → ℕ
-counted day = day_count (pos 1970) 1 1 + day
+abbrev pub counted_day : ℕ → ℕ
+counted_day day = day_count (pos 1970) 1 1 + day
 
 -- the month has begun by the day
 abbrev pub has_begun : ℕ → ℕ → ℕ → Bool
@@ -32,7 +32,7 @@ day_on count = count + 1 - day_count (pos (year_on count)) (month_on count) 1
 -- the year, month, day, hour and minute
 unfoldable pub civil_of : ℕ → CivilTime
 civil_of secs =
-    let count = counted (secs / 86400) in
+    let count = counted_day (secs / 86400) in
     record {
       year = year_on count;
       month = month_on count;

@@ -21,5 +21,5 @@ abbrev pub drawn_clusters : List ℕ → List (List ℕ)
 drawn_clusters text = map drawn_cluster (graphemes true text)
 
 -- the drawn text
-abbrev pub drawn : List ℕ → List ℕ
-drawn text = concat (drawn_clusters text)
+abbrev pub drawn_text : List ℕ → List ℕ
+drawn_text text = concat (drawn_clusters text)

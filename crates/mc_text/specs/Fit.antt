@@ -35,8 +35,8 @@ abbrev pub cut_short : List (List ℕ) → ℕ → List ℕ
 cut_short run columns = concat run ++ 126 ∷ blanks (columns - (sum_by cluster_columns run + 1))
 
 -- a text filled with blanks, or its longest run that leaves a column for `~`
-unfoldable pub fitted : List ℕ → ℕ → List ℕ
-fitted text columns =
+unfoldable pub fitted_text : List ℕ → ℕ → List ℕ
+fitted_text text columns =
     if nat_eq columns 0 then []
     else if nat_le (columns_in text) columns then text ++ blanks (columns - columns_in text)
     else cut_short (run_within (columns - 1) (graphemes true text)) columns

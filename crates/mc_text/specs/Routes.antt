@@ -12,14 +12,14 @@ abbrev pub Route : Type 0
 Route = List (List ℕ)
 
 -- each name behind a slash; of the root nothing
-abbrev pub spelled : Route → List ℕ
-spelled [] = []
-spelled (name ∷ folder) = spelled folder ++ 47 ∷ name
+abbrev pub spelled_route : Route → List ℕ
+spelled_route [] = []
+spelled_route (name ∷ folder) = spelled_route folder ++ 47 ∷ name
 
 -- a path as it is written, the root as one slash
 abbrev pub path_text : Route → List ℕ
 path_text [] = 47 ∷ []
-path_text (name ∷ folder) = spelled (name ∷ folder)
+path_text (name ∷ folder) = spelled_route (name ∷ folder)
 
 -- the folder that holds what stands at a path; the root has none
 abbrev pub parent_of : Route → Option Route
@@ -36,8 +36,8 @@ same_path = pointwise bytes_eq
 
 -- a path begins with the names of another, or is it
 abbrev pub is_prefix : Route → Route → Bool
-is_prefix front [] = same_path front []
-is_prefix front (name ∷ folder) = same_path front (name ∷ folder) || is_prefix front folder
+is_prefix prefix [] = same_path prefix []
+is_prefix prefix (name ∷ folder) = same_path prefix (name ∷ folder) || is_prefix prefix folder
 
 -- what stands before, between and behind the slashes of a text
 abbrev pub components_of : List ℕ → List (List ℕ)

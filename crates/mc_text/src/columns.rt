@@ -2,7 +2,7 @@
 ghost use Rattle.std.specs.Prelude.{◌≡◌, ◌+◌, ◌-◌, ◌*◌, ◌≤◌, ◌++◌, true, length, sum_by, string_bytes, IfOk};
 ghost use Rattle.std.specs.List.{concat};
 ghost use Rattle.unicode_segmentation.specs.Grapheme.{graphemes};
-ghost use Rattle.mc_text.specs.Fit.{cluster_columns, columns_in, run_within, blanks, fitted, IsLongestRun};
+ghost use Rattle.mc_text.specs.Fit.{cluster_columns, columns_in, run_within, blanks, fitted_text, IsLongestRun};
 
 use crate::error::NoMemory;
 use crate::text::Text;
@@ -14,7 +14,7 @@ use unicode_width::UnicodeWidthStr;
 /// it is empty.
 #[tactic(auto, using(crate::proofs::Runs::longest_run))]
 pub fn fit(alloc: Global, text: &str, columns: usize) -> Result<Text, NoMemory>
-    ensures fitted { IfOk result (λ line. line ≡ fitted text.now columns) }
+    ensures fitted { IfOk result (λ line. line ≡ fitted_text text.now columns) }
 
     // What a cut leaves is the longest run of clusters beside which there is room for the `~`.
     ensures longest { IsLongestRun (columns - 1) (graphemes true text.now)

@@ -3,7 +3,7 @@ ghost use Rattle.std.specs.Prelude.{◌≡◌, true, All, IfOk};
 ghost use Rattle.std.specs.List.{list_any};
 ghost use Rattle.std.specs.Str.{chars};
 ghost use Rattle.std.specs.Char.{is_control};
-ghost use Rattle.mc_text.specs.Drawn.{is_drawable, drawn_cluster, drawn_clusters, drawn};
+ghost use Rattle.mc_text.specs.Drawn.{is_drawable, drawn_cluster, drawn_clusters, drawn_text};
 
 use crate::columns::cluster_columns_of;
 use crate::error::NoMemory;
@@ -15,7 +15,7 @@ use unicode_segmentation::UnicodeSegmentation;
 /// 2.
 #[tactic(auto, using(crate::proofs::Drawables::each_is_drawable))]
 pub fn drawn(alloc: Global, text: &str) -> Result<Text, NoMemory>
-    ensures drawn { IfOk result (λ line. line ≡ drawn text.now) }
+    ensures drawn { IfOk result (λ line. line ≡ drawn_text text.now) }
 
     // Each piece takes one or two columns, and holds no control character.
     ensures drawable { All (λ piece. is_drawable piece ≡ true) (drawn_clusters text.now) }

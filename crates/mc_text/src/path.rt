@@ -1,7 +1,7 @@
 //! An absolute path: the names from the root on. Its text has at most 4,096 bytes.
 ghost use Rattle.std.specs.Prelude.{◌≡◌, ◌≢◌, ◌+◌, ◌<◌, ◌≤◌, [], ◌∷◌, length, None, Some, IsSome, reverse, option_map, option_copied, IfOk, IfErr};
 ghost use Rattle.mc_text.specs.Names.{name_fault};
-ghost use Rattle.mc_text.specs.Routes.{spelled, path_text, parent_of, last_of, same_path, is_prefix, path_fault, route_of};
+ghost use Rattle.mc_text.specs.Routes.{spelled_route, path_text, parent_of, last_of, same_path, is_prefix, path_fault, route_of};
 
 use crate::error::{NameError, NoMemory, PathError};
 use crate::name::Name;
@@ -24,13 +24,13 @@ pub struct Path {
 
 impl Model for Path {
     ghost use Rattle.std.specs.Prelude.{◌≡◌, ◌≤◌, List, ℕ, length, reverse};
-    ghost use Rattle.mc_text.specs.Routes.{spelled};
+    ghost use Rattle.mc_text.specs.Routes.{spelled_route};
 
     ghost Value = { List (List ℕ) };
 
     ghost view = { λ p. reverse p.names.items };
 
-    ghost invariant = { λ p. (p.spelled_bytes ≡ length (spelled (reverse p.names.items))) × (p.spelled_bytes ≤ 4096) };
+    ghost invariant = { λ p. (p.spelled_bytes ≡ length (spelled_route (reverse p.names.items))) × (p.spelled_bytes ≤ 4096) };
 }
 
 impl Path {
@@ -76,7 +76,7 @@ impl Path {
     /// The names from the root on.
     pub fn names(&self) -> &[Name]
         ensures names { reverse result.now ≡ self.now }
-        ensures short { length (spelled self.now) ≤ PATH_BYTES }
+        ensures short { length (spelled_route self.now) ≤ PATH_BYTES }
     {
         self.names.as_slice()
     }
@@ -84,9 +84,9 @@ impl Path {
     /// The path of a thing in this folder. `TooLong` has the bytes that its text would have.
     pub fn join(&self, alloc: Global, name: &Name) -> Result<Path, PathError>
         ensures joined { IfOk result (λ path. path ≡ name.now ∷ self.now) }
-        ensures fits { IfOk result (λ _. length (spelled (name.now ∷ self.now)) ≤ PATH_BYTES) }
+        ensures fits { IfOk result (λ _. length (spelled_route (name.now ∷ self.now)) ≤ PATH_BYTES) }
         ensures too_long { IfErr result (λ e. e ≢ PathError.Memory
-            → (e ≡ PathError.TooLong (length (spelled (name.now ∷ self.now)))) × (PATH_BYTES < length (spelled (name.now ∷ self.now)))) }
+            → (e ≡ PathError.TooLong (length (spelled_route (name.now ∷ self.now)))) × (PATH_BYTES < length (spelled_route (name.now ∷ self.now)))) }
     {
         let bytes = self.spelled_bytes + 1 + name.text().len();
         if bytes > PATH_BYTES {

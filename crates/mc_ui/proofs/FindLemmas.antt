@@ -24,7 +24,7 @@ use Rattle.ui_find.specs.declared.command.FindCommand.TheVariants as command
 use Rattle.ui_find.specs.FindKeys.{find_command}
 use Rattle.ui_find.specs.FindScreens.{AnswerLeads, ByAsking, CommandLeads, FindScreen, KeyLeads, LineLeads, NamesLead, StartLeads, choice}
 use Rattle.tagging.specs.TypedPatterns.{pattern_in}
-use Rattle.ui_find.specs.Listings.{chosen}
+use Rattle.ui_find.specs.Listings.{chosen_path}
 use Rattle.mc_ui.specs.Findings.{find_refusal}
 use Rattle.mc_ui.proofs.NoWays.{leads_nowhere}
 
@@ -42,7 +42,7 @@ module _ (contents : Option CallLog) (before after : FindScreen) where
 
   by_command : (command : FindCommand) (act : FindAct) → CommandLeads command act before after → Tells act
   by_command (command.Move base) act h = subst Tells (sym h.0) tt
-  by_command command.Choose act h = by_choice act (chosen before.listing) h.0 h.1
+  by_command command.Choose act h = by_choice act (chosen_path before.listing) h.0 h.1
   by_command command.Stop act h = subst Tells (sym h.0) tt
   by_command command.Leave act h = subst Tells (sym h.0) tt
   by_command command.Nothing act h = subst Tells (sym h.0) tt

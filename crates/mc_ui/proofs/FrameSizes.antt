@@ -13,7 +13,7 @@ use Rattle.ui_viewer.proofs.BoxSizes.{box_columns_same, box_lines_same, input_co
 use Rattle.ui_find.specs.declared.asking.Asking.{Asking}
 use Rattle.ui_find.specs.Listings.{ListingState}
 use Rattle.ui_find.specs.FindScreens.{FindScreen, page_of}
-use Rattle.ui_find.specs.FindFrames.{found_lines, painted, with_find}
+use Rattle.ui_find.specs.FindFrames.{found_lines, painted_search, with_find}
 use Rattle.panel_boxes.specs.declared.panel_box.PanelBox.{PanelBox}
 use Rattle.panel_boxes.specs.declared.panel_box.PanelBox.TheVariants.{Pending, Typed, Options}
 use Rattle.panel_boxes.specs.Paintings.{with_panel_box}
@@ -52,11 +52,11 @@ job_columns_same (NewModeBox paths asked) grid = box_columns_same grid (mode_lin
 job_columns_same (AnswerBox waits) grid = box_columns_same grid (plain_lines (waits_lines waits))
 
 -- the line that asks what is sought, or the list of what was found
-painted_lines_same : (asking : Option Asking) (page : ℕ) (listing : ListingState) (grid : CellGrid) → (painted asking page listing grid).lines ≡ grid.lines
+painted_lines_same : (asking : Option Asking) (page : ℕ) (listing : ListingState) (grid : CellGrid) → (painted_search asking page listing grid).lines ≡ grid.lines
 painted_lines_same None page listing grid = box_lines_same grid (found_lines page listing)
 painted_lines_same (Some asking) page listing grid = input_lines_same grid asking.line
 
-painted_columns_same : (asking : Option Asking) (page : ℕ) (listing : ListingState) (grid : CellGrid) → (painted asking page listing grid).columns ≡ grid.columns
+painted_columns_same : (asking : Option Asking) (page : ℕ) (listing : ListingState) (grid : CellGrid) → (painted_search asking page listing grid).columns ≡ grid.columns
 painted_columns_same None page listing grid = box_columns_same grid (found_lines page listing)
 painted_columns_same (Some asking) page listing grid = input_columns_same grid asking.line
 

@@ -9,14 +9,14 @@ use Rattle.tree_trait.specs.declared.file_system.FileSystem.{FileSystem}
 use Rattle.tree_trait.specs.Calls.{Stat}
 use Rattle.tree_trait.specs.FileSystem.{node}
 use Rattle.tree_trait.specs.Refusals.{refusal_of}
-use Rattle.tree_trait.specs.Change.{CallLog, current, found}
+use Rattle.tree_trait.specs.Change.{CallLog, current, found_node}
 use Rattle.resolving.specs.declared.error.ResolveError.{ResolveError}
 use Rattle.resolving.specs.declared.error.ResolveError.TheVariants as resolve
 use Rattle.resolving.specs.declared.looking.Step.{Step}
 use Rattle.resolving.specs.declared.looking.Step.TheVariants.{Into, Up, Onto, Across}
 use Rattle.resolving.specs.declared.walking.Wanted.TheVariants.{FolderAlone, AnyThing}
 use Rattle.resolving.specs.Errors.{Answers}
-use Rattle.resolving.specs.Resolution.{after_step, end_at, end_by_kind, end_told, no_more, resolved, start_of, step_from, steps_of, walk_along, walk_on}
+use Rattle.resolving.specs.Resolution.{after_step, end_at, end_by_kind, end_told, no_more, resolved_path, start_of, step_from, steps_of, walk_along, walk_on}
 
 abbrev Led : Type 0
 Led = Result Route ResolveError
@@ -55,7 +55,7 @@ behind (Err why) into into_alone across across_alone onto onto_alone e f g k h =
 along : (s : FileSystem) (follow follow_alone : Route → List (List ℕ) → Led)
     → ((from : Route) (left : List (List ℕ)) (e : ResolveError) → follow from left ≡ failed e → follow_alone from left ≡ failed e)
     → (folder : Route) (ahead : List (List ℕ)) (e : ResolveError) → walk_along s AnyThing follow folder ahead ≡ failed e → walk_along s FolderAlone follow_alone folder ahead ≡ failed e
-along s follow follow_alone keeps folder [] e h = told_end (refusal_of s (Stat folder)) (node s (found s folder)).kind folder e h
+along s follow follow_alone keeps folder [] e h = told_end (refusal_of s (Stat folder)) (node s (found_node s folder)).kind folder e h
 along s follow follow_alone keeps folder (component ∷ rest) e h =
     behind (step_from s folder component)
     (λ path. walk_along s AnyThing follow path rest) (λ path. walk_along s FolderAlone follow_alone path rest)
@@ -71,11 +71,11 @@ on s zero folder ahead e h = h
 on s (suc links) folder ahead e h =
     along s (walk_on s AnyThing links) (walk_on s FolderAlone links) (λ from left why g. on s links from left why g) folder ahead e h
 
-no_folder : (s : FileSystem) (from : Route) (typed : List ℕ) (e : ResolveError) → resolved s AnyThing from typed ≡ failed e → resolved s FolderAlone from typed ≡ failed e
+no_folder : (s : FileSystem) (from : Route) (typed : List ℕ) (e : ResolveError) → resolved_path s AnyThing from typed ≡ failed e → resolved_path s FolderAlone from typed ≡ failed e
 no_folder s from typed e h = along s (walk_on s AnyThing 40) (walk_on s FolderAlone 40) (on s 40) (start_of from typed) (steps_of typed) e h
 
-pub leads_nowhere : (log : CallLog) (from : Route) (typed : List ℕ) (e : ResolveError) → Answers {A = Route} (resolved (current log) AnyThing from typed) (Err e)
-    → Answers {A = Route} (resolved (current log) FolderAlone from typed) (Err e)
+pub leads_nowhere : (log : CallLog) (from : Route) (typed : List ℕ) (e : ResolveError) → Answers {A = Route} (resolved_path (current log) AnyThing from typed) (Err e)
+    → Answers {A = Route} (resolved_path (current log) FolderAlone from typed) (Err e)
 leads_nowhere log from typed (resolve.Tree path cause) h = no_folder (current log) from typed (resolve.Tree path cause) h
 leads_nowhere log from typed resolve.TooManyLinks h = no_folder (current log) from typed resolve.TooManyLinks h
 leads_nowhere log from typed resolve.TooLong h = no_folder (current log) from typed resolve.TooLong h

@@ -5,7 +5,7 @@ use Rattle.session_entries.specs.declared.refusal.Refusal.{Refusal}
 use Rattle.ui_words.specs.declared.message.Message.{Message}
 use Rattle.ui_words.specs.declared.message.Message.TheVariants.{Refused}
 use Rattle.ui_find.specs.FindScreens.{FindScreen}
-use Rattle.ui_job_boxes.specs.JobBoxes.{JobBoxState, AnswerBox, seen}
+use Rattle.ui_job_boxes.specs.JobBoxes.{JobBoxState, AnswerBox, seen_job_box}
 use Rattle.ui_job_list.specs.declared.list.JobList.{JobList}
 use Rattle.panel_boxes.specs.declared.panel_box.PanelBox.{PanelBox}
 use Rattle.mc_ui.specs.declared.dialog.Dialog.{Dialog}
@@ -23,7 +23,7 @@ pub data Box : Type 0 where
 -- a box as it is seen
 abbrev pub seen_box : Dialog → Box
 seen_box dialog.Nothing = NoBox
-seen_box (dialog.Job asks) = OneJobBox (seen asks)
+seen_box (dialog.Job asks) = OneJobBox (seen_job_box asks)
 seen_box (dialog.Panel asks) = PanelsBox asks
 seen_box (dialog.Find find) = FindBox find
 seen_box (dialog.Jobs list) = JobsBox list

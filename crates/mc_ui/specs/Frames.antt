@@ -22,16 +22,16 @@ use Rattle.mc_ui.specs.Boxes.{Box, NoBox, OneJobBox, PanelsBox, FindBox, JobsBox
 use Rattle.mc_ui.specs.Screens.{Screen, frame_size}
 
 -- one job more in this state
-abbrev pub counted : JobState → JobCounts → JobCounts
-counted state.Ready c = record c { ready = c.ready + 1 }
-counted state.Asking c = record c { asking = c.asking + 1 }
-counted state.Troubled c = record c { troubled = c.troubled + 1 }
-counted state.Stopped c = record c { stopped = c.stopped + 1 }
+abbrev pub counts_with_job : JobState → JobCounts → JobCounts
+counts_with_job state.Ready c = record c { ready = c.ready + 1 }
+counts_with_job state.Asking c = record c { asking = c.asking + 1 }
+counts_with_job state.Troubled c = record c { troubled = c.troubled + 1 }
+counts_with_job state.Stopped c = record c { stopped = c.stopped + 1 }
 
 -- how many jobs are in each state
 abbrev pub counts_of : List JobRow → JobCounts
 counts_of [] = record { ready = 0; asking = 0; troubled = 0; stopped = 0 }
-counts_of (row ∷ rows) = counted row.state (counts_of rows)
+counts_of (row ∷ rows) = counts_with_job row.state (counts_of rows)
 
 -- the box over what lies below, while these jobs are live
 abbrev pub with_over : Box → List JobRow → CellGrid → CellGrid

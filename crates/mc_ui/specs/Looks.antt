@@ -11,7 +11,7 @@ use Rattle.panel_pair.specs.declared.looking.Unread.{Unread}
 use Rattle.panel_pair.specs.Looks.{ShowsLooks}
 use Rattle.panel_pair.specs.Looks as pair
 use Rattle.panel_pair.specs.Pairs.{PairState}
-use Rattle.panel_pair.specs.Readings.{listed}
+use Rattle.panel_pair.specs.Readings.{list_of_error}
 
 -- what the live job waits with, where it waits; today one job is live at a time
 abbrev pub shown_waits : List JobRow → Option Waits
@@ -20,7 +20,7 @@ shown_waits (row ∷ rows) = waits_of row
 
 -- what was refused, the left panel's folder first
 abbrev pub told_unread : Unread → List Refusal
-told_unread unread = map Resolve (listed unread.left ++ listed unread.right)
+told_unread unread = map Resolve (list_of_error unread.left ++ list_of_error unread.right)
 
 -- the panels are read again, as the tree has their folders; one whose folder is refused stays as it was
 pub record ReadsAgain (contents : Option CallLog) (page : ℕ) (refusals : List Refusal) (before after : PairState) : Type 0 where

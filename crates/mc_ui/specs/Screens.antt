@@ -31,10 +31,10 @@ use Rattle.mc_ui.specs.declared.panel_command.KeyCommand.{KeyCommand}
 use Rattle.mc_ui.specs.declared.panel_command.KeyCommand.TheVariants.{Work, ShowHelp, View, Open, AskFolder, OpenPanelBox, Find, Quit, Nothing}
 use Rattle.ui_find.specs.declared.act.FindAct.{FindAct}
 use Rattle.ui_find.specs.declared.act.FindAct.TheVariants as found
-use Rattle.ui_find.specs.FindScreens.{FindScreen, KeyLeads as FindKeyLeads, opened as opened_find}
+use Rattle.ui_find.specs.FindScreens.{FindScreen, KeyLeads as FindKeyLeads, opened_find_screen as opened_find}
 use Rattle.ui_job_boxes.specs.declared.job_box.JobReply.{JobReply}
 use Rattle.ui_job_boxes.specs.declared.job_box.JobReply.TheVariants as job
-use Rattle.ui_job_boxes.specs.JobBoxes.{Around, JobBoxState, FolderBox, LinkTextBox, seen}
+use Rattle.ui_job_boxes.specs.JobBoxes.{Around, JobBoxState, FolderBox, LinkTextBox, seen_job_box}
 use Rattle.ui_job_boxes.specs.LiveJobs.{can_answer}
 use Rattle.ui_job_boxes.specs.Openings.{box_of, link_asked}
 use Rattle.ui_job_boxes.specs.Replies.{BoxLeads, box_after}
@@ -44,7 +44,7 @@ use Rattle.panel_state.specs.Panels.{PanelState, current_name}
 use Rattle.panel_boxes.specs.declared.panel_box.PanelBox.{PanelBox}
 use Rattle.panel_boxes.specs.declared.panel_box.PanelReply.{PanelReply}
 use Rattle.panel_boxes.specs.declared.panel_box.PanelReply.TheVariants as panel
-use Rattle.panel_boxes.specs.Openings.{opened}
+use Rattle.panel_boxes.specs.Openings.{opened_panel_box}
 use Rattle.panel_boxes.specs.Replies.{box_after as panel_box_after, reply_to}
 use Rattle.panel_pair.specs.declared.command.PanelCommand.{PanelCommand}
 use Rattle.panel_pair.specs.declared.command.PanelCommand.TheVariants.{Enter, GoTo}
@@ -196,7 +196,7 @@ CommandLeads (Open opens) contents rows refusals before after =
     Chooses opens (sight contents) before.panels.current refusals before after
 CommandLeads AskFolder contents rows refusals before after = (refusals ≡ []) × (after ≡ record before { over = OneJobBox (FolderBox folder_line) })
 CommandLeads (OpenPanelBox opening) contents rows refusals before after =
-    (refusals ≡ []) × (after ≡ record before { over = PanelsBox (opened before.lines opening) })
+    (refusals ≡ []) × (after ≡ record before { over = PanelsBox (opened_panel_box before.lines opening) })
 CommandLeads Find contents rows refusals before after = (refusals ≡ []) × (after ≡ record before { over = FindBox (find_asked before) })
 CommandLeads Quit contents rows refusals before after = (refusals ≡ []) × (after ≡ record before { planned = Some Ends })
 CommandLeads Nothing contents rows refusals before after = (refusals ≡ []) × (after ≡ before)
@@ -207,8 +207,8 @@ abbrev pub without_box : Screen → Screen
 without_box before = record before { over = NoBox }
 
 -- the screen once a job is to be begun: nothing is tagged any more
-abbrev pub begun : Job → Screen → Screen
-begun plan before = record before { panels = untagged_pair before.panels; over = NoBox; planned = Some (Begins plan false) }
+abbrev pub screen_with_begun_job : Job → Screen → Screen
+screen_with_begun_job plan before = record before { panels = untagged_pair before.panels; over = NoBox; planned = Some (Begins plan false) }
 
 -- what a box of a job goes by on the screen, while these jobs are live
 abbrev pub around : List JobRow → Screen → Around
@@ -219,8 +219,8 @@ around rows s = record { rows = rows; current = s.panels.current.folder; other =
 abbrev pub JobFollows : JobReply → JobBoxState → List Refusal → Screen → Screen → Type 0
 JobFollows job.Stays left refusals before after = (refusals ≡ []) × (after ≡ record before { over = OneJobBox left })
 JobFollows job.Shuts left refusals before after = (refusals ≡ []) × (after ≡ without_box before)
-JobFollows (job.Opens next) left refusals before after = (refusals ≡ []) × (after ≡ record before { over = OneJobBox (seen next) })
-JobFollows (job.Begins plan) left refusals before after = (refusals ≡ []) × (after ≡ begun plan before)
+JobFollows (job.Opens next) left refusals before after = (refusals ≡ []) × (after ≡ record before { over = OneJobBox (seen_job_box next) })
+JobFollows (job.Begins plan) left refusals before after = (refusals ≡ []) × (after ≡ screen_with_begun_job plan before)
 JobFollows (job.Answers answer) left refusals before after =
     (refusals ≡ []) × (after ≡ record before { over = NoBox; planned = Some (Answers answer) })
 JobFollows (job.Refuses refusal) left refusals before after = (refusals ≡ refusal ∷ []) × (after ≡ told_refusal refusal before)
@@ -373,9 +373,9 @@ with_ask ask.End screen = record screen { planned = Some Ends }
 
 -- the screen once it is told what became of that: where it was done, the box that asked is shut, and where a job was begun nothing is
 -- tagged any more; a refusal gets its message
-abbrev pub settled : Told → Screen → Screen
-settled told.Nothing screen = screen
-settled told.Begun screen = record screen { panels = untagged_pair screen.panels; over = NoBox }
-settled told.Answered screen = without_box screen
-settled (told.Refused refusal) screen = told_refusal refusal screen
-settled told.Lost screen = screen
+abbrev pub settled_screen : Told → Screen → Screen
+settled_screen told.Nothing screen = screen
+settled_screen told.Begun screen = record screen { panels = untagged_pair screen.panels; over = NoBox }
+settled_screen told.Answered screen = without_box screen
+settled_screen (told.Refused refusal) screen = told_refusal refusal screen
+settled_screen told.Lost screen = screen

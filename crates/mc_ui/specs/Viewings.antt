@@ -10,7 +10,7 @@ use Rattle.ui_viewer.specs.declared.act.ViewerAct.TheVariants.{Refused}
 use Rattle.ui_viewer.specs.declared.opening.Opening.{Opening}
 use Rattle.ui_viewer.specs.declared.opening.Opening.TheVariants.{Viewed, NoWay, Unread}
 use Rattle.ui_viewer.specs.Motions.{LooksAtNothing}
-use Rattle.ui_viewer.specs.ViewerScreens.{wanted}
+use Rattle.ui_viewer.specs.ViewerScreens.{wanted_motion}
 use Rattle.session_entries.specs.declared.refusal.Refusal.{Refusal}
 use Rattle.session_entries.specs.declared.refusal.Refusal.TheVariants.{Read, Resolve}
 use Rattle.panel_state.specs.declared.going.Way.{Way}
@@ -42,4 +42,4 @@ told_by act path = []
 -- a file is viewed, and a key wants nothing of it, or what looks at nothing
 abbrev pub LeavesUnread : Option ViewedFile → Key → Type 0
 LeavesUnread None key = ⊥
-LeavesUnread (Some viewed) key = LooksAtNothing (wanted key viewed.mode) viewed.mode.viewer
+LeavesUnread (Some viewed) key = LooksAtNothing (wanted_motion key viewed.mode) viewed.mode.viewer

@@ -5,7 +5,7 @@ ghost use Rattle.mc_ui.specs.PanelKeys.{plain_base};
 ghost use Rattle.ui_plans.specs.Reading.{ReadsTree};
 ghost use Rattle.mc_ui.specs.Boxes.{seen_box};
 ghost use Rattle.mc_ui.specs.Viewings.{LeavesUnread};
-ghost use Rattle.mc_ui.specs.Screens.{Asks, HasSameSize, KeyLeads, WorksBelow, WorksKey, after_message, at_second, frame_size, opened_screen, page_of, settled as screen_settled, with_ask, with_viewer, without_box};
+ghost use Rattle.mc_ui.specs.Screens.{Asks, HasSameSize, KeyLeads, WorksBelow, WorksKey, after_message, at_second, frame_size, opened_screen, page_of, settled_screen as screen_settled, with_ask, with_viewer, without_box};
 
 mod find_box;
 mod job_questions;

@@ -8,22 +8,22 @@ use Rattle.tree_trait.specs.declared.calls.TreeError.{TreeError}
 use Rattle.tree_trait.specs.declared.calls.TreeError.TheVariants as tree
 use Rattle.tree_trait.specs.Calls.{Stat, ReadAt}
 use Rattle.tree_trait.specs.FileSystem.{node}
-use Rattle.tree_trait.specs.Change.{CallLog, current, found}
-use Rattle.tree_trait.specs.Refusals.{refusal_of, walk, first_of, Place, missing, a_folder, a_special, denied, thing}
+use Rattle.tree_trait.specs.Change.{CallLog, current, found_node}
+use Rattle.tree_trait.specs.Refusals.{refusal_of, walk, first_of, Place, missing, a_folder, a_special, denied_access, thing}
 use Rattle.tree_trait.specs.Answers.{Reads, IsRead}
 use Rattle.mc_viewer.specs.declared.subject.Subject.{Subject}
 use Rattle.mc_viewer.specs.declared.subject.Subject.TheVariants.{File, Output}
 use Rattle.mc_viewer.specs.declared.error.ViewError.{ViewError}
-use Rattle.mc_viewer.specs.Viewing.{held, refused_with, IsReadable, IsRefused, AsTheTreeSays}
+use Rattle.mc_viewer.specs.Viewing.{held_bytes, refused_with, IsReadable, IsRefused, AsTheTreeSays}
 
 -- the log of a tree that is known, and what it holds at a path
 pub record Known (contents : Option CallLog) (path : Route) (bytes : List ℕ) : Type 0 where
   pub log : CallLog
   pub is : contents ≡ Some log
-  pub holds : bytes ≡ (node (current log) (found (current log) path)).bytes
+  pub holds : bytes ≡ (node (current log) (found_node (current log) path)).bytes
 
-pub known-file : (contents : Option CallLog) (path : Route) (bytes : List ℕ) → held contents (File path) ≡ Some bytes → Known contents path bytes
-unfolding held
+pub known-file : (contents : Option CallLog) (path : Route) (bytes : List ℕ) → held_bytes contents (File path) ≡ Some bytes → Known contents path bytes
+unfolding held_bytes
 known-file None path bytes is = absurd (cc)
 known-file (Some log) path bytes is = record { log = log; is = refl; holds = cc }
 
@@ -71,7 +71,7 @@ readable-output log subject out is = subst (IsReadable log) (sym is) tt
 
 -- a path that can't be looked at can't be read
 stat_then_read : (s : FileSystem) (path : Route) (e : TreeError) → refusal_of s (Stat path) ≡ Some e → refusal_of s (ReadAt path 0 0) ≡ Some e
-stat_then_read s path e is = go (walk s path) (λ p. a_folder s p ∷ a_special s p ∷ denied 0o400 (thing s p) ∷ []) is
+stat_then_read s path e is = go (walk s path) (λ p. a_folder s p ∷ a_special s p ∷ denied_access 0o400 (thing s p) ∷ []) is
   where
     go : (r : Result Place TreeError) (more : Place → List (Bool × TreeError))
         → elim r [ Err f ↦ Some f | Ok place ↦ first_of (missing place ∷ []) ] ≡ Some e
@@ -105,7 +105,7 @@ refused-said log path e (Ok x) is h = tt
 refused-said log path e (Err error) is h = subst (AsTheTreeSays log (File path)) (sym is) h
 
 -- an output is what is held
-pub held-output : (contents : Option CallLog) (subject : Subject) (out bytes : List ℕ) → subject ≡ Output out → held contents subject ≡ Some bytes → out ≡ bytes
-unfolding held
+pub held-output : (contents : Option CallLog) (subject : Subject) (out bytes : List ℕ) → subject ≡ Output out → held_bytes contents subject ≡ Some bytes → out ≡ bytes
+unfolding held_bytes
 held-output contents subject out bytes is known =
-    let e : held contents (Output out) ≡ Some bytes = ap (held contents) (sym is) ∙ known in cc
+    let e : held_bytes contents (Output out) ≡ Some bytes = ap (held_bytes contents) (sym is) ∙ known in cc

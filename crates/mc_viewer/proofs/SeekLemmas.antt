@@ -10,7 +10,7 @@ use Rattle.mc_viewer.specs.declared.error.ViewError.TheVariants as error
 use Rattle.mc_viewer.specs.declared.search.Search.{Search}
 use Rattle.mc_viewer.specs.declared.search.Search.TheVariants.{Plain, Regex}
 use Rattle.mc_viewer.specs.Viewing.{IsReadError, IfRead}
-use Rattle.mc_viewer.specs.Searches.{first_place, text_sought, sought, next_from, IsMissed, IsSearchError}
+use Rattle.mc_viewer.specs.Searches.{first_place, text_sought, sought_place, next_from, IsMissed, IsSearchError}
 
 -- a reading that failed says nothing of what is sought
 pub missed_unread : {A B : Type 0} (outcome : Result A ViewError) (r : Result B ViewError) → IfErr r IsReadError → IfErr r (IsMissed outcome)
@@ -60,7 +60,7 @@ text-past text at rest none =
     empty_or zero = inl refl
     empty_or (suc n) = inr (omega arith)
 
-pub sought-past : (what : Search) (bytes : List ℕ) (at other : ℕ) → length bytes ≤ at → length bytes ≤ other → sought what bytes at ≡ sought what bytes other
+pub sought-past : (what : Search) (bytes : List ℕ) (at other : ℕ) → length bytes ≤ at → length bytes ≤ other → sought_place what bytes at ≡ sought_place what bytes other
 sought-past (Plain text) bytes at other past far =
     text-past text at (drop at bytes) (drop_all at bytes past) ∙ sym (text-past text other (drop other bytes) (drop_all other bytes far))
 sought-past (Regex text) bytes at other past far =
@@ -71,7 +71,7 @@ sought-past (Regex text) bytes at other past far =
 
 -- what is behind a place past the end is past it too
 pub next-past : (what : Search) (bytes : List ℕ) (size place : ℕ) → length bytes ≡ size → size ≤ place
-    → sought what bytes size ≡ sought what bytes (next_from bytes what place)
+    → sought_place what bytes size ≡ sought_place what bytes (next_from bytes what place)
 next-past (Plain text) bytes size place size_is past = sought-past (Plain text) bytes size (next_from bytes (Plain text) place) (omega arith) (omega arith)
 next-past (Regex text) bytes size place size_is past = sought-past (Regex text) bytes size (next_from bytes (Regex text) place) (omega arith) (omega arith)
 

@@ -5,7 +5,7 @@ use Rattle.mc_viewer.specs.declared.state.State.{State}
 use Rattle.mc_viewer.specs.declared.way.Start.{Start}
 use Rattle.mc_viewer.specs.declared.way.Way.{Way}
 use Rattle.mc_viewer.specs.Rows.{all_rows, row_holding}
-use Rattle.mc_viewer.specs.Steps.{layout_of}
+use Rattle.mc_viewer.specs.ViewerSteps.{layout_of}
 use Rattle.mc_viewer.specs.Ways.{row_along, start_byte, to_row}
 
 pub led : (bytes : List ℕ) (s new : State) (start : Start) (way : Way) (l : Layout) (byte from row : ℕ)

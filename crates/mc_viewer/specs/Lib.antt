@@ -3,6 +3,6 @@ pub mod Rows
 pub mod Viewing
 pub mod Pages
 pub mod Windows
-pub mod Steps
+pub mod ViewerSteps
 pub mod Ways
 pub mod Searches

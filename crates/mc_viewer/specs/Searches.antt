@@ -15,7 +15,7 @@ use Rattle.mc_viewer.specs.declared.search.Search.TheVariants.{Plain, Regex}
 use Rattle.mc_viewer.specs.declared.search.Hit.{Hit}
 use Rattle.mc_viewer.specs.declared.search.Landing.{Landing}
 use Rattle.mc_viewer.specs.Rows.{line_length, row_holding}
-use Rattle.mc_viewer.specs.Steps.{top_row, to_byte, Viewing}
+use Rattle.mc_viewer.specs.ViewerSteps.{top_row, to_byte, Viewing}
 
 -- the least place where the text stands, in a rest of the file that begins at this place
 unfoldable pub first_place : List ℕ → ℕ → List ℕ → Option ℕ
@@ -28,9 +28,9 @@ abbrev pub text_sought : List ℕ → ℕ → List ℕ → Sought
 text_sought text at rest = if length text == 0 then Nowhere else option_map_or At (first_place text at rest) Nowhere
 
 -- what a search of the file from a place on comes to
-abbrev pub sought : Search → List ℕ → ℕ → Sought
-sought (Plain text) bytes from = text_sought text from (drop from bytes)
-sought (Regex text) bytes from = lines_sought text from (drop from bytes)
+abbrev pub sought_place : Search → List ℕ → ℕ → Sought
+sought_place (Plain text) bytes from = text_sought text from (drop from bytes)
+sought_place (Regex text) bytes from = lines_sought text from (drop from bytes)
 
 -- where a search begins: at the top, one over lines where the line of the top begins
 abbrev pub start_from : List ℕ → ℕ → Search → ℕ → ℕ
@@ -54,16 +54,16 @@ landing_at bytes s NoPattern = Err error.BadPattern
 
 -- where a search from a place on leads
 abbrev pub landing : Search → List ℕ → State → ℕ → Result Landing ViewError
-landing what bytes s from = landing_at bytes s (sought what bytes from)
+landing what bytes s from = landing_at bytes s (sought_place what bytes from)
 
 -- a viewer once it landed there
-abbrev pub landed : Viewing → Search → Result Landing ViewError → Result Viewing ViewError
-landed v what (Ok l) = Ok (record v { state = l.state; last = Some (record { what = what; place = l.place }) })
-landed v what (Err e) = Err e
+abbrev pub landed_viewing : Viewing → Search → Result Landing ViewError → Result Viewing ViewError
+landed_viewing v what (Ok l) = Ok (record v { state = l.state; last = Some (record { what = what; place = l.place }) })
+landed_viewing v what (Err e) = Err e
 
 -- a viewer after a search, and after the next one
 abbrev pub after_search : List ℕ → Search → Viewing → Result Viewing ViewError
-after_search bytes what v = landed v what (landing what bytes v.state (first_from bytes v.state what))
+after_search bytes what v = landed_viewing v what (landing what bytes v.state (first_from bytes v.state what))
 
 -- where a search behind what was found last leads
 abbrev pub hit_landing : List ℕ → State → Option Hit → Result Landing ViewError

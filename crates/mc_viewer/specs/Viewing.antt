@@ -4,7 +4,7 @@ use Rattle.tree_trait.specs.declared.calls.TreeError.{TreeError}
 use Rattle.tree_trait.specs.declared.calls.TreeError.TheVariants as tree
 use Rattle.tree_trait.specs.Calls.{ReadAt}
 use Rattle.tree_trait.specs.FileSystem.{node}
-use Rattle.tree_trait.specs.Change.{CallLog, current, found}
+use Rattle.tree_trait.specs.Change.{CallLog, current, found_node}
 use Rattle.tree_trait.specs.Refusals.{refusal_of}
 use Rattle.mc_viewer.specs.declared.subject.Subject.{Subject}
 use Rattle.mc_viewer.specs.declared.subject.Subject.TheVariants.{File, Output}
@@ -12,10 +12,10 @@ use Rattle.mc_viewer.specs.declared.error.ViewError.{ViewError}
 use Rattle.mc_viewer.specs.declared.error.ViewError.TheVariants.{Tree, NotFound, BadPattern, LineTooLong, Memory}
 
 -- the bytes of an output, or those of a file in a tree that is known
-unfoldable pub held : Option CallLog → Subject → Option (List ℕ)
-held contents (Output bytes) = Some bytes
-held None (File path) = None
-held (Some log) (File path) = Some (node (current log) (found (current log) path)).bytes
+unfoldable pub held_bytes : Option CallLog → Subject → Option (List ℕ)
+held_bytes contents (Output bytes) = Some bytes
+held_bytes None (File path) = None
+held_bytes (Some log) (File path) = Some (node (current log) (found_node (current log) path)).bytes
 
 -- what a command put out, which no tree is asked for
 abbrev pub is_output : Subject → Bool
@@ -24,11 +24,11 @@ is_output (File path) = false
 
 -- a fact on the bytes that are viewed, where they are known and so many
 abbrev pub IfHeld : Option CallLog → Subject → ℕ → (List ℕ → Type 0) → Type 0
-IfHeld contents subject size P = (bytes : List ℕ) → held contents subject ≡ Some bytes → length bytes ≡ size → P bytes
+IfHeld contents subject size P = (bytes : List ℕ) → held_bytes contents subject ≡ Some bytes → length bytes ≡ size → P bytes
 
 -- the same, where they may be fewer than was said: the file shrank since
 abbrev pub IfShorter : Option CallLog → Subject → ℕ → (List ℕ → Type 0) → Type 0
-IfShorter contents subject size P = (bytes : List ℕ) → held contents subject ≡ Some bytes → length bytes ≤ size → P bytes
+IfShorter contents subject size P = (bytes : List ℕ) → held_bytes contents subject ≡ Some bytes → length bytes ≤ size → P bytes
 
 -- the error for a call that the tree refused
 abbrev pub refused_with : TreeError → ViewError

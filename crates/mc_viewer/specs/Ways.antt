@@ -6,7 +6,7 @@ use Rattle.mc_viewer.specs.declared.way.Start.TheVariants.{Byte, Line, End}
 use Rattle.mc_viewer.specs.declared.way.Way.{Way}
 use Rattle.mc_viewer.specs.declared.way.Way.TheVariants.{Nowhere, Down, Up}
 use Rattle.mc_viewer.specs.Rows.{row_holding, rows_down, rows_up, line_behind}
-use Rattle.mc_viewer.specs.Steps.{shape_of, rows_of}
+use Rattle.mc_viewer.specs.ViewerSteps.{shape_of, rows_of}
 
 -- the byte at a place
 abbrev pub start_byte : List ℕ → Start → ℕ

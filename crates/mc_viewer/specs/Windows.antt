@@ -5,7 +5,7 @@ use Rattle.tree_trait.specs.Answers.{IfKnown}
 use Rattle.mc_viewer.specs.declared.layout.Shape.{Shape}
 use Rattle.mc_viewer.specs.declared.layout.Shape.TheVariants.{Wrapped, Unwrapped, Hex}
 use Rattle.mc_viewer.specs.declared.subject.Subject.{Subject}
-use Rattle.mc_viewer.specs.Viewing.{held}
+use Rattle.mc_viewer.specs.Viewing.{held_bytes}
 
 -- the bytes from a row's start on that say what it shows: a character has four at most, and a column at least
 abbrev pub window_of : Shape → ℕ → ℕ → ℕ
@@ -19,4 +19,4 @@ IsPieceAt bytes start piece = piece ≡ take (length piece) (drop start bytes)
 
 -- these are bytes of what is viewed from a place on, where its bytes are known
 abbrev pub IsKept : Option CallLog → Subject → ℕ → List ℕ → Type 0
-IsKept contents subject start piece = IfKnown (held contents subject) (λ bytes. IsPieceAt bytes start piece)
+IsKept contents subject start piece = IfKnown (held_bytes contents subject) (λ bytes. IsPieceAt bytes start piece)

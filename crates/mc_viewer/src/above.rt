@@ -2,7 +2,7 @@
 ghost use Rattle.std.specs.Prelude.{◌≡◌, ◌+◌, ◌-◌, ◌<◌, ◌≤◌, ◌^◌, ℕ, List, length, take, drop, get_or, IfOk, IfErr, IfSome, true, All};
 ghost use Rattle.std.specs.Bool.{OnTrue};
 ghost use Rattle.tree_trait.specs.Answers.{IfKnown, HasCause};
-ghost use Rattle.mc_viewer.specs.Viewing.{held, IfHeld, IsReadError, AsTheTreeSays, is_output};
+ghost use Rattle.mc_viewer.specs.Viewing.{held_bytes, IfHeld, IsReadError, AsTheTreeSays, is_output};
 ghost use Rattle.mc_viewer.specs.Rows.{row_holding, wrapped_length, IsLineStart};
 ghost use Rattle.mc_viewer.specs.Units.{is_plain};
 ghost use Rattle.mc_viewer.specs.Windows.{IsPieceAt, IsKept};

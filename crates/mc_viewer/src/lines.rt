@@ -1,7 +1,7 @@
 //! Where lines begin and end, read piece by piece.
 ghost use Rattle.std.specs.Prelude.{◌≡◌, ◌+◌, ◌<◌, ◌≤◌, ◌^◌, length, drop, IfOk, IfErr, true};
 ghost use Rattle.tree_trait.specs.Answers.{IfKnown, HasCause};
-ghost use Rattle.mc_viewer.specs.Viewing.{held, IfHeld, IsReadError, AsTheTreeSays, is_output};
+ghost use Rattle.mc_viewer.specs.Viewing.{held_bytes, IfHeld, IsReadError, AsTheTreeSays, is_output};
 ghost use Rattle.mc_viewer.specs.Rows.{line_length, IsLineStart, line_behind};
 
 use crate::error::ViewError;
@@ -26,7 +26,7 @@ pub fn line_begin<T: ReadTree>(
     at: u64,
 ) -> Result<u64, ViewError>
     requires { at ≤ 2 ^ 63 }
-    ensures shown { IfKnown (held (T.contents tree.old) subject.now) (λ bytes. IfOk result (IsLineStart bytes)) }
+    ensures shown { IfKnown (held_bytes (T.contents tree.old) subject.now) (λ bytes. IfOk result (IsLineStart bytes)) }
     ensures before { IfOk result (λ start. start ≤ at) }
     ensures refused { IfKnown (T.contents tree.old) (λ log. IfErr result (AsTheTreeSays log subject.now)) }
     ensures kinds { IfErr result IsReadError }

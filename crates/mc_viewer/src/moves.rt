@@ -1,9 +1,9 @@
 //! Where each step leads.
 ghost use Rattle.std.specs.Prelude.{◌≡◌, ◌-◌, ◌<◌, ◌≤◌, ◌^◌, length, IsOk, IfOk, IfErr, true};
 ghost use Rattle.tree_trait.specs.Answers.{IfKnown, HasCause};
-ghost use Rattle.mc_viewer.specs.Viewing.{held, IfHeld, IsReadError, AsTheTreeSays, is_output};
+ghost use Rattle.mc_viewer.specs.Viewing.{held_bytes, IfHeld, IsReadError, AsTheTreeSays, is_output};
 ghost use Rattle.mc_viewer.specs.Rows.{all_rows, IsRow, rows_down, rows_up};
-ghost use Rattle.mc_viewer.specs.Steps.{after_step, NeedsNoLook};
+ghost use Rattle.mc_viewer.specs.ViewerSteps.{after_step, NeedsNoLook};
 ghost use Rattle.mc_viewer.specs.Ways.{start_byte, to_row};
 
 use crate::above::row_above;
@@ -31,7 +31,7 @@ pub fn moved<T: ReadTree>(
     step: ViewStep,
 ) -> Result<State, ViewError>
     requires wide { 1 ≤ state.columns }
-    ensures shown { IfKnown (held (T.contents tree.old) subject.now) (λ bytes.
+    ensures shown { IfKnown (held_bytes (T.contents tree.old) subject.now) (λ bytes.
         IfOk result (λ new. new ≡ after_step bytes step state)) }
     ensures still { NeedsNoLook step → IsOk result × (tree.new ≡ tree.old) }
     ensures screen { IfOk result (λ new. (new.columns ≡ state.columns) × (new.lines ≡ state.lines)) }
@@ -83,7 +83,7 @@ fn to_row<T: ReadTree>(
     way: Way,
 ) -> Result<State, ViewError>
     requires wide { 1 ≤ state.columns }
-    ensures shown { IfKnown (held (T.contents tree.old) subject.now) (λ bytes.
+    ensures shown { IfKnown (held_bytes (T.contents tree.old) subject.now) (λ bytes.
         IfOk result (λ new. new ≡ to_row bytes state start way)) }
     ensures screen { IfOk result (λ new. (new.columns ≡ state.columns) × (new.lines ≡ state.lines)) }
     ensures refused { IfKnown (T.contents tree.old) (λ log. IfErr result (AsTheTreeSays log subject.now)) }

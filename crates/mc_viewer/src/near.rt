@@ -1,7 +1,7 @@
 //! A piece of what is viewed, kept while the rows in it are looked at, so that its bytes are read once.
 ghost use Rattle.std.specs.Prelude.{◌≡◌, ◌+◌, ◌<◌, ◌≤◌, ◌^◌, ℕ, List, length, take, drop, IfOk, IfErr, IfSome, true};
 ghost use Rattle.tree_trait.specs.Answers.{IfKnown, HasCause};
-ghost use Rattle.mc_viewer.specs.Viewing.{held, IsReadError, AsTheTreeSays, is_output};
+ghost use Rattle.mc_viewer.specs.Viewing.{held_bytes, IsReadError, AsTheTreeSays, is_output};
 ghost use Rattle.mc_viewer.specs.Windows.{IsPieceAt, IsKept};
 
 use crate::error::ViewError;
@@ -41,7 +41,7 @@ pub fn piece_near<T: ReadTree>(
     count: usize,
 ) -> Result<Vec<u8>, ViewError>
     requires kept { IsKept (T.contents tree.old) subject.now near.old.start near.old.bytes.items }
-    ensures shown { IfKnown (held (T.contents tree.old) subject.now) (λ bytes.
+    ensures shown { IfKnown (held_bytes (T.contents tree.old) subject.now) (λ bytes.
         IfOk result (λ piece. piece.items ≡ take count (drop at bytes))) }
     ensures short { IfOk result (λ piece. length piece.items ≤ count) }
     ensures kept { IsKept (T.contents tree.new) subject.now near.new.start near.new.bytes.items }

@@ -1,7 +1,7 @@
 //! What a page shows, row by row.
 ghost use Rattle.std.specs.Prelude.{◌≡◌, ◌+◌, ◌<◌, ◌≤◌, ◌^◌, ◌-◌, length, map, take, drop, IfOk, IfErr, true};
 ghost use Rattle.tree_trait.specs.Answers.{IfKnown, HasCause};
-ghost use Rattle.mc_viewer.specs.Viewing.{held, IfHeld, IsReadable, IsReadError, AsTheTreeSays, is_output};
+ghost use Rattle.mc_viewer.specs.Viewing.{held_bytes, IfHeld, IsReadable, IsReadError, AsTheTreeSays, is_output};
 ghost use Rattle.mc_viewer.specs.Rows.{row_length, row_starts};
 ghost use Rattle.mc_viewer.specs.Pages.{shown_row, page_rows};
 ghost use Rattle.mc_viewer.specs.Windows.{window_of, IsKept};
@@ -28,7 +28,7 @@ pub fn page_rows<T: ReadTree>(
     top: u64,
 ) -> Result<Rows, ViewError>
     requires wide { 1 ≤ layout.columns }
-    ensures shown { IfKnown (held (T.contents tree.old) subject.now) (λ bytes.
+    ensures shown { IfKnown (held_bytes (T.contents tree.old) subject.now) (λ bytes.
         IfOk result (λ rows. rows ≡ page_rows layout count bytes top)) }
     ensures readable { IfKnown (T.contents tree.old) (λ log. IfOk result (λ _. IsReadable log subject.now)) }
     ensures refused { IfKnown (T.contents tree.old) (λ log. IfErr result (AsTheTreeSays log subject.now)) }

@@ -1,7 +1,7 @@
 //! What is viewed, read piece by piece.
 ghost use Rattle.std.specs.Prelude.{◌≡◌, ◌≤◌, ◌^◌, length, take, drop, IfOk, IfErr, true};
 ghost use Rattle.tree_trait.specs.Answers.{IfKnown, HasCause};
-ghost use Rattle.mc_viewer.specs.Viewing.{held, IsReadable, IsReadError, AsTheTreeSays, is_output};
+ghost use Rattle.mc_viewer.specs.Viewing.{held_bytes, IsReadable, IsReadError, AsTheTreeSays, is_output};
 
 use crate::error::ViewError;
 use crate::subject::Subject;
@@ -18,7 +18,7 @@ pub fn piece<T: ReadTree>(
     at: u64,
     count: usize,
 ) -> Result<Vec<u8>, ViewError>
-    ensures shown { IfKnown (held (T.contents tree.old) subject.now) (λ bytes.
+    ensures shown { IfKnown (held_bytes (T.contents tree.old) subject.now) (λ bytes.
         IfOk result (λ piece. piece.items ≡ take count (drop at bytes))) }
     ensures short { IfOk result (λ piece. length piece.items ≤ count) }
     ensures readable { IfKnown (T.contents tree.old) (λ log. IfOk result (λ _. IsReadable log subject.now)) }
@@ -41,7 +41,7 @@ fn file_piece<T: ReadTree>(
     at: u64,
     count: usize,
 ) -> Result<Vec<u8>, ViewError>
-    ensures shown { IfKnown (held (T.contents tree.old) (Subject.File path.now)) (λ bytes.
+    ensures shown { IfKnown (held_bytes (T.contents tree.old) (Subject.File path.now)) (λ bytes.
         IfOk result (λ piece. piece.items ≡ take count (drop at bytes))) }
     ensures short { IfOk result (λ piece. length piece.items ≤ count) }
     ensures readable { IfKnown (T.contents tree.old) (λ log. IfOk result (λ _. IsReadable log (Subject.File path.now))) }
@@ -71,7 +71,7 @@ pub fn size_of<T: ReadTree>(
     tree: &mut T,
     subject: &Subject,
 ) -> Result<u64, ViewError>
-    ensures shown { IfKnown (held (T.contents tree.old) subject.now) (λ bytes.
+    ensures shown { IfKnown (held_bytes (T.contents tree.old) subject.now) (λ bytes.
         IfOk result (λ size. size ≡ length bytes)) }
     ensures small { IfOk result (λ size. size ≤ 2 ^ 63) }
     ensures readable { IfKnown (T.contents tree.old) (λ log. IfOk result (λ _. IsReadable log subject.now)) }
@@ -88,7 +88,7 @@ pub fn size_of<T: ReadTree>(
 }
 
 fn file_size<T: ReadTree>(alloc: Global, tree: &mut T, path: &Path) -> Result<u64, ViewError>
-    ensures shown { IfKnown (held (T.contents tree.old) (Subject.File path.now)) (λ bytes.
+    ensures shown { IfKnown (held_bytes (T.contents tree.old) (Subject.File path.now)) (λ bytes.
         IfOk result (λ size. size ≡ length bytes)) }
     ensures small { IfOk result (λ size. size ≤ 2 ^ 63) }
     ensures readable { IfKnown (T.contents tree.old) (λ log. IfOk result (λ _. IsReadable log (Subject.File path.now))) }

@@ -1,9 +1,9 @@
 //! Where a search leads.
 ghost use Rattle.std.specs.Prelude.{◌≡◌, ◌≢◌, ◌≤◌, ◌^◌, None, Ok, Err, IfOk, IfErr, true};
 ghost use Rattle.tree_trait.specs.Answers.{IfKnown, HasCause};
-ghost use Rattle.mc_viewer.specs.Viewing.{held, IfHeld, IfRead, IsReadable, IsReadError, AsTheTreeSays, is_output};
-ghost use Rattle.mc_viewer.specs.Steps.{to_byte};
-ghost use Rattle.mc_viewer.specs.Searches.{sought, start_from, first_from, next_from, landing, hit_landing, IsMissed, IsSearchError};
+ghost use Rattle.mc_viewer.specs.Viewing.{held_bytes, IfHeld, IfRead, IsReadable, IsReadError, AsTheTreeSays, is_output};
+ghost use Rattle.mc_viewer.specs.ViewerSteps.{to_byte};
+ghost use Rattle.mc_viewer.specs.Searches.{sought_place, start_from, first_from, next_from, landing, hit_landing, IsMissed, IsSearchError};
 
 use crate::error::ViewError;
 use crate::layout::{Layout, Shape};
@@ -28,9 +28,9 @@ pub fn first_landing<T: ReadTree>(
     what: &Search,
 ) -> Result<Landing, ViewError>
     requires wide { 1 ≤ state.columns }
-    ensures shown { IfKnown (held (T.contents tree.old) subject.now) (λ bytes.
+    ensures shown { IfKnown (held_bytes (T.contents tree.old) subject.now) (λ bytes.
         IfOk result (λ l. landing what.now bytes state (first_from bytes state what.now) ≡ Ok l)) }
-    ensures missed { IfKnown (held (T.contents tree.old) subject.now) (λ bytes.
+    ensures missed { IfKnown (held_bytes (T.contents tree.old) subject.now) (λ bytes.
         IfErr result (IsMissed (landing what.now bytes state (first_from bytes state what.now)))) }
     ensures columns { IfOk result (λ l. l.state.columns ≡ state.columns) }
     ensures readable { IfKnown (T.contents tree.old) (λ log. IfRead result (IsReadable log subject.now)) }
@@ -94,9 +94,9 @@ pub fn next_landing<T: ReadTree>(
     last: &Option<Hit>,
 ) -> Result<Landing, ViewError>
     requires wide { 1 ≤ state.columns }
-    ensures shown { IfKnown (held (T.contents tree.old) subject.now) (λ bytes.
+    ensures shown { IfKnown (held_bytes (T.contents tree.old) subject.now) (λ bytes.
         IfOk result (λ l. hit_landing bytes state last.now ≡ Ok l)) }
-    ensures missed { IfKnown (held (T.contents tree.old) subject.now) (λ bytes.
+    ensures missed { IfKnown (held_bytes (T.contents tree.old) subject.now) (λ bytes.
         IfErr result (IsMissed (hit_landing bytes state last.now))) }
     ensures columns { IfOk result (λ l. l.state.columns ≡ state.columns) }
     ensures unsought { last.now ≡ None → (result ≡ Err ViewError.NotFound) × (tree.new ≡ tree.old) }
@@ -127,7 +127,7 @@ fn behind<T: ReadTree>(
 ) -> Result<u64, ViewError>
     requires small { size ≤ 2 ^ 63 }
     ensures shown { IfHeld (T.contents tree.old) subject.now size (λ bytes.
-        IfOk result (λ from. sought what.now bytes from ≡ sought what.now bytes (next_from bytes what.now place))) }
+        IfOk result (λ from. sought_place what.now bytes from ≡ sought_place what.now bytes (next_from bytes what.now place))) }
     ensures refused { IfKnown (T.contents tree.old) (λ log. IfErr result (AsTheTreeSays log subject.now)) }
     ensures kinds { IfErr result IsReadError }
     ensures same { T.contents tree.new ≡ T.contents tree.old }

@@ -1,6 +1,6 @@
 //! Where a viewer stands.
 ghost use Rattle.std.specs.Prelude.{◌≡◌, ◌+◌, ◌-◌, ◌^◌, min, not, ◌&&◌};
-ghost use Rattle.mc_viewer.specs.Steps.{shape_of, layout_of, page_lines, moves_sideways, to_left, to_right};
+ghost use Rattle.mc_viewer.specs.ViewerSteps.{shape_of, layout_of, page_lines, moves_sideways, to_left, to_right};
 
 use crate::layout::{Layout, Shape};
 

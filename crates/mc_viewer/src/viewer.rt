@@ -1,9 +1,9 @@
 //! A viewer of a file or an output.
 ghost use Rattle.std.specs.Prelude.{◌≡◌, ◌≢◌, ◌≤◌, None, Ok, Err, IsOk, IfOk, IfErr, OnOk, OnErr, true};
 ghost use Rattle.tree_trait.specs.Answers.{IfKnown, HasCause};
-ghost use Rattle.mc_viewer.specs.Viewing.{held, IfRead, IsReadable, IsReadError, AsTheTreeSays, is_output};
+ghost use Rattle.mc_viewer.specs.Viewing.{held_bytes, IfRead, IsReadable, IsReadError, AsTheTreeSays, is_output};
 ghost use Rattle.mc_viewer.specs.Searches.{after_search, after_next, moved_on, IsMissed, IsSearchError};
-ghost use Rattle.mc_viewer.specs.Steps.{begun, page_of, after_step, NeedsNoLook};
+ghost use Rattle.mc_viewer.specs.ViewerSteps.{begun_viewing, page_of, after_step, NeedsNoLook};
 
 mod showing;
 
@@ -31,7 +31,7 @@ pub struct Viewer {
 
 impl Model for Viewer {
     ghost use Rattle.std.specs.Prelude.{◌≤◌};
-    ghost use Rattle.mc_viewer.specs.Steps.{Viewing};
+    ghost use Rattle.mc_viewer.specs.ViewerSteps.{Viewing};
 
     ghost Value = { Viewing };
 
@@ -50,7 +50,7 @@ impl Viewer {
         columns: u16,
     ) -> Result<Viewer, ViewError>
         requires wide { 1 ≤ columns }
-        ensures begun { IfOk result (λ viewer. viewer ≡ begun subject lines columns) }
+        ensures begun { IfOk result (λ viewer. viewer ≡ begun_viewing subject lines columns) }
         ensures readable { IfKnown (T.contents tree.old) (λ log. IfOk result (λ _. IsReadable log subject)) }
         ensures refused { IfKnown (T.contents tree.old) (λ log. IfErr result (AsTheTreeSays log subject)) }
         ensures kinds { IfErr result IsReadError }
@@ -76,7 +76,7 @@ impl Viewer {
 
     /// The rows that are shown.
     pub fn page<T: ReadTree>(&self, alloc: Global, tree: &mut T) -> Result<Rows, ViewError>
-        ensures shown { IfKnown (held (T.contents tree.old) self.now.subject) (λ bytes.
+        ensures shown { IfKnown (held_bytes (T.contents tree.old) self.now.subject) (λ bytes.
             IfOk result (λ rows. rows ≡ page_of bytes self.now.state)) }
         ensures readable { IfKnown (T.contents tree.old) (λ log. IfOk result (λ _. IsReadable log self.now.subject)) }
         ensures refused { IfKnown (T.contents tree.old) (λ log. IfErr result (AsTheTreeSays log self.now.subject)) }
@@ -102,7 +102,7 @@ impl Viewer {
         tree: &mut T,
         step: ViewStep,
     ) -> Result<(), ViewError>
-        ensures done { IfKnown (held (T.contents tree.old) self.old.subject) (λ bytes.
+        ensures done { IfKnown (held_bytes (T.contents tree.old) self.old.subject) (λ bytes.
             OnOk result (self.new.state ≡ after_step bytes step self.old.state)) }
         ensures subject { self.new.subject ≡ self.old.subject }
         ensures last { self.new.last ≡ self.old.last }
@@ -127,9 +127,9 @@ impl Viewer {
         tree: &mut T,
         what: Search,
     ) -> Result<(), ViewError>
-        ensures found { IfKnown (held (T.contents tree.old) self.old.subject) (λ bytes.
+        ensures found { IfKnown (held_bytes (T.contents tree.old) self.old.subject) (λ bytes.
             OnOk result (after_search bytes what self.old ≡ Ok self.new)) }
-        ensures missed { IfKnown (held (T.contents tree.old) self.old.subject) (λ bytes.
+        ensures missed { IfKnown (held_bytes (T.contents tree.old) self.old.subject) (λ bytes.
             IfErr result (IsMissed (after_search bytes what self.old))) }
         ensures subject { self.new.subject ≡ self.old.subject }
         ensures stays { OnErr result (self.new ≡ self.old) }
@@ -151,9 +151,9 @@ impl Viewer {
 
     /// Searches once more, behind what was found last. Before that nothing is found, and nothing is looked at.
     pub fn next<T: ReadTree>(&mut self, alloc: Global, tree: &mut T) -> Result<(), ViewError>
-        ensures found { IfKnown (held (T.contents tree.old) self.old.subject) (λ bytes.
+        ensures found { IfKnown (held_bytes (T.contents tree.old) self.old.subject) (λ bytes.
             OnOk result (after_next bytes self.old ≡ Ok self.new)) }
-        ensures missed { IfKnown (held (T.contents tree.old) self.old.subject) (λ bytes.
+        ensures missed { IfKnown (held_bytes (T.contents tree.old) self.old.subject) (λ bytes.
             IfErr result (IsMissed (after_next bytes self.old))) }
         ensures subject { self.new.subject ≡ self.old.subject }
         ensures stays { OnErr result (self.new ≡ self.old) }

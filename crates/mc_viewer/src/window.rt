@@ -4,7 +4,7 @@ ghost use Rattle.tree_trait.specs.Answers.{IfKnown, HasCause};
 ghost use Rattle.memchr.specs.Find.{FindsNeedle};
 ghost use Rattle.text_search.specs.Lines.{in_lines, lines_sought};
 ghost use Rattle.mc_viewer.specs.Viewing.{IfShorter, IsReadError, AsTheTreeSays, is_output};
-ghost use Rattle.mc_viewer.specs.Searches.{sought, text_sought};
+ghost use Rattle.mc_viewer.specs.Searches.{sought_place, text_sought};
 
 use crate::error::ViewError;
 use crate::reading::piece;
@@ -30,7 +30,7 @@ pub fn sought<T: ReadTree>(
 ) -> Result<Sought, ViewError>
     requires small { size ≤ 2 ^ 63 }
     ensures shown { IfShorter (T.contents tree.old) subject.now size (λ bytes.
-        IfOk result (λ found. found ≡ sought what.now bytes from)) }
+        IfOk result (λ found. found ≡ sought_place what.now bytes from)) }
     ensures refused { IfKnown (T.contents tree.old) (λ log. IfErr result (AsTheTreeSays log subject.now)) }
     ensures kinds { IfErr result IsReadError }
     ensures same { T.contents tree.new ≡ T.contents tree.old }

@@ -2,7 +2,7 @@
 ghost use Rattle.std.specs.Prelude.{◌≡◌, ◌+◌, ◌^◌, ◌≤◌, length, None, IfOk};
 ghost use Rattle.tree_trait.specs.FileSystem.{node};
 ghost use Rattle.tree_trait.specs.Calls.{Stat, ListFolder, ReadAt, ReadLink, MakeFile, WriteAt, SetMode, MakeFolder, MakeLink, Rename, RemoveFile, RemoveFolder, SyncFile, SyncFolder};
-ghost use Rattle.tree_trait.specs.Change.{current, found};
+ghost use Rattle.tree_trait.specs.Change.{current, found_node};
 ghost use Rattle.tree_trait.specs.Answers.{HasCause, count_after, IfKnown, Reads, Performs, IsMeta, IsListing, IsRead, IsLinkText, IsInRange, IsAscending};
 ghost use Rattle.tree_trait.specs.Devices.{HasTaken, HasPut, HasRun};
 
@@ -59,7 +59,7 @@ impl<T: ReadTree> ReadTree for Mute<T> {
 
     fn list(&mut self, alloc: Global, path: &Path) -> Result<Children, TreeError>
         ensures passed_on { IfKnown (T.contents self.old.inner) (λ log.
-            Reads log (ListFolder path.now) result (IsListing (current log) (found (current log) path.now))) }
+            Reads log (ListFolder path.now) result (IsListing (current log) (found_node (current log) path.now))) }
         ensures same { T.contents self.new.inner ≡ T.contents self.old.inner }
         ensures ascending { IfOk result (λ children. IsAscending children.names) }
         ensures cause { HasCause TreeError.Fault (T.fault_count self.old.inner) (T.fault_count self.new.inner) result }
@@ -76,7 +76,7 @@ impl<T: ReadTree> ReadTree for Mute<T> {
         into: &mut [u8],
     ) -> Result<usize, TreeError>
         ensures passed_on { IfKnown (T.contents self.old.inner) (λ log. Reads log (ReadAt path.now offset (length into.old)) result
-            (IsRead (node (current log) (found (current log) path.now)).bytes offset into.old into.new)) }
+            (IsRead (node (current log) (found_node (current log) path.now)).bytes offset into.old into.new)) }
         ensures same { T.contents self.new.inner ≡ T.contents self.old.inner }
         ensures in_room { IfOk result (λ count. count ≤ length into.old) }
         ensures cause { HasCause TreeError.Fault (T.fault_count self.old.inner) (T.fault_count self.new.inner) result }
@@ -87,7 +87,7 @@ impl<T: ReadTree> ReadTree for Mute<T> {
 
     fn read_link(&mut self, alloc: Global, path: &Path) -> Result<Text, TreeError>
         ensures passed_on { IfKnown (T.contents self.old.inner) (λ log. Reads log (ReadLink path.now) result
-            (λ text. text ≡ (node (current log) (found (current log) path.now)).bytes)) }
+            (λ text. text ≡ (node (current log) (found_node (current log) path.now)).bytes)) }
         ensures same { T.contents self.new.inner ≡ T.contents self.old.inner }
         ensures link_text { IfOk result IsLinkText }
         ensures cause { HasCause TreeError.Fault (T.fault_count self.old.inner) (T.fault_count self.new.inner) result }

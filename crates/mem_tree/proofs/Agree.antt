@@ -13,8 +13,8 @@ use Rattle.tree_trait.specs.declared.calls.TreeError.{TreeError}
 use Rattle.tree_trait.specs.declared.calls.TreeError.TheVariants.{Missing, NotFolder, Denied, Exists, IsFolder, NotEmpty, IntoItself, Mounted, CrossMount, NoSpace, Special}
 use Rattle.tree_trait.specs.FileSystem.{lookup, find, node, is_of, starts_mount}
 use Rattle.tree_trait.specs.Calls.{Call, Stat, ListFolder, ReadAt, ReadLink, MakeFile, WriteAt, SetMode, MakeFolder, MakeLink, Rename, RemoveFile, RemoveFolder, SyncFile, SyncFolder}
-use Rattle.tree_trait.specs.Refusals.{step, and_then, reached, Place, last_step, walk, after_walk, first_of, has_entries, is_empty, holder_in, lies_on, used_by, is_file, is_folder, is_mount, lacks, mount_here, mount_of, same_mount, holder, no_room, capacity_of, thing, folder_of, missing, exists, a_folder, no_folder, a_special, denied, rename_refusal, refusal_of}
-use Rattle.tree_trait.specs.Change.{Change, change_of, of_name, found, Makes, Moves, Removes, Sets, Writes, Syncs, Nothing, overwritten, edit}
+use Rattle.tree_trait.specs.Refusals.{step, and_then, reached_node, Place, last_step, walk, after_walk, first_of, has_entries, is_empty, holder_in, lies_on, used_by, is_file, is_folder, is_mount, lacks, mount_here, mount_of, same_mount, holder, no_room, capacity_of, thing, folder_of, missing, exists, a_folder, no_folder, a_special, denied_access, rename_refusal, refusal_of}
+use Rattle.tree_trait.specs.Change.{Change, change_of, of_name, found_node, Makes, Moves, Removes, Sets, Writes, Syncs, Nothing, overwritten_bytes, edit}
 use Rattle.mem_tree.specs.Live.{without_name, if_leading, leading, standing}
 use Rattle.mem_tree.proofs.Leading.{lookup_leading, same_key, own_key, lookup_out, lookup_other}
 
@@ -27,15 +27,15 @@ module _ (s : FileSystem) where
       go None = refl
       go (Some f) = lookup_leading s.names f name
 
-  pub found_standing : (path : Route) → found (standing s) path ≡ found s path
+  pub found_standing : (path : Route) → found_node (standing s) path ≡ found_node s path
   found_standing path = ap (λ o. unwrap_or o 0) (find_standing path)
 
   step_standing : (name : List ℕ) (f : ℕ) → step (standing s) name f ≡ step s name f
   step_standing name f = ap (λ o. let r : Result ℕ TreeError = cond (not (is_folder (node s f))) (Err NotFolder) (cond (lacks 0o100 (node s f)) (Err Denied) (elim o [ None ↦ Err Missing | Some i ↦ Ok i ])) in r) (lookup_leading s.names f name)
 
-  reached_standing : (path : Route) → reached (standing s) path ≡ reached s path
+  reached_standing : (path : Route) → reached_node (standing s) path ≡ reached_node s path
   reached_standing [] = refl
-  reached_standing (name ∷ folder) = rw (reached_standing folder) (go (reached s folder))
+  reached_standing (name ∷ folder) = rw (reached_standing folder) (go (reached_node s folder))
     where
       go : (r : Result ℕ TreeError) → and_then (step (standing s) name) r ≡ and_then (step s name) r
       go (Ok f) = step_standing name f
@@ -46,7 +46,7 @@ module _ (s : FileSystem) where
 
   pub walk_standing : (path : Route) → walk (standing s) path ≡ walk s path
   walk_standing [] = refl
-  walk_standing (name ∷ folder) = rw (reached_standing folder) (go (reached s folder))
+  walk_standing (name ∷ folder) = rw (reached_standing folder) (go (reached_node s folder))
     where
       go : (r : Result ℕ TreeError) → and_then (last_step (standing s) name) r ≡ and_then (last_step s name) r
       go (Ok f) = last_standing name f
@@ -264,14 +264,14 @@ change_standing s (MakeFolder path mode) time = named_standing s path _
 change_standing s (MakeLink path text) time = named_standing s path _
 change_standing s (Rename from to) time = rw (found_standing s from) (rw (find_standing s to) (go (same_path from to)))
   where
-    same : (from to : Route) → of_name (standing s) from (λ f old. of_name (standing s) to (λ g new. Moves f old g new (found s from) (find s to))) ≡ of_name s from (λ f old. of_name s to (λ g new. Moves f old g new (found s from) (find s to)))
+    same : (from to : Route) → of_name (standing s) from (λ f old. of_name (standing s) to (λ g new. Moves f old g new (found_node s from) (find s to))) ≡ of_name s from (λ f old. of_name s to (λ g new. Moves f old g new (found_node s from) (find s to)))
     same from to = named_standing s from _ ∙ go2 from
       where
-        go2 : (path : Route) → of_name s path (λ f old. of_name (standing s) to (λ g new. Moves f old g new (found s from) (find s to))) ≡ of_name s path (λ f old. of_name s to (λ g new. Moves f old g new (found s from) (find s to)))
+        go2 : (path : Route) → of_name s path (λ f old. of_name (standing s) to (λ g new. Moves f old g new (found_node s from) (find s to))) ≡ of_name s path (λ f old. of_name s to (λ g new. Moves f old g new (found_node s from) (find s to)))
         go2 [] = refl
         go2 (name ∷ up) = named_standing s to _
 
-    go : (b : Bool) → cond b Nothing (of_name (standing s) from (λ f old. of_name (standing s) to (λ g new. Moves f old g new (found s from) (find s to)))) ≡ cond b Nothing (of_name s from (λ f old. of_name s to (λ g new. Moves f old g new (found s from) (find s to))))
+    go : (b : Bool) → cond b Nothing (of_name (standing s) from (λ f old. of_name (standing s) to (λ g new. Moves f old g new (found_node s from) (find s to)))) ≡ cond b Nothing (of_name s from (λ f old. of_name s to (λ g new. Moves f old g new (found_node s from) (find s to))))
     go true = refl
     go false = same from to
 change_standing s (RemoveFile path) time = rw (found_standing s path) (named_standing s path _)

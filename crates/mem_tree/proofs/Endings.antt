@@ -14,7 +14,7 @@ use Rattle.mem_tree.specs.declared.record.Record.{Record}
 use Rattle.mem_tree.specs.declared.step.Step.{Step}
 use Rattle.mem_tree.specs.Records.{change_by, changes_by, after}
 use Rattle.mem_tree.specs.Live.{standing, IsOnce}
-use Rattle.mem_tree.specs.Steps.{step_change, torn_step, standing_after, IsPlaced, Plans, PlansTo, IsDone, Concludes}
+use Rattle.mem_tree.specs.CallSteps.{step_change, torn_step, standing_after, IsPlaced, Plans, PlansTo, IsDone, Concludes}
 use Rattle.mem_tree.specs.Held.{log_of, IsKept}
 use Rattle.tree_trait.specs.Shape.{IsTree}
 use Rattle.mem_tree.specs.Sound.{AllFit}

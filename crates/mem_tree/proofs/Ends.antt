@@ -7,7 +7,7 @@ use Rattle.tree_trait.specs.declared.file_system.FileSystem.{FileSystem}
 use Rattle.tree_trait.specs.FileSystem.{is_of}
 use Rattle.tree_trait.specs.Change.{Change, Moves, Removes, edit}
 use Rattle.mem_tree.specs.Live.{without_name, IsOnce, IsPlaceBehind}
-use Rattle.mem_tree.specs.Steps.{standing_after, at_edit}
+use Rattle.mem_tree.specs.CallSteps.{standing_after, at_edit}
 use Rattle.mem_tree.proofs.Leading.{own_key, remove_out, nothing_out, once_without}
 
 pub ended : (s : FileSystem) (at node : ℕ) (e : NameEdit) → IsOnce s.names → slice_get s.names at ≡ Some e

@@ -9,8 +9,8 @@ use Rattle.tree_trait.specs.declared.file_system.FileSystem.{FileSystem}
 use Rattle.tree_trait.specs.FileSystem.{lookup, find, node, no_node}
 use Rattle.tree_trait.specs.declared.calls.TreeError.{TreeError}
 use Rattle.tree_trait.specs.declared.calls.TreeError.TheVariants.{NotFolder, Denied, NoSpace}
-use Rattle.tree_trait.specs.Refusals.{is_folder, lacks, reached, walk, last_step, and_then, Place, first_of, exists, denied, folder_of}
-use Rattle.mem_tree.specs.Puts.{unlocked_node, unlocked, put_refusal, put_file_refusal, is_full}
+use Rattle.tree_trait.specs.Refusals.{is_folder, lacks, reached_node, walk, last_step, and_then, Place, first_of, exists, denied_access, folder_of}
+use Rattle.mem_tree.specs.Puts.{unlocked_node, unlocked_system, put_refusal, put_file_refusal, is_full}
 use Rattle.mem_tree.specs.Held.{IsKept}
 use Rattle.mem_tree.specs.Sound.{FitsNode}
 use Rattle.tree_trait.specs.Change.{Makes, after_change}
@@ -26,7 +26,7 @@ folder_among (n ∷ nodes) zero = refl
 folder_among (n ∷ nodes) (suc i) = folder_among nodes i
 
 -- a folder is one with any mode
-pub folder-unlocked : (s : FileSystem) (i : ℕ) → is_folder (node (unlocked s) i) ≡ is_folder (node s i)
+pub folder-unlocked : (s : FileSystem) (i : ℕ) → is_folder (node (unlocked_system s) i) ≡ is_folder (node s i)
 folder-unlocked s i = folder_among s.nodes i
 
 permits_among : (nodes : List Node) (i : ℕ) → is_folder (at_of nodes i) ≡ true
@@ -36,10 +36,10 @@ permits_among (n ∷ nodes) zero h = (refl, refl)
 permits_among (n ∷ nodes) (suc i) h = permits_among nodes i h
 
 -- a folder permits the search and the making of names
-pub permits : (s : FileSystem) (i : ℕ) → is_folder (node s i) ≡ true → (lacks 0o100 (node (unlocked s) i) ≡ false) × (lacks 0o200 (node (unlocked s) i) ≡ false)
+pub permits : (s : FileSystem) (i : ℕ) → is_folder (node s i) ≡ true → (lacks 0o100 (node (unlocked_system s) i) ≡ false) × (lacks 0o200 (node (unlocked_system s) i) ≡ false)
 permits s i h = permits_among s.nodes i h
 
-pub find-unlocked : (s : FileSystem) (path : Route) → find (unlocked s) path ≡ find s path
+pub find-unlocked : (s : FileSystem) (path : Route) → find (unlocked_system s) path ≡ find s path
 find-unlocked s [] = refl
 find-unlocked s (name ∷ folder) = ap (option_and_then (λ f. lookup s.names f name)) (find-unlocked s folder)
 
@@ -48,15 +48,15 @@ none_of None h = refl
 none_of (Some p) h = absurd (false≢true (sym h))
 
 -- where the walk comes to a folder, and the name leads nowhere, a thing may be put
-pub may_put : (s : FileSystem) (name : List ℕ) (up : Route) (f : ℕ) → reached (unlocked s) up ≡ Ok f → is_folder (node s f) ≡ true → lookup s.names f name ≡ None
+pub may_put : (s : FileSystem) (name : List ℕ) (up : Route) (f : ℕ) → reached_node (unlocked_system s) up ≡ Ok f → is_folder (node s f) ≡ true → lookup s.names f name ≡ None
     → put_refusal s (name ∷ up) ≡ None
 may_put s name up f at folder free =
-    let u = unlocked s in
+    let u = unlocked_system s in
     let may = permits s f folder in
     let is = folder-unlocked s f ∙ folder in
     let here : walk u (name ∷ up) ≡ Ok (record { holder = Some f; there = None }) =
     ap (and_then (last_step u name)) at ∙ last (is_folder (node u f)) (lacks 0o100 (node u f)) (lookup s.names f name) is may.0 free in
-    ap (checked (λ p. first_of (exists p ∷ denied 0o200 (folder_of u p) ∷ []))) here ∙ ap (λ b. cond b (Some Denied) None) may.1
+    ap (checked (λ p. first_of (exists p ∷ denied_access 0o200 (folder_of u p) ∷ []))) here ∙ ap (λ b. cond b (Some Denied) None) may.1
   where
     last : (b d : Bool) (o : Option ℕ) → b ≡ true → d ≡ false → o ≡ None
         → (let r : Result Place TreeError = cond (not b) (Err NotFolder) (cond d (Err Denied) (Ok (record { holder = Some f; there = o }))) in r) ≡ Ok (record { holder = Some f; there = None })

@@ -12,7 +12,7 @@ use Rattle.tree_trait.specs.declared.calls.TreeError.TheVariants.{Missing, NotFo
 use Rattle.tree_trait.specs.Calls.{Call, ReadLink}
 use Rattle.tree_trait.specs.FileSystem.{lookup, node}
 use Rattle.tree_trait.specs.Refusals.{Place, walk, first_of, thing, missing, is_link, refusal_of}
-use Rattle.tree_trait.specs.Change.{found}
+use Rattle.tree_trait.specs.Change.{found_node}
 use Rattle.tree_trait.specs.Answers.{Reads, IsMeta, IsListing, IsRead, IsInRange, IsCause, mount_number, one_more}
 use Rattle.tree_trait.proofs.Causes.{Reads-err, refusal_of-cause, err_same}
 use Rattle.tree_trait.proofs.Walking.{passed_walk, check_passes, some_there, walk-find}
@@ -34,11 +34,11 @@ module _ (s : FileSystem) (old : List Record) (stands : FileSystem) (kept : IsKe
   pub node_now : (i : ℕ) → node stands i ≡ node (after s old) i
   node_now i = ap (λ (t : FileSystem). node t i) kept.stands_is
 
-  pub found_now : (path : Route) → found stands path ≡ found (after s old) path
-  found_now path = ap (λ (t : FileSystem). found t path) kept.stands_is ∙ found_standing (after s old) path
+  pub found_now : (path : Route) → found_node stands path ≡ found_node (after s old) path
+  found_now path = ap (λ (t : FileSystem). found_node t path) kept.stands_is ∙ found_standing (after s old) path
 
-  pub bytes_now : (path : Route) → (node stands (found stands path)).bytes ≡ (node (after s old) (found (after s old) path)).bytes
-  bytes_now path = ap (λ i. (node stands i).bytes) (found_now path) ∙ ap (λ (n : Node). n.bytes) (node_now (found (after s old) path))
+  pub bytes_now : (path : Route) → (node stands (found_node stands path)).bytes ≡ (node (after s old) (found_node (after s old) path)).bytes
+  bytes_now path = ap (λ i. (node stands i).bytes) (found_now path) ∙ ap (λ (n : Node). n.bytes) (node_now (found_node (after s old) path))
 
   pub few_mounts : length stands.mounts ≤ 1000
   few_mounts = subst (λ (t : FileSystem). length t.mounts ≤ 1000) (sym kept.stands_is) sound_now.mounts
@@ -63,17 +63,17 @@ module _ (s : FileSystem) (old : List Record) (stands : FileSystem) (kept : IsKe
 
   pub meta_fits : (path : Route) (meta : Meta) → IsMeta stands path meta → IsInRange meta
   meta_fits path meta h =
-      let fits : FitsNode (node stands (found stands path)) = subst (λ (n : Node). FitsNode n) (sym (node_now (found stands path))) (sound_now.nodes (found stands path)) in
+      let fits : FitsNode (node stands (found_node stands path)) = subst (λ (n : Node). FitsNode n) (sym (node_now (found_node stands path))) (sound_now.nodes (found_node stands path)) in
       record { mode = subst (λ m. m ≤ 0o7777) (sym h.mode) fits.mode; size = subst (λ z. z ≤ 2 ^ 63) (sym h.size) fits.size }
 
-  pub listing_now : (path : Route) (children : Children) → IsListing stands (found stands path) children → IsListing (after s old) (found (after s old) path) children
-  listing_now path children h = subst (λ (t : FileSystem). IsListing t (found t path) children → IsListing (after s old) (found (after s old) path) children) (sym kept.stands_is) go h
+  pub listing_now : (path : Route) (children : Children) → IsListing stands (found_node stands path) children → IsListing (after s old) (found_node (after s old) path) children
+  listing_now path children h = subst (λ (t : FileSystem). IsListing t (found_node t path) children → IsListing (after s old) (found_node (after s old) path) children) (sym kept.stands_is) go h
     where
-      go : IsListing (standing (after s old)) (found (standing (after s old)) path) children → IsListing (after s old) (found (after s old) path) children
+      go : IsListing (standing (after s old)) (found_node (standing (after s old)) path) children → IsListing (after s old) (found_node (after s old) path) children
       go m = subst (λ f. IsListing (after s old) f children) (found_standing (after s old) path) (record {
         names = λ name. (
-          λ among. subst (λ o. IsSome o) (lookup_leading (after s old).names (found (standing (after s old)) path) name) ((m.names name).0 among),
-          λ some. (m.names name).1 (subst (λ o. IsSome o) (sym (lookup_leading (after s old).names (found (standing (after s old)) path) name)) some),
+          λ among. subst (λ o. IsSome o) (lookup_leading (after s old).names (found_node (standing (after s old)) path) name) ((m.names name).0 among),
+          λ some. (m.names name).1 (subst (λ o. IsSome o) (sym (lookup_leading (after s old).names (found_node (standing (after s old)) path) name)) some),
         );
         unnamed = m.unnamed;
       })
@@ -138,13 +138,13 @@ counted_read A old new before due read result same is calm was called fails time
     stayed true (Err e) x h = absurd (err_ok x e h)
 
 -- what `read_link` reads is a link
-pub link_found : (s : FileSystem) (path : Route) → refusal_of s (ReadLink path) ≡ None → is_link (node s (found s path)) ≡ true
+pub link_found : (s : FileSystem) (path : Route) → refusal_of s (ReadLink path) ≡ None → is_link (node s (found_node s path)) ≡ true
 link_found s path h =
     let w = passed_walk (walk s path) (λ p. first_of (missing p ∷ (not (is_link (thing s p)), Special) ∷ [])) h in
     let a = check_passes (is_none w.0.there) Missing _ w.2 in
     let b = check_passes (not (is_link (thing s w.0))) Special _ a.1 in
     let i = some_there w.0.there a.0 in
-    let same : thing s w.0 ≡ node s (found s path) =
+    let same : thing s w.0 ≡ node s (found_node s path) =
     ap (λ o. node s (unwrap_or o (length s.nodes))) i.1 ∙ sym (ap (λ o. node s (unwrap_or o 0)) (walk-find s path w.0 w.1 ∙ i.1)) in
     subst (λ (n : Node). is_link n ≡ true) same (not_false (is_link (thing s w.0)) b.0)
   where

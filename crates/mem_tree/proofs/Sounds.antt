@@ -4,11 +4,11 @@ use Rattle.std.specs.Bool.{⊤}
 use Rattle.std.specs.Prelude.{unwrap_or, slice_get, slice_set, if◌then◌else◌}
 use Rattle.std.proofs.lemmas.List.{length-set, length-replicate}
 use Rattle.tree_trait.specs.declared.file_system.NameEdit.{NameEdit}
-use Rattle.tree_trait.specs.CrashImages.{chosen, without, is_unsynced, is_write}
+use Rattle.tree_trait.specs.CrashImages.{image_by_bits, without, is_unsynced, is_write}
 use Rattle.tree_trait.proofs.Kept.{kind_set}
 use Rattle.mem_tree.specs.declared.choice.Fill.{Fill}
 use Rattle.mem_tree.specs.declared.choice.Fill.TheVariants.{Written, Zeros, Junk}
-use Rattle.mem_tree.specs.Fills.{filled}
+use Rattle.mem_tree.specs.Fills.{filled_bytes}
 use Rattle.mem_tree.specs.Live.{standing}
 use Rattle.mem_tree.specs.Held.{IsKept}
 use Rattle.std.proofs.lemmas.Bool.{false≢true}
@@ -133,38 +133,38 @@ module _ (fill : List ℕ → List ℕ) (shorter : (bytes : List ℕ) → length
   sound_without t (Syncs i) sound fits = sound
 
   -- each node of an image fits
-  pub sound_chosen : (s t : FileSystem) (cs : List Change) (keep : List Bool) → IsAlike s t → IsSound t → AllFit s cs → IsSound (chosen fill t cs keep)
+  pub sound_chosen : (s t : FileSystem) (cs : List Change) (keep : List Bool) → IsAlike s t → IsSound t → AllFit s cs → IsSound (image_by_bits fill t cs keep)
   sound_chosen s t [] keep alike sound fits = sound
   sound_chosen s t (c ∷ cs) [] alike sound fits = go (is_unsynced c cs)
       (sound_chosen (after_change s c) (without fill t c) cs [] (alike_without fill s t c alike) (sound_without t c sound (fits_alike s t c alike fits.0)) fits.1)
       (sound_chosen (after_change s c) (after_change t c) cs [] (alike_change s t c alike) (sound_change t c sound (fits_alike s t c alike fits.0)) fits.1)
     where
-      go : (b : Bool) → IsSound (chosen fill (without fill t c) cs []) → IsSound (chosen fill (after_change t c) cs []) → IsSound (chosen fill (if b then without fill t c else after_change t c) cs [])
+      go : (b : Bool) → IsSound (image_by_bits fill (without fill t c) cs []) → IsSound (image_by_bits fill (after_change t c) cs []) → IsSound (image_by_bits fill (if b then without fill t c else after_change t c) cs [])
       go true lost stands = lost
       go false lost stands = stands
   sound_chosen s t (c ∷ cs) (bit ∷ keep) alike sound fits = go (is_unsynced c cs && not (is_write c)) (is_unsynced c cs) bit
       (λ k. sound_chosen (after_change s c) (without fill t c) cs k (alike_without fill s t c alike) (sound_without t c sound (fits_alike s t c alike fits.0)) fits.1)
       (λ k. sound_chosen (after_change s c) (after_change t c) cs k (alike_change s t c alike) (sound_change t c sound (fits_alike s t c alike fits.0)) fits.1)
     where
-      go : (a b d : Bool) → ((k : List Bool) → IsSound (chosen fill (without fill t c) cs k)) → ((k : List Bool) → IsSound (chosen fill (after_change t c) cs k))
-          → IsSound (if a then chosen fill (if d then after_change t c else without fill t c) cs keep else chosen fill (if b then without fill t c else after_change t c) cs (bit ∷ keep))
+      go : (a b d : Bool) → ((k : List Bool) → IsSound (image_by_bits fill (without fill t c) cs k)) → ((k : List Bool) → IsSound (image_by_bits fill (after_change t c) cs k))
+          → IsSound (if a then image_by_bits fill (if d then after_change t c else without fill t c) cs keep else image_by_bits fill (if b then without fill t c else after_change t c) cs (bit ∷ keep))
       go true b true lost stands = stands keep
       go true b false lost stands = lost keep
       go false true d lost stands = lost (bit ∷ keep)
       go false false d lost stands = stands (bit ∷ keep)
 
-pub shorter_fill : (fill : Fill) (bytes : List ℕ) → length (filled fill bytes) ≤ length bytes
+pub shorter_fill : (fill : Fill) (bytes : List ℕ) → length (filled_bytes fill bytes) ≤ length bytes
 shorter_fill Written bytes = omega arith
 shorter_fill Fill.Nothing bytes = omega arith
 shorter_fill Zeros bytes = let e = length-replicate {A = ℕ} (length bytes) 0 in omega (arith, e)
 shorter_fill (Junk byte) bytes = let e = length-replicate {A = ℕ} (length bytes) byte in omega (arith, e)
 
 -- an image is kept as a tree that was not called yet
-pub kept_image : (fill : Fill) (s stands : FileSystem) (cs : List Change) (keep : List Bool) → IsSound s → AllFit s cs → stands ≡ standing (chosen (filled fill) s cs keep)
-    → IsKept (chosen (filled fill) s cs keep) [] stands
+pub kept_image : (fill : Fill) (s stands : FileSystem) (cs : List Change) (keep : List Bool) → IsSound s → AllFit s cs → stands ≡ standing (image_by_bits (filled_bytes fill) s cs keep)
+    → IsKept (image_by_bits (filled_bytes fill) s cs keep) [] stands
 kept_image fill s stands cs keep sound fits is = record {
   stands_is = is;
-  sound = sound_chosen (filled fill) (shorter_fill fill) s s cs keep (record { count = refl; kinds = λ i. refl }) sound fits;
+  sound = sound_chosen (filled_bytes fill) (shorter_fill fill) s s cs keep (record { count = refl; kinds = λ i. refl }) sound fits;
   fits = tt;
   tree = λ t. t;
 }

@@ -6,7 +6,7 @@ use Rattle.tree_trait.specs.declared.file_system.FileSystem.{FileSystem}
 use Rattle.tree_trait.specs.FileSystem.{lookup}
 use Rattle.tree_trait.specs.Change.{Change, Nothing, Makes, Moves, Removes, Sets, Writes, Syncs, after_change, edit}
 use Rattle.mem_tree.specs.Live.{without_name, leading, standing}
-use Rattle.mem_tree.specs.Steps.{standing_after}
+use Rattle.mem_tree.specs.CallSteps.{standing_after}
 use Rattle.mem_tree.proofs.Leading.{absent}
 
 -- a name that is made is new

@@ -13,8 +13,8 @@ use Rattle.tree_trait.specs.declared.calls.TreeError.{TreeError}
 use Rattle.tree_trait.specs.declared.calls.TreeError.TheVariants.{Missing, Exists, IsFolder, Special, NoSpace}
 use Rattle.tree_trait.specs.Calls.{Call, Stat, ListFolder, ReadAt, ReadLink, MakeFile, WriteAt, SetMode, MakeFolder, MakeLink, Rename, RemoveFile, RemoveFolder, SyncFile, SyncFolder}
 use Rattle.tree_trait.specs.FileSystem.{lookup, find, node}
-use Rattle.tree_trait.specs.Refusals.{Place, walk, after_walk, first_of, is_file, is_folder, is_link, file_kind, folder_kind, link_kind, lacks, thing, folder_of, missing, exists, a_folder, a_special, denied, no_room, rename_refusal, refusal_of}
-use Rattle.tree_trait.specs.Change.{Change, Nothing, Makes, Moves, Removes, Sets, Writes, Syncs, after_change, change_of, torn_write, of_name, found, overwritten}
+use Rattle.tree_trait.specs.Refusals.{Place, walk, after_walk, first_of, is_file, is_folder, is_link, file_kind, folder_kind, link_kind, lacks, thing, folder_of, missing, exists, a_folder, a_special, denied_access, no_room, rename_refusal, refusal_of}
+use Rattle.tree_trait.specs.Change.{Change, Nothing, Makes, Moves, Removes, Sets, Writes, Syncs, after_change, change_of, torn_write, of_name, found_node, overwritten_bytes}
 use Rattle.tree_trait.specs.Shape.{IsTree}
 use Rattle.tree_trait.proofs.Walking.{passed_walk, check_passes, some_there, ok_same, walk-find, last_place, IsLast}
 use Rattle.tree_trait.proofs.Kept.{tree_made, tree_moved, tree_removed, tree_set}
@@ -62,11 +62,11 @@ valid_made s (name ∷ up) made rest fits h =
     record {
       fits = fits;
       new = sym last.there ∙ is_false w.0.there a.0;
-      tree = λ t. tree_made s (found s up) name made t last.is_one;
+      tree = λ t. tree_made s (found_node s up) name made t last.is_one;
     }
 
 -- what a check of a thing that is there speaks of
-there_is : (s : FileSystem) (path : Route) (p : Place) → walk s path ≡ Ok p → is_none p.there ≡ false → thing s p ≡ node s (found s path)
+there_is : (s : FileSystem) (path : Route) (p : Place) → walk s path ≡ Ok p → is_none p.there ≡ false → thing s p ≡ node s (found_node s path)
 there_is s path p at h =
     let i = some_there p.there h in
     let same = walk-find s path p at in
@@ -78,21 +78,21 @@ not_link Folder a b = refl
 not_link Link a b = absurd (true≢false b)
 not_link Other a b = refl
 
-length_over : (old : List ℕ) (offset : ℕ) (bytes : List ℕ) → length old ≤ 2 ^ 63 → offset + length bytes ≤ 2 ^ 63 → length (overwritten old offset bytes) ≤ 2 ^ 63
+length_over : (old : List ℕ) (offset : ℕ) (bytes : List ℕ) → length old ≤ 2 ^ 63 → offset + length bytes ≤ 2 ^ 63 → length (overwritten_bytes old offset bytes) ≤ 2 ^ 63
 length_over old offset bytes a b =
-    let front = take offset (old ++ replicate (offset - length old) 0) in
+    let prefix = take offset (old ++ replicate (offset - length old) 0) in
     let back = drop (offset + length bytes) old in
-    let e1 : length (front ++ bytes ++ back) ≡ length (front ++ bytes) + length back = length-append (front ++ bytes) back in
-    let e2 : length (front ++ bytes) ≡ length front + length bytes = length-append front bytes in
-    let e3 : length front ≡ min offset (length (old ++ replicate (offset - length old) 0)) = length-take offset (old ++ replicate (offset - length old) 0) in
+    let e1 : length (prefix ++ bytes ++ back) ≡ length (prefix ++ bytes) + length back = length-append (prefix ++ bytes) back in
+    let e2 : length (prefix ++ bytes) ≡ length prefix + length bytes = length-append prefix bytes in
+    let e3 : length prefix ≡ min offset (length (old ++ replicate (offset - length old) 0)) = length-take offset (old ++ replicate (offset - length old) 0) in
     let e4 : length back ≡ length old - (offset + length bytes) = length-drop (offset + length bytes) old in
     omega (arith, e1, e2, e3, e4, a, b)
 
 -- a write to what is a file
 valid_write : (s : FileSystem) (path : Route) (offset : ℕ) (bytes : List ℕ) (new : List ℕ) (mtime : ℤ) → length new ≤ 2 ^ 63 → refusal_of s (WriteAt path offset bytes) ≡ None
-    → IsValid s (Writes (found s path) new mtime)
+    → IsValid s (Writes (found_node s path) new mtime)
 valid_write s path offset bytes new mtime short h =
-    let w = passed_walk (walk s path) (λ p. first_of (missing p ∷ a_folder s p ∷ a_special s p ∷ denied 0o200 (thing s p) ∷ (no_room s path p offset (length bytes), NoSpace) ∷ [])) h in
+    let w = passed_walk (walk s path) (λ p. first_of (missing p ∷ a_folder s p ∷ a_special s p ∷ denied_access 0o200 (thing s p) ∷ (no_room s path p offset (length bytes), NoSpace) ∷ [])) h in
     let a = check_passes (is_none w.0.there) Missing _ w.2 in
     let b = check_passes (is_folder (thing s w.0)) IsFolder _ a.1 in
     let c = check_passes (not (is_file (thing s w.0)) && not (is_folder (thing s w.0))) Special _ b.1 in
@@ -100,16 +100,16 @@ valid_write s path offset bytes new mtime short h =
     record {
       fits = (short, subst (λ (n : Node). is_link n ≡ false) (there_is s path w.0 w.1 a.0) link);
       new = tt;
-      tree = λ t. tree_set s (found s path) (record (node s (found s path)) { bytes = new; mtime = mtime }) t refl;
+      tree = λ t. tree_set s (found_node s path) (record (node s (found_node s path)) { bytes = new; mtime = mtime }) t refl;
     }
 
 valid_removed : (s : FileSystem) (path : Route) (i : ℕ) → IsValid s (of_name s path (λ f name. Removes f name i))
 valid_removed s [] i = valid_nothing s
-valid_removed s (name ∷ up) i = record { fits = tt; new = tt; tree = tree_removed s (found s up) name i }
+valid_removed s (name ∷ up) i = record { fits = tt; new = tt; tree = tree_removed s (found_node s up) name i }
 
 -- a move of what is there into a folder
 valid_moved : (s : FileSystem) (from to : Route) → refusal_of s (Rename from to) ≡ None
-    → IsValid s (of_name s from (λ f old. of_name s to (λ g new. Moves f old g new (found s from) (find s to))))
+    → IsValid s (of_name s from (λ f old. of_name s to (λ g new. Moves f old g new (found_node s from) (find s to))))
 valid_moved s [] to h = valid_nothing s
 valid_moved s (old ∷ up) [] h = valid_nothing s
 valid_moved s (old ∷ up) (new ∷ over) h =
@@ -121,11 +121,11 @@ valid_moved s (old ∷ up) (new ∷ over) h =
     let i = some_there w.0.there a.0 in
     let first = last_place s old up w.0 w.1 in
     let last = last_place s new over v.0 v.1 in
-    let is : found s from ≡ i.0 = ap (λ o. unwrap_or o 0) (walk-find s from w.0 w.1 ∙ i.1) in
+    let is : found_node s from ≡ i.0 = ap (λ o. unwrap_or o 0) (walk-find s from w.0 w.1 ∙ i.1) in
     record {
       fits = tt;
       new = tt;
-      tree = λ t. tree_moved s (found s up) old (found s over) new (found s from) (find s to) t (sym first.there ∙ i.1 ∙ ap (λ k. Some k) (sym is)) last.is_one;
+      tree = λ t. tree_moved s (found_node s up) old (found_node s over) new (found_node s from) (find s to) t (sym first.there ∙ i.1 ∙ ap (λ k. Some k) (sym is)) last.is_one;
     }
 
 pub valid_call : (s : FileSystem) (call : Call) (time : ℤ) → ((i : ℕ) → FitsNode (node s i)) → FitsCall call → refusal_of s call ≡ None → IsValid s (change_of s call time)
@@ -133,18 +133,18 @@ valid_call s (Stat path) time sound fits h = valid_nothing s
 valid_call s (ListFolder path) time sound fits h = valid_nothing s
 valid_call s (ReadAt path offset count) time sound fits h = valid_nothing s
 valid_call s (ReadLink path) time sound fits h = valid_nothing s
-valid_call s (MakeFile path mode) time sound fits h = valid_made s path _ (λ p. first_of (denied 0o200 (folder_of s p) ∷ [])) (record { mode = fits; size = omega arith; link = λ h. absurd (false≢true h) }) h
-valid_call s (WriteAt path offset bytes) time sound fits h = valid_write s path offset bytes _ time (length_over (node s (found s path)).bytes offset bytes (sound (found s path)).size fits) h
-valid_call s (SetMode path mode) time sound fits h = record { fits = fits; new = tt; tree = λ t. tree_set s (found s path) (record (node s (found s path)) { mode = mode }) t refl }
-valid_call s (MakeFolder path mode) time sound fits h = valid_made s path _ (λ p. first_of (denied 0o200 (folder_of s p) ∷ [])) (record { mode = fits; size = omega arith; link = λ h. absurd (false≢true h) }) h
-valid_call s (MakeLink path text) time sound fits h = valid_made s path _ (λ p. first_of (denied 0o200 (folder_of s p) ∷ [])) (record { mode = omega arith; size = (let short = fits.says.short in omega (arith, short)); link = λ h. fits }) h
+valid_call s (MakeFile path mode) time sound fits h = valid_made s path _ (λ p. first_of (denied_access 0o200 (folder_of s p) ∷ [])) (record { mode = fits; size = omega arith; link = λ h. absurd (false≢true h) }) h
+valid_call s (WriteAt path offset bytes) time sound fits h = valid_write s path offset bytes _ time (length_over (node s (found_node s path)).bytes offset bytes (sound (found_node s path)).size fits) h
+valid_call s (SetMode path mode) time sound fits h = record { fits = fits; new = tt; tree = λ t. tree_set s (found_node s path) (record (node s (found_node s path)) { mode = mode }) t refl }
+valid_call s (MakeFolder path mode) time sound fits h = valid_made s path _ (λ p. first_of (denied_access 0o200 (folder_of s p) ∷ [])) (record { mode = fits; size = omega arith; link = λ h. absurd (false≢true h) }) h
+valid_call s (MakeLink path text) time sound fits h = valid_made s path _ (λ p. first_of (denied_access 0o200 (folder_of s p) ∷ [])) (record { mode = omega arith; size = (let short = fits.says.short in omega (arith, short)); link = λ h. fits }) h
 valid_call s (Rename from to) time sound fits h = go (same_path from to) (valid_moved s from to h)
   where
-    go : (b : Bool) → IsValid s (of_name s from (λ f old. of_name s to (λ g new. Moves f old g new (found s from) (find s to)))) → IsValid s (cond b Nothing (of_name s from (λ f old. of_name s to (λ g new. Moves f old g new (found s from) (find s to)))))
+    go : (b : Bool) → IsValid s (of_name s from (λ f old. of_name s to (λ g new. Moves f old g new (found_node s from) (find s to)))) → IsValid s (cond b Nothing (of_name s from (λ f old. of_name s to (λ g new. Moves f old g new (found_node s from) (find s to)))))
     go true v = valid_nothing s
     go false v = v
-valid_call s (RemoveFile path) time sound fits h = valid_removed s path (found s path)
-valid_call s (RemoveFolder path) time sound fits h = valid_removed s path (found s path)
+valid_call s (RemoveFile path) time sound fits h = valid_removed s path (found_node s path)
+valid_call s (RemoveFolder path) time sound fits h = valid_removed s path (found_node s path)
 valid_call s (SyncFile path) time sound fits h = record { fits = tt; new = tt; tree = λ t. t }
 valid_call s (SyncFolder path) time sound fits h = record { fits = tt; new = tt; tree = λ t. t }
 

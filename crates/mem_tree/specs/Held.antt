@@ -12,8 +12,8 @@ use Rattle.mem_tree.specs.Records.{changes_by, after}
 use Rattle.mem_tree.specs.Live.{standing}
 use Rattle.mem_tree.specs.Sound.{IsSound, AllFit}
 use Rattle.mem_tree.specs.declared.choice.Choice.{Choice}
-use Rattle.mem_tree.specs.Fills.{filled}
-use Rattle.tree_trait.specs.CrashImages.{chosen}
+use Rattle.mem_tree.specs.Fills.{filled_bytes}
+use Rattle.tree_trait.specs.CrashImages.{image_by_bits}
 
 -- `fails` names the calls that fail, `called` counts the calls, and for so many calls as `spare` there is room
 pub record Held : Type 0 where
@@ -66,7 +66,7 @@ unused_tree s time = record { log = record { opening = s; changes = [] }; time =
 
 -- the image of a choice, after so many calls
 abbrev pub image_chosen : CallLog → ℕ → Choice → FileSystem
-image_chosen log at_call choice = chosen (filled choice.fill) log.opening (take at_call log.changes) choice.keep
+image_chosen log at_call choice = image_by_bits (filled_bytes choice.fill) log.opening (take at_call log.changes) choice.keep
 
 -- a link
 abbrev pub link_node : List ℕ → Node

@@ -15,12 +15,12 @@ abbrev pub unlocked_node : Node → Node
 unlocked_node n = record n { mode = 0o777 }
 
 -- the file system if each mode permitted all
-abbrev pub unlocked : FileSystem → FileSystem
-unlocked s = record s { nodes = map unlocked_node s.nodes }
+abbrev pub unlocked_system : FileSystem → FileSystem
+unlocked_system s = record s { nodes = map unlocked_node s.nodes }
 
 -- what refuses a folder: what would refuse `make_folder`, and for `make_file` it is the same
 abbrev pub put_refusal : FileSystem → Route → Option TreeError
-put_refusal s path = refusal_of (unlocked s) (MakeFolder path 0)
+put_refusal s path = refusal_of (unlocked_system s) (MakeFolder path 0)
 
 -- the mount of a path can't hold so many bytes more
 abbrev pub is_full : FileSystem → Route → ℕ → Bool
@@ -41,6 +41,6 @@ abbrev pub with_mount : FileSystem → ℕ → ℕ → FileSystem
 with_mount s folder capacity = record s { mounts = s.mounts ++ record { folder = folder; capacity = capacity } ∷ [] }
 
 -- a folder more at a path, where a mount begins
-abbrev pub mounted : FileSystem → Route → ℕ → FileSystem
-mounted s path capacity =
+abbrev pub mounted_system : FileSystem → Route → ℕ → FileSystem
+mounted_system s path capacity =
     with_mount (after_change s (of_name s path (λ f name. Makes f name (folder_node 0o755 0)))) (length s.nodes) capacity

@@ -2,7 +2,7 @@
 ghost use Rattle.std.specs.Prelude.{◌≡◌, ◌+◌, ◌^◌, ◌≤◌, length, Some, IfOk};
 ghost use Rattle.tree_trait.specs.FileSystem.{node};
 ghost use Rattle.tree_trait.specs.Calls.{Stat, ListFolder, ReadAt, ReadLink, MakeFile, WriteAt, SetMode, MakeFolder, MakeLink, Rename, RemoveFile, RemoveFolder, SyncFile, SyncFolder};
-ghost use Rattle.tree_trait.specs.Change.{current, found};
+ghost use Rattle.tree_trait.specs.Change.{current, found_node};
 ghost use Rattle.tree_trait.specs.Answers.{HasCause, count_after, Performs, Reads, IsMeta, IsListing, IsRead, IsLinkText, IsInRange, IsAscending};
 ghost use Rattle.mem_tree.specs.Counted.{IsCounted, TakesOnePlace};
 
@@ -41,7 +41,7 @@ impl ReadTree for MemTree {
 
     fn list(&mut self, alloc: Global, path: &Path) -> Result<Children, TreeError>
         ensures answer { Reads self.old.log (ListFolder path.now) result
-            (IsListing (current self.old.log) (found (current self.old.log) path.now)) }
+            (IsListing (current self.old.log) (found_node (current self.old.log) path.now)) }
         ensures same { self.new.log ≡ self.old.log }
         ensures ascending { IfOk result (λ children. IsAscending children.names) }
         ensures cause { HasCause TreeError.Fault self.old.faults self.new.faults result }
@@ -63,7 +63,7 @@ impl ReadTree for MemTree {
         into: &mut [u8],
     ) -> Result<usize, TreeError>
         ensures answer { Reads self.old.log (ReadAt path.now offset (length into.old)) result
-            (IsRead (node (current self.old.log) (found (current self.old.log) path.now)).bytes offset into.old into.new) }
+            (IsRead (node (current self.old.log) (found_node (current self.old.log) path.now)).bytes offset into.old into.new) }
         ensures same { self.new.log ≡ self.old.log }
         ensures in_room { IfOk result (λ count. count ≤ length into.old) }
         ensures cause { HasCause TreeError.Fault self.old.faults self.new.faults result }
@@ -79,7 +79,7 @@ impl ReadTree for MemTree {
 
     fn read_link(&mut self, alloc: Global, path: &Path) -> Result<Text, TreeError>
         ensures answer { Reads self.old.log (ReadLink path.now) result
-            (λ text. text ≡ (node (current self.old.log) (found (current self.old.log) path.now)).bytes) }
+            (λ text. text ≡ (node (current self.old.log) (found_node (current self.old.log) path.now)).bytes) }
         ensures same { self.new.log ≡ self.old.log }
         ensures link_text { IfOk result IsLinkText }
         ensures cause { HasCause TreeError.Fault self.old.faults self.new.faults result }

@@ -1,9 +1,9 @@
 //! What a crash may leave of a tree in memory.
 ghost use Rattle.std.specs.Prelude.{◌≡◌, ◌∷◌, ◌||◌, replicate, if◌then◌else◌, IfOk, OnOk};
 ghost use Rattle.tree_trait.specs.Change.{after_change, edit};
-ghost use Rattle.tree_trait.specs.CrashImages.{is_settled, is_unsynced, is_write, without, chosen};
+ghost use Rattle.tree_trait.specs.CrashImages.{is_settled, is_unsynced, is_write, without, image_by_bits};
 ghost use Rattle.mem_tree.specs.Records.{change_by, changes_by};
-ghost use Rattle.mem_tree.specs.Fills.{filled};
+ghost use Rattle.mem_tree.specs.Fills.{filled_bytes};
 
 use crate::choice::Fill;
 use crate::copies::{copy_node, copy_of};
@@ -15,7 +15,7 @@ use tree_trait::{FileSystem, NameEdit, Seq};
 
 /// What is left of bytes that were written.
 fn fill_of(alloc: Global, fill: Fill, bytes: &[u8]) -> Result<Seq<u8>, NoMemory>
-    ensures { IfOk result (λ left. left ≡ filled fill bytes.now) }
+    ensures { IfOk result (λ left. left ≡ filled_bytes fill bytes.now) }
 {
     match fill {
         Fill::Written => Ok(Seq::from_slice(alloc, bytes)?),
@@ -150,7 +150,7 @@ fn apply(alloc: Global, left: &mut FileSystem, first: &Record) -> Result<(), NoM
 
 /// A change that is lost.
 fn lose(alloc: Global, left: &mut FileSystem, first: &Record, fill: Fill) -> Result<(), NoMemory>
-    ensures { OnOk result (left.new ≡ without (filled fill) left.old (change_by first.now)) }
+    ensures { OnOk result (left.new ≡ without (filled_bytes fill) left.old (change_by first.now)) }
 {
     match first {
         Record::Make { made, .. } => {
@@ -178,7 +178,7 @@ fn leave(
     stands: bool,
     fill: Fill,
 ) -> Result<(), NoMemory>
-    ensures { OnOk result (left.new ≡ (if stands then after_change left.old (change_by first.now) else without (filled fill) left.old (change_by first.now))) }
+    ensures { OnOk result (left.new ≡ (if stands then after_change left.old (change_by first.now) else without (filled_bytes fill) left.old (change_by first.now))) }
 {
     if stands {
         apply(alloc, left, first)
@@ -195,7 +195,7 @@ fn choose(
     keep: &[bool],
     fill: Fill,
 ) -> Result<(), NoMemory>
-    ensures { OnOk result (left.new ≡ chosen (filled fill) left.old (changes_by records.now) keep.now) }
+    ensures { OnOk result (left.new ≡ image_by_bits (filled_bytes fill) left.old (changes_by records.now) keep.now) }
 {
     match records {
         [] => Ok(()),
@@ -227,7 +227,7 @@ pub fn image_of(
     keep: &[bool],
     fill: Fill,
 ) -> Result<FileSystem, NoMemory>
-    ensures { IfOk result (λ image. image ≡ chosen (filled fill) opening.now (changes_by records.now) keep.now) }
+    ensures { IfOk result (λ image. image ≡ image_by_bits (filled_bytes fill) opening.now (changes_by records.now) keep.now) }
 {
     let mut image = copy_of(alloc, opening)?;
     choose(alloc, &mut image, records, keep, fill)?;

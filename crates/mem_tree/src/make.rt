@@ -1,10 +1,10 @@
 //! What the opening of a tree in memory is made of.
 ghost use Rattle.std.specs.Prelude.{◌≡◌, ◌∷◌, [], Ok, IfOk, OnOk, OnErr, ◌<◌, ◌-◌, ◌&&◌, is_none, drop, take, length, reverse};
-ghost use Rattle.tree_trait.specs.Change.{Makes, after_change, found, of_name};
-ghost use Rattle.tree_trait.specs.Refusals.{reached, step};
+ghost use Rattle.tree_trait.specs.Change.{Makes, after_change, found_node, of_name};
+ghost use Rattle.tree_trait.specs.Refusals.{reached_node, step};
 ghost use Rattle.mem_tree.specs.Held.{fresh, folder_node, file_node, other_node, IsKept};
 ghost use Rattle.mem_tree.specs.Sound.{FitsNode};
-ghost use Rattle.mem_tree.specs.Puts.{unlocked, put_refusal, is_full, IsRefusedBy};
+ghost use Rattle.mem_tree.specs.Puts.{unlocked_system, put_refusal, is_full, IsRefusedBy};
 
 use crate::copies::copy_node;
 use crate::perform::place;
@@ -72,7 +72,7 @@ pub fn other_node(alloc: Global) -> Node
 
 /// The node that a path leads to, where each mode permits all.
 fn reach(opening: &FileSystem, names: &[Name]) -> Result<usize, TreeError>
-    ensures { result ≡ reached (unlocked opening.now) (reverse names.now) }
+    ensures { result ≡ reached_node (unlocked_system opening.now) (reverse names.now) }
 {
     match names {
         [] => Ok(0),
@@ -85,7 +85,7 @@ fn reach(opening: &FileSystem, names: &[Name]) -> Result<usize, TreeError>
 
 /// The node that a name leads to in a folder, where each mode permits all.
 fn step(opening: &FileSystem, folder: usize, name: &Name) -> Result<usize, TreeError>
-    ensures { result ≡ step (unlocked opening.now) name.now folder }
+    ensures { result ≡ step (unlocked_system opening.now) name.now folder }
 {
     if !folder_at(opening, folder) {
         return Err(TreeError::NotFolder);
@@ -111,7 +111,7 @@ pub fn refuse_put(opening: &FileSystem, names: &[Name]) -> Option<TreeError>
 
 /// What keeps a thing from being put under a name of a folder, to which `front` leads.
 fn refuse_in(opening: &FileSystem, front: &[Name], folder: usize, name: &Name) -> Option<TreeError>
-    requires { reached (unlocked opening.now) (reverse front.now) ≡ Ok folder }
+    requires { reached_node (unlocked_system opening.now) (reverse front.now) ≡ Ok folder }
     ensures { result ≡ put_refusal opening.now (name.now ∷ reverse front.now) }
 {
     let _ = front;
@@ -203,10 +203,10 @@ fn put_in(
     name: &Name,
     node: Node,
 ) -> Result<(), TreeError>
-    requires at { reached (unlocked opening.old) (reverse front.now) ≡ Ok folder }
+    requires at { reached_node (unlocked_system opening.old) (reverse front.now) ≡ Ok folder }
     requires kept { IsKept opening.old [] stands.old }
     requires fits { FitsNode node }
-    ensures made { OnOk result (opening.new ≡ after_change opening.old (Makes (found opening.old (reverse front.now)) name.now node)) }
+    ensures made { OnOk result (opening.new ≡ after_change opening.old (Makes (found_node opening.old (reverse front.now)) name.now node)) }
     ensures same { OnErr result (opening.new ≡ opening.old) }
     ensures refusal { IsRefusedBy (put_refusal opening.old (name.now ∷ reverse front.now)) result }
     ensures kept { IsKept opening.new [] stands.new }

@@ -2,7 +2,7 @@
 ghost use Rattle.std.specs.Prelude.{◌≡◌, ◌<◌, length, reverse, IfOk};
 ghost use Rattle.tree_trait.specs.Change.{Makes, after_change, of_name};
 ghost use Rattle.mem_tree.specs.Held.{folder_node};
-ghost use Rattle.mem_tree.specs.Puts.{mounted, put_refusal, IsRefusedBy};
+ghost use Rattle.mem_tree.specs.Puts.{mounted_system, put_refusal, IsRefusedBy};
 
 use crate::copies::copy_of;
 use crate::make::{folder_node, refuse_put};
@@ -34,7 +34,7 @@ fn with_mount(
     names: &[Name],
     capacity: u64,
 ) -> Result<FileSystem, NoMemory>
-    ensures { IfOk result (λ new. new ≡ mounted opening.now (reverse names.now) capacity) }
+    ensures { IfOk result (λ new. new ≡ mounted_system opening.now (reverse names.now) capacity) }
 {
     let mut new = with_folder(alloc, opening, names)?;
     new.mounts.push(Mount {
@@ -51,7 +51,7 @@ pub fn mount_at(
     names: &[Name],
     capacity: u64,
 ) -> Result<FileSystem, TreeError>
-    ensures mounted { IfOk result (λ new. new ≡ mounted opening.now (reverse names.now) capacity) }
+    ensures mounted { IfOk result (λ new. new ≡ mounted_system opening.now (reverse names.now) capacity) }
     ensures refusal { IsRefusedBy (put_refusal opening.now (reverse names.now)) result }
 {
     match refuse_put(opening, names) {

@@ -4,7 +4,7 @@ ghost use Rattle.tree_trait.specs.declared.file_system.FileSystem.{FileSystem};
 ghost use Rattle.tree_trait.specs.Change.{Makes, Writes, after_change};
 ghost use Rattle.mem_tree.specs.Records.{change_by};
 ghost use Rattle.mem_tree.specs.Live.{without_name, IsOnce, IsPlaceBehind};
-ghost use Rattle.mem_tree.specs.Steps.{step_change, torn_step, standing_after, IsPlaced, IsDone, takes_none, Concludes};
+ghost use Rattle.mem_tree.specs.CallSteps.{step_change, torn_step, standing_after, IsPlaced, IsDone, takes_none, Concludes};
 
 use crate::copies::copy_node;
 use crate::record::Record;

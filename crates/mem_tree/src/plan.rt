@@ -4,8 +4,8 @@ ghost use Rattle.mc_text.specs.declared.kind.Kind.TheVariants.{File, Folder, Lin
 ghost use Rattle.tree_trait.specs.FileSystem.{find, node};
 ghost use Rattle.tree_trait.specs.Calls.{MakeFile, WriteAt, SetMode, MakeFolder, MakeLink, Rename, RemoveFile, RemoveFolder, SyncFile, SyncFolder};
 ghost use Rattle.tree_trait.specs.Refusals.{refusal_of};
-ghost use Rattle.tree_trait.specs.Change.{Nothing, Makes, Moves, Removes, of_name, found, overwritten};
-ghost use Rattle.mem_tree.specs.Steps.{Plans, PlansTo, IsReady, takes_none};
+ghost use Rattle.tree_trait.specs.Change.{Nothing, Makes, Moves, Removes, of_name, found_node, overwritten_bytes};
+ghost use Rattle.mem_tree.specs.CallSteps.{Plans, PlansTo, IsReady, takes_none};
 
 use crate::links::link_node;
 use crate::step::Step;
@@ -107,7 +107,7 @@ pub fn plan_make_link(
 /// Bytes with others written over them at an offset, zeros between.
 fn overwrite(alloc: Global, old: &[u8], offset: u64, bytes: &[u8]) -> Result<Seq<u8>, NoMemory>
     requires { offset + length bytes.now ≤ 2 ^ 63 }
-    ensures { IfOk result (λ all. all ≡ overwritten old.now offset bytes.now) }
+    ensures { IfOk result (λ all. all ≡ overwritten_bytes old.now offset bytes.now) }
 {
     let start = offset as usize;
     let mut all = Vec::from_slice(alloc, &old[..start.min(old.len())])?;
@@ -168,9 +168,9 @@ pub fn plan_set_mode(
 
 /// The step that ends a name in the folder of a path.
 fn unlink_in(fs: &FileSystem, front: &[Name], name: &Name) -> Step
-    requires { find fs.now (name.now ∷ reverse front.now) ≡ Some (found fs.now (name.now ∷ reverse front.now)) }
+    requires { find fs.now (name.now ∷ reverse front.now) ≡ Some (found_node fs.now (name.now ∷ reverse front.now)) }
     ensures no_memory { takes_none (Ok result) ≡ true }
-    ensures ready { IsReady fs.now (Removes (found fs.now (reverse front.now)) name.now (found fs.now (name.now ∷ reverse front.now))) Nothing result }
+    ensures ready { IsReady fs.now (Removes (found_node fs.now (reverse front.now)) name.now (found_node fs.now (name.now ∷ reverse front.now))) Nothing result }
 {
     match place_of(fs.names.as_slice(), found(fs, front), name) {
         None => Step::Stay,
@@ -183,9 +183,9 @@ fn unlink_in(fs: &FileSystem, front: &[Name], name: &Name) -> Step
 
 /// The step that ends the name of a path.
 fn unlink_step(fs: &FileSystem, names: &[Name]) -> Step
-    requires { find fs.now (reverse names.now) ≡ Some (found fs.now (reverse names.now)) }
+    requires { find fs.now (reverse names.now) ≡ Some (found_node fs.now (reverse names.now)) }
     ensures no_memory { takes_none (Ok result) ≡ true }
-    ensures ready { IsReady fs.now (of_name fs.now (reverse names.now) (λ f name. Removes f name (found fs.now (reverse names.now)))) Nothing result }
+    ensures ready { IsReady fs.now (of_name fs.now (reverse names.now) (λ f name. Removes f name (found_node fs.now (reverse names.now)))) Nothing result }
 {
     match names {
         [] => Step::Stay,
@@ -226,9 +226,9 @@ fn move_in(
     over: &[Name],
     new: &Name,
 ) -> Result<Step, NoMemory>
-    requires { find fs.now (old.now ∷ reverse up.now) ≡ Some (found fs.now (old.now ∷ reverse up.now)) }
-    ensures { IfOk result (IsReady fs.now (Moves (found fs.now (reverse up.now)) old.now (found fs.now (reverse over.now)) new.now
-        (found fs.now (old.now ∷ reverse up.now)) (find fs.now (new.now ∷ reverse over.now))) Nothing) }
+    requires { find fs.now (old.now ∷ reverse up.now) ≡ Some (found_node fs.now (old.now ∷ reverse up.now)) }
+    ensures { IfOk result (IsReady fs.now (Moves (found_node fs.now (reverse up.now)) old.now (found_node fs.now (reverse over.now)) new.now
+        (found_node fs.now (old.now ∷ reverse up.now)) (find fs.now (new.now ∷ reverse over.now))) Nothing) }
 {
     match place_of(fs.names.as_slice(), found(fs, up), old) {
         None => Ok(Step::Stay),
@@ -244,9 +244,9 @@ fn move_in(
 
 /// The step that moves the name of a path to that of another.
 fn move_step(alloc: Global, fs: &FileSystem, from: &[Name], to: &[Name]) -> Result<Step, NoMemory>
-    requires { find fs.now (reverse from.now) ≡ Some (found fs.now (reverse from.now)) }
+    requires { find fs.now (reverse from.now) ≡ Some (found_node fs.now (reverse from.now)) }
     ensures { IfOk result (IsReady fs.now (of_name fs.now (reverse from.now) (λ f old. of_name fs.now (reverse to.now) (λ g new.
-        Moves f old g new (found fs.now (reverse from.now)) (find fs.now (reverse to.now))))) Nothing) }
+        Moves f old g new (found_node fs.now (reverse from.now)) (find fs.now (reverse to.now))))) Nothing) }
 {
     match from {
         [] => Ok(Step::Stay),

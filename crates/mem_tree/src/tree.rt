@@ -5,7 +5,7 @@ ghost use Rattle.tree_trait.specs.CrashImages.{IsCrashImage};
 ghost use Rattle.tree_trait.specs.Shape.{IsTree};
 ghost use Rattle.tree_trait.specs.Answers.{IsLinkText};
 ghost use Rattle.mem_tree.specs.Held.{IsKept, fresh, unused_tree, image_chosen, made_in, folder_node, file_node, link_node, other_node};
-ghost use Rattle.mem_tree.specs.Puts.{mounted, put_refusal, put_file_refusal, IsRefusedBy};
+ghost use Rattle.mem_tree.specs.Puts.{mounted_system, put_refusal, put_file_refusal, IsRefusedBy};
 
 use crate::choice::Choice;
 use crate::image::image_of;
@@ -76,7 +76,7 @@ impl MemTree {
     pub fn mount(&mut self, alloc: Global, at: &Path, capacity: u64) -> Result<u32, TreeError>
         requires unused { self.old.log.changes ≡ [] }
         requires few { length self.old.log.opening.mounts < 1000 }
-        ensures made { OnOk result (self.new ≡ record self.old { log = record { opening = mounted self.old.log.opening at.now capacity; changes = [] } }) }
+        ensures made { OnOk result (self.new ≡ record self.old { log = record { opening = mounted_system self.old.log.opening at.now capacity; changes = [] } }) }
         ensures number { IfOk result (λ number. number ≡ length self.old.log.opening.mounts) }
         ensures same { OnErr result (self.new ≡ self.old) }
         ensures refusal { IsRefusedBy (put_refusal self.old.log.opening at.now) result }

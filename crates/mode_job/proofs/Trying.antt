@@ -3,7 +3,7 @@ use Rattle.std.proofs.Common.{◌≡◌, ◌⊎◌, ℕ, ◌≤◌, refl, sym, �
 use Rattle.mc_text.specs.Routes.{Route}
 use Rattle.mc_text.specs.declared.kind.Kind.{Kind}
 use Rattle.tree_trait.specs.FileSystem.{node}
-use Rattle.tree_trait.specs.Change.{CallLog, current, found}
+use Rattle.tree_trait.specs.Change.{CallLog, current, found_node}
 use Rattle.tree_trait.specs.Answers.{HasCause, IfKnown, Performs, Reads}
 use Rattle.tree_trait.specs.declared.calls.TreeError.{TreeError}
 use Rattle.tree_trait.specs.declared.calls.TreeError.TheVariants.{Fault, Memory}
@@ -19,7 +19,7 @@ use Rattle.mode_job.specs.SettingSteps.{SyncTried, TellsTried, TriedSync, sync_b
 
 -- the look told what stands there, and the sync was tried
 pub tried_behind : (path : Route) (kind : Kind) (answer : Result (Unit {0}) TreeError) (last : LastStepResult) (before mid after : Option CallLog) (f0 f1 f2 : ℕ)
-    → IfKnown before (λ log. kind ≡ (node (current log) (found (current log) path)).kind) → mid ≡ before → f0 ≤ f1
+    → IfKnown before (λ log. kind ≡ (node (current log) (found_node (current log) path)).kind) → mid ≡ before → f0 ≤ f1
     → IfKnown mid (λ log. Performs {A = Unit {0}} log (sync_by kind path) answer after) → (mid ≡ None → after ≡ None) → HasCause Fault f1 f2 answer → TriedSync answer last
     → SyncTried path last before after f0 f2
 tried_behind path kind answer last before mid after f0 f1 f2 is same least performs unknown cause told = record {

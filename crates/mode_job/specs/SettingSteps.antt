@@ -8,7 +8,7 @@ use Rattle.tree_trait.specs.declared.calls.TreeError.{TreeError}
 use Rattle.tree_trait.specs.declared.calls.TreeError.TheVariants.{Fault, Memory}
 use Rattle.tree_trait.specs.Calls.{Call, Stat, SetMode, SyncFile, SyncFolder}
 use Rattle.tree_trait.specs.FileSystem.{node}
-use Rattle.tree_trait.specs.Change.{CallLog, current, found}
+use Rattle.tree_trait.specs.Change.{CallLog, current, found_node}
 use Rattle.tree_trait.specs.Answers.{IfKnown, HasRisen, Performs}
 use Rattle.job_reports.specs.declared.report.Cause.{Cause}
 use Rattle.job_reports.specs.declared.report.Cause.TheVariants.{Memory as NoMemory, Tree}
@@ -25,7 +25,7 @@ use Rattle.job_answers.specs.declared.replies.Replies.{Replies}
 use Rattle.mode_job.specs.declared.setting.Stage.{Stage}
 use Rattle.mode_job.specs.declared.setting.Stage.TheVariants.{Give, Sync, Done}
 use Rattle.mode_job.specs.declared.work.AfterStep.{AfterStep}
-use Rattle.mode_job.specs.Settings.{Setting, Tells, at_barrier, is_dirty, skipped}
+use Rattle.mode_job.specs.Settings.{Setting, Tells, at_barrier, is_dirty, skipped_stage}
 
 -- the sync that brings a mode onto the disk: that of a folder, or that of a file
 abbrev pub sync_by : Kind → Route → Call
@@ -36,7 +36,7 @@ sync_by Other path = SyncFile path
 
 -- by what stands at the path
 abbrev pub sync_of : FileSystem → Route → Call
-sync_of s path = sync_by (node s (found s path)).kind path
+sync_of s path = sync_by (node s (found_node s path)).kind path
 
 -- the trouble of a sync: the look before it was refused, or it was
 abbrev pub SyncStops : Route → Cause → Option Route → CallLog → Option CallLog → Type 0
@@ -105,7 +105,7 @@ NotGiven replies s stop moved =
 -- a skip reports the thing as skipped, or that there is no memory for the report, and then it changes nothing
 abbrev pub SettingSkips : Cause → Setting → Did → Setting → Type 0
 SettingSkips cause old did new =
-    ((did ≡ Skipped old.path cause) × (new ≡ record old { stage = skipped old.stage }))
+    ((did ≡ Skipped old.path cause) × (new ≡ record old { stage = skipped_stage old.stage }))
     ⊎ ((did ≡ Troubled (out_of_memory_at (at_barrier old.stage))) × (new ≡ old))
 
 -- what a sync that was tried answered is told

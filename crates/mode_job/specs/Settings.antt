@@ -38,10 +38,10 @@ is_fresh Sync = false
 is_fresh Done = false
 
 -- a thing that is skipped keeps its mode
-abbrev pub skipped : Stage → Stage
-skipped Give = Done
-skipped Sync = Sync
-skipped Done = Done
+abbrev pub skipped_stage : Stage → Stage
+skipped_stage Give = Done
+skipped_stage Sync = Sync
+skipped_stage Done = Done
 
 -- What a step may report, and where the setting stands then. A trouble is told of whose kind none is to be passed over, or there was no memory.
 abbrev pub Tells : Replies → Setting → Did → Setting → Type 0

@@ -2,7 +2,7 @@
 ghost use Rattle.std.specs.Prelude.{◌≡◌, ◌≤◌, Some};
 ghost use Rattle.mc_text.specs.Routes.{parent_of};
 ghost use Rattle.job_reports.specs.Paths.{folder_of};
-ghost use Rattle.mode_job.specs.Settings.{at_barrier, is_dirty, is_fresh, setting, skipped as skipped_to};
+ghost use Rattle.mode_job.specs.Settings.{at_barrier, is_dirty, is_fresh, setting, skipped_stage as skipped_to};
 ghost use Rattle.mode_job.specs.SettingSteps.{SettingSkips, StepsOn, Winds};
 
 use crate::work::{try_sync, work};

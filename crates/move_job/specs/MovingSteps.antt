@@ -17,7 +17,7 @@ use Rattle.job_reports.specs.Stops.{out_of_memory_at, trouble_at}
 use Rattle.job_answers.specs.declared.replies.Replies.{Replies}
 use Rattle.job_answers.specs.Skipping.{is_passed_over}
 use Rattle.move_job.specs.declared.moving.MovingStage.TheVariants as stage
-use Rattle.move_job.specs.Movings.{LastMovingCalls, MayMerge, Moving, MovingCalls, MovingLeaves, Tells, Winds, at_barrier, skipped}
+use Rattle.move_job.specs.Movings.{LastMovingCalls, MayMerge, Moving, MovingCalls, MovingLeaves, Tells, Winds, at_barrier, skipped_stage}
 
 -- the report tells of a fault: as a trouble, or as why something was passed over
 abbrev pub TellsFault : Did → Type 0
@@ -50,7 +50,7 @@ pub record LastMovingStep (ending : Ending) (old new : Moving) (did : Did) (call
 -- a skip reports the thing as skipped, or that there is no memory for the report, and then it changes nothing
 abbrev pub MovingSkips : Cause → Moving → Did → Moving → Type 0
 MovingSkips cause old did new =
-    ((did ≡ Skipped old.pair.source cause) × (new ≡ record old { stage = skipped old.stage }))
+    ((did ≡ Skipped old.pair.source cause) × (new ≡ record old { stage = skipped_stage old.stage }))
     ⊎ ((did ≡ Troubled (out_of_memory_at (at_barrier old.stage))) × (new ≡ old))
 
 -- a trouble is told, or the thing at this path is passed over, where troubles of that kind are

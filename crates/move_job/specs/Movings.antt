@@ -32,8 +32,8 @@ pub record Moving : Type 0 where
   pub stage : MovingStage
 
 -- a move, just begun
-abbrev pub started : Pair → Moving
-started pair = record { pair = pair; stage = Take }
+abbrev pub begun_move : Pair → Moving
+begun_move pair = record { pair = pair; stage = Take }
 
 -- the next call is at a barrier: a sync
 abbrev pub at_barrier : MovingStage → Bool
@@ -76,12 +76,12 @@ is_done Finish = true
 is_done PassedOver = true
 
 -- a thing that is skipped stays where it is
-abbrev pub skipped : MovingStage → MovingStage
-skipped Take = PassedOver
-skipped SyncTarget = SyncTarget
-skipped SyncSource = SyncSource
-skipped Finish = Finish
-skipped PassedOver = PassedOver
+abbrev pub skipped_stage : MovingStage → MovingStage
+skipped_stage Take = PassedOver
+skipped_stage SyncTarget = SyncTarget
+skipped_stage SyncSource = SyncSource
+skipped_stage Finish = Finish
+skipped_stage PassedOver = PassedOver
 
 -- a folder that holds both names is synced once
 abbrev pub after_target : Pair → MovingStage

@@ -22,7 +22,7 @@ use Rattle.job_answers.specs.declared.placing.Placing.TheVariants.{Asks, Merges,
 use Rattle.job_answers.specs.declared.replies.Decision.{Decision}
 use Rattle.job_answers.specs.declared.replies.Decision.TheVariants.{Replace, Keep, Ask}
 use Rattle.job_answers.specs.declared.replies.Replies.{Replies}
-use Rattle.job_answers.specs.Decisions.{decided}
+use Rattle.job_answers.specs.Decisions.{decision_on}
 use Rattle.job_answers.specs.Questions.{placing_at}
 use Rattle.copy_tree.specs.Taking.{AreShort, ChildStops, FolderStops, Lists}
 use Rattle.move_job.specs.declared.taking.Taking.{Taking}
@@ -47,7 +47,7 @@ pub record IsDecided (s : FileSystem) (pair : Pair) (replies : Replies) (questio
   pub single : folder_kind source.kind ≡ false
   pub meets : placing_at (Moved source.kind) (Some target.kind) ≡ Asks
   pub asks : question ≡ question_on pair.source source pair.target target
-  pub decides : decided replies question ≡ decision
+  pub decides : decision_on replies question ≡ decision
 
 -- A thing may be renamed, a folder with all that lies in it: nothing stands at its target, or it is no folder, and what stands there is replaced by an answer that
 -- stands.
@@ -130,9 +130,9 @@ LooksStop s pair cause path =
 
 -- what is decided of what comes onto something
 abbrev pub Decides : Pair → Replies → Meta → Meta → Result Taking Trouble → Type 0
-Decides pair replies source target (Ok taking.Moves) = decided replies (question_on pair.source source pair.target target) ≡ Replace
-Decides pair replies source target (Ok taking.Keeps) = decided replies (question_on pair.source source pair.target target) ≡ Keep
+Decides pair replies source target (Ok taking.Moves) = decision_on replies (question_on pair.source source pair.target target) ≡ Replace
+Decides pair replies source target (Ok taking.Keeps) = decision_on replies (question_on pair.source source pair.target target) ≡ Keep
 Decides pair replies source target (Ok (taking.Asks question)) =
-    (question ≡ question_on pair.source source pair.target target) × (decided replies question ≡ Ask)
+    (question ≡ question_on pair.source source pair.target target) × (decision_on replies question ≡ Ask)
 Decides pair replies source target (Ok (taking.Merges names)) = ⊥
 Decides pair replies source target (Err trouble) = trouble ≡ out_of_memory_at false

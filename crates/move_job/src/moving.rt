@@ -8,7 +8,7 @@ ghost use Rattle.tree_trait.specs.Answers.{IfKnown, IsAscending};
 ghost use Rattle.job_reports.specs.Paths.{folder_of};
 ghost use Rattle.job_reports.specs.Stops.{calls_made_for};
 ghost use Rattle.copy_tree.specs.Taking.{AreShort};
-ghost use Rattle.move_job.specs.Movings.{after_sync as synced_to, at_barrier, is_dirty, is_fresh, owed_folder, owes_target, started};
+ghost use Rattle.move_job.specs.Movings.{after_sync as synced_to, at_barrier, is_dirty, is_fresh, owed_folder, owes_target, begun_move};
 ghost use Rattle.move_job.specs.MovingSteps.{IsMergedOr, Keeps, LastMovingStep, MovingSkips, MovingStep, NotRenamed, NotTaken, PassesOver};
 ghost use Rattle.move_job.specs.Takings.{MayMove};
 
@@ -68,7 +68,7 @@ impl ThingMoving {
         requires from { parent_of pair.source ≡ Some source_folder }
         requires to { parent_of pair.target ≡ Some folder }
         requires apart { same_path pair.source pair.target ≡ false }
-        ensures { result ≡ started pair }
+        ensures { result ≡ begun_move pair }
     {
         ThingMoving {
             pair,

@@ -1,7 +1,7 @@
 //! Where a move stands once it has gone on.
 ghost use Rattle.std.specs.Prelude.{◌≡◌, if◌then◌else◌};
 ghost use Rattle.mc_text.specs.Routes.{same_path};
-ghost use Rattle.move_job.specs.Movings.{skipped as skipped_to};
+ghost use Rattle.move_job.specs.Movings.{skipped_stage as skipped_to};
 
 use crate::moving::MovingStage;
 use mc_text::Path;

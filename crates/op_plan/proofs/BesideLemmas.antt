@@ -13,7 +13,7 @@ use Rattle.op_plan.specs.declared.error.PlanError.{PlanError}
 use Rattle.op_plan.specs.declared.error.PlanError.TheVariants.{Target, Memory}
 use Rattle.op_plan.specs.Meeting.{meet, has_two}
 use Rattle.op_plan.specs.Answering.{and_then, or_bad_mask, Plans, is_fault, is_memory}
-use Rattle.op_plan.specs.Checks.{is_too_long, sources_in, targets_from, pair, paired}
+use Rattle.op_plan.specs.Checks.{is_too_long, sources_in, targets_from, pair, paired_sources}
 use Rattle.op_plan.specs.Planning.{apart, pairs_into, placed_there}
 use Rattle.op_plan.specs.Asking.{ArePlaced}
 use Rattle.op_plan.specs.Naming.{all_of, names_for, target_name}
@@ -63,7 +63,7 @@ kept_targets : (folder : Route) (sources : List Route) → targets_from (map (ke
 kept_targets folder [] = refl
 kept_targets folder (source ∷ sources) = ap (λ (l : List Route). (name_of source ∷ folder) ∷ l) (kept_targets folder sources)
 
-kept_paired : (folder : Route) (sources : List Route) → paired sources (map (λ name. name ∷ folder) (map name_of sources)) ≡ map (kept folder) sources
+kept_paired : (folder : Route) (sources : List Route) → paired_sources sources (map (λ name. name ∷ folder) (map name_of sources)) ≡ map (kept folder) sources
 kept_paired folder [] = refl
 kept_paired folder (source ∷ sources) = ap (λ (l : List Pair). kept folder source ∷ l) (kept_paired folder sources)
 

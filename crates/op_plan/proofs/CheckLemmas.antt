@@ -14,7 +14,7 @@ use Rattle.op_plan.specs.declared.error.PlanError.TheVariants.{Nested, SameFile,
 use Rattle.op_plan.specs.Meeting.{meet, has_two, first_across, with_first}
 use Rattle.op_plan.specs.Sorting.{AreFirst}
 use Rattle.op_plan.specs.Answering.{unless}
-use Rattle.op_plan.specs.Checks.{nested, none_nested, sources_in, targets_from, pair, paired, none_same, two_to_one, none_twice}
+use Rattle.op_plan.specs.Checks.{nested_error, none_nested, sources_in, targets_from, pair, paired_sources, none_same, two_to_one, none_twice}
 use Rattle.op_plan.proofs.Paths.{bool_same, same_name, same_name-from}
 use Rattle.op_plan.proofs.Twos.{first_two-none, two-found, two-map, find-position, position-none}
 
@@ -26,7 +26,7 @@ next-drop {A} xs n x within is_x =
     next k = omega arith
 
 pub nested-none : (sources : List Route) → has_two meet sources ≡ false → none_nested sources ≡ Ok tt
-nested-none sources h = ap (λ o. unless (option_map nested o)) (first_two-none meet [] sources h)
+nested-none sources h = ap (λ o. unless (option_map nested_error o)) (first_two-none meet [] sources h)
 
 pub nested-some : (sources : List Route) (i j : ℕ) (a b : Route) → AreFirst sources i j → a ≡ get_or sources i a → b ≡ get_or sources j b
     → none_nested sources ≡ Err (Nested a b)
@@ -36,7 +36,7 @@ nested-some sources i j a b found is_a is_b =
     let smaller : i < length sources = omega arith in
     let here : position (λ other. meet other (get_or sources j b)) (take j sources) ≡ Some i =
     found.first_is (get_or sources j b) (slice_get-get_or sources j b within) in
-    ap (λ o. unless (option_map nested o)) (two-found meet sources i j b within found.before here)
+    ap (λ o. unless (option_map nested_error o)) (two-found meet sources i j b within found.before here)
     ∙ (ap (λ (r : Route). Err (Nested r (get_or sources j b))) (get_or_default sources i b a smaller ∙ sym is_a)
     ∙ ap (λ (r : Route). Err (Nested a r)) (sym is_b))
 
@@ -145,25 +145,25 @@ twice-some pairs i j a b found is_a is_b =
 
 -- ---- sources beside their targets
 
-zipped : (sources targets : List Route) → map (λ (p : Route × Route). pair p.0 p.1) (zip sources targets) ≡ paired sources targets
+zipped : (sources targets : List Route) → map (λ (p : Route × Route). pair p.0 p.1) (zip sources targets) ≡ paired_sources sources targets
 zipped [] targets = refl
 zipped (s ∷ sources) [] = refl
 zipped (s ∷ sources) (t ∷ targets) = ap (λ (l : List Pair). pair s t ∷ l) (zipped sources targets)
 
 pub paired-zip : (sources targets : List Route) (yielded : List (Route × Route)) → map (λ (p : Route × Route). (p.0, p.1)) yielded ≡ zip sources targets
-    → map (λ (p : Route × Route). pair p.0 p.1) yielded ≡ paired sources targets
+    → map (λ (p : Route × Route). pair p.0 p.1) yielded ≡ paired_sources sources targets
 paired-zip sources targets yielded e = same yielded ∙ (ap (map (λ (p : Route × Route). pair p.0 p.1)) e ∙ zipped sources targets)
   where
     same : (l : List (Route × Route)) → map (λ (p : Route × Route). pair p.0 p.1) l ≡ map (λ (p : Route × Route). pair p.0 p.1) (map (λ (p : Route × Route). (p.0, p.1)) l)
     same [] = refl
     same (p ∷ l) = ap (λ (rest : List Pair). pair p.0 p.1 ∷ rest) (same l)
 
-pub sources-paired : (sources targets : List Route) → length targets ≡ length sources → sources_in (paired sources targets) ≡ sources
+pub sources-paired : (sources targets : List Route) → length targets ≡ length sources → sources_in (paired_sources sources targets) ≡ sources
 sources-paired [] targets h = refl
 sources-paired (s ∷ sources) [] h = absurd (omega arith)
 sources-paired (s ∷ sources) (t ∷ targets) h = ap (λ (l : List Route). s ∷ l) (sources-paired sources targets (omega arith))
 
-pub targets-paired : (sources targets : List Route) → length targets ≡ length sources → targets_from (paired sources targets) ≡ targets
+pub targets-paired : (sources targets : List Route) → length targets ≡ length sources → targets_from (paired_sources sources targets) ≡ targets
 targets-paired [] [] h = refl
 targets-paired [] (t ∷ targets) h = absurd (omega arith)
 targets-paired (s ∷ sources) [] h = absurd (omega arith)

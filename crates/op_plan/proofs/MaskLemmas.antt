@@ -7,7 +7,7 @@ use Rattle.std.proofs.lemmas.Option.{slice_get_past, slice_get-get_or}
 use Rattle.std.proofs.lemmas.Bool.Decides.{nat_tests}
 use Rattle.op_plan.specs.declared.mask.MaskPiece.{MaskPiece}
 use Rattle.op_plan.specs.declared.mask.MaskPiece.TheVariants.{Plain, Star, WholeName, Capture, OpenBackslash}
-use Rattle.op_plan.specs.Masks.{pieces_behind, quoted_piece, plain_piece, before, numbered, pieces_text, filled}
+use Rattle.op_plan.specs.Masks.{pieces_behind, quoted_piece, plain_piece, before, numbered_pieces, pieces_text, filled_mask}
 use Rattle.op_plan.specs.Filling.{leaving, with_rest, filled_with}
 
 next-drop : {A : Type 0} (xs : List A) (n : ℕ) (x : A) → n < length xs → x ≡ get_or xs n x → drop n xs ≡ x ∷ drop (n + 1) xs
@@ -17,43 +17,43 @@ next-drop {A} xs n x within is_x =
     next : (k : ℕ) → suc k ≡ k + 1
     next k = omega arith
 
-pub behind-quoted : (front : List MaskPiece) (text : List ℕ) (n c : ℕ) → n < length text → c ≡ get_or text n c
-    → (front ++ quoted_piece c ∷ []) ++ pieces_behind false (drop (n + 1) text) ≡ front ++ pieces_behind true (drop n text)
-behind-quoted front text n c within is_c =
-    append_assoc front (quoted_piece c ∷ []) (pieces_behind false (drop (n + 1) text))
-    ∙ ap (λ (rest : List ℕ). front ++ pieces_behind true rest) (sym (next-drop text n c within is_c))
+pub behind-quoted : (prefix : List MaskPiece) (text : List ℕ) (n c : ℕ) → n < length text → c ≡ get_or text n c
+    → (prefix ++ quoted_piece c ∷ []) ++ pieces_behind false (drop (n + 1) text) ≡ prefix ++ pieces_behind true (drop n text)
+behind-quoted prefix text n c within is_c =
+    append_assoc prefix (quoted_piece c ∷ []) (pieces_behind false (drop (n + 1) text))
+    ∙ ap (λ (rest : List ℕ). prefix ++ pieces_behind true rest) (sym (next-drop text n c within is_c))
 
-pub behind-backslash : (front : List MaskPiece) (text : List ℕ) (n c : ℕ) → n < length text → c ≡ get_or text n c → c ≡ 92
-    → front ++ pieces_behind true (drop (n + 1) text) ≡ front ++ pieces_behind false (drop n text)
-behind-backslash front text n c within is_c slash =
-    let P : ℕ → Type 0 = λ k. front ++ pieces_behind true (drop (n + 1) text) ≡ front ++ pieces_behind false (k ∷ drop (n + 1) text) in
+pub behind-backslash : (prefix : List MaskPiece) (text : List ℕ) (n c : ℕ) → n < length text → c ≡ get_or text n c → c ≡ 92
+    → prefix ++ pieces_behind true (drop (n + 1) text) ≡ prefix ++ pieces_behind false (drop n text)
+behind-backslash prefix text n c within is_c slash =
+    let P : ℕ → Type 0 = λ k. prefix ++ pieces_behind true (drop (n + 1) text) ≡ prefix ++ pieces_behind false (k ∷ drop (n + 1) text) in
     subst P (sym slash) refl
-    ∙ ap (λ (rest : List ℕ). front ++ pieces_behind false rest) (sym (next-drop text n c within is_c))
+    ∙ ap (λ (rest : List ℕ). prefix ++ pieces_behind false rest) (sym (next-drop text n c within is_c))
 
-pub behind-plain : (front : List MaskPiece) (text : List ℕ) (n c : ℕ) → n < length text → c ≡ get_or text n c → c ≢ 92
-    → (front ++ plain_piece c ∷ []) ++ pieces_behind false (drop (n + 1) text) ≡ front ++ pieces_behind false (drop n text)
-behind-plain front text n c within is_c differs =
+pub behind-plain : (prefix : List MaskPiece) (text : List ℕ) (n c : ℕ) → n < length text → c ≡ get_or text n c → c ≢ 92
+    → (prefix ++ plain_piece c ∷ []) ++ pieces_behind false (drop (n + 1) text) ≡ prefix ++ pieces_behind false (drop n text)
+behind-plain prefix text n c within is_c differs =
     let other : (c == 92) ≡ false = grind (arith, nat_tests) in
-    append_assoc front (plain_piece c ∷ []) (pieces_behind false (drop (n + 1) text))
-    ∙ (ap (λ (pieces : List MaskPiece). front ++ pieces) (sym (ap (λ (b : Bool). cond b (pieces_behind true (drop (n + 1) text)) (plain_piece c ∷ pieces_behind false (drop (n + 1) text))) other))
-    ∙ ap (λ (rest : List ℕ). front ++ pieces_behind false rest) (sym (next-drop text n c within is_c)))
+    append_assoc prefix (plain_piece c ∷ []) (pieces_behind false (drop (n + 1) text))
+    ∙ (ap (λ (pieces : List MaskPiece). prefix ++ pieces) (sym (ap (λ (b : Bool). cond b (pieces_behind true (drop (n + 1) text)) (plain_piece c ∷ pieces_behind false (drop (n + 1) text))) other))
+    ∙ ap (λ (rest : List ℕ). prefix ++ pieces_behind false rest) (sym (next-drop text n c within is_c)))
 
-pub behind-end : (front : List MaskPiece) (text : List ℕ) (n : ℕ) → length text ≤ n → front ++ pieces_behind false (drop n text) ≡ front
-behind-end front text n all = ap (λ (l : List ℕ). front ++ pieces_behind false l) (drop_all n text all) ∙ append-nil front
+pub behind-end : (prefix : List MaskPiece) (text : List ℕ) (n : ℕ) → length text ≤ n → prefix ++ pieces_behind false (drop n text) ≡ prefix
+behind-end prefix text n all = ap (λ (l : List ℕ). prefix ++ pieces_behind false l) (drop_all n text all) ∙ append-nil prefix
 
-pub behind-end_open : (front : List MaskPiece) (text : List ℕ) (n : ℕ) → length text ≤ n → front ++ pieces_behind true (drop n text) ≡ front ++ OpenBackslash ∷ []
-behind-end_open front text n all = ap (λ (l : List ℕ). front ++ pieces_behind true l) (drop_all n text all)
+pub behind-end_open : (prefix : List MaskPiece) (text : List ℕ) (n : ℕ) → length text ≤ n → prefix ++ pieces_behind true (drop n text) ≡ prefix ++ OpenBackslash ∷ []
+behind-end_open prefix text n all = ap (λ (l : List ℕ). prefix ++ pieces_behind true l) (drop_all n text all)
 
 -- ---- the star of a number takes what the wildcard of this number took
 
 numbered_from : (name : List ℕ) (captures : List (List ℕ)) (n : ℕ) (stars : List (List ℕ)) (pieces : List MaskPiece) → stars ≡ drop n captures
-    → filled_with name captures stars pieces ≡ pieces_text name captures (numbered n pieces)
+    → filled_with name captures stars pieces ≡ pieces_text name captures (numbered_pieces n pieces)
 numbered_from name captures n stars [] h = refl
 numbered_from name captures n stars (Plain c ∷ pieces) h = ap (before (encode_utf8 c)) (numbered_from name captures n stars pieces h)
 numbered_from name captures n [] (Star ∷ pieces) h =
     let size = length-drop n captures in
     let none : length captures ≤ n = (let same = ap length h in omega (arith, same, size)) in
-    sym (ap (option_and_then (λ text. before text (pieces_text name captures (numbered (n + 1) pieces)))) (slice_get_past captures n none))
+    sym (ap (option_and_then (λ text. before text (pieces_text name captures (numbered_pieces (n + 1) pieces)))) (slice_get_past captures n none))
 numbered_from name captures n (capture ∷ stars) (Star ∷ pieces) h =
     let size = length-drop n captures in
     let within : n < length captures = (let same = ap length h in omega (arith, same, size)) in
@@ -62,16 +62,16 @@ numbered_from name captures n (capture ∷ stars) (Star ∷ pieces) h =
     let later : stars ≡ drop (suc n) captures = cc in
     let next : suc n ≡ n + 1 = omega arith in
     ap (before capture) (numbered_from name captures (n + 1) stars pieces (later ∙ ap (λ (k : ℕ). drop k captures) next))
-    ∙ sym (ap (option_and_then (λ text. before text (pieces_text name captures (numbered (n + 1) pieces))))
+    ∙ sym (ap (option_and_then (λ text. before text (pieces_text name captures (numbered_pieces (n + 1) pieces))))
     (slice_get-get_or captures n capture within ∙ ap (λ (x : List ℕ). Some x) here))
 numbered_from name captures n stars (WholeName ∷ pieces) h = ap (before name) (numbered_from name captures n stars pieces h)
 numbered_from name captures n stars (Capture place ∷ pieces) h = captured (slice_get captures place) (numbered_from name captures n stars pieces h)
   where
-    captured : (o : Option (List ℕ)) → filled_with name captures stars pieces ≡ pieces_text name captures (numbered n pieces)
-        → with_rest (leaving stars o) (λ left. filled_with name captures left pieces) ≡ option_and_then (λ text. before text (pieces_text name captures (numbered n pieces))) o
+    captured : (o : Option (List ℕ)) → filled_with name captures stars pieces ≡ pieces_text name captures (numbered_pieces n pieces)
+        → with_rest (leaving stars o) (λ left. filled_with name captures left pieces) ≡ option_and_then (λ text. before text (pieces_text name captures (numbered_pieces n pieces))) o
     captured None same = refl
     captured (Some text) same = ap (before text) same
 numbered_from name captures n stars (OpenBackslash ∷ pieces) h = refl
 
-pub stars_numbered : (name : List ℕ) (captures : List (List ℕ)) (pieces : List MaskPiece) → filled_with name captures captures pieces ≡ filled name captures pieces
+pub stars_numbered : (name : List ℕ) (captures : List (List ℕ)) (pieces : List MaskPiece) → filled_with name captures captures pieces ≡ filled_mask name captures pieces
 stars_numbered name captures pieces = numbered_from name captures 0 captures pieces refl

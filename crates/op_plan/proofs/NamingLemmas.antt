@@ -4,4 +4,4 @@ use Rattle.std.specs.Prelude.{option_map}
 
 -- what came of the first items before what comes of the others
 abbrev pub joined : {Y : Type 0} → List Y → Option (List Y) → Option (List Y)
-joined front = option_map (λ ys. front ++ ys)
+joined prefix = option_map (λ ys. prefix ++ ys)

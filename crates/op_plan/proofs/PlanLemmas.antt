@@ -3,10 +3,10 @@ use Rattle.std.proofs.Common.{◌≡◌, ◌≢◌, List, [], ◌∷◌, length,
 use Rattle.std.specs.Prelude.{option_map, option_and_then}
 use Rattle.mc_text.specs.Routes.{Route}
 use Rattle.op_plan.specs.Naming.{all_of}
-use Rattle.op_plan.specs.Checks.{paired}
+use Rattle.op_plan.specs.Checks.{paired_sources}
 
 -- where there is a source there is a pair
-pub pairs-some : (sources targets : List Route) → sources ≢ [] → length targets ≡ length sources → paired sources targets ≢ []
+pub pairs-some : (sources targets : List Route) → sources ≢ [] → length targets ≡ length sources → paired_sources sources targets ≢ []
 pairs-some [] targets some h = absurd (some refl)
 pairs-some (s ∷ sources) [] some h = absurd (omega arith)
 pairs-some (s ∷ sources) (t ∷ targets) some h = λ e. cc

@@ -5,13 +5,13 @@ use Rattle.std.proofs.lemmas.Bool.Decides.{nat_tests}
 use Rattle.std.proofs.lemmas.List.{length-reverse}
 use Rattle.tagging.specs.declared.glob.GlobPart.{GlobPart}
 use Rattle.tagging.specs.declared.glob.GlobPart.TheVariants.{Plain, AnyOne, AnyText, OneOf}
-use Rattle.tagging.specs.Globs.{is_match, longest_front, nothing_in_front}
+use Rattle.tagging.specs.Globs.{is_match, longest_prefix, nothing_in_front}
 use Rattle.mc_text.specs.Routes.{Route}
 use Rattle.op_plan.specs.Naming.{has_match}
 use Rattle.op_plan.specs.Stars.{is_star}
 
 -- the longest front that may stand before nothing is the whole text
-front_whole : (text : List ℕ) → longest_front nothing_in_front text ≡ Some (text ∷ [])
+front_whole : (text : List ℕ) → longest_prefix nothing_in_front text ≡ Some (text ∷ [])
 front_whole [] = refl
 front_whole (character ∷ text) = rw (front_whole text) refl
 

@@ -108,9 +108,9 @@ two-permutation paths sorted moved =
 
 -- ---- the first two
 
-any-inside : {X : Type 0} (p : X → Bool) (front : List X) (x : X) (back : List X) → list_any p (front ++ x ∷ back) ≡ false → p x ≡ false
+any-inside : {X : Type 0} (p : X → Bool) (prefix : List X) (x : X) (back : List X) → list_any p (prefix ++ x ∷ back) ≡ false → p x ≡ false
 any-inside p [] x back h = (or_parts (p x) (list_any p back) h).0
-any-inside p (y ∷ front) x back h = any-inside p front x back (or_parts (p y) (list_any p (front ++ x ∷ back)) h).1
+any-inside p (y ∷ prefix) x back h = any-inside p prefix x back (or_parts (p y) (list_any p (prefix ++ x ∷ back)) h).1
 
 find-apart : {X : Type 0} (test : X → X → Bool) (before : List X) (x : X) (back : List X) → has_two test (before ++ x ∷ back) ≡ false
     → find (λ y. test y x) before ≡ None
@@ -191,7 +191,7 @@ two-push test (y ∷ xs) x =
     shuffle false true false d = refl
     shuffle false false c d = refl
 
--- the last one of the shortest front in which two pass passes with one before it
+-- the last one of the shortest prefix in which two pass passes with one before it
 pub last-passes : {X : Type 0} (test : X → X → Bool) (xs : List X) (last : ℕ) (x : X) → last < length xs → x ≡ get_or xs last x
     → has_two test (take last xs) ≡ false → has_two test (take (last + 1) xs) ≡ true → list_any (λ y. test y x) (take last xs) ≡ true
 last-passes {X} test xs last x within is_x apart meets =

@@ -10,7 +10,7 @@ use Rattle.op_plan.specs.declared.request.Request.TheVariants as asked
 use Rattle.op_plan.specs.declared.job.Job.{Job}
 use Rattle.op_plan.specs.declared.job.Job.TheVariants.{Copy, Move, Delete, MakeFolder, SetMode, MakeLink, Save}
 use Rattle.op_plan.specs.Masks.{pieces_of}
-use Rattle.op_plan.specs.Naming.{pattern_in, chosen, names_for}
+use Rattle.op_plan.specs.Naming.{pattern_in, chosen_sources, names_for}
 use Rattle.op_plan.specs.Destinations.{last_part}
 use Rattle.op_plan.specs.Checks.{sources_in, targets_from}
 
@@ -24,7 +24,7 @@ pub record ArePlaced (pattern : Option (List GlobPart)) (mask : List MaskPiece) 
 -- The sources that the mask takes, in their order. The typed text's last part makes the names of all targets, or each has its
 -- source's.
 pub record ArePairsFor (sources : List Route) (mask to : List ℕ) (pairs : List Pair) : Type 0 where
-  pub sources_are : sources_in pairs ≡ chosen (pattern_in mask) sources
+  pub sources_are : sources_in pairs ≡ chosen_sources (pattern_in mask) sources
   pub targets_are : ArePlaced (pattern_in mask) (pieces_of (chars (last_part to))) pairs ⊎ ArePlaced (pattern_in mask) (Star ∷ []) pairs
 
 -- A job is of the kind that was asked for. It has those of the sources that the mask takes, in their order, the mode, the

@@ -1,7 +1,7 @@
 -- The checks of a plan, each with the first sources that show it.
 use Rattle.std.specs.Prelude.{ℕ, Bool, if◌then◌else◌, nat_lt, List, [], ◌∷◌, length, map, Option, Some, None, option_map, Result, Ok, Err}
 use Rattle.std.specs.List.{list_any, find}
-use Rattle.mc_text.specs.Routes.{Route, spelled, same_path}
+use Rattle.mc_text.specs.Routes.{Route, spelled_route, same_path}
 use Rattle.tree_trait.specs.declared.calls.TreeError.{TreeError}
 use Rattle.tree_trait.specs.declared.file_system.FileSystem.{FileSystem}
 use Rattle.tree_trait.specs.Calls.{Stat}
@@ -22,11 +22,11 @@ some_source [] = Err NoSelection
 some_source (source ∷ sources) = Ok tt
 
 -- no source is another or lies in it
-abbrev pub nested : Route × Route → PlanError
-nested (first, second) = Nested first second
+abbrev pub nested_error : Route × Route → PlanError
+nested_error (first, second) = Nested first second
 
 abbrev pub none_nested : List Route → Result (Unit {0}) PlanError
-none_nested sources = unless (option_map nested (first_two meet [] sources))
+none_nested sources = unless (option_map nested_error (first_two meet [] sources))
 
 -- each source is there
 abbrev pub there_or : Option TreeError → Route → Result (Unit {0}) PlanError → Result (Unit {0}) PlanError
@@ -39,7 +39,7 @@ all_there s (source ∷ sources) = there_or (refusal_of s (Stat source)) source 
 
 -- the path of this name in a folder would have more than 4,096 bytes
 abbrev pub is_too_long : Route → List ℕ → Bool
-is_too_long folder name = nat_lt 4096 (length (spelled (name ∷ folder)))
+is_too_long folder name = nat_lt 4096 (length (spelled_route (name ∷ folder)))
 
 abbrev pub target_in : Route → List ℕ → Result Route PlanError
 target_in folder name = if is_too_long folder name then Err (Target TooLong) else Ok (name ∷ folder)
@@ -49,10 +49,10 @@ abbrev pub targets_in : Route → List (List ℕ) → Result (List Route) PlanEr
 targets_in folder names = if list_any (is_too_long folder) names then Err (Target TooLong) else Ok (map (λ name. name ∷ folder) names)
 
 -- each source with its target
-abbrev pub paired : List Route → List Route → List Pair
-paired [] targets = []
-paired (source ∷ sources) [] = []
-paired (source ∷ sources) (target ∷ targets) = pair source target ∷ paired sources targets
+abbrev pub paired_sources : List Route → List Route → List Pair
+paired_sources [] targets = []
+paired_sources (source ∷ sources) [] = []
+paired_sources (source ∷ sources) (target ∷ targets) = pair source target ∷ paired_sources sources targets
 
 abbrev pub sources_in : List Pair → List Route
 sources_in = map (λ (pair : Pair). pair.source)

@@ -6,7 +6,7 @@ use Rattle.mc_text.specs.Routes.{Route, is_empty}
 use Rattle.tree_trait.specs.declared.file_system.FileSystem.{FileSystem}
 use Rattle.resolving.specs.declared.error.ResolveError.{ResolveError}
 use Rattle.resolving.specs.declared.walking.Wanted.TheVariants.{FolderAlone}
-use Rattle.resolving.specs.Resolution.{resolved}
+use Rattle.resolving.specs.Resolution.{resolved_path}
 use Rattle.op_plan.specs.declared.error.PlanError.{PlanError}
 use Rattle.op_plan.specs.declared.error.PlanError.TheVariants.{Target}
 
@@ -19,17 +19,17 @@ last_part [] = []
 last_part (byte ∷ text) = if has_slash (byte ∷ text) then last_part text else byte ∷ text
 
 -- what stands before the last slash
-abbrev pub front_part : List ℕ → List ℕ
-front_part [] = []
-front_part (byte ∷ text) = if has_slash text then byte ∷ front_part text else []
+abbrev pub prefix_part : List ℕ → List ℕ
+prefix_part [] = []
+prefix_part (byte ∷ text) = if has_slash text then byte ∷ prefix_part text else []
 
 -- the text of the folder: what stands before the last slash, and the root's slash where nothing else does
-abbrev pub front_of : List ℕ → List ℕ
-front_of text = if has_slash text then (if is_empty (front_part text) then 47 ∷ [] else front_part text) else []
+abbrev pub folder_prefix : List ℕ → List ℕ
+folder_prefix text = if has_slash text then (if is_empty (prefix_part text) then 47 ∷ [] else prefix_part text) else []
 
 -- the folder that a text leads to, if it leads to one
 abbrev pub folder_there : FileSystem → Route → List ℕ → Option Route
-folder_there s from to = result_ok (resolved s FolderAlone from to)
+folder_there s from to = result_ok (resolved_path s FolderAlone from to)
 
 -- the folder of a target, or why there is none
 abbrev pub in_target : Result Route ResolveError → Result Route PlanError
@@ -37,4 +37,4 @@ in_target (Ok folder) = Ok folder
 in_target (Err e) = Err (Target e)
 
 abbrev pub folder_at : FileSystem → Route → List ℕ → Result Route PlanError
-folder_at s from front = in_target (resolved s FolderAlone from front)
+folder_at s from prefix = in_target (resolved_path s FolderAlone from prefix)

@@ -42,13 +42,13 @@ keeps_name (piece ∷ pieces) = false
 
 -- Stars get numbers, from n on: the star of a number stands for what the wildcard of this number took, as `\1` to `\9` do by
 -- theirs. A capture's place counts from 0.
-abbrev pub numbered : ℕ → List MaskPiece → List MaskPiece
-numbered n [] = []
-numbered n (Plain c ∷ pieces) = Plain c ∷ numbered n pieces
-numbered n (Star ∷ pieces) = Capture n ∷ numbered (n + 1) pieces
-numbered n (WholeName ∷ pieces) = WholeName ∷ numbered n pieces
-numbered n (Capture place ∷ pieces) = Capture place ∷ numbered n pieces
-numbered n (OpenBackslash ∷ pieces) = OpenBackslash ∷ numbered n pieces
+abbrev pub numbered_pieces : ℕ → List MaskPiece → List MaskPiece
+numbered_pieces n [] = []
+numbered_pieces n (Plain c ∷ pieces) = Plain c ∷ numbered_pieces n pieces
+numbered_pieces n (Star ∷ pieces) = Capture n ∷ numbered_pieces (n + 1) pieces
+numbered_pieces n (WholeName ∷ pieces) = WholeName ∷ numbered_pieces n pieces
+numbered_pieces n (Capture place ∷ pieces) = Capture place ∷ numbered_pieces n pieces
+numbered_pieces n (OpenBackslash ∷ pieces) = OpenBackslash ∷ numbered_pieces n pieces
 
 -- What a piece stands for, by the name and what the wildcards of the sources' mask took of it. Nothing where it asks for one past
 -- the last, has no number, or is a backslash that ends the mask.
@@ -69,5 +69,5 @@ pieces_text name captures [] = Some []
 pieces_text name captures (piece ∷ pieces) = option_and_then (λ text. before text (pieces_text name captures pieces)) (piece_text name captures piece)
 
 -- the text that a mask makes of a name and of the captures
-abbrev pub filled : (name : List ℕ) (captures : List (List ℕ)) → List MaskPiece → Option (List ℕ)
-filled name captures pieces = pieces_text name captures (numbered 0 pieces)
+abbrev pub filled_mask : (name : List ℕ) (captures : List (List ℕ)) → List MaskPiece → Option (List ℕ)
+filled_mask name captures pieces = pieces_text name captures (numbered_pieces 0 pieces)

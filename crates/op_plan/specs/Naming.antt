@@ -8,7 +8,7 @@ use Rattle.tagging.specs.declared.glob.GlobPart.{GlobPart}
 use Rattle.tagging.specs.Globs.{is_match, captures_of}
 use Rattle.tagging.specs.GlobText.{pattern_of}
 use Rattle.op_plan.specs.declared.mask.MaskPiece.{MaskPiece}
-use Rattle.op_plan.specs.Masks.{keeps_name, filled}
+use Rattle.op_plan.specs.Masks.{keeps_name, filled_mask}
 
 -- the pattern that a mask of sources is, if it is one
 abbrev pub pattern_in : List ℕ → Option (List GlobPart)
@@ -19,9 +19,9 @@ abbrev pub has_match : List GlobPart → Route → Bool
 has_match pattern source = option_map_or (λ name. is_match pattern (chars name)) (last_of source) false
 
 -- the sources that match, or all where the mask is no pattern
-abbrev pub chosen : Option (List GlobPart) → List Route → List Route
-chosen None sources = sources
-chosen (Some pattern) sources = filter (has_match pattern) sources
+abbrev pub chosen_sources : Option (List GlobPart) → List Route → List Route
+chosen_sources None sources = sources
+chosen_sources (Some pattern) sources = filter (has_match pattern) sources
 
 -- a text, if it is a name
 abbrev pub checked_name : List ℕ → Option (List ℕ)
@@ -31,7 +31,7 @@ checked_name text = if is_none (name_fault text) then Some text else None
 abbrev pub target_text : List GlobPart → List MaskPiece → List ℕ → Option (List ℕ)
 target_text pattern mask name =
     if keeps_name mask then Some name else
-    option_and_then (λ captures. filled name captures mask) (captures_of pattern (chars name))
+    option_and_then (λ captures. filled_mask name captures mask) (captures_of pattern (chars name))
 
 -- the name of a source's target
 abbrev pub target_name : List GlobPart → List MaskPiece → Route → Option (List ℕ)

@@ -20,10 +20,10 @@ use Rattle.op_plan.specs.declared.job.Job.TheVariants.{Copy, Move, Delete, MakeF
 use Rattle.op_plan.specs.declared.error.PlanError.{PlanError}
 use Rattle.op_plan.specs.declared.error.PlanError.TheVariants.{Target, TargetThere, BadLinkText}
 use Rattle.op_plan.specs.Masks.{pieces_of, asks}
-use Rattle.op_plan.specs.Naming.{pattern_in, chosen, checked_name, names_for}
-use Rattle.op_plan.specs.Destinations.{front_of, last_part, folder_there, folder_at}
+use Rattle.op_plan.specs.Naming.{pattern_in, chosen_sources, checked_name, names_for}
+use Rattle.op_plan.specs.Destinations.{folder_prefix, last_part, folder_there, folder_at}
 use Rattle.op_plan.specs.Answering.{and_then, or_bad_mask}
-use Rattle.op_plan.specs.Checks.{some_source, none_nested, all_there, target_in, targets_in, paired, none_into, none_twice}
+use Rattle.op_plan.specs.Checks.{some_source, none_nested, all_there, target_in, targets_in, paired_sources, none_into, none_twice}
 
 -- the sources: at least one, of which none lies in another, and each is there
 abbrev pub sources_of : FileSystem → List Route → Result (List Route) PlanError
@@ -35,7 +35,7 @@ abbrev pub apart : List Pair → Result (List Pair) PlanError
 apart pairs = and_then (none_into pairs) (λ _. and_then (none_twice pairs) (λ _. Ok pairs))
 
 abbrev pub pairs_into : Route → List Route → List (List ℕ) → Result (List Pair) PlanError
-pairs_into folder sources names = and_then (targets_in folder names) (λ targets. apart (paired sources targets))
+pairs_into folder sources names = and_then (targets_in folder names) (λ targets. apart (paired_sources sources targets))
 
 -- the folder that the whole text leads to, if its last part asks for nothing of a source's name
 abbrev pub folder_for : FileSystem → List MaskPiece → Route → List ℕ → Option Route
@@ -48,16 +48,16 @@ placed_there pattern sources folder =
 
 -- each source under the name that the mask makes of its own, in the folder that the front leads to
 abbrev pub placed_masked : FileSystem → Option (List GlobPart) → List Route → List MaskPiece → Route → List ℕ → Result (List Pair) PlanError
-placed_masked s pattern sources mask from front =
-    and_then (or_bad_mask (names_for pattern mask sources)) (λ names. and_then (folder_at s from front) (λ folder. pairs_into folder sources names))
+placed_masked s pattern sources mask from prefix =
+    and_then (or_bad_mask (names_for pattern mask sources)) (λ names. and_then (folder_at s from prefix) (λ folder. pairs_into folder sources names))
 
 -- the pairs of a copy or a move
 abbrev pub pairs_of : FileSystem → List Route → List ℕ → Route → List ℕ → Result (List Pair) PlanError
 pairs_of s sources mask from to =
-    and_then (sources_of s (chosen (pattern_in mask) sources)) (λ left.
+    and_then (sources_of s (chosen_sources (pattern_in mask) sources)) (λ left.
     option_map_or (placed_there (pattern_in mask) left)
     (folder_for s (pieces_of (chars (last_part to))) from to)
-    (placed_masked s (pattern_in mask) left (pieces_of (chars (last_part to))) from (front_of to)))
+    (placed_masked s (pattern_in mask) left (pieces_of (chars (last_part to))) from (folder_prefix to)))
 
 -- nothing stands at a path
 abbrev pub nothing_there : Option TreeError → Route → Result Route PlanError
@@ -68,7 +68,7 @@ nothing_there (Some e) target = Err (Target (Tree target e))
 -- the path of a folder or a link that is to be made
 abbrev pub place_of : FileSystem → Route → List ℕ → Result Route PlanError
 place_of s from to =
-    and_then (or_bad_mask (checked_name (last_part to))) (λ name. and_then (folder_at s from (front_of to)) (λ folder.
+    and_then (or_bad_mask (checked_name (last_part to))) (λ name. and_then (folder_at s from (folder_prefix to)) (λ folder.
     and_then (target_in folder name) (λ target. nothing_there (refusal_of s (Stat target)) target)))
 
 -- a link may say this: 1 to 4,095 bytes and no NUL

@@ -9,7 +9,7 @@ ghost use Rattle.job_reports.specs.declared.job.Pair.{Pair};
 ghost use Rattle.op_plan.specs.Answering.{Plans, is_fault, CarriesPlanCause, IsPlaceError};
 ghost use Rattle.op_plan.specs.Meeting.{meet, has_two};
 ghost use Rattle.op_plan.specs.Digests.{name_of, IsChild, LieBeside};
-ghost use Rattle.op_plan.specs.Checks.{none_same, none_across, none_into, none_twice, is_too_long, targets_in, targets_from, sources_in, pair, paired, child_above};
+ghost use Rattle.op_plan.specs.Checks.{none_same, none_across, none_into, none_twice, is_too_long, targets_in, targets_from, sources_in, pair, paired_sources, child_above};
 ghost use Rattle.op_plan.specs.Planning.{pairs_into};
 ghost use Rattle.op_plan.specs.Soundness.{ArePairsApart};
 
@@ -135,7 +135,7 @@ pub fn target_in(alloc: Global, folder: &Path, name: &Name) -> Result<Path, Plan
 /// Each source with its target.
 fn paired(alloc: Global, sources: Paths, targets: Paths) -> Result<Pairs, NoMemory>
     requires { length targets ≡ length sources }
-    ensures { IfOk result (λ pairs. pairs ≡ paired sources targets) }
+    ensures { IfOk result (λ pairs. pairs ≡ paired_sources sources targets) }
 {
     let Paths(from) = sources;
     let Paths(to) = targets;

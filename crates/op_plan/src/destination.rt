@@ -2,7 +2,7 @@
 ghost use Rattle.std.specs.Prelude.{◌≡◌, IfErr, Ok};
 ghost use Rattle.tree_trait.specs.Change.{current};
 ghost use Rattle.tree_trait.specs.Answers.{IfKnown};
-ghost use Rattle.op_plan.specs.Destinations.{front_of, last_part, folder_there, folder_at};
+ghost use Rattle.op_plan.specs.Destinations.{folder_prefix, last_part, folder_there, folder_at};
 ghost use Rattle.op_plan.specs.Answering.{Plans, HasPlanCause, IsPlaceError};
 
 use crate::error::PlanError;
@@ -14,7 +14,7 @@ use tree_trait::ReadTree;
 
 /// What stands before the last slash of a text, the root's slash where nothing else does, and what stands behind it.
 pub fn split_last(text: &str) -> (&str, &str)
-    ensures front { result.0.now ≡ front_of text.now }
+    ensures front { result.0.now ≡ folder_prefix text.now }
     ensures last { result.1.now ≡ last_part text.now }
 {
     match split_at_last_mark(text, '/') {

@@ -3,7 +3,7 @@ ghost use Rattle.std.specs.Prelude.{◌≡◌, ◌≢◌, false, [], ◌∷◌, 
 ghost use Rattle.std.specs.String.{string_bytes};
 ghost use Rattle.op_plan.specs.Answering.{is_fault, CarriesPlanCause};
 ghost use Rattle.op_plan.specs.Masks.{pieces_of, quoted_piece, plain_piece, is_asking, asks, keeps_name};
-ghost use Rattle.op_plan.specs.Filling.{taken, added, filled_with};
+ghost use Rattle.op_plan.specs.Filling.{taken_text, added_text, filled_with};
 
 use crate::error::PlanError;
 use mc_text::{NoMemory, Text};
@@ -126,11 +126,11 @@ fn put_piece<'a>(
     captures: &[Text],
     stars: &'a [Text],
 ) -> Result<&'a [Text], PlanError>
-    ensures put { IfOk result (λ left. taken name.now captures.now stars.now piece
-        ≡ Some (added name.now captures.now stars.now piece, left.now)) }
-    ensures text { OnOk result (string_bytes text.new ≡ string_bytes text.old ++ added name.now captures.now stars.now piece) }
+    ensures put { IfOk result (λ left. taken_text name.now captures.now stars.now piece
+        ≡ Some (added_text name.now captures.now stars.now piece, left.now)) }
+    ensures text { OnOk result (string_bytes text.new ≡ string_bytes text.old ++ added_text name.now captures.now stars.now piece) }
     ensures bad { IfErr result (λ e. e ≢ PlanError.Memory
-        → (e ≡ PlanError.BadMask) × (taken name.now captures.now stars.now piece ≡ None)) }
+        → (e ≡ PlanError.BadMask) × (taken_text name.now captures.now stars.now piece ≡ None)) }
     ensures no_fault { IfErr result (λ e. is_fault e ≡ false) }
     ensures carried { IfErr result CarriesPlanCause }
 {

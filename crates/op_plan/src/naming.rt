@@ -3,7 +3,7 @@ ghost use Rattle.std.specs.Prelude.{◌≡◌, ◌≢◌, false, filter, length,
 ghost use Rattle.op_plan.specs.Answering.{is_fault, CarriesPlanCause, IsPlaceError};
 ghost use Rattle.op_plan.specs.Masks.{keeps_name};
 ghost use Rattle.op_plan.specs.Stars.{is_star};
-ghost use Rattle.op_plan.specs.Naming.{pattern_in, chosen, has_match, target_text, target_name, all_of, names_for, checked_name};
+ghost use Rattle.op_plan.specs.Naming.{pattern_in, chosen_sources, has_match, target_text, target_name, all_of, names_for, checked_name};
 
 use crate::error::PlanError;
 use crate::mask::Mask;
@@ -25,7 +25,7 @@ pub fn read_pattern(alloc: Global, mask: &str) -> Result<Option<ShellPattern>, N
 
 /// The sources whose names the mask matches, or all where it is no pattern.
 pub fn choose(pattern: &Option<ShellPattern>, sources: Paths) -> Paths
-    ensures { result ≡ chosen pattern.now sources }
+    ensures { result ≡ chosen_sources pattern.now sources }
 {
     match pattern {
         Some(pattern) => matching(pattern, sources),

@@ -57,11 +57,11 @@ options_list lines = record {
 }
 
 -- a box as it opens on a screen of so many lines
-abbrev pub opened : ℕ → Opening → PanelBox
-opened lines opening.Select = Typed Select (line_of Select (codes "*"))
-opened lines opening.Unselect = Typed Unselect (line_of Unselect (codes "*"))
-opened lines opening.Options = Options (options_list lines)
-opened lines opening.Pending = Pending
+abbrev pub opened_panel_box : ℕ → Opening → PanelBox
+opened_panel_box lines opening.Select = Typed Select (line_of Select (codes "*"))
+opened_panel_box lines opening.Unselect = Typed Unselect (line_of Unselect (codes "*"))
+opened_panel_box lines opening.Options = Options (options_list lines)
+opened_panel_box lines opening.Pending = Pending
 
 -- the text of a filter, which is empty where there is none
 abbrev pub filter_text : Option PatternText → List ℕ

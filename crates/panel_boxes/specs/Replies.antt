@@ -145,11 +145,11 @@ abbrev pub list_kept : Shut → Key → ListState → ListState
 list_kept Stay key list = list_after list key
 list_kept (Closed reply) key list = list
 
-abbrev pub worked : PanelBox → Key → PanelBox
-worked Pending key = Pending
-worked (Typed asked line) key = Typed asked (input_after line key)
-worked (Options list) key = Options (list_kept (list_shut list key) key list)
+abbrev pub worked_box : PanelBox → Key → PanelBox
+worked_box Pending key = Pending
+worked_box (Typed asked line) key = Typed asked (input_after line key)
+worked_box (Options list) key = Options (list_kept (list_shut list key) key list)
 
 -- a box after a key
 abbrev pub box_after : PanelBox → Key → PanelBox
-box_after box key = if is_key key.base then worked box key else box
+box_after box key = if is_key key.base then worked_box box key else box

@@ -1,6 +1,6 @@
 //! The keys that open the boxes, and the boxes as they open.
 ghost use Rattle.std.specs.Prelude.{◌≡◌, IfOk};
-ghost use Rattle.panel_boxes.specs.Openings.{filter_text, line_of, opened, opening_of as opening_by, plain_opening, title_of};
+ghost use Rattle.panel_boxes.specs.Openings.{filter_text, line_of, opened_panel_box, opening_of as opening_by, plain_opening, title_of};
 
 use crate::options::option_rows;
 use crate::panel_box::{Asked, PanelBox};
@@ -49,7 +49,7 @@ fn opening_by_base(base: Base) -> Option<Opening>
 impl PanelBox {
     /// The box as it opens on a screen of so many lines.
     pub fn open(alloc: Global, lines: u16, opening: Opening) -> Result<PanelBox, NoMemory>
-        ensures { IfOk result (λ box. box ≡ opened lines opening) }
+        ensures { IfOk result (λ box. box ≡ opened_panel_box lines opening) }
     {
         match opening {
             Opening::Select => typed(alloc, Asked::Select, "*"),
@@ -82,7 +82,7 @@ fn title_of(asked: Asked) -> &'static str
 
 /// The list of what may be set.
 fn options(alloc: Global, lines: u16) -> Result<PanelBox, NoMemory>
-    ensures { IfOk result (λ box. box ≡ opened lines Opening.Options) }
+    ensures { IfOk result (λ box. box ≡ opened_panel_box lines Opening.Options) }
 {
     let rows = option_rows(alloc)?;
     let list = ListBox::new(alloc, "Options", rows, lines, false)?;

@@ -12,7 +12,7 @@ use Rattle.std.specs.Ordering.{is_lt}
 use Rattle.tagging.proofs.KeepLemmas.{filter-take_more}
 use Rattle.tree_trait.specs.Answers.{IsAscending}
 use Rattle.panel_listing.specs.Orders.{is_shown, item_cmp, AreArranged}
-use Rattle.panel_listing.specs.Arranging.{names_of, behind_name, marked, items_at, item_in, comes_before, IsNumberOf}
+use Rattle.panel_listing.specs.Arranging.{names_of, behind_name, name_marks, items_at, item_in, comes_before, IsNumberOf}
 use Rattle.panel_listing.specs.declared.item.Item.{Item}
 use Rattle.panel_listing.specs.declared.arranging.Numbered.{Numbered}
 use Rattle.panel_listing.specs.declared.wish.Wish.{Wish}
@@ -51,17 +51,17 @@ not_first p name (first ∷ more) fails passes = go (bytes_eq first name) refl
     go true is = absurd (false≢true (sym fails ∙ ap p (sym ((bytes_eq-Decides first name).0 is)) ∙ passes))
 
 -- of names, those stand next that pass
-pub marked-passing : (p : List ℕ → Bool) (names : List (List ℕ)) → marked names (filter p names) ≡ map p names
+pub marked-passing : (p : List ℕ → Bool) (names : List (List ℕ)) → name_marks names (filter p names) ≡ map p names
 marked-passing p [] = refl
 marked-passing p (name ∷ names) = go (filter p names) (p name) refl (first_passes p names) (marked-passing p names)
   where
-    go : (later : List (List ℕ)) (passes : Bool) → p name ≡ passes → FirstPasses p later → marked names later ≡ map p names
-        → marked (name ∷ names) (cond passes (name ∷ later) later) ≡ passes ∷ map p names
+    go : (later : List (List ℕ)) (passes : Bool) → p name ≡ passes → FirstPasses p later → name_marks names later ≡ map p names
+        → name_marks (name ∷ names) (cond passes (name ∷ later) later) ≡ passes ∷ map p names
     go later true is first rest =
-        ap (λ same. is_some (cond same (Some later) None) ∷ marked names (unwrap_or (cond same (Some later) None) (name ∷ later))) (same_name name)
+        ap (λ same. is_some (cond same (Some later) None) ∷ name_marks names (unwrap_or (cond same (Some later) None) (name ∷ later))) (same_name name)
         ∙ ap (λ more. true ∷ more) rest
     go later false is first rest =
-        ap (λ behind. is_some behind ∷ marked names (unwrap_or behind later)) (not_first p name later is first)
+        ap (λ behind. is_some behind ∷ name_marks names (unwrap_or behind later)) (not_first p name later is first)
         ∙ ap (λ more. false ∷ more) rest
 
 tested-names : (p : List ℕ → Bool) (items : List Item) → map p (names_of items) ≡ map (λ item. p item.name) items
@@ -70,9 +70,9 @@ tested-names p (item ∷ items) = ap (λ more. p item.name ∷ more) (tested-nam
 
 -- the marks of items whose names a pattern finds
 pub marked-items : (p : List ℕ → Bool) (items : List Item) (found : List (List ℕ)) → found ≡ filter p (names_of items)
-    → marked (names_of items) found ≡ map (λ item. p item.name) items
+    → name_marks (names_of items) found ≡ map (λ item. p item.name) items
 marked-items p items found is =
-    ap (marked (names_of items)) is ∙ marked-passing p (names_of items) ∙ tested-names p items
+    ap (name_marks (names_of items)) is ∙ marked-passing p (names_of items) ∙ tested-names p items
 
 -- ---- numbers
 
@@ -83,7 +83,7 @@ pub shown-more : (p : Item → Bool) (items : List Item) (number : ℕ) (rows : 
     → map item_in (rows ++ (if shows then row ∷ [] else [])) ≡ filter p (take (number + 1) items)
 shown-more p items number rows row shows below is tests before =
     map-append item_in rows (if shows then row ∷ [] else [])
-    ∙ ap (λ front. front ++ map item_in (if shows then row ∷ [] else [])) before
+    ∙ ap (λ prefix. prefix ++ map item_in (if shows then row ∷ [] else [])) before
     ∙ ap (λ more. filter p (take number items) ++ more) (one shows)
     ∙ ap (λ test. filter p (take number items) ++ (if test then row.item.now ∷ [] else [])) tests
     ∙ sym (filter-take_more p items number row.item.now below is)

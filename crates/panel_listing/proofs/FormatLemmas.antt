@@ -5,7 +5,7 @@ use Rattle.std.specs.List.{position, position_or_len}
 use Rattle.std.proofs.lemmas.Bool.{false≢true}
 use borrow.Author.Tests.{eqb-true, ltb-false}
 use Rattle.std.proofs.lemmas.List.{take_all}
-use Rattle.panel_listing.specs.FormatTexts.{Word, separates, joins, with_byte, words_from, is_colon, before_colon, after_columns, columns_of, size_named, sized, format_in, format_of}
+use Rattle.panel_listing.specs.FormatTexts.{Word, separates, joins, with_byte, words_from, is_colon, before_colon, after_columns, columns_of, size_named, sized_format, format_in, format_of}
 use Rattle.panel_listing.specs.Words.{word_size}
 use Rattle.panel_listing.specs.declared.format.Column.{Column}
 use Rattle.panel_listing.specs.declared.error.FormatError.{FormatError}
@@ -63,19 +63,19 @@ word-some byte rest = go (joins byte rest)
     go false = omega arith
 
 -- the first word of a text, where what stands before it was passed over
-pub next-words : (at from byte size : ℕ) (text rest behind front back : List ℕ) → words_from from rest ≡ words_from at text → rest ≡ byte ∷ behind
-    → separates byte ≡ false → size ≡ word_size rest → front ≡ take size rest → back ≡ drop size rest → length front ≡ size
-    → words_from at text ≡ word from front ∷ words_from (from + length front) back
-next-words at from byte size text rest behind front back words is inside sized front_is back_is long =
+pub next-words : (at from byte size : ℕ) (text rest behind prefix back : List ℕ) → words_from from rest ≡ words_from at text → rest ≡ byte ∷ behind
+    → separates byte ≡ false → size ≡ word_size rest → prefix ≡ take size rest → back ≡ drop size rest → length prefix ≡ size
+    → words_from at text ≡ word from prefix ∷ words_from (from + length prefix) back
+next-words at from byte size text rest behind prefix back words is inside sized front_is back_is long =
     let line = byte ∷ behind in
     let n = word_size line in
     let size_is : n ≡ size = sym (sized ∙ ap word_size is) in
-    let front_same : take n line ≡ front = ap (λ k. take k line) size_is ∙ ap (take size) (sym is) ∙ sym front_is in
+    let front_same : take n line ≡ prefix = ap (λ k. take k line) size_is ∙ ap (take size) (sym is) ∙ sym front_is in
     let back_same : drop n line ≡ back = ap (λ k. drop k line) size_is ∙ ap (drop size) (sym is) ∙ sym back_is in
     sym words ∙ ap (words_from from) is ∙ word-cut from byte behind inside
     ∙ ap (λ t. word from t ∷ words_from (from + n) (drop n line)) front_same
-    ∙ ap (λ t. word from front ∷ words_from (from + n) t) back_same
-    ∙ ap (λ k. word from front ∷ words_from (from + k) back) (size_is ∙ sym long)
+    ∙ ap (λ t. word from prefix ∷ words_from (from + n) t) back_same
+    ∙ ap (λ k. word from prefix ∷ words_from (from + k) back) (size_is ∙ sym long)
 
 -- ---- where a colon is found
 
@@ -103,10 +103,10 @@ columns-none (Ok columns) = refl
 columns-none (Err fault) = refl
 
 -- a column more before those of what is left
-pub columns-push : (front : List Column) (column : Column) (rest : Result (List Column) FormatError)
-    → after_columns (front ++ column ∷ []) rest ≡ after_columns front (after_columns (column ∷ []) rest)
-columns-push front column (Ok columns) = ap Ok (append_assoc front (column ∷ []) columns)
-columns-push front column (Err fault) = refl
+pub columns-push : (prefix : List Column) (column : Column) (rest : Result (List Column) FormatError)
+    → after_columns (prefix ++ column ∷ []) rest ≡ after_columns prefix (after_columns (column ∷ []) rest)
+columns-push prefix column (Ok columns) = ap Ok (append_assoc prefix (column ∷ []) columns)
+columns-push prefix column (Err fault) = refl
 
 -- ---- the format of a text, by its first word
 
@@ -118,13 +118,13 @@ module _ (text : List ℕ) where
   module _ (first : Word) (rest : List Word) (words : words_from 0 text ≡ first ∷ rest) where
     pub format-unsized : size_named first.text ≡ None → format_of text ≡ Err (NoSize 0)
     unfolding format_of
-    format-unsized size = ap format_in words ∙ ap (λ s. sized s (columns_of rest)) size
+    format-unsized size = ap format_in words ∙ ap (λ s. sized_format s (columns_of rest)) size
 
     pub format-fault : (full : Bool) (fault : FormatError) → size_named first.text ≡ Some full → columns_of rest ≡ Err fault → format_of text ≡ Err fault
     unfolding format_of
-    format-fault full fault size columns = ap format_in words ∙ ap (λ s. sized s (columns_of rest)) size ∙ ap (sized (Some full)) columns
+    format-fault full fault size columns = ap format_in words ∙ ap (λ s. sized_format s (columns_of rest)) size ∙ ap (sized_format (Some full)) columns
 
     pub format-read : (full : Bool) (columns : List Column) → size_named first.text ≡ Some full → columns_of rest ≡ Ok columns
         → format_of text ≡ Ok (record { full = full; columns = columns })
     unfolding format_of
-    format-read full columns size read = ap format_in words ∙ ap (λ s. sized s (columns_of rest)) size ∙ ap (sized (Some full)) read
+    format-read full columns size read = ap format_in words ∙ ap (λ s. sized_format s (columns_of rest)) size ∙ ap (sized_format (Some full)) read

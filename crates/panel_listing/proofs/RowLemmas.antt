@@ -6,7 +6,7 @@ use Rattle.std.proofs.lemmas.Str.{IsUtf8-from_ascii}
 use Rattle.std.proofs.lemmas.List.{take_more, map-append, get_or-drop, get_or-map, length-map}
 use Rattle.mc_text.specs.declared.kind.Kind.{Kind}
 use Rattle.mc_text.specs.declared.kind.Kind.TheVariants.{File, Folder, Link, Other}
-use Rattle.panel_listing.specs.Items.{unseen}
+use Rattle.panel_listing.specs.Items.{unseen_item}
 use Rattle.panel_listing.specs.Arranging.{items_at}
 use Rattle.panel_listing.specs.Listings.{place_of}
 use Rattle.panel_listing.specs.declared.item.Item.{Item}
@@ -18,7 +18,7 @@ use Rattle.mc_text.specs.Permissions.{has, letter, last_letter, kind_letter, per
 pub rows-more : {A B : Type 0} (f : A → B) (xs : List A) (first k : ℕ) (d : A) (out : List B) → k < length (drop first xs)
     → out ≡ map f (take k (drop first xs)) → out ++ f (get_or xs (first + k) d) ∷ [] ≡ map f (take (k + 1) (drop first xs))
 rows-more f xs first k d out below is =
-    ap (λ front. front ++ f (get_or xs (first + k) d) ∷ []) is
+    ap (λ prefix. prefix ++ f (get_or xs (first + k) d) ∷ []) is
     ∙ ap (λ x. map f (take k (drop first xs)) ++ f x ∷ []) (sym (get_or-drop first xs k d))
     ∙ sym (map-append f (take k (drop first xs)) (get_or (drop first xs) k d ∷ []))
     ∙ ap (map f) (sym (take_more (drop first xs) k d below))
@@ -49,19 +49,19 @@ module _ (has_parent : Bool) (items : List Item) (numbers : List ℕ) where
       go true (suc row) h = absurd (cc)
 
   long : length (items_at items numbers) ≡ length numbers
-  long = length-map numbers (λ number. get_or items number (unseen []))
+  long = length-map numbers (λ number. get_or items number (unseen_item []))
 
   pub row-past : (row place : ℕ) → place_of has_parent row ≡ Some place → length numbers ≤ place → get_or rows row None ≡ None
   row-past row place h over =
       row-place has_parent row place (map Some (items_at items numbers)) h ∙ past (map Some (items_at items numbers)) place None (omega (arith, over, long, length-map {A = Item} {B = Option Item} (items_at items numbers) Some))
 
   pub row-there : (row place : ℕ) (d : ℕ) → place_of has_parent row ≡ Some place → place < length numbers
-      → get_or rows row None ≡ Some (get_or items (get_or numbers place d) (unseen []))
+      → get_or rows row None ≡ Some (get_or items (get_or numbers place d) (unseen_item []))
   row-there row place d h below =
       let short : place < length (items_at items numbers) = omega (arith, below, long) in
       row-place has_parent row place (map Some (items_at items numbers)) h
-      ∙ get_or-map Some (items_at items numbers) place (unseen []) None short
-      ∙ ap Some (get_or-map (λ number. get_or items number (unseen [])) numbers place d (unseen []) below)
+      ∙ get_or-map Some (items_at items numbers) place (unseen_item []) None short
+      ∙ ap Some (get_or-map (λ number. get_or items number (unseen_item [])) numbers place d (unseen_item []) below)
 
 -- ---- letters
 

@@ -3,7 +3,7 @@ use Rattle.std.specs.Prelude.{◌≡◌, ℕ, ◌<◌, All, Bool, if◌then◌el
 use Rattle.std.specs.Str.{bytes_eq}
 use Rattle.std.specs.Ordering.{is_lt}
 use Rattle.tree_trait.specs.Answers.{IsAscending}
-use Rattle.panel_listing.specs.Items.{unseen}
+use Rattle.panel_listing.specs.Items.{unseen_item}
 use Rattle.panel_listing.specs.Orders.{item_cmp}
 use Rattle.panel_listing.specs.declared.item.Item.{Item}
 use Rattle.panel_listing.specs.declared.arranging.Numbered.{Numbered}
@@ -14,7 +14,7 @@ names_of items = map (λ item. item.name) items
 
 -- the items with these numbers
 abbrev pub items_at : List Item → List ℕ → List Item
-items_at items numbers = map (λ number. slice_index_or items number (unseen [])) numbers
+items_at items numbers = map (λ number. slice_index_or items number (unseen_item [])) numbers
 
 abbrev pub item_in : Numbered → Item
 item_in row = row.item.now
@@ -26,7 +26,7 @@ comes_before wish mine theirs = is_lt (item_cmp wish mine.item.now theirs.item.n
 -- an item stands under its number
 pub record IsNumberOf (items : List Item) (row : Numbered) : Type 0 where
   pub within : row.number < length items
-  pub there : slice_index_or items row.number (unseen []) ≡ row.item.now
+  pub there : slice_index_or items row.number (unseen_item []) ≡ row.item.now
 
 -- the items of a listing stand in the strict order of their names, and its numbers are those of items
 pub record AreSound (items : List Item) (numbers : List ℕ) : Type 0 where
@@ -39,6 +39,6 @@ behind_name name [] = None
 behind_name name (first ∷ more) = if bytes_eq first name then Some more else None
 
 -- of names, those that stand next in a list of some of them
-abbrev pub marked : List (List ℕ) → List (List ℕ) → List Bool
-marked [] some = []
-marked (name ∷ names) some = is_some (behind_name name some) ∷ marked names (unwrap_or (behind_name name some) some)
+abbrev pub name_marks : List (List ℕ) → List (List ℕ) → List Bool
+name_marks [] some = []
+name_marks (name ∷ names) some = is_some (behind_name name some) ∷ name_marks names (unwrap_or (behind_name name some) some)

@@ -98,8 +98,8 @@ column_of word = column_named (field_named (before_colon word.text)) word
 
 -- columns before others, if these have no fault
 abbrev pub after_columns : List Column → Result (List Column) FormatError → Result (List Column) FormatError
-after_columns front (Err fault) = Err fault
-after_columns front (Ok columns) = Ok (front ++ columns)
+after_columns prefix (Err fault) = Err fault
+after_columns prefix (Ok columns) = Ok (prefix ++ columns)
 
 abbrev pub and_then_columns : Result Column FormatError → Result (List Column) FormatError → Result (List Column) FormatError
 and_then_columns (Err fault) columns = Err fault
@@ -116,14 +116,14 @@ size_named name =
     if bytes_eq name (codes "half") then Some false else
     if bytes_eq name (codes "full") then Some true else None
 
-abbrev pub sized : Option Bool → Result (List Column) FormatError → Result RowFormat FormatError
-sized None columns = Err (NoSize 0)
-sized (Some full) (Err fault) = Err fault
-sized (Some full) (Ok columns) = Ok (record { full = full; columns = columns })
+abbrev pub sized_format : Option Bool → Result (List Column) FormatError → Result RowFormat FormatError
+sized_format None columns = Err (NoSize 0)
+sized_format (Some full) (Err fault) = Err fault
+sized_format (Some full) (Ok columns) = Ok (record { full = full; columns = columns })
 
 abbrev pub format_in : List Word → Result RowFormat FormatError
 format_in [] = Err (NoSize 0)
-format_in (first ∷ words) = sized (size_named first.text) (columns_of words)
+format_in (first ∷ words) = sized_format (size_named first.text) (columns_of words)
 
 -- the format that a text means, or the first fault
 unfoldable pub format_of : List ℕ → Result RowFormat FormatError

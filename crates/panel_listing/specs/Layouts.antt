@@ -28,9 +28,9 @@ abbrev pub width_of : Column → Option ℕ
 width_of column = told_or column.width (usual_width column.field)
 
 -- what the columns take that have a width, and how many have none
-abbrev pub taken : List Column → ℕ
-taken [] = 0
-taken (column ∷ columns) = unwrap_or (width_of column) 0 + taken columns
+abbrev pub taken_columns : List Column → ℕ
+taken_columns [] = 0
+taken_columns (column ∷ columns) = unwrap_or (width_of column) 0 + taken_columns columns
 
 abbrev pub open_ones : List Column → ℕ
 open_ones [] = 0
@@ -56,11 +56,11 @@ cells_from left count place (column ∷ columns) =
 
 -- the columns of a row that is so wide, each with its width
 unfoldable pub cells_in : ℕ → List Column → List Cell
-cells_in row columns = cells_from (row - taken columns) (open_ones columns) 0 columns
+cells_in row columns = cells_from (row - taken_columns columns) (open_ones columns) 0 columns
 
 -- a text in exactly so many columns: cut between clusters, or filled with blanks
 abbrev pub run_then_blanks : List (List ℕ) → ℕ → List ℕ
 run_then_blanks run columns = concat run ++ blanks (columns - sum_by cluster_columns run)
 
-unfoldable pub clipped : List ℕ → ℕ → List ℕ
-clipped text columns = run_then_blanks (run_within columns (graphemes true text)) columns
+unfoldable pub clipped_text : List ℕ → ℕ → List ℕ
+clipped_text text columns = run_then_blanks (run_within columns (graphemes true text)) columns

@@ -2,7 +2,7 @@
 use Rattle.std.specs.Prelude.{◌≡◌, ℕ, zero, suc, Bool, true, false, List, [], ◌∷◌, ◌++◌, map, Option, Some, None, if◌then◌else◌}
 use Rattle.mc_text.specs.Routes.{Route}
 use Rattle.tree_trait.specs.declared.file_system.FileSystem.{FileSystem}
-use Rattle.tree_trait.specs.Change.{found}
+use Rattle.tree_trait.specs.Change.{found_node}
 use Rattle.tree_trait.specs.Answers.{IsAscending, IsListing}
 use Rattle.panel_listing.specs.Items.{child_item}
 use Rattle.panel_listing.specs.declared.item.Item.{Item}
@@ -28,7 +28,7 @@ has_parent (name ∷ folder) = true
 pub record IsListingOf (s : FileSystem) (folder : Route) (listing : Listed) : Type 0 where
   pub names : List (List ℕ)
   pub ascending : IsAscending names
-  pub children : IsListing s (found s folder) (record { names = names; unnamed = listing.unnamed })
+  pub children : IsListing s (found_node s folder) (record { names = names; unnamed = listing.unnamed })
   pub items_are : listing.items ≡ map (child_item s folder) names
   pub parent : listing.has_parent ≡ has_parent folder
 

@@ -4,15 +4,15 @@ use Rattle.std.specs.Prelude.{ℕ, ◌-◌, Bool, false, ◌==◌, if◌then◌e
 use Rattle.std.specs.FinSet as set
 use Rattle.mc_text.specs.declared.kind.Kind.{Kind}
 use Rattle.mc_text.specs.declared.kind.Kind.TheVariants.{File, Folder, Link, Other}
-use Rattle.mc_text.specs.Drawn.{drawn}
-use Rattle.mc_text.specs.Fit.{fitted, blanks}
+use Rattle.mc_text.specs.Drawn.{drawn_text}
+use Rattle.mc_text.specs.Fit.{fitted_text, blanks}
 use Rattle.mc_text.specs.Permissions.{perm_text}
 use Rattle.mc_text.specs.Sizes.{size_text}
 use Rattle.mc_text.specs.Times.{time_text}
 use Rattle.tree_trait.specs.Refusals.{folder_kind}
 use Rattle.tagging.specs.TagSets.{TagSet}
 use Rattle.panel_listing.specs.FormatTexts.{RowFormat}
-use Rattle.panel_listing.specs.Layouts.{cells_in, clipped}
+use Rattle.panel_listing.specs.Layouts.{cells_in, clipped_text}
 use Rattle.panel_listing.specs.Listings.{Listed, rows_in}
 use Rattle.panel_listing.specs.declared.format.Field.{Field}
 use Rattle.panel_listing.specs.declared.format.Field.TheVariants.{Name, Size, FileSize, TypeLetter, Mtime, Permissions, Mark, Space, Bar}
@@ -68,7 +68,7 @@ at_right width text = blanks (width - length text) ++ text
 
 -- what a field shows in so many columns, at this second
 abbrev pub field_text : Field → ℕ → ℕ → Bool → Option Item → List ℕ
-field_text Name width now tagged item = drawn (name_told item)
+field_text Name width now tagged item = drawn_text (name_told item)
 field_text Size width now tagged item = at_right width (size_told width item)
 field_text FileSize width now tagged item = at_right width (file_size_told width item)
 field_text TypeLetter width now tagged item = type_told item
@@ -84,7 +84,7 @@ field_text Bar width now tagged item = 124 ∷ []
 abbrev pub cells_text : ℕ → Bool → Option Item → List Cell → List ℕ
 cells_text now tagged item [] = []
 cells_text now tagged item (cell ∷ cells) =
-    fitted (field_text cell.field cell.width now tagged item) cell.width ++ cells_text now tagged item cells
+    fitted_text (field_text cell.field cell.width now tagged item) cell.width ++ cells_text now tagged item cells
 
 -- an item is tagged; `..` never is
 abbrev pub is_tagged : TagSet → Option Item → Bool
@@ -93,7 +93,7 @@ is_tagged tags (Some item) = set.contains tags item.name
 
 -- the row of an item
 abbrev pub row_text : Window → TagSet → List Cell → Option Item → List ℕ
-row_text window tags cells item = clipped (cells_text window.now (is_tagged tags item) item cells) window.columns
+row_text window tags cells item = clipped_text (cells_text window.now (is_tagged tags item) item cells) window.columns
 
 -- the rows that a window shows of a listing
 abbrev pub rows_text : Listed → TagSet → RowFormat → Window → List (List ℕ)
@@ -115,7 +115,7 @@ label Bar = 124 ∷ []
 
 abbrev pub labels_text : List Cell → List ℕ
 labels_text [] = []
-labels_text (cell ∷ cells) = fitted (label cell.field) cell.width ++ labels_text cells
+labels_text (cell ∷ cells) = fitted_text (label cell.field) cell.width ++ labels_text cells
 
 abbrev pub heading_text : RowFormat → ℕ → List ℕ
-heading_text format columns = clipped (labels_text (cells_in columns format.columns)) columns
+heading_text format columns = clipped_text (labels_text (cells_in columns format.columns)) columns

@@ -4,7 +4,7 @@ ghost use Rattle.std.specs.List.Sorted.{IsPermutation, IsSortedBy};
 ghost use Rattle.tree_trait.specs.Answers.{IsAscending};
 ghost use Rattle.tagging.specs.Patterns.{is_found};
 ghost use Rattle.panel_listing.specs.Orders.{is_shown, passes, AreArranged};
-ghost use Rattle.panel_listing.specs.Arranging.{names_of, marked, behind_name, items_at, item_in, comes_before, IsNumberOf};
+ghost use Rattle.panel_listing.specs.Arranging.{names_of, name_marks, behind_name, items_at, item_in, comes_before, IsNumberOf};
 
 use crate::item::Item;
 use crate::wish::Wish;
@@ -123,7 +123,7 @@ fn names_of(alloc: Global, items: &[Item]) -> Result<Names, NoMemory>
 
 /// Whether each item's name is among these, which are some of those names in their order.
 fn marked(alloc: Global, items: &[Item], some: &[Name]) -> Result<Vec<bool>, NoMemory>
-    ensures { IfOk result (λ marks. marks.items ≡ marked (names_of items.now) some.now) }
+    ensures { IfOk result (λ marks. marks.items ≡ name_marks (names_of items.now) some.now) }
 {
     let mut marks = Vec::new(alloc);
     let mut rest = items;

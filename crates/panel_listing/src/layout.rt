@@ -1,6 +1,6 @@
 //! How wide the columns of a format are, and a row cut to its panel.
 ghost use Rattle.std.specs.Prelude.{◌≡◌, ◌-◌, ◌<◌, ◌≤◌, None, IfOk, IfSome};
-ghost use Rattle.panel_listing.specs.Layouts.{usual_width, width_of, taken, open_ones, share, cell_at, cells_in, clipped};
+ghost use Rattle.panel_listing.specs.Layouts.{usual_width, width_of, taken_columns, open_ones, share, cell_at, cells_in, clipped_text};
 
 use crate::format::{Column, Field};
 use mc_text::{NoMemory, Text, push_blanks, push_run};
@@ -50,7 +50,7 @@ fn cell_at(left: usize, count: usize, place: usize, column: Column) -> Cell
 
 /// What the columns that have a width leave of a row.
 fn left_by(row: usize, columns: &[Column]) -> usize
-    ensures { result ≡ row - taken columns.now }
+    ensures { result ≡ row - taken_columns columns.now }
 {
     let mut left = row;
     let mut rest = columns;
@@ -113,7 +113,7 @@ fn usual_width(field: Field) -> Option<usize>
 /// A text in exactly so many columns: cut between clusters, or filled with blanks.
 #[tactic(auto, unfolding(crate::specs::Layouts::clipped))]
 pub fn clipped(alloc: Global, text: &str, columns: usize) -> Result<Text, NoMemory>
-    ensures { IfOk result (λ line. line ≡ clipped text.now columns) }
+    ensures { IfOk result (λ line. line ≡ clipped_text text.now columns) }
 {
     let mut line = String::new(alloc);
     let used = push_run(&mut line, text, columns)?;

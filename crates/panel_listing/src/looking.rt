@@ -3,8 +3,8 @@ ghost use Rattle.std.specs.Prelude.{◌≡◌, ◌⊎◌, Some, IfOk, IfErr};
 ghost use Rattle.tree_trait.specs.Change.{current};
 ghost use Rattle.tree_trait.specs.Answers.{IfKnown, HasCause, count_after};
 ghost use Rattle.resolving.specs.declared.walking.Wanted.TheVariants.{AnyThing};
-ghost use Rattle.resolving.specs.Resolution.{resolved};
-ghost use Rattle.panel_listing.specs.Items.{child_item, child_seen, item_of, unseen, link_of, link_to, seen_at, target_seen};
+ghost use Rattle.resolving.specs.Resolution.{resolved_path};
+ghost use Rattle.panel_listing.specs.Items.{child_item, child_seen, item_of, unseen_item, link_of, link_to, seen_at, target_seen};
 
 use crate::item::{Item, LinkKind};
 use mc_text::{Kind, Name, Path, PathError};
@@ -105,7 +105,7 @@ fn item_of(name: Name, seen: Seen, link: LinkKind) -> Item
 
 /// The item of a child that can't be looked at.
 fn unseen(name: Name) -> Item
-    ensures { result ≡ unseen name }
+    ensures { result ≡ unseen_item name }
 {
     Item {
         name,
@@ -146,7 +146,7 @@ fn follow<T: ReadTree>(
     name: &Name,
 ) -> Result<LinkKind, TreeError>
     ensures answer { IfKnown (T.contents tree.old) (λ log. IfOk result (λ link.
-        link ≡ link_to (target_seen (current log) (resolved (current log) AnyThing folder.now name.now)))) }
+        link ≡ link_to (target_seen (current log) (resolved_path (current log) AnyThing folder.now name.now)))) }
     ensures refused { IfErr result (λ e. (e ≡ TreeError.Memory) ⊎ (e ≡ TreeError.Fault)) }
     ensures same { T.contents tree.new ≡ T.contents tree.old }
     ensures cause { HasCause TreeError.Fault (T.fault_count tree.old) (T.fault_count tree.new) result }

@@ -1,6 +1,6 @@
 //! The heading of a listing and its rows.
 ghost use Rattle.std.specs.Prelude.{◌≡◌, ◌++◌, string_bytes, IfOk, OnOk, option_copied};
-ghost use Rattle.mc_text.specs.Fit.{fitted};
+ghost use Rattle.mc_text.specs.Fit.{fitted_text};
 ghost use Rattle.panel_listing.specs.RowTexts.{field_text, cells_text, labels_text, label, is_tagged, row_text, rows_text, heading_text};
 
 use crate::format::Format;
@@ -110,7 +110,7 @@ fn labels(alloc: Global, cells: &[Cell]) -> Result<Text, NoMemory>
 
 /// Puts a text behind a line, filled or cut to so many columns.
 fn push_fitted(alloc: Global, line: &mut String, text: &str, width: usize) -> Result<(), NoMemory>
-    ensures { OnOk result (string_bytes line.new ≡ string_bytes line.old ++ fitted text.now width) }
+    ensures { OnOk result (string_bytes line.new ≡ string_bytes line.old ++ fitted_text text.now width) }
 {
     line.push_str(fit(alloc, text, width)?.as_str())?;
     Ok(())

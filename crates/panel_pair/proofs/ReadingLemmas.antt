@@ -8,7 +8,7 @@ use Rattle.resolving.specs.declared.error.ResolveError.{ResolveError}
 use Rattle.resolving.specs.declared.error.ResolveError.TheVariants.{Tree, TooManyLinks, TooLong, BadName, Fault, Memory}
 use Rattle.resolving.specs.declared.walking.Wanted.TheVariants.{FolderAlone}
 use Rattle.resolving.specs.Errors.{Answers}
-use Rattle.resolving.specs.Resolution.{resolved}
+use Rattle.resolving.specs.Resolution.{resolved_path}
 use Rattle.panel_state.specs.declared.going.Way.{Way}
 use Rattle.panel_state.specs.declared.going.Way.TheVariants.{Nowhere, Up, Into}
 use Rattle.panel_state.specs.Panels.{PanelState, current_text}
@@ -37,7 +37,7 @@ answers_any why Memory is = tt
 
 -- that of Enter
 resolved_cause : (log : CallLog) (from : Route) (typed : List ℕ) (r : Result Route ResolveError) (e : ResolveError)
-    → resolved (current log) FolderAlone from typed ≡ r → ShowsResolved log r (Err e) → HasReadCause log e
+    → resolved_path (current log) FolderAlone from typed ≡ r → ShowsResolved log r (Err e) → HasReadCause log e
 resolved_cause log from typed (Ok folder) Fault is shows = inr (from, (typed, tt))
 resolved_cause log from typed (Ok folder) (Tree path e) is shows = inl (folder, shows)
 resolved_cause log from typed (Ok folder) TooManyLinks is shows = absurd shows
@@ -51,7 +51,7 @@ enter_cause : (way : Way) (log : CallLog) (p : PanelState) (e : ResolveError) �
 enter_cause Nowhere log p e h = absurd h
 enter_cause Up log p e shows = inl (holder p.folder, shows)
 enter_cause Into log p e shows =
-    resolved_cause log p.folder (current_text p) (resolved (current log) FolderAlone p.folder (current_text p)) e refl shows
+    resolved_cause log p.folder (current_text p) (resolved_path (current log) FolderAlone p.folder (current_text p)) e refl shows
 
 -- that of going back and forward
 next_cause : (log : CallLog) (folders : List Route) (e : ResolveError) → ShowsNext log folders (Err e) → HasReadCause log e
@@ -83,7 +83,7 @@ command_cause SwitchPatterns log p e h = memory_cause log e h
 -- that of a path to begin with
 pub path_cause : (log : CallLog) (path : Route) (e : ResolveError) → ShowsPath log path (Err e) → HasReadCause log e
 path_cause log path e shows =
-    resolved_cause log [] (path_text path) (resolved (current log) FolderAlone [] (path_text path)) e refl shows
+    resolved_cause log [] (path_text path) (resolved_path (current log) FolderAlone [] (path_text path)) e refl shows
 
 -- what a call behind another one was refused
 pub reads_later : (A : Type 0) (told e : ResolveError) (before between after : Option CallLog) (faults faults_between faults_after : ℕ)

@@ -11,24 +11,24 @@ use Rattle.panel_state.specs.Panels.{PanelState, moved_by, with_format, with_bri
 use Rattle.panel_state.specs.Readings.{ShowsFolder, read_again, gone_to_path}
 use Rattle.panel_state.specs.Goings.{way_of, Enters, Reads, Turns, ShowsNext}
 use Rattle.panel_state.specs.declared.visits.Turn.TheVariants.{Earlier, Later}
-use Rattle.panel_state.specs.Selections.{toggled_current, selected, unselected, inverted_files}
+use Rattle.panel_state.specs.Selections.{toggled_current, selected_panel, unselected_panel, inverted_files}
 use Rattle.panel_state.specs.Arrangements.{arranged_again, HasSameItems}
-use Rattle.panel_state.specs.Comparisons.{compared}
+use Rattle.panel_state.specs.Comparisons.{compared_panel}
 use Rattle.panel_pair.specs.declared.command.PanelCommand.{PanelCommand}
 use Rattle.panel_pair.specs.declared.command.PanelCommand.TheVariants.{Move, SwitchPanel, SwapPanels, Enter, ReadAgain, Back, Forward, GoTo, Toggle, Invert, Select, Unselect, Compare, Arrange, ShowColumns, ShowBrief, ToggleHidden, SwitchPatterns}
 use Rattle.panel_pair.specs.Pairs.{PairState, opposite, other_kind, with_current}
 
 -- Tab makes the other panel current; it stays on its side
-abbrev pub switched : PairState → PairState
-switched pair = record pair { current = pair.other; other = pair.current; side = opposite pair.side }
+abbrev pub switched_panels : PairState → PairState
+switched_panels pair = record pair { current = pair.other; other = pair.current; side = opposite pair.side }
 
 -- C-u swaps the panels; the left or the right one stays current
-abbrev pub swapped : PairState → PairState
-swapped pair = record pair { current = pair.other; other = pair.current }
+abbrev pub swapped_panels : PairState → PairState
+swapped_panels pair = record pair { current = pair.other; other = pair.current }
 
 -- C-x d tags in both panels the files that differ
 abbrev pub compared_pair : PairState → PairState
-compared_pair pair = record pair { current = compared pair.other pair.current; other = compared pair.current pair.other }
+compared_pair pair = record pair { current = compared_panel pair.other pair.current; other = compared_panel pair.current pair.other }
 
 -- the current panel goes to a folder, or there is none to go to; the rest stays
 abbrev pub Goes : (PanelState → Going → Type 0) → PairState → PairState → Type 0
@@ -46,8 +46,8 @@ pub record BothArrange (arrangement : Arrangement) (page : ℕ) (before after : 
 -- what a command makes of the panels, a page having so many rows
 abbrev pub CommandDone : PanelCommand → ℕ → PairState → PairState → Type 0
 CommandDone (Move base) page before after = after ≡ with_current (moved_by page base before.current) before
-CommandDone SwitchPanel page before after = after ≡ switched before
-CommandDone SwapPanels page before after = after ≡ swapped before
+CommandDone SwitchPanel page before after = after ≡ switched_panels before
+CommandDone SwapPanels page before after = after ≡ swapped_panels before
 CommandDone Enter page before after = Goes (Enters (way_of before.current) page before.current) before after
 CommandDone ReadAgain page before after = after ≡ with_current (read_again page after.current.listing before.current) before
 CommandDone Back page before after = Goes (Turns Earlier page before.current) before after
@@ -55,8 +55,8 @@ CommandDone Forward page before after = Goes (Turns Later page before.current) b
 CommandDone (GoTo path) page before after = after ≡ with_current (gone_to_path page path after.current.listing before.current) before
 CommandDone Toggle page before after = after ≡ with_current (toggled_current page before.current) before
 CommandDone Invert page before after = after ≡ with_current (inverted_files before.current) before
-CommandDone (Select pattern) page before after = after ≡ with_current (selected pattern before.current) before
-CommandDone (Unselect pattern) page before after = after ≡ with_current (unselected pattern before.current) before
+CommandDone (Select pattern) page before after = after ≡ with_current (selected_panel pattern before.current) before
+CommandDone (Unselect pattern) page before after = after ≡ with_current (unselected_panel pattern before.current) before
 CommandDone Compare page before after = after ≡ compared_pair before
 CommandDone (Arrange arrangement) page before after =
     HasSameItems before.current.listing after.current.listing

@@ -3,7 +3,7 @@ use Rattle.std.specs.Prelude.{ℕ, ◌+◌, ◌-◌, ◌/◌, Bool, true, false,
 use Rattle.mc_text.specs.Routes.{path_text}
 use Rattle.key_screen.specs.declared.cells.Attr.{Attr}
 use Rattle.key_screen.specs.declared.cells.Attr.TheVariants.{Plain, Bold, Reverse}
-use Rattle.screen_frame.specs.declared.panes.Item.{Item}
+use Rattle.screen_frame.specs.declared.panes.ListingLine.{ListingLine}
 use Rattle.screen_frame.specs.declared.panes.Pane.{Pane}
 use Rattle.screen_frame.specs.declared.panes.Panes.{Panes}
 use Rattle.screen_frame.specs.declared.panes.Panes.TheVariants.{Both, Whole}
@@ -29,7 +29,7 @@ look_of mark.Tagged = Bold
 look_of mark.Current = Reverse
 
 -- items with these texts, of which the first stands in this row
-abbrev pub items_from : PanelState → Bool → ℕ → List (List ℕ) → List Item
+abbrev pub items_from : PanelState → Bool → ℕ → List (List ℕ) → List ListingLine
 items_from p is_current row [] = []
 items_from p is_current row (text ∷ texts) =
     record { text = text; look = look_of (mark_of row is_current p) } ∷ items_from p is_current (row + 1) texts

@@ -4,7 +4,7 @@ use Rattle.mc_text.specs.Routes.{Route, path_text}
 use Rattle.tree_trait.specs.Change.{CallLog, current}
 use Rattle.resolving.specs.declared.error.ResolveError.{ResolveError}
 use Rattle.resolving.specs.declared.walking.Wanted.TheVariants.{FolderAlone}
-use Rattle.resolving.specs.Resolution.{resolved}
+use Rattle.resolving.specs.Resolution.{resolved_path}
 use Rattle.panel_state.specs.Panels.{PanelState}
 use Rattle.panel_state.specs.Goings.{ShowsResolved}
 use Rattle.panel_pair.specs.declared.opening.Unopened.{Unopened}
@@ -14,7 +14,7 @@ use Rattle.panel_pair.specs.Pairs.{PairState}
 
 -- the folder that a path leads to is shown as it was read, or the path leads to none
 abbrev pub ShowsPath : CallLog → Route → Result PanelState ResolveError → Type 0
-ShowsPath log path result = ShowsResolved log (resolved (current log) FolderAlone [] (path_text path)) result
+ShowsPath log path result = ShowsResolved log (resolved_path (current log) FolderAlone [] (path_text path)) result
 
 -- the folder of a side is refused; the right one is read only where the left one is shown
 abbrev pub RefusesSide : CallLog → Route → Route → Side → ResolveError → Type 0

@@ -4,7 +4,7 @@ use Rattle.panel_listing.specs.Listings.{Listed, nothing_listed}
 use Rattle.mc_text.specs.Routes.{Route}
 use Rattle.tagging.specs.declared.pattern.PatternKind.{PatternKind}
 use Rattle.tagging.specs.declared.pattern.PatternKind.TheVariants.{Shell, Regex}
-use Rattle.panel_state.specs.Panels.{PanelState, untagged}
+use Rattle.panel_state.specs.Panels.{PanelState, untagged_panel}
 use Rattle.panel_state.specs.Readings.{opened_panel}
 use Rattle.panel_pair.specs.declared.side.Side.{Side}
 use Rattle.panel_pair.specs.declared.side.Side.TheVariants.{Left, Right}
@@ -47,7 +47,7 @@ with_current panel pair = record pair { current = panel }
 
 -- no name is tagged in the current panel
 abbrev pub untagged_pair : PairState → PairState
-untagged_pair pair = with_current (untagged pair.current) pair
+untagged_pair pair = with_current (untagged_panel pair.current) pair
 
 -- the panels of two folders that were read; the left one is current, and shell patterns are on
 abbrev pub opened_pair : Route → Route → Listed → Listed → PairState

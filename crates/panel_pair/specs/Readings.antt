@@ -8,7 +8,7 @@ use Rattle.resolving.specs.declared.error.ResolveError.{ResolveError}
 use Rattle.resolving.specs.declared.error.ResolveError.TheVariants.{Fault}
 use Rattle.resolving.specs.declared.walking.Wanted.TheVariants.{FolderAlone}
 use Rattle.resolving.specs.Errors.{Answers}
-use Rattle.resolving.specs.Resolution.{resolved}
+use Rattle.resolving.specs.Resolution.{resolved_path}
 use Rattle.panel_state.specs.Readings.{ListsFolder}
 use Rattle.panel_state.specs.Rereadings.{refusal_in}
 use Rattle.panel_pair.specs.declared.looking.Reread.{Reread}
@@ -17,7 +17,7 @@ use Rattle.panel_pair.specs.declared.looking.Reread.{Reread}
 abbrev pub HasReadCause : CallLog → ResolveError → Type 0
 HasReadCause log e =
     ((folder : Route) × ListsFolder log folder (Err e))
-    ⊎ ((from : Route) × ((typed : List ℕ) × Answers (resolved (current log) FolderAlone from typed) (Err e)))
+    ⊎ ((from : Route) × ((typed : List ℕ) × Answers (resolved_path (current log) FolderAlone from typed) (Err e)))
 
 -- something holds of each
 abbrev pub Each : {A : Type 0} → (A → Type 0) → List A → Type 0
@@ -37,11 +37,11 @@ abbrev pub refused_in : {A : Type 0} → Result A ResolveError → List ResolveE
 refused_in (Ok x) = []
 refused_in (Err e) = e ∷ []
 
-abbrev pub listed : Option ResolveError → List ResolveError
-listed None = []
-listed (Some e) = e ∷ []
+abbrev pub list_of_error : Option ResolveError → List ResolveError
+list_of_error None = []
+list_of_error (Some e) = e ∷ []
 
 -- what was refused to a look at both panels, the left one first
 abbrev pub refused_looks : Result Reread NoMemory → List ResolveError
-refused_looks (Ok reread) = listed (refusal_in reread.left) ++ listed (refusal_in reread.right)
+refused_looks (Ok reread) = list_of_error (refusal_in reread.left) ++ list_of_error (refusal_in reread.right)
 refused_looks (Err e) = []

@@ -1,6 +1,6 @@
 -- What a job takes from the panels (mc(1), "Directory Panels": tagged files, or else the selected one).
 use Rattle.std.specs.Prelude.{◌≡◌, ℕ, ◌<◌, List, ◌∷◌, map, length, Contains}
-use Rattle.mc_text.specs.Routes.{Route, spelled}
+use Rattle.mc_text.specs.Routes.{Route, spelled_route}
 use Rattle.mc_text.specs.declared.error.PathError.{PathError}
 use Rattle.mc_text.specs.declared.error.PathError.TheVariants.{TooLong}
 use Rattle.panel_state.specs.Panels.{PanelState}
@@ -18,5 +18,5 @@ selected_paths p = paths_in p.folder (selection p)
 pub record IsTooLong (error : PathError) (folder : Route) (names : List (List ℕ)) : Type 0 where
   pub name : List ℕ
   pub among : Contains names name
-  pub bytes : error ≡ TooLong (length (spelled (name ∷ folder)))
-  pub long : 4096 < length (spelled (name ∷ folder))
+  pub bytes : error ≡ TooLong (length (spelled_route (name ∷ folder)))
+  pub long : 4096 < length (spelled_route (name ∷ folder))

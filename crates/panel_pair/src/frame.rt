@@ -8,7 +8,7 @@ use crate::side::Side;
 use key_screen::Attr;
 use mc_text::{NoMemory, Text};
 use panel_state::{Layout, Mark, Panel, View};
-use screen_frame::{Item, Items, Pane, Panes, Shape};
+use screen_frame::{ListingLine, ListingLines, Pane, Panes, Shape};
 use std::alloc::Global;
 
 /// The size of the screen, and the second of the last key since 1970, by which the times in rows are told.
@@ -100,11 +100,16 @@ fn shape_of(layout: Layout) -> Shape
 }
 
 /// The rows of a panel that are on the screen.
-fn items_of(alloc: Global, panel: &Panel, is_current: bool, view: View) -> Result<Items, NoMemory>
+fn items_of(
+    alloc: Global,
+    panel: &Panel,
+    is_current: bool,
+    view: View,
+) -> Result<ListingLines, NoMemory>
     requires { view.page < 2 ^ 16 }
     ensures { IfOk result (λ items. items ≡ items_from panel.now is_current panel.now.first (panel_rows view panel.now)) }
 {
-    let mut items = Items::new(alloc);
+    let mut items = ListingLines::new(alloc);
     let rows = panel.rows(alloc, view)?;
     push_rows(
         &mut items,
@@ -119,7 +124,7 @@ fn items_of(alloc: Global, panel: &Panel, is_current: bool, view: View) -> Resul
 
 /// Adds the items of rows, of which the first is this one.
 fn push_rows(
-    items: &mut Items,
+    items: &mut ListingLines,
     alloc: Global,
     panel: &Panel,
     is_current: bool,
@@ -130,7 +135,7 @@ fn push_rows(
     ensures { OnOk result (items.new ≡ items.old ++ items_from panel.now is_current row texts.now) }
 {
     for (index, text) in texts.iter().enumerate() {
-        items.push(Item {
+        items.push(ListingLine {
             text: text.copy(alloc)?,
             look: look_of(panel.mark(row + index, is_current)),
         })?;

@@ -1,7 +1,7 @@
 //! Both panels, read again after a job's end: first both folders are read, and then the panels take what was read.
 ghost use Rattle.std.specs.Prelude.{◌≡◌, ◌<◌, ◌^◌, IfOk};
 ghost use Rattle.tree_trait.specs.Answers.{IfKnown};
-ghost use Rattle.panel_state.specs.Rereadings.{IsAttempt, taken as panel_taken};
+ghost use Rattle.panel_state.specs.Rereadings.{IsAttempt, panel_after_attempt as panel_taken};
 ghost use Rattle.panel_pair.specs.Looks.{IsRereadOf, LooksAgain, ShowsReread, TakesReread, unread_of};
 ghost use Rattle.panel_pair.specs.Readings.{ReadsTree, refused_looks};
 

@@ -5,7 +5,7 @@ ghost use Rattle.resolving.specs.Errors.{CarriesCause};
 ghost use Rattle.panel_state.specs.declared.arranging.Arrangement.TheVariants.{Hidden};
 ghost use Rattle.panel_state.specs.Arrangements.{arranged_again, HasSameItems};
 ghost use Rattle.panel_state.specs.Readings.{outcome};
-ghost use Rattle.panel_pair.specs.Commands.{CommandDone, CommandReads, switched};
+ghost use Rattle.panel_pair.specs.Commands.{CommandDone, CommandReads, switched_panels};
 ghost use Rattle.panel_pair.specs.Pairs.{other_kind as kind_across};
 ghost use Rattle.panel_pair.specs.Readings.{ReadsTree, refused_in};
 
@@ -108,7 +108,7 @@ impl Panels {
 
     /// Makes the other panel current. Both stay on their sides.
     fn switch(&mut self)
-        ensures { self.new ≡ switched self.old }
+        ensures { self.new ≡ switched_panels self.old }
     {
         mem::swap(&mut self.current, &mut self.other);
         self.side = self.side.opposite();

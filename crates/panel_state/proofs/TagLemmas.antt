@@ -5,14 +5,14 @@ use Rattle.std.specs.Cmp.Lexicographic.{slice_cmp, nat_list_cmp_total}
 use Rattle.std.specs.FinSet.{contains, union, difference, empty, items, contains-empty, contains-union, contains-difference, contains-from_list, contains-items}
 use Rattle.std.proofs.lemmas.List.{take_more, map-append}
 use Rattle.std.proofs.lemmas.List.Elements.{filter-append}
-use Rattle.tagging.specs.TagSets.{TagSet, names_in, inverted}
+use Rattle.tagging.specs.TagSets.{TagSet, names_in, inverted_tags}
 use Rattle.tagging.proofs.SetLemmas.{same_tags}
 use Rattle.panel_listing.specs.declared.item.Item.{Item}
 use Rattle.panel_state.specs.Wanted.{names_of}
 
 -- where nothing was tagged, the other answer is to tag
-pub inverted-empty : (names : TagSet) → inverted empty names ≡ names
-inverted-empty names = same_tags (inverted empty names) names (λ q.
+pub inverted-empty : (names : TagSet) → inverted_tags empty names ≡ names
+inverted-empty names = same_tags (inverted_tags empty names) names (λ q.
     contains-union nat_list_cmp_total (difference empty names) (difference names empty) q
     ∙ ap (λ b. b || contains {R = slice_cmp nat_cmp} (difference names empty) q) (contains-difference nat_list_cmp_total empty names q)
     ∙ ap (λ b. (contains {R = slice_cmp nat_cmp} empty q && not (contains names q)) || b) (contains-difference nat_list_cmp_total names empty q)

@@ -7,7 +7,7 @@ use Rattle.resolving.specs.declared.error.ResolveError.{ResolveError}
 use Rattle.resolving.specs.declared.error.ResolveError.TheVariants.{Fault}
 use Rattle.resolving.specs.declared.walking.Wanted.TheVariants.{FolderAlone}
 use Rattle.resolving.specs.Errors.{Answers}
-use Rattle.resolving.specs.Resolution.{resolved}
+use Rattle.resolving.specs.Resolution.{resolved_path}
 use Rattle.panel_listing.specs.Items.{leads_to_folder}
 use Rattle.panel_listing.specs.declared.item.Item.{Item}
 use Rattle.panel_state.specs.declared.going.Going.{Going}
@@ -49,7 +49,7 @@ abbrev pub Reads : Way → CallLog → PanelState → Result PanelState ResolveE
 Reads Nowhere log p (Ok new) = ⊤
 Reads Nowhere log p (Err e) = ⊥
 Reads Up log p result = ShowsFolder log (holder p.folder) result
-Reads Into log p result = ShowsResolved log (resolved (current log) FolderAlone p.folder (current_text p)) result
+Reads Into log p result = ShowsResolved log (resolved_path (current log) FolderAlone p.folder (current_text p)) result
 
 -- what going back makes of the panel, and going forward
 abbrev pub GoesTo : List Route → (Route → PanelState) → PanelState → PanelState → Going → Type 0

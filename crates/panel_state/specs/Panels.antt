@@ -44,8 +44,8 @@ tag_set p = names_in p.tags
 abbrev pub with_tags : TagSet → PanelState → PanelState
 with_tags tags p = record p { tags = set.items tags }
 
-abbrev pub untagged : PanelState → PanelState
-untagged p = with_tags no_tags p
+abbrev pub untagged_panel : PanelState → PanelState
+untagged_panel p = with_tags no_tags p
 
 -- how many rows there are
 abbrev pub row_count : PanelState → ℕ

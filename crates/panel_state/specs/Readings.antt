@@ -12,8 +12,8 @@ use Rattle.panel_listing.specs.declared.wish.Wish.{Wish}
 use Rattle.panel_listing.specs.Listings.{Listed, IsListingOf}
 use Rattle.panel_state.specs.declared.format.Layout.TheVariants.{Columns}
 use Rattle.panel_state.specs.declared.visits.Turn.{Turn}
-use Rattle.panel_state.specs.Visits.{FoldersShown, visited, turned}
-use Rattle.panel_state.specs.Panels.{PanelState, no_tags, tag_set, with_tags, untagged, with_cursor, row_from, row_among, with_cursor_on}
+use Rattle.panel_state.specs.Visits.{FoldersShown, visited_folders, turned_folders}
+use Rattle.panel_state.specs.Panels.{PanelState, no_tags, tag_set, with_tags, untagged_panel, with_cursor, row_from, row_among, with_cursor_on}
 use Rattle.panel_state.specs.Wanted.{kept_tags}
 
 -- Reading a folder gives its listing, or is refused as `list` of it is. Memory may run out, and where nothing refuses `list` a device may
@@ -63,11 +63,11 @@ read_again page listing p =
 abbrev pub shown_anew : ℕ → Route → Listed → Option (List ℕ) → FoldersShown → PanelState → PanelState
 shown_anew page folder listing on visits p =
     with_cursor page (row_from listing on 0)
-    (untagged (record p { folder = folder; listing = listing; first = 0; visits = visits }))
+    (untagged_panel (record p { folder = folder; listing = listing; first = 0; visits = visits }))
 
 -- the panel that went to another folder
 abbrev pub went_to : ℕ → Route → Listed → Option (List ℕ) → PanelState → PanelState
-went_to page folder listing on p = shown_anew page folder listing on (visited p.folder p.visits) p
+went_to page folder listing on p = shown_anew page folder listing on (visited_folders p.folder p.visits) p
 
 -- the panel that was told to go to a folder, which may be its own
 abbrev pub gone_to : ℕ → Route → Listed → PanelState → PanelState
@@ -83,4 +83,4 @@ gone_to_path page path listing p =
 
 -- the panel that went back to the folder shown before, or forward again
 abbrev pub turned_to : Turn → ℕ → Route → Listed → PanelState → PanelState
-turned_to turn page folder listing p = shown_anew page folder listing None (turned turn p.folder p.visits) p
+turned_to turn page folder listing p = shown_anew page folder listing None (turned_folders turn p.folder p.visits) p

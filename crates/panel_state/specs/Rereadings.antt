@@ -33,9 +33,9 @@ IsAttempt p (Read fresh) = IsFresh p fresh
 IsAttempt p (Refused e) = e ≢ Memory
 
 -- what was read, or the refusal
-abbrev pub tried : Attempt → Result FreshRead ResolveError
-tried (Read fresh) = Ok fresh
-tried (Refused e) = Err e
+abbrev pub tried_read : Attempt → Result FreshRead ResolveError
+tried_read (Read fresh) = Ok fresh
+tried_read (Refused e) = Err e
 
 -- why it was not read, if it wasn't
 abbrev pub refusal_in : Attempt → Option ResolveError
@@ -43,9 +43,9 @@ refusal_in (Read fresh) = None
 refusal_in (Refused e) = Some e
 
 -- the panel with what was read, or as it was
-abbrev pub taken : ℕ → Attempt → PanelState → PanelState
-taken page (Read fresh) p = read_again page fresh.listing p
-taken page (Refused e) p = p
+abbrev pub panel_after_attempt : ℕ → Attempt → PanelState → PanelState
+panel_after_attempt page (Read fresh) p = read_again page fresh.listing p
+panel_after_attempt page (Refused e) p = p
 
 -- what was read is what the folder holds, or its refusal is the tree's
 abbrev pub ShowsAttempt : CallLog → Route → Attempt → Type 0

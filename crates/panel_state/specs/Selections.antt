@@ -2,7 +2,7 @@
 use Rattle.std.specs.Prelude.{ℕ, List, [], ◌∷◌, filter, Option, Some, None}
 use Rattle.std.specs.FinSet as set
 use Rattle.key_screen.specs.declared.keys.Base.TheVariants.{Down}
-use Rattle.tagging.specs.TagSets.{TagSet, names_in, toggled, inverted}
+use Rattle.tagging.specs.TagSets.{TagSet, names_in, toggled_tags, inverted_tags}
 use Rattle.tagging.specs.Patterns.{PatternText, is_found}
 use Rattle.panel_state.specs.declared.wanted.Wanted.TheVariants.{Files, Tagged}
 use Rattle.panel_state.specs.Wanted.{wanted_names}
@@ -11,7 +11,7 @@ use Rattle.panel_state.specs.Panels.{PanelState, tag_set, with_tags, current_nam
 -- the panel with the other answer for a name, if there is one
 abbrev pub with_toggled : Option (List ℕ) → PanelState → PanelState
 with_toggled None p = p
-with_toggled (Some name) p = with_tags (toggled (tag_set p) name) p
+with_toggled (Some name) p = with_tags (toggled_tags (tag_set p) name) p
 
 -- the panel after Insert: the current name has the other answer, and the cursor is a row further down
 abbrev pub toggled_current : ℕ → PanelState → PanelState
@@ -22,15 +22,15 @@ abbrev pub found_files : PatternText → PanelState → TagSet
 found_files pattern p = names_in (filter (is_found pattern) (wanted_names Files (tag_set p) p.listing))
 
 -- the panel with those tagged, or not
-abbrev pub selected : PatternText → PanelState → PanelState
-selected pattern p = with_tags (set.union (tag_set p) (found_files pattern p)) p
+abbrev pub selected_panel : PatternText → PanelState → PanelState
+selected_panel pattern p = with_tags (set.union (tag_set p) (found_files pattern p)) p
 
-abbrev pub unselected : PatternText → PanelState → PanelState
-unselected pattern p = with_tags (set.difference (tag_set p) (found_files pattern p)) p
+abbrev pub unselected_panel : PatternText → PanelState → PanelState
+unselected_panel pattern p = with_tags (set.difference (tag_set p) (found_files pattern p)) p
 
 -- the panel with the other answer for each shown file
 abbrev pub inverted_files : PanelState → PanelState
-inverted_files p = with_tags (inverted (tag_set p) (names_in (wanted_names Files (tag_set p) p.listing))) p
+inverted_files p = with_tags (inverted_tags (tag_set p) (names_in (wanted_names Files (tag_set p) p.listing))) p
 
 -- some names, or else the current one, if there is one
 abbrev pub or_current : List (List ℕ) → Option (List ℕ) → List (List ℕ)

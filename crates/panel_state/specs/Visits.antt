@@ -10,8 +10,8 @@ pub record FoldersShown : Type 0 where
   pub ahead : List Route
 
 -- a folder is left for another one: a hundred are remembered, and none to go forward to
-abbrev pub visited : Route → FoldersShown → FoldersShown
-visited left folders = record { behind = take 100 (left ∷ folders.behind); ahead = [] }
+abbrev pub visited_folders : Route → FoldersShown → FoldersShown
+visited_folders left folders = record { behind = take 100 (left ∷ folders.behind); ahead = [] }
 
 -- the folders on the side to which a turn leads, the nearest first
 abbrev pub folders_on : Turn → FoldersShown → List Route
@@ -19,6 +19,6 @@ folders_on Earlier folders = folders.behind
 folders_on Later folders = folders.ahead
 
 -- a folder is left for the one before it, or for the one that was gone back from last
-abbrev pub turned : Turn → Route → FoldersShown → FoldersShown
-turned Earlier left folders = record { behind = drop 1 folders.behind; ahead = left ∷ folders.ahead }
-turned Later left folders = record { behind = left ∷ folders.behind; ahead = drop 1 folders.ahead }
+abbrev pub turned_folders : Turn → Route → FoldersShown → FoldersShown
+turned_folders Earlier left folders = record { behind = drop 1 folders.behind; ahead = left ∷ folders.ahead }
+turned_folders Later left folders = record { behind = left ∷ folders.behind; ahead = drop 1 folders.ahead }

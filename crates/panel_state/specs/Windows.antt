@@ -33,14 +33,14 @@ column_rows view first format p =
     rows_text p.listing (tag_set p) format (record { columns = view.columns; first = first; count = view.page; now = view.now })
 
 -- the view with so many columns
-abbrev pub narrowed : View → ℕ → View
-narrowed view columns = record view { columns = columns }
+abbrev pub narrowed_view : View → ℕ → View
+narrowed_view view columns = record view { columns = columns }
 
 -- In brief there are two columns with a wall between them. The first has half of what that leaves, rounded down.
 abbrev pub brief_rows : View → PanelState → List (List ℕ)
 brief_rows view p =
-    column_rows (narrowed view ((view.columns - 1) / 2)) p.first brief_format p
-    ++ column_rows (narrowed view (view.columns - 1 - (view.columns - 1) / 2)) (p.first + view.page) brief_format p
+    column_rows (narrowed_view view ((view.columns - 1) / 2)) p.first brief_format p
+    ++ column_rows (narrowed_view view (view.columns - 1 - (view.columns - 1) / 2)) (p.first + view.page) brief_format p
 
 -- the rows on the screen
 abbrev pub rows_by : Layout → View → PanelState → List (List ℕ)

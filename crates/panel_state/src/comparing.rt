@@ -1,6 +1,6 @@
 //! The quick comparison of two panels.
 ghost use Rattle.std.specs.Prelude.{◌≡◌, IfOk, OnOk, OnErr};
-ghost use Rattle.panel_state.specs.Comparisons.{compared};
+ghost use Rattle.panel_state.specs.Comparisons.{compared_panel};
 ghost use Rattle.panel_state.specs.Wanted.{files_shown};
 
 use crate::kept::tags_of;
@@ -13,8 +13,8 @@ use tagging::{FileFact, compare_quick};
 /// Tags in two panels those of the shown files that the other one lacks, or that are newer than there, or as old and of
 /// another size. All other tags of both are taken.
 pub fn compare_panels(alloc: Global, left: &mut Panel, right: &mut Panel) -> Result<(), NoMemory>
-    ensures left { OnOk result (left.new ≡ compared right.old left.old) }
-    ensures right { OnOk result (right.new ≡ compared left.old right.old) }
+    ensures left { OnOk result (left.new ≡ compared_panel right.old left.old) }
+    ensures right { OnOk result (right.new ≡ compared_panel left.old right.old) }
     ensures left_refused { OnErr result (left.new ≡ left.old) }
     ensures right_refused { OnErr result (right.new ≡ right.old) }
 {

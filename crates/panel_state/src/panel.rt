@@ -1,6 +1,6 @@
 //! A panel: a folder's listing with a cursor on one of its rows, and the first row on the screen.
 ghost use Rattle.std.specs.Prelude.{◌≡◌, ◌≢◌, ◌+◌, ◌-◌, ◌<◌, ◌≤◌, ◌^◌, if◌then◌else◌, [], codes, IfOk, IfErr, IfSome, length, option_map};
-ghost use Rattle.mc_text.specs.Routes.{spelled};
+ghost use Rattle.mc_text.specs.Routes.{spelled_route};
 ghost use Rattle.panel_listing.specs.Orders.{AreArranged};
 ghost use Rattle.panel_listing.specs.Listings.{rows_in};
 ghost use Rattle.panel_state.specs.Panels.{tag_set, row_count, current_name, current_path, current_text, moved_by, with_format, with_brief};
@@ -129,8 +129,8 @@ impl Panel {
     /// The path of the thing under the cursor, if it isn't `..`.
     pub fn current_path(&self, alloc: Global) -> Result<Option<Path>, PathError>
         ensures path { IfOk result (λ path. path ≡ current_path self.now) }
-        ensures fits { IfOk result (λ path. IfSome path (λ p. length (spelled p) ≤ 4096)) }
-        ensures too_long { IfErr result (λ e. e ≢ PathError.Memory → IfSome (current_path self.now) (λ p. 4096 < length (spelled p))) }
+        ensures fits { IfOk result (λ path. IfSome path (λ p. length (spelled_route p) ≤ 4096)) }
+        ensures too_long { IfErr result (λ e. e ≢ PathError.Memory → IfSome (current_path self.now) (λ p. 4096 < length (spelled_route p))) }
     {
         match self.current_name() {
             None => Ok(None),

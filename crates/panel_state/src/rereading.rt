@@ -3,7 +3,7 @@ ghost use Rattle.std.specs.Prelude.{◌≡◌, ◌<◌, ◌≤◌, ◌^◌, Some
 ghost use Rattle.tree_trait.specs.Answers.{IfKnown, HasCause, HasRisen};
 ghost use Rattle.resolving.specs.Errors.{CarriesCause, count_told};
 ghost use Rattle.panel_state.specs.Readings.{ListsFolder, read_again};
-ghost use Rattle.panel_state.specs.Rereadings.{listed_in, IsFresh, IsAttempt, ShowsAttempt, refusal_in, taken, tried};
+ghost use Rattle.panel_state.specs.Rereadings.{listed_in, IsFresh, IsAttempt, ShowsAttempt, refusal_in, panel_after_attempt, tried_read};
 
 use crate::fresh::Fresh;
 use crate::kept::kept_tags;
@@ -66,7 +66,7 @@ impl Panel {
         ensures same { T.contents tree.new ≡ T.contents tree.old }
         ensures later { T.fault_count tree.old ≤ T.fault_count tree.new }
         ensures fault { IfOk result (λ attempt. refusal_in attempt ≡ Some ResolveError.Fault → HasRisen (T.fault_count tree.old) (T.fault_count tree.new)) }
-        ensures counts { IfOk result (λ attempt. T.fault_count tree.new ≡ count_told (T.fault_count tree.old) (tried attempt)) }
+        ensures counts { IfOk result (λ attempt. T.fault_count tree.new ≡ count_told (T.fault_count tree.old) (tried_read attempt)) }
         ensures unread { IfErr result (λ _. T.fault_count tree.new ≡ T.fault_count tree.old) }
     {
         match self.read_fresh(alloc, tree) {
@@ -80,7 +80,7 @@ impl Panel {
     pub fn take_if_read(&mut self, page: usize, attempt: Attempt) -> Option<ResolveError>
         requires page { page < 2 ^ 16 }
         requires attempt { IsAttempt self.old attempt }
-        ensures done { self.new ≡ taken page attempt self.old }
+        ensures done { self.new ≡ panel_after_attempt page attempt self.old }
         ensures refusal { result ≡ refusal_in attempt }
     {
         match attempt {

@@ -1,9 +1,9 @@
 //! Tagging names, and the selection that a job takes.
 ghost use Rattle.std.specs.Prelude.{◌≡◌, ◌<◌, ◌^◌, IfOk, OnOk, OnErr, option_copied};
-ghost use Rattle.tagging.specs.TagSets.{toggled};
-ghost use Rattle.panel_state.specs.Panels.{tag_set, untagged, current_name};
+ghost use Rattle.tagging.specs.TagSets.{toggled_tags};
+ghost use Rattle.panel_state.specs.Panels.{tag_set, untagged_panel, current_name};
 ghost use Rattle.panel_state.specs.Wanted.{wanted_names};
-ghost use Rattle.panel_state.specs.Selections.{with_toggled, toggled_current, selected, unselected, inverted_files, selection, or_current};
+ghost use Rattle.panel_state.specs.Selections.{with_toggled, toggled_current, selected_panel, unselected_panel, inverted_files, selection, or_current};
 
 use crate::panel::Panel;
 use crate::wanted::{Wanted, names_of, wanted_items};
@@ -27,7 +27,7 @@ impl Panel {
     /// Tags those of the shown names that a pattern finds and that are no folders.
     #[tactic(auto, using(crate::proofs::TagLemmas::read_back))]
     pub fn select(&mut self, alloc: Global, pattern: &Pattern) -> Result<(), NoMemory>
-        ensures done { OnOk result (self.new ≡ selected pattern.now self.old) }
+        ensures done { OnOk result (self.new ≡ selected_panel pattern.now self.old) }
         ensures refused { OnErr result (self.new ≡ self.old) }
     {
         let names = self.names(alloc, Wanted::Files)?;
@@ -37,7 +37,7 @@ impl Panel {
     /// Takes the tags of those.
     #[tactic(auto, using(crate::proofs::TagLemmas::read_back))]
     pub fn unselect(&mut self, alloc: Global, pattern: &Pattern) -> Result<(), NoMemory>
-        ensures done { OnOk result (self.new ≡ unselected pattern.now self.old) }
+        ensures done { OnOk result (self.new ≡ unselected_panel pattern.now self.old) }
         ensures refused { OnErr result (self.new ≡ self.old) }
     {
         let names = self.names(alloc, Wanted::Files)?;
@@ -56,7 +56,7 @@ impl Panel {
 
     /// Takes all tags. It takes no memory.
     pub fn untag(&mut self)
-        ensures { self.new ≡ untagged self.old }
+        ensures { self.new ≡ untagged_panel self.old }
     {
         self.tags.untag();
     }
@@ -93,7 +93,7 @@ impl Panel {
 
 /// Tags a name, or takes its tag.
 fn toggle_name(tags: &mut Tags, alloc: Global, name: &Name) -> Result<(), NoMemory>
-    ensures done { OnOk result (tags.new ≡ toggled tags.old name.now) }
+    ensures done { OnOk result (tags.new ≡ toggled_tags tags.old name.now) }
     ensures refused { OnErr result (tags.new ≡ tags.old) }
 {
     tags.toggle(alloc, name)?;

@@ -1,6 +1,6 @@
 //! The folders that a panel showed.
 ghost use Rattle.std.specs.Prelude.{◌≡◌, [], ◌∷◌, drop, OnOk, OnErr, slice_get, option_map};
-ghost use Rattle.panel_state.specs.Visits.{visited, turned, folders_on};
+ghost use Rattle.panel_state.specs.Visits.{visited_folders, turned_folders, folders_on};
 
 use mc_text::{NoMemory, Path};
 use std::alloc::Global;
@@ -56,7 +56,7 @@ impl Visits {
     /// Remembers a folder that is left for another one. Those that were gone back from are forgotten, and so is the
     /// oldest of more than a hundred.
     pub fn leave(&mut self, alloc: Global, folder: &Path) -> Result<(), NoMemory>
-        ensures done { OnOk result (self.new ≡ visited folder.now self.old) }
+        ensures done { OnOk result (self.new ≡ visited_folders folder.now self.old) }
         ensures refused { OnErr result (self.new ≡ self.old) }
     {
         let folder = folder.copy(alloc)?;
@@ -68,7 +68,7 @@ impl Visits {
 
     /// The present folder is left for the one that a turn leads to.
     pub fn turn(&mut self, alloc: Global, turn: Turn, folder: &Path) -> Result<(), NoMemory>
-        ensures done { OnOk result (self.new ≡ turned turn folder.now self.old) }
+        ensures done { OnOk result (self.new ≡ turned_folders turn folder.now self.old) }
         ensures refused { OnErr result (self.new ≡ self.old) }
     {
         match turn {

@@ -1,7 +1,7 @@
 //! What the frame shows of a panel.
 ghost use Rattle.std.specs.Prelude.{◌≡◌, ◌++◌, ◌<◌, ◌^◌, codes, Ok, IfOk};
 ghost use Rattle.panel_listing.specs.FormatTexts.{RowFormat};
-ghost use Rattle.panel_state.specs.Windows.{panel_heading, panel_rows, brief_rows, brief_format, column_rows, narrowed, mark_of};
+ghost use Rattle.panel_state.specs.Windows.{panel_heading, panel_rows, brief_rows, brief_format, column_rows, narrowed_view, mark_of};
 
 use crate::format::{Layout, no_memory};
 use crate::panel::Panel;

@@ -2,9 +2,9 @@
 use Rattle.std.proofs.Common.{◌≡◌, ℕ, List, [], ◌∷◌, ◌++◌, ap}
 use Rattle.std.specs.List.{flat_map}
 use Rattle.std.proofs.lemmas.List.{append-nil}
-use Rattle.percent_macros.specs.Quoting.{quoted}
-use Rattle.percent_macros.specs.Inserted.{joined}
+use Rattle.percent_macros.specs.Quoting.{name_in_quotes}
+use Rattle.percent_macros.specs.Inserted.{joined_names}
 
-pub joined-cons : (first : List ℕ) (others : List (List ℕ)) → quoted first ++ flat_map (λ name. 32 ∷ quoted name) others ≡ joined (first ∷ others)
-joined-cons first [] = append-nil (quoted first)
-joined-cons first (other ∷ others) = ap (λ rest. quoted first ++ 32 ∷ rest) (joined-cons other others)
+pub joined-cons : (first : List ℕ) (others : List (List ℕ)) → name_in_quotes first ++ flat_map (λ name. 32 ∷ name_in_quotes name) others ≡ joined_names (first ∷ others)
+joined-cons first [] = append-nil (name_in_quotes first)
+joined-cons first (other ∷ others) = ap (λ rest. name_in_quotes first ++ 32 ∷ rest) (joined-cons other others)

@@ -23,4 +23,4 @@ quoted_byte-high byte high =
 pub quoted_bytes-high : (bytes : List ℕ) → AreHigh bytes → quoted_bytes bytes ≡ bytes
 quoted_bytes-high [] high = refl
 quoted_bytes-high (byte ∷ bytes) high =
-    ap (λ front. front ++ quoted_bytes bytes) (quoted_byte-high byte high.0) ∙ ap (λ rest. byte ∷ rest) (quoted_bytes-high bytes high.1)
+    ap (λ prefix. prefix ++ quoted_bytes bytes) (quoted_byte-high byte high.0) ∙ ap (λ rest. byte ∷ rest) (quoted_bytes-high bytes high.1)

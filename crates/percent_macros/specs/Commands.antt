@@ -20,8 +20,8 @@ prompts_in (Typed byte ∷ parts) = prompts_in parts
 prompts_in (Asked question ∷ parts) = 1 + prompts_in parts
 
 -- the command with the answers in their prompts' places
-abbrev pub filled : List CommandPart → List (List ℕ) → List ℕ
-filled [] answers = []
-filled (Typed byte ∷ parts) answers = byte ∷ filled parts answers
-filled (Asked question ∷ parts) [] = filled parts []
-filled (Asked question ∷ parts) (answer ∷ answers) = answer ++ filled parts answers
+abbrev pub filled_command : List CommandPart → List (List ℕ) → List ℕ
+filled_command [] answers = []
+filled_command (Typed byte ∷ parts) answers = byte ∷ filled_command parts answers
+filled_command (Asked question ∷ parts) [] = filled_command parts []
+filled_command (Asked question ∷ parts) (answer ∷ answers) = answer ++ filled_command parts answers

@@ -9,7 +9,7 @@ use Rattle.percent_macros.specs.declared.error.MacroError.TheVariants.{UnknownMa
 use Rattle.percent_macros.specs.declared.macros.Macro.{Macro}
 use Rattle.percent_macros.specs.declared.pieces.Expanded.{Expanded}
 use Rattle.percent_macros.specs.MacroTable.{macro_named, untags_here, untags_other}
-use Rattle.percent_macros.specs.Inserted.{inserted}
+use Rattle.percent_macros.specs.Inserted.{macro_text}
 use Rattle.percent_macros.specs.Commands.{Typed, Asked}
 
 -- what stands in a command: a byte, a macro of one letter, or a prompt
@@ -30,12 +30,12 @@ IsWritten (Named letter meant) = macro_named letter ≡ Some meant
 IsWritten (Question question) = IsWithout 125 question
 
 -- text that stands in the command
-abbrev pub typed : List ℕ → Expanded
-typed text = record { pieces = map Typed text; untag_here = false; untag_other = false }
+abbrev pub typed_expansion : List ℕ → Expanded
+typed_expansion text = record { pieces = map Typed text; untag_here = false; untag_other = false }
 
 -- one expansion, and then another
-abbrev pub followed : Expanded → Expanded → Expanded
-followed first second = record {
+abbrev pub joined_expansions : Expanded → Expanded → Expanded
+joined_expansions first second = record {
   pieces = first.pieces ++ second.pieces;
   untag_here = first.untag_here || second.untag_here;
   untag_other = first.untag_other || second.untag_other;
@@ -44,24 +44,24 @@ followed first second = record {
 -- what a macro stands for
 abbrev pub meaning : Context → Macro → Expanded
 meaning context meant = record {
-  pieces = map Typed (inserted context meant);
+  pieces = map Typed (macro_text context meant);
   untag_here = untags_here meant;
   untag_other = untags_other meant;
 }
 
 -- a prompt
-abbrev pub asked : List ℕ → Expanded
-asked question = record { pieces = Asked question ∷ []; untag_here = false; untag_other = false }
+abbrev pub prompt_expansion : List ℕ → Expanded
+prompt_expansion question = record { pieces = Asked question ∷ []; untag_here = false; untag_other = false }
 
 -- what each part expands to
 abbrev pub expanded_part : Context → Written → Expanded
-expanded_part context (Byte byte) = typed (byte ∷ [])
+expanded_part context (Byte byte) = typed_expansion (byte ∷ [])
 expanded_part context (Named letter meant) = meaning context meant
-expanded_part context (Question question) = asked question
+expanded_part context (Question question) = prompt_expansion question
 
 abbrev pub expanded_parts : Context → List Written → Expanded
-expanded_parts context [] = typed []
-expanded_parts context (part ∷ parts) = followed (expanded_part context part) (expanded_parts context parts)
+expanded_parts context [] = typed_expansion []
+expanded_parts context (part ∷ parts) = joined_expansions (expanded_part context part) (expanded_parts context parts)
 
 -- the text is written as parts that expand so
 pub record Expands (context : Context) (text : List ℕ) (expanded : Expanded) : Type 0 where

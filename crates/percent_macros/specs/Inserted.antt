@@ -5,29 +5,29 @@ use Rattle.mc_text.specs.Routes.{path_text}
 use Rattle.percent_macros.specs.declared.context.Context.{Context}
 use Rattle.percent_macros.specs.declared.macros.Macro.{Macro}
 use Rattle.percent_macros.specs.declared.macros.Macro.TheVariants.{Percent, CurrentHere, CurrentOther, Extension, Stem, FolderHere, FolderOther, TaggedHere, TaggedOther, UntaggedHere, UntaggedOther, SelectedHere, SelectedOther}
-use Rattle.percent_macros.specs.Quoting.{quoted}
+use Rattle.percent_macros.specs.Quoting.{name_in_quotes}
 use Rattle.percent_macros.specs.Extensions.{name_parts}
 
 -- names with a blank between each two
-abbrev pub joined : List (List ℕ) → List ℕ
-joined names = join_with_byte 32 (map quoted names)
+abbrev pub joined_names : List (List ℕ) → List ℕ
+joined_names names = join_with_byte 32 (map name_in_quotes names)
 
 -- the tagged names, or else the current one
-abbrev pub selected : List ℕ → List (List ℕ) → List ℕ
-selected current [] = quoted current
-selected current (name ∷ names) = joined (name ∷ names)
+abbrev pub selected_names : List ℕ → List (List ℕ) → List ℕ
+selected_names current [] = name_in_quotes current
+selected_names current (name ∷ names) = joined_names (name ∷ names)
 
-abbrev pub inserted : Context → Macro → List ℕ
-inserted context Percent = 37 ∷ []
-inserted context CurrentHere = quoted context.here.current
-inserted context CurrentOther = quoted context.other.current
-inserted context Extension = quoted (name_parts context.here.current).extension
-inserted context Stem = quoted (name_parts context.here.current).stem
-inserted context FolderHere = quoted (path_text context.here.folder)
-inserted context FolderOther = quoted (path_text context.other.folder)
-inserted context TaggedHere = joined context.here.tagged
-inserted context TaggedOther = joined context.other.tagged
-inserted context UntaggedHere = joined context.here.tagged
-inserted context UntaggedOther = joined context.other.tagged
-inserted context SelectedHere = selected context.here.current context.here.tagged
-inserted context SelectedOther = selected context.other.current context.other.tagged
+abbrev pub macro_text : Context → Macro → List ℕ
+macro_text context Percent = 37 ∷ []
+macro_text context CurrentHere = name_in_quotes context.here.current
+macro_text context CurrentOther = name_in_quotes context.other.current
+macro_text context Extension = name_in_quotes (name_parts context.here.current).extension
+macro_text context Stem = name_in_quotes (name_parts context.here.current).stem
+macro_text context FolderHere = name_in_quotes (path_text context.here.folder)
+macro_text context FolderOther = name_in_quotes (path_text context.other.folder)
+macro_text context TaggedHere = joined_names context.here.tagged
+macro_text context TaggedOther = joined_names context.other.tagged
+macro_text context UntaggedHere = joined_names context.here.tagged
+macro_text context UntaggedOther = joined_names context.other.tagged
+macro_text context SelectedHere = selected_names context.here.current context.here.tagged
+macro_text context SelectedOther = selected_names context.other.current context.other.tagged

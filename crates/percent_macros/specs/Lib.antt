@@ -6,4 +6,4 @@ pub mod Inserted
 pub mod Commands
 pub mod Expansion
 pub mod Drafts
-pub mod Steps
+pub mod MacroSteps

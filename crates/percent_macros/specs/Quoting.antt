@@ -26,5 +26,5 @@ as_operand [] = []
 as_operand (byte ∷ name) = if byte == 45 then 46 ∷ 47 ∷ byte ∷ name else byte ∷ name
 
 -- a name as it stands in a command
-abbrev pub quoted : List ℕ → List ℕ
-quoted name = quoted_bytes (as_operand name)
+abbrev pub name_in_quotes : List ℕ → List ℕ
+name_in_quotes name = quoted_bytes (as_operand name)

@@ -1,7 +1,7 @@
 //! The expansion of a command.
 ghost use Rattle.std.specs.Prelude.{◌≡◌, ◌≢◌, ◌≤◌, ◌∷◌, ◌++◌, length, IfOk, IfErr, ℕ, List};
 ghost use Rattle.percent_macros.specs.Expansion.{Expands, IsFirstFault, IsFaultAt};
-ghost use Rattle.percent_macros.specs.Steps.{ReadsMacro};
+ghost use Rattle.percent_macros.specs.MacroSteps.{ReadsMacro};
 
 use crate::context::Context;
 use crate::draft::Draft;

@@ -1,6 +1,6 @@
 //! The text that stands in a macro's place.
 ghost use Rattle.std.specs.Prelude.{◌≡◌, IfOk};
-ghost use Rattle.percent_macros.specs.Inserted.{inserted, joined, selected};
+ghost use Rattle.percent_macros.specs.Inserted.{macro_text, joined_names, selected_names};
 
 use crate::context::{Context, Side};
 use crate::extension::name_parts;
@@ -12,7 +12,7 @@ use std::convert::AsStr;
 
 /// The text of a macro, with each name and folder quoted.
 pub fn inserted(alloc: Global, context: &Context, meant: Macro) -> Result<Text, NoMemory>
-    ensures { IfOk result (λ text. text ≡ inserted context.now meant) }
+    ensures { IfOk result (λ text. text ≡ macro_text context.now meant) }
 {
     let here = &context.here;
     let other = &context.other;
@@ -33,7 +33,7 @@ pub fn inserted(alloc: Global, context: &Context, meant: Macro) -> Result<Text, 
 
 /// The tagged names of a side, or else its current one.
 fn selected(alloc: Global, side: &Side) -> Result<Text, NoMemory>
-    ensures { IfOk result (λ text. text ≡ selected side.now.current side.now.tagged) }
+    ensures { IfOk result (λ text. text ≡ selected_names side.now.current side.now.tagged) }
 {
     match side.tagged.as_slice() {
         [] => quote(alloc, side.current.as_str()),
@@ -43,7 +43,7 @@ fn selected(alloc: Global, side: &Side) -> Result<Text, NoMemory>
 
 /// The names, quoted, with a blank between each two.
 fn joined(alloc: Global, names: &[Name]) -> Result<Text, NoMemory>
-    ensures { IfOk result (λ text. text ≡ joined names.now) }
+    ensures { IfOk result (λ text. text ≡ joined_names names.now) }
 {
     let mut text = String::new(alloc);
     let Some((first, others)) = names.split_first() else {

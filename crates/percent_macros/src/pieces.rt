@@ -1,7 +1,7 @@
 //! A command whose macros are expanded, with the prompts that are still to be answered.
 ghost use Rattle.std.specs.Prelude.{◌≡◌, IfOk, length};
 ghost use Rattle.std.specs.List.{flat_map};
-ghost use Rattle.percent_macros.specs.Commands.{prompts_in, filled, parts_of_piece};
+ghost use Rattle.percent_macros.specs.Commands.{prompts_in, filled_command, parts_of_piece};
 
 use mc_text::{NoMemory, Text, Texts};
 use std::alloc::Global;
@@ -41,7 +41,7 @@ impl Expanded {
     /// The command, with each answer in its prompt's place as it was typed.
     pub fn command(&self, alloc: Global, answers: &Texts) -> Result<Text, NoMemory>
         requires { length answers.now ≡ prompts_in self.now.pieces }
-        ensures { IfOk result (λ command. command ≡ filled self.now.pieces answers.now) }
+        ensures { IfOk result (λ command. command ≡ filled_command self.now.pieces answers.now) }
     {
         let pieces = &self.pieces;
         fill(alloc, pieces.0.as_slice(), answers.as_slice())
@@ -51,7 +51,7 @@ impl Expanded {
 /// The text of pieces, with an answer in each prompt's place.
 fn fill(alloc: Global, pieces: &[Piece], answers: &[Text]) -> Result<Text, NoMemory>
     requires { length answers.now ≡ prompts_in (flat_map parts_of_piece pieces.now) }
-    ensures { IfOk result (λ command. command ≡ filled (flat_map parts_of_piece pieces.now) answers.now) }
+    ensures { IfOk result (λ command. command ≡ filled_command (flat_map parts_of_piece pieces.now) answers.now) }
 {
     let mut command = String::new(alloc);
     let mut unused = answers;

@@ -1,7 +1,7 @@
 //! Names as they stand in a command.
 ghost use Rattle.std.specs.Prelude.{◌≡◌, ◌++◌, ◌∷◌, [], Some, encode_utf8, OnOk, IfOk};
 ghost use Rattle.std.specs.String.{string_bytes};
-ghost use Rattle.percent_macros.specs.Quoting.{quoted, quoted_bytes, as_operand};
+ghost use Rattle.percent_macros.specs.Quoting.{name_in_quotes, quoted_bytes, as_operand};
 ghost use Rattle.percent_macros.specs.ShellWords.{shell_word};
 
 use mc_text::{NoMemory, Text};
@@ -11,7 +11,7 @@ use text_scan::first_char;
 /// The name as one word of a command, with `./` before one that begins with `-`. The shell reads the word back as the
 /// name.
 pub fn quote(alloc: Global, name: &str) -> Result<Text, NoMemory>
-    ensures quoted { IfOk result (λ word. word ≡ quoted name.now) }
+    ensures quoted { IfOk result (λ word. word ≡ name_in_quotes name.now) }
     ensures read_back { IfOk result (λ word. shell_word word ≡ Some (as_operand name.now)) }
 {
     let word = quoted_name(alloc, name)?;
@@ -20,7 +20,7 @@ pub fn quote(alloc: Global, name: &str) -> Result<Text, NoMemory>
 
 /// The name quoted.
 fn quoted_name(alloc: Global, name: &str) -> Result<Text, NoMemory>
-    ensures { IfOk result (λ word. word ≡ quoted name.now) }
+    ensures { IfOk result (λ word. word ≡ name_in_quotes name.now) }
 {
     let mut word = String::new(alloc);
     if name.starts_with('-') {

@@ -14,7 +14,7 @@ use Rattle.tree_trait.specs.declared.calls.TreeError.TheVariants as tree
 use Rattle.tree_trait.specs.Calls.{Stat, ReadLink}
 use Rattle.tree_trait.specs.FileSystem.{node}
 use Rattle.tree_trait.specs.Refusals.{Place, holder, walk, is_link, first_of, missing, thing, refusal_of}
-use Rattle.tree_trait.specs.Change.{CallLog, current, found}
+use Rattle.tree_trait.specs.Change.{CallLog, current, found_node}
 use Rattle.tree_trait.specs.Answers.{Reads}
 use Rattle.tree_trait.proofs.Walking.{passed_walk, check_passes, walk-find}
 use Rattle.resolving.specs.declared.error.ResolveError.{ResolveError}
@@ -25,7 +25,7 @@ use Rattle.resolving.specs.declared.walking.Wanted.{Wanted}
 use Rattle.resolving.specs.declared.walking.Place as walking
 use Rattle.resolving.specs.Errors.{Answers, refused_by}
 use Rattle.resolving.specs.Places.{end_of, into_folder}
-use Rattle.resolving.specs.Resolution.{is_passed, steps_of, start_of, no_more, end_at, end_by_kind, end_told, end_in, entry_fault, step_onto, told, look_unless, walk_on, walk_from, step_from}
+use Rattle.resolving.specs.Resolution.{is_passed, steps_of, start_of, no_more, end_at, end_by_kind, end_told, end_in, entry_fault, step_onto, told_step, look_unless, walk_on, walk_from, step_from}
 
 -- ---- a link that stands is readable
 
@@ -34,7 +34,7 @@ passes : (s : FileSystem) (o : Option ℕ) → is_none o ≡ false → (node s (
 passes s None there kind = absurd (true≢false there)
 passes s (Some i) there kind = rw kind refl
 
-pub link_readable : (s : FileSystem) (path : Route) → refusal_of s (Stat path) ≡ None → (node s (found s path)).kind ≡ Link
+pub link_readable : (s : FileSystem) (path : Route) → refusal_of s (Stat path) ≡ None → (node s (found_node s path)).kind ≡ Link
     → refusal_of s (ReadLink path) ≡ None
 link_readable s path stands kind =
     let w = passed_walk (walk s path) (λ p. first_of (missing p ∷ [])) stands in
@@ -96,14 +96,14 @@ kind_ends wanted at path Link text h = absurd (cc)
 kind_ends wanted at path File text h = absurd (cc)
 kind_ends wanted at path Other text h = absurd (cc)
 
-told_ends : (wanted : Wanted) (at path : Route) (refusal : Option TreeError) (thing : Node) → told refusal at thing ≡ Ok (Into path)
+told_ends : (wanted : Wanted) (at path : Route) (refusal : Option TreeError) (thing : Node) → told_step refusal at thing ≡ Ok (Into path)
     → (at ≡ path) × (end_told refusal wanted thing.kind at ≡ Ok at)
 told_ends wanted at path None thing h = kind_ends wanted at path thing.kind thing.bytes (let e : step_onto thing.kind at thing.bytes ≡ Into path = cc in e)
 told_ends wanted at path (Some e) thing h = absurd (cc)
 
 looked_ends : (s : FileSystem) (wanted : Wanted) (at path : Route) (fault : Option ResolveError) → look_unless fault s at ≡ Ok (Into path) → end_in s wanted path ≡ Ok path
 looked_ends s wanted at path None h =
-    let ends = told_ends wanted at path (refusal_of s (Stat at)) (node s (found s at)) h in
+    let ends = told_ends wanted at path (refusal_of s (Stat at)) (node s (found_node s at)) h in
     subst (λ p. end_in s wanted p ≡ Ok p) ends.0 ends.1
 looked_ends s wanted at path (Some e) h = absurd (cc)
 

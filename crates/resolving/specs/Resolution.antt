@@ -5,7 +5,7 @@ use Rattle.std.specs.Str.{bytes_eq}
 use Rattle.mc_text.specs.declared.kind.Kind.{Kind}
 use Rattle.mc_text.specs.declared.kind.Kind.TheVariants.{File, Folder, Link, Other}
 use Rattle.mc_text.specs.Names.{name_fault}
-use Rattle.mc_text.specs.Routes.{Route, spelled, components_of, is_empty, begins_with_slash}
+use Rattle.mc_text.specs.Routes.{Route, spelled_route, components_of, is_empty, begins_with_slash}
 use Rattle.tree_trait.specs.declared.calls.TreeError.{TreeError}
 use Rattle.tree_trait.specs.declared.calls.TreeError.TheVariants.{NotFolder}
 use Rattle.tree_trait.specs.declared.file_system.Node.{Node}
@@ -13,7 +13,7 @@ use Rattle.tree_trait.specs.declared.file_system.FileSystem.{FileSystem}
 use Rattle.tree_trait.specs.Calls.{Stat}
 use Rattle.tree_trait.specs.FileSystem.{node}
 use Rattle.tree_trait.specs.Refusals.{holder, refusal_of}
-use Rattle.tree_trait.specs.Change.{found}
+use Rattle.tree_trait.specs.Change.{found_node}
 use Rattle.resolving.specs.declared.error.ResolveError.{ResolveError}
 use Rattle.resolving.specs.declared.error.ResolveError.TheVariants.{Tree, TooManyLinks, TooLong, BadName}
 use Rattle.resolving.specs.declared.looking.Step.{Step}
@@ -37,7 +37,7 @@ start_of folder text = if begins_with_slash text then [] else folder
 abbrev pub entry_fault : Route → List ℕ → Option ResolveError
 entry_fault folder component =
     if is_some (name_fault component) then Some BadName else
-    if nat_lt 4096 (length (spelled (component ∷ folder))) then Some TooLong else None
+    if nat_lt 4096 (length (spelled_route (component ∷ folder))) then Some TooLong else None
 
 -- where a thing leads by its kind: into a folder, across a link with this text, onto anything else
 abbrev pub step_onto : Kind → Route → List ℕ → Step
@@ -47,12 +47,12 @@ step_onto File path text = Onto path
 step_onto Other path text = Onto path
 
 -- what a tree tells of the thing at a path, which it may refuse
-abbrev pub told : Option TreeError → Route → Node → Result Step ResolveError
-told (Some e) path thing = Err (Tree path e)
-told None path thing = Ok (step_onto thing.kind path thing.bytes)
+abbrev pub told_step : Option TreeError → Route → Node → Result Step ResolveError
+told_step (Some e) path thing = Err (Tree path e)
+told_step None path thing = Ok (step_onto thing.kind path thing.bytes)
 
 abbrev pub look_at : FileSystem → Route → Result Step ResolveError
-look_at s path = told (refusal_of s (Stat path)) path (node s (found s path))
+look_at s path = told_step (refusal_of s (Stat path)) path (node s (found_node s path))
 
 -- the entry of a folder is looked at, if there can be one
 abbrev pub look_unless : Option ResolveError → FileSystem → Route → Result Step ResolveError
@@ -91,7 +91,7 @@ end_told None wanted kind path = end_by_kind wanted kind path
 
 -- What a walk ends at has to be there, whatever the text ended with.
 abbrev pub end_in : FileSystem → Wanted → Route → Result Route ResolveError
-end_in s wanted path = end_told (refusal_of s (Stat path)) wanted (node s (found s path)).kind path
+end_in s wanted path = end_told (refusal_of s (Stat path)) wanted (node s (found_node s path)).kind path
 
 -- the answer where a step is refused, and what to do where it isn't
 abbrev pub after_step : Result Step ResolveError → (into : Route → Result Route ResolveError)
@@ -123,8 +123,8 @@ abbrev pub walk_from : FileSystem → Wanted → ℕ → Route → List (List �
 walk_from s wanted links = walk_along s wanted (walk_on s wanted links)
 
 -- the path that a text leads to from a folder, or the first refusal
-abbrev pub resolved : FileSystem → Wanted → Route → List ℕ → Result Route ResolveError
-resolved s wanted from typed = walk_from s wanted 40 (start_of from typed) (steps_of typed)
+abbrev pub resolved_path : FileSystem → Wanted → Route → List ℕ → Result Route ResolveError
+resolved_path s wanted from typed = walk_from s wanted 40 (start_of from typed) (steps_of typed)
 
 -- the text of a link has at most 4,095 bytes
 abbrev pub IsShort : Step → Type 0

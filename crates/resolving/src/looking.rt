@@ -4,7 +4,7 @@ ghost use Rattle.mc_text.specs.declared.kind.Kind.TheVariants.{Link};
 ghost use Rattle.tree_trait.specs.Calls.{Stat};
 ghost use Rattle.tree_trait.specs.Refusals.{holder, refusal_of};
 ghost use Rattle.tree_trait.specs.FileSystem.{node};
-ghost use Rattle.tree_trait.specs.Change.{current, found};
+ghost use Rattle.tree_trait.specs.Change.{current, found_node};
 ghost use Rattle.tree_trait.specs.Answers.{IfKnown, HasCause};
 ghost use Rattle.resolving.specs.Errors.{Answers, CarriesCause, count_told, refused_by};
 ghost use Rattle.resolving.specs.Resolution.{entry_fault, look_at, step_from, IsShort};
@@ -103,7 +103,7 @@ fn look<T: ReadTree>(alloc: Global, tree: &mut T, path: Path) -> Result<Step, Re
 fn read_text<T: ReadTree>(alloc: Global, tree: &mut T, path: Path) -> Result<Step, ResolveError>
     ensures answer { IfKnown (T.contents tree.old) (λ log.
         refusal_of (current log) (Stat path) ≡ None
-        → (node (current log) (found (current log) path)).kind ≡ Link
+        → (node (current log) (found_node (current log) path)).kind ≡ Link
         → Answers (look_at (current log) path) result) }
     ensures same { T.contents tree.new ≡ T.contents tree.old }
     ensures cause { HasCause ResolveError.Fault (T.fault_count tree.old) (T.fault_count tree.new) result }

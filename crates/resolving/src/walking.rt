@@ -3,7 +3,7 @@ ghost use Rattle.std.specs.Prelude.{◌≡◌, ◌≢◌, ◌+◌, ◌≤◌, �
 ghost use Rattle.tree_trait.specs.Change.{current};
 ghost use Rattle.tree_trait.specs.Answers.{IfKnown, HasCause};
 ghost use Rattle.resolving.specs.Errors.{Answers, CarriesCause, count_told};
-ghost use Rattle.resolving.specs.Resolution.{resolved, walk_from, start_of, steps_of};
+ghost use Rattle.resolving.specs.Resolution.{resolved_path, walk_from, start_of, steps_of};
 ghost use Rattle.resolving.specs.Places.{end_of, into_folder, way_of, way_from};
 
 use crate::ahead::Ahead;
@@ -34,7 +34,7 @@ pub fn resolve<T: ReadTree>(
     typed: &str,
 ) -> Result<Path, ResolveError>
     ensures answer { IfKnown (T.contents tree.old) (λ log.
-        Answers (resolved (current log) wanted from.now typed.now) result) }
+        Answers (resolved_path (current log) wanted from.now typed.now) result) }
     ensures same { T.contents tree.new ≡ T.contents tree.old }
     ensures cause { HasCause ResolveError.Fault (T.fault_count tree.old) (T.fault_count tree.new) result }
     ensures counts { T.fault_count tree.new ≡ count_told (T.fault_count tree.old) result }

@@ -8,8 +8,8 @@ use key_screen::{Attr, Grid};
 use mc_text::NoMemory;
 use rows_page::{Page, two_fields};
 use screen_frame::{
-    Item, Items, JobCounts, KeyBar, PageRow, PageRows, Pane, Panes, Run, Shape, paint_page,
-    paint_panels,
+    JobCounts, KeyBar, ListingLine, ListingLines, PageRow, PageRows, Pane, Panes, Run, Shape,
+    paint_page, paint_panels,
 };
 
 /// Two panels: a size, the panels, and how many jobs are in each state.
@@ -93,12 +93,12 @@ fn shape_of(kind: &str) -> Shape {
     }
 }
 
-fn items_of(page: &mut Page, texts: &str) -> Items {
-    let mut items = Items::new(page.alloc());
+fn items_of(page: &mut Page, texts: &str) -> ListingLines {
+    let mut items = ListingLines::new(page.alloc());
     for text in texts.split(';') {
         let (text, look) = looked(text);
         let text = text_of(page, text);
-        page.need(items.push(Item { text, look }).is_ok());
+        page.need(items.push(ListingLine { text, look }).is_ok());
     }
     items
 }

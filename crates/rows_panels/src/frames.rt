@@ -2,7 +2,7 @@
 use key_screen::Attr;
 use panel_pair::{FrameSize, Panels};
 use rows_page::{Page, number, two_fields};
-use screen_frame::{Item, Pane, Panes, Shape};
+use screen_frame::{ListingLine, Pane, Panes, Shape};
 use std::convert::AsStr;
 
 /// The panes of a screen: its lines and columns and the second stand in the fields.
@@ -47,7 +47,7 @@ fn tell_pane(page: &mut Page, pane: &Pane) {
     page.tell(format_args!("\n  {}, {} unnamed", pane.name.as_str(), pane.unnamed));
 }
 
-fn tell_item(page: &mut Page, item: &Item) {
+fn tell_item(page: &mut Page, item: &ListingLine) {
     page.put(match item.look {
         Attr::Plain => "\n  [",
         Attr::Bold => "\n +[",

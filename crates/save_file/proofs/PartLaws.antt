@@ -8,14 +8,14 @@ use Rattle.tree_trait.specs.declared.file_system.Node.{Node}
 use Rattle.tree_trait.specs.declared.file_system.FileSystem.{FileSystem}
 use Rattle.tree_trait.specs.Answers.{Performs}
 use Rattle.tree_trait.specs.Calls.{MakeFile, RemoveFile, SyncFolder, WriteAt}
-use Rattle.tree_trait.specs.Change.{Change, Makes, Writes, CallLog, current, found, overwritten, with_change}
+use Rattle.tree_trait.specs.Change.{Change, Makes, Writes, CallLog, current, found_node, overwritten_bytes, with_change}
 use Rattle.tree_trait.specs.CrashImages.{says}
 use Rattle.tree_trait.specs.FileSystem.{find, lookup, node}
 use Rattle.tree_trait.specs.Refusals.{holder}
 use Rattle.tree_trait.proofs.Finding.{same_name-self, same_name-true}
 use Rattle.tree_trait.proofs.Steady.{at}
 use Rattle.laws_crash.specs.Guarded.{IsGuarded, Marks}
-use Rattle.laws_crash.specs.Steps.{IsAnchored, IsUnworked}
+use Rattle.laws_crash.specs.NameKnowledge.{IsAnchored, IsUnworked}
 use Rattle.laws_crash.proofs.Calling.{folder_synced_law, made_law, removed_law}
 use Rattle.laws_crash.proofs.Guarding.{find_same, found_at, leads_as_before, said}
 use Rattle.laws_crash.proofs.Leading.{current_more}
@@ -39,7 +39,7 @@ use Rattle.save_file.proofs.PartNodes.{below_part, part_quiet, part_there, perfo
 -- The part's name was free, and leads to the node that was made.
 module _ (marks : Marks) (log : CallLog) (guarded : IsGuarded marks log) (name : List ℕ) (up : Route) (made : Node) (making : IsMaking (current log) name up) where
   abbrev f : ℕ
-  f = found (current log) up
+  f = found_node (current log) up
 
   abbrev n : ℕ
   n = next_node log
@@ -117,10 +117,10 @@ module _ (marks : Marks) (log now : CallLog) (guarded : IsGuarded marks log) (pa
   chunk_written : Performs {A = Unit {0}} log (WriteAt part done chunk) (Ok tt) (Some now) → done ≤ length bytes → IsGuarded marks now × IsFilled marks now part i (take (done + length chunk) bytes) mode
   chunk_written done_call_is few =
       let d = done_call log (WriteAt part done chunk) now done_call_is in
-      let all : List ℕ = overwritten (node (current log) i).bytes done chunk in
+      let all : List ℕ = overwritten_bytes (node (current log) i).bytes done chunk in
       let is : now ≡ with_change log (Writes i all d.time) =
-      d.is ∙ ap (λ j. with_change log (Writes j (overwritten (node (current log) j).bytes done chunk) d.time)) (ap (λ o. unwrap_or o 0) filled.part.leads) in
-      let all_are : all ≡ take (done + length chunk) bytes = ap (λ (xs : List ℕ). overwritten xs done chunk) filled.holds.bytes_are ∙ written_on bytes done chunk_bytes few in
+      d.is ∙ ap (λ j. with_change log (Writes j (overwritten_bytes (node (current log) j).bytes done chunk) d.time)) (ap (λ o. unwrap_or o 0) filled.part.leads) in
+      let all_are : all ≡ take (done + length chunk) bytes = ap (λ (xs : List ℕ). overwritten_bytes xs done chunk) filled.holds.bytes_are ∙ written_on bytes done chunk_bytes few in
       let node_is = written_node log i all d.time (part_there marks log part i guarded filled.part) in (
         subst (λ (l : CallLog). IsGuarded marks l) (sym is) (write_law marks log i all d.time filled.part.loose guarded),
         subst (λ (l : CallLog). IsFilled marks l part i (take (done + length chunk) bytes) mode) (sym is) (record {

@@ -11,7 +11,7 @@ use Rattle.tree_trait.specs.Change.{Change, Sets, Syncs, Writes, CallLog, curren
 use Rattle.tree_trait.specs.CrashImages.{is_clean, says}
 use Rattle.tree_trait.specs.FileSystem.{find, lookup, no_node, node}
 use Rattle.laws_crash.specs.Guarded.{IsGuarded, Marks}
-use Rattle.laws_crash.specs.Steps.{IsAnchored}
+use Rattle.laws_crash.specs.NameKnowledge.{IsAnchored}
 use Rattle.laws_crash.proofs.Guarding.{found_at, leads_as_before, same_quiet, settle_law}
 use Rattle.laws_crash.proofs.Leading.{current_more, leads_now}
 use Rattle.laws_crash.proofs.Syncing.{firm_law, mode_law, sync_law}

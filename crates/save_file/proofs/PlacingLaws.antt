@@ -9,7 +9,7 @@ use Rattle.tree_trait.specs.declared.file_system.Node.{Node}
 use Rattle.tree_trait.specs.declared.file_system.FileSystem.{FileSystem}
 use Rattle.tree_trait.specs.Answers.{Performs}
 use Rattle.tree_trait.specs.Calls.{Call, Rename, SetMode, SyncFile}
-use Rattle.tree_trait.specs.Change.{Change, Moves, Nothing, Syncs, CallLog, current, found, with_change}
+use Rattle.tree_trait.specs.Change.{Change, Moves, Nothing, Syncs, CallLog, current, found_node, with_change}
 use Rattle.tree_trait.specs.CrashImages.{is_clean, same_name}
 use Rattle.tree_trait.specs.FileSystem.{Value, find, lookup, node, value, value_at}
 use Rattle.tree_trait.specs.Refusals.{Place, after_walk, rename_refusal, walk}
@@ -18,7 +18,7 @@ use Rattle.tree_trait.proofs.Steady.{node_law}
 use Rattle.tree_trait.proofs.Visible.{same_path-true}
 use Rattle.tree_trait.proofs.Walking.{last_place, passed_walk}
 use Rattle.laws_crash.specs.Guarded.{Holds as HoldsNow, IsGuarded, IsOnDisk, Marks, Shows}
-use Rattle.laws_crash.specs.Steps.{IsAnchored}
+use Rattle.laws_crash.specs.NameKnowledge.{IsAnchored}
 use Rattle.laws_crash.proofs.Calling.{placed_law as renamed_law}
 use Rattle.laws_crash.proofs.Guarding.{find_same, found_at, guard_law, said, same_quiet}
 use Rattle.laws_crash.proofs.Leading.{find_law}
@@ -40,7 +40,7 @@ use Rattle.save_file.proofs.PartNodes.{anchored_quiet, as_found_quiet, moded, pa
 module _ (marks : Marks) (log now : CallLog) (guarded : IsGuarded marks log) (part target : List ℕ) (up : Route) (i : ℕ) (leads : find (current log) (part ∷ up) ≡ Some i) (apart : part ≡ target → ⊥)
     (renamed : Performs {A = Unit {0}} log (Rename (part ∷ up) (target ∷ up)) (Ok tt) (Some now)) where
   abbrev f : ℕ
-  f = found (current log) up
+  f = found_node (current log) up
 
   abbrev moves : Change
   moves = Moves f part f target i (find (current log) (target ∷ up))
@@ -57,9 +57,9 @@ module _ (marks : Marks) (log now : CallLog) (guarded : IsGuarded marks log) (pa
   now_is : now ≡ with_change log moves
   now_is =
       let d = done_call log (Rename (part ∷ up) (target ∷ up)) now renamed in
-      let it : found (current log) (part ∷ up) ≡ i = ap (λ o. unwrap_or o 0) leads in
+      let it : found_node (current log) (part ∷ up) ≡ i = ap (λ o. unwrap_or o 0) leads in
       d.is ∙ ap (with_change log)
-      (ap (λ b. cond b Nothing (Moves f part f target (found (current log) (part ∷ up)) (find (current log) (target ∷ up)))) apart_path
+      (ap (λ b. cond b Nothing (Moves f part f target (found_node (current log) (part ∷ up)) (find (current log) (target ∷ up)))) apart_path
       ∙ ap (λ k. Moves f part f target k (find (current log) (target ∷ up))) it)
 
   way : find (current (with_change log moves)) up ≡ Some f

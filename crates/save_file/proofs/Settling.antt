@@ -16,7 +16,7 @@ use Rattle.copy_file.specs.declared.stage.Stage.{Stage}
 use Rattle.copy_file.specs.declared.stage.Stage.TheVariants.{Begin, Fill, Clean, Left, Decided}
 use Rattle.copy_file.specs.CopyCalls.{CopyCalls, CopyStops}
 use Rattle.copy_file.specs.CopySteps as file
-use Rattle.copy_file.specs.Copying.{Copying, Tells, after_clean, places_of, skipped, taken_anew}
+use Rattle.copy_file.specs.Copying.{Copying, Tells, after_clean, places_of, skipped_stage, taken_anew}
 use Rattle.copy_file.specs.LastSteps.{Winds, given_up, let_go, removable}
 use Rattle.save_file.specs.declared.piece.Piece.{Piece}
 use Rattle.save_file.specs.declared.piece.Piece.TheVariants.{Make, Write, Settle}
@@ -109,7 +109,7 @@ module _ (unclaimed : Route → Type 0) (c : Copying) (bytes : List ℕ) (own : 
       falls = s.falls;
     }
 
-  skipped_size : (stage : Stage) → IsOfSize (length bytes) (skipped stage)
+  skipped_size : (stage : Stage) → IsOfSize (length bytes) (skipped_stage stage)
   skipped_size Begin = tt
   skipped_size (Fill part facts done) = tt
   skipped_size (Clean part follows) = tt
@@ -117,7 +117,7 @@ module _ (unclaimed : Route → Type 0) (c : Copying) (bytes : List ℕ) (own : 
   skipped_size Decided = tt
 
   pub skipped_own : (cause : Cause) (did : Did) (new : Copying) → file.Skips cause c did new → IsOwn (saving new bytes)
-  skipped_own cause did new (inl h) = own_at new (skipped c.stage) h.1 (skipped_size c.stage)
+  skipped_own cause did new (inl h) = own_at new (skipped_stage c.stage) h.1 (skipped_size c.stage)
   skipped_own cause did new (inr h) = subst (λ (n : Copying). IsOwn (saving n bytes)) (sym h.1) own
 
   anew_size : (stage : Stage) → IsOfSize (length bytes) (taken_anew stage)

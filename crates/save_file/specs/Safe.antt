@@ -7,7 +7,7 @@ use Rattle.tree_trait.specs.FileSystem.{Value, find, node}
 use Rattle.tree_trait.specs.Change.{CallLog, current}
 use Rattle.laws_crash.specs.Possible.{MayLead}
 use Rattle.laws_crash.specs.Guarded.{Marks, IsGuarded}
-use Rattle.laws_crash.specs.Steps.{IsUnworked}
+use Rattle.laws_crash.specs.NameKnowledge.{IsUnworked}
 use Rattle.copy_file.proofs.FilledParts.{Holds}
 use Rattle.copy_file.specs.declared.stage.Stage.{Stage}
 use Rattle.copy_file.specs.declared.stage.Stage.TheVariants.{Begin, Fill, Clean, Left, Decided}

@@ -6,14 +6,14 @@ use Rattle.tree_trait.specs.declared.file_system.FileSystem.{FileSystem}
 use Rattle.tree_trait.specs.FileSystem.{find, value_at}
 use Rattle.tree_trait.specs.Answers.{Performs}
 use Rattle.tree_trait.specs.Calls.{Call, WriteAt}
-use Rattle.tree_trait.specs.Change.{CallLog, current, found}
+use Rattle.tree_trait.specs.Change.{CallLog, current, found_node}
 use Rattle.tree_trait.specs.declared.calls.TreeError.{TreeError}
 use Rattle.job_reports.specs.declared.report.Did.TheVariants.{Began, Chunk, Placed, Cleaned, Barrier}
 use Rattle.job_reports.specs.CallRuns.{AllDone}
 use Rattle.job_reports.specs.Paths.{folder_of}
 use Rattle.laws_crash.specs.Possible.{IsImage}
 use Rattle.laws_crash.specs.Guarded.{Holds, IsGuarded, IsSettledAt, Marks}
-use Rattle.laws_crash.specs.Steps.{IsAnchored, is_near}
+use Rattle.laws_crash.specs.NameKnowledge.{IsAnchored, is_near}
 use Rattle.copy_file.specs.declared.stage.SourceFacts.{SourceFacts}
 use Rattle.copy_file.specs.declared.stage.Stage.TheVariants.{Fill}
 use Rattle.copy_file.specs.CopyCalls.{placing}
@@ -69,7 +69,7 @@ abbrev pub BarrierLaw : Type 0
 BarrierLaw =
     (free : Route → Bool) (old new : Saving) (calls : ℕ) (log now : CallLog) (faults faults_after : ℕ) (marks : Marks) (target : List ℕ) (up : Route)
     → StepsOn (λ path. free path ≡ true) old new Barrier calls (Some log) (Some now) faults faults_after → IsGuarded marks log → old.copy.target ≡ target ∷ up
-    → IsSettledAt log up → is_near (found (current log) up) target log.changes ≡ true → IsGuarded marks now × IsSettledAt now (target ∷ up)
+    → IsSettledAt log up → is_near (found_node (current log) up) target log.changes ≡ true → IsGuarded marks now × IsSettledAt now (target ∷ up)
 
 -- What a crash leaves at the target. Until it is placed that is what stood there; then that, or the file with all its bytes and its mode; and once
 -- the folder is synced the file.

@@ -16,8 +16,8 @@ abbrev pub saving : Copying → List ℕ → Saving
 saving copy bytes = record { copy = copy; bytes = bytes }
 
 -- the save just begun
-abbrev pub begun : ℕ → Route → List ℕ → Saving
-begun job target bytes = saving (file.begun job target target) bytes
+abbrev pub begun_save : ℕ → Route → List ℕ → Saving
+begun_save job target bytes = saving (file.begun_copy job target target) bytes
 
 -- a part is that of a file with so many bytes
 abbrev pub IsOfSize : ℕ → Stage → Type 0

@@ -4,7 +4,7 @@ ghost use Rattle.mc_text.specs.Routes.{parent_of};
 ghost use Rattle.job_reports.specs.Paths.{folder_of};
 ghost use Rattle.copy_file.specs.Copying.{at_barrier, is_dirty, is_fresh, part_at, taken_anew};
 ghost use Rattle.copy_file.specs.LastSteps.{left_at};
-ghost use Rattle.save_file.specs.Saving.{begun};
+ghost use Rattle.save_file.specs.Saving.{begun_save};
 ghost use Rattle.save_file.specs.SaveSteps.{Skips, StepsOn, WindsOn};
 
 use crate::work::work;
@@ -43,7 +43,7 @@ impl FileSave {
         bytes: Bytes,
     ) -> Result<FileSave, NoMemory>
         requires { parent_of target ≡ Some folder }
-        ensures { IfOk result (λ save. save ≡ begun job target bytes) }
+        ensures { IfOk result (λ save. save ≡ begun_save job target bytes) }
     {
         let source = target.copy(alloc)?;
         let source_folder = folder.copy(alloc)?;

@@ -17,7 +17,7 @@ use Rattle.key_screen.specs.DrawnText.{cluster_columns, is_drawable, drawn_glyph
 use Rattle.key_screen.specs.Grids.{CellGrid}
 use Rattle.key_screen.specs.KeySpelling.{is_within}
 use Rattle.key_screen.specs.Layout.{IsLaidOut, IsRowEnd}
-use Rattle.key_screen.specs.Terminal.{TerminalState, blank_terminal, can_show, with_cluster, clusters_read, text_read, up_to_fault, looking, controlled, behind_control, behind_sequence, sequence_read, sequences_read, all_read, segments, shown_grid}
+use Rattle.key_screen.specs.Terminal.{TerminalState, blank_terminal, can_show, with_cluster, clusters_read, text_read, up_to_fault, looking, controlled_terminal, behind_control, behind_sequence, sequence_read, sequences_read, all_read, segments, shown_grid}
 use Rattle.key_screen.proofs.RowLemmas.{blanks-laid_out, blank_room, row_end, cluster-laid_out, length-put_glyph}
 use Rattle.screen_draw.specs.Drawings.{Shows}
 use Rattle.screen_draw.proofs.ReadingLemmas.{state}
@@ -102,7 +102,7 @@ keeps-place t row column keeps is =
       laid = keeps.laid;
     }
 
-keeps-control : (t : TerminalState) (control : Control) → Keeps t → KeepsSome (controlled t control)
+keeps-control : (t : TerminalState) (control : Control) → Keeps t → KeepsSome (controlled_terminal t control)
 keeps-control t (Look Plain) keeps = keeps-mode t Plain keeps
 keeps-control t (Look Bold) keeps = keeps-looking t t.mode Bold keeps
 keeps-control t (Look Reverse) keeps = keeps-looking t t.mode Reverse keeps
@@ -127,7 +127,7 @@ keeps-behind position bytes sequence (Some t) keeps = keeps-text t (position + 1
 
 keeps-sequence : (t : TerminalState) (position : ℕ) (bytes : List ℕ) (sequence : Option Sequence) → Keeps t → KeepsTold (behind_sequence t position bytes sequence)
 keeps-sequence t position bytes None keeps = tt
-keeps-sequence t position bytes (Some sequence) keeps = keeps-behind position bytes sequence (controlled t sequence.control) (keeps-control t sequence.control keeps)
+keeps-sequence t position bytes (Some sequence) keeps = keeps-behind position bytes sequence (controlled_terminal t sequence.control) (keeps-control t sequence.control keeps)
 
 keeps-sequences : (told : Result TerminalState ℕ) (position : ℕ) (sequences : List (List ℕ)) → KeepsTold told → KeepsTold (sequences_read told position sequences)
 keeps-sequences told position [] keeps = keeps

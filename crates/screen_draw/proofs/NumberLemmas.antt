@@ -4,7 +4,7 @@ use Rattle.std.specs.Prelude.{⊤}
 use Rattle.std.proofs.lemmas.Bool.Decides.{nat_tests}
 use Rattle.key_screen.specs.declared.control.Control.TheVariants.{Place}
 use Rattle.key_screen.specs.declared.control.Number.{Number}
-use Rattle.key_screen.specs.Controls.{is_digit, with_digit, number_from, placed, placed_in_row, placement_of, bracketed, control_of}
+use Rattle.key_screen.specs.Controls.{is_digit, with_digit, number_from, placement_sequence, placed_in_row, placement_of, bracket_sequence, control_of}
 use Rattle.screen_draw.specs.DrawnBytes.{digit, digit_at, number}
 use Rattle.screen_draw.proofs.EscapeLemmas.{HasNoEscape, HasNoEscape-append}
 use Rattle.screen_draw.proofs.TestLemmas.{and_false}
@@ -106,10 +106,10 @@ placement-no_escape row column = (
       (refl, HasNoEscape-append (number column) (72 ∷ []) (digits-no_escape (number column) (number-digits column)) (refl, tt)),
 )
 
-bracketed-other : (first second : ℕ) (bytes : List ℕ) → (second == 109) ≡ false → (second == 74) ≡ false → bracketed (first ∷ second ∷ bytes) ≡ placement_of (first ∷ second ∷ bytes)
+bracketed-other : (first second : ℕ) (bytes : List ℕ) → (second == 109) ≡ false → (second == 74) ≡ false → bracket_sequence (first ∷ second ∷ bytes) ≡ placement_of (first ∷ second ∷ bytes)
 bracketed-other first second bytes no_look no_clear = simp (no_look, no_clear, and_false)
 
-bracketed-digits : (digits rest : List ℕ) → AreDigits digits → 0 < length digits → bracketed (digits ++ 59 ∷ rest) ≡ placement_of (digits ++ 59 ∷ rest)
+bracketed-digits : (digits rest : List ℕ) → AreDigits digits → 0 < length digits → bracket_sequence (digits ++ 59 ∷ rest) ≡ placement_of (digits ++ 59 ∷ rest)
 bracketed-digits [] rest all some = absurd (omega arith)
 bracketed-digits (d ∷ []) rest all some = bracketed-other d 59 rest refl refl
 bracketed-digits (d ∷ e ∷ digits) rest all some =
@@ -135,9 +135,9 @@ control_of-placement row column segment small narrow =
     let outer : length (r ++ 59 ∷ (c ++ 72 ∷ [])) ≡ length r + length {A = ℕ} (59 ∷ (c ++ 72 ∷ [])) = length-append r (59 ∷ (c ++ 72 ∷ [])) in
     let inner : length (c ++ 72 ∷ []) ≡ length c + 1 = length-append c (72 ∷ []) in
     let bytes : length r + length c + 3 ≡ length (placement row column) = omega arith in
-    ap bracketed parts ∙ bracketed-digits r more (number-digits row) (number-some row)
+    ap bracket_sequence parts ∙ bracketed-digits r more (number-digits row) (number-some row)
     ∙ ap (λ (n : Number). placed_in_row n (drop n.digits (r ++ 59 ∷ more))) (number-read row 59 more small refl)
     ∙ ap (placed_in_row (record { value = row; digits = length r })) (drop_front r (59 ∷ more))
-    ∙ ap (λ (n : Number). placed (record { value = row; digits = length r }) n (drop n.digits more)) (number-read column 72 segment narrow refl)
-    ∙ ap (placed (record { value = row; digits = length r }) (record { value = column; digits = length c })) (drop_front c tail)
+    ∙ ap (λ (n : Number). placement_sequence (record { value = row; digits = length r }) n (drop n.digits more)) (number-read column 72 segment narrow refl)
+    ∙ ap (placement_sequence (record { value = row; digits = length r }) (record { value = column; digits = length c })) (drop_front c tail)
     ∙ ap (λ k. Some (record { control = Place row column; bytes = k })) bytes

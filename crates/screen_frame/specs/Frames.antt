@@ -5,7 +5,7 @@ use Rattle.key_screen.specs.Grids.{CellGrid, blank_grid}
 use Rattle.screen_frame.specs.declared.panes.Panes.{Panes}
 use Rattle.screen_frame.specs.declared.jobs_line.JobCounts.{JobCounts}
 use Rattle.screen_frame.specs.declared.key_bar.KeyBar.TheVariants.{Panels}
-use Rattle.screen_frame.specs.Pieces.{Piece, fitted_at, painted}
+use Rattle.screen_frame.specs.Pieces.{Piece, fitted_at, painted_grid}
 use Rattle.screen_frame.specs.Panes.{pane_pieces}
 use Rattle.screen_frame.specs.JobsLine.{jobs_text}
 use Rattle.screen_frame.specs.KeyBars.{bar_text}
@@ -20,4 +20,4 @@ rows_below lines columns jobs =
 -- a screen of so many lines and columns that shows the panels and the jobs
 unfoldable pub panels_frame : ℕ → ℕ → Panes → JobCounts → CellGrid
 panels_frame lines columns panes jobs =
-    painted (blank_grid lines columns) (pane_pieces lines columns panes ++ rows_below lines columns jobs)
+    painted_grid (blank_grid lines columns) (pane_pieces lines columns panes ++ rows_below lines columns jobs)

@@ -4,7 +4,7 @@ use Rattle.key_screen.specs.declared.cells.Attr.TheVariants.{Plain, Reverse}
 use Rattle.key_screen.specs.Grids.{CellGrid, blank_grid}
 use Rattle.screen_frame.specs.declared.page.Run.{Run}
 use Rattle.screen_frame.specs.declared.page.Page.{Page}
-use Rattle.screen_frame.specs.Pieces.{Piece, text_at, fitted_at, painted}
+use Rattle.screen_frame.specs.Pieces.{Piece, text_at, fitted_at, painted_grid}
 use Rattle.screen_frame.specs.KeyBars.{bar_text}
 
 -- the runs of a row, each from its column on, one over the other; what passes the last column is dropped
@@ -26,4 +26,4 @@ page_pieces lines columns page =
 
 -- a screen of so many lines and columns that shows a page
 unfoldable pub page_frame : ℕ → ℕ → Page → CellGrid
-page_frame lines columns page = painted (blank_grid lines columns) (page_pieces lines columns page)
+page_frame lines columns page = painted_grid (blank_grid lines columns) (page_pieces lines columns page)

@@ -1,16 +1,16 @@
 -- What a panel shows, row by row. A pane has so many columns inside its walls; its left wall stands in `column`. Own.
 use Rattle.std.specs.Prelude.{ℕ, zero, suc, ◌+◌, ◌-◌, ◌/◌, ◌==◌, if◌then◌else◌, List, [], ◌∷◌, ◌++◌, length, get_or, codes}
 use Rattle.std.specs.Fmt.{decimal}
-use Rattle.mc_text.specs.Drawn.{drawn}
+use Rattle.mc_text.specs.Drawn.{drawn_text}
 use Rattle.key_screen.specs.declared.cells.Attr.{Attr}
 use Rattle.key_screen.specs.declared.cells.Attr.TheVariants.{Plain, Reverse}
-use Rattle.screen_frame.specs.declared.panes.Item.{Item}
+use Rattle.screen_frame.specs.declared.panes.ListingLine.{ListingLine}
 use Rattle.screen_frame.specs.declared.panes.Pane.{Pane}
 use Rattle.screen_frame.specs.declared.panes.Shape.{Shape}
 use Rattle.screen_frame.specs.declared.panes.Shape.TheVariants.{Full, Brief}
 use Rattle.screen_frame.specs.declared.panes.Panes.{Panes}
 use Rattle.screen_frame.specs.declared.panes.Panes.TheVariants.{Both, Whole}
-use Rattle.screen_frame.specs.Pieces.{Piece, text_at, fitted_at, walled, edge, cut}
+use Rattle.screen_frame.specs.Pieces.{Piece, text_at, fitted_at, walled_pieces, edge, cut_text}
 
 -- the first line of the current panel is in reverse
 abbrev pub title_look : Pane → Attr
@@ -20,18 +20,18 @@ title_look pane = if pane.is_current then Reverse else Plain
 abbrev pub title_row : ℕ → ℕ → Pane → List Piece
 title_row column inside pane =
     text_at 1 column (edge inside) (title_look pane)
-    ∷ text_at 1 (column + 1) (cut (drawn pane.title) inside) (title_look pane)
+    ∷ text_at 1 (column + 1) (cut_text (drawn_text pane.title) inside) (title_look pane)
     ∷ []
 
 -- a row of one item between walls, or of two: the first has half of what a third wall leaves, rounded down
-abbrev pub items_in_row : Shape → ℕ → ℕ → ℕ → Item → Item → List Piece
-items_in_row Full row column inside first second = walled row column inside first
+abbrev pub items_in_row : Shape → ℕ → ℕ → ℕ → ListingLine → ListingLine → List Piece
+items_in_row Full row column inside first second = walled_pieces row column inside first
 items_in_row Brief row column inside first second =
-    walled row column ((inside - 1) / 2) first
-    ++ walled row (column + 1 + (inside - 1) / 2) (inside - 1 - (inside - 1) / 2) second
+    walled_pieces row column ((inside - 1) / 2) first
+    ++ walled_pieces row (column + 1 + (inside - 1) / 2) (inside - 1 - (inside - 1) / 2) second
 
 -- an item that isn't there is blank
-abbrev pub no_item : Item
+abbrev pub no_item : ListingLine
 no_item = record { text = []; look = Plain }
 
 -- row 2: the heading of each column

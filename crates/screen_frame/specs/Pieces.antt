@@ -2,12 +2,12 @@
 use Rattle.std.specs.Prelude.{ℕ, ◌+◌, ◌-◌, true, nat_le, if◌then◌else◌, List, [], ◌∷◌, ◌++◌, replicate}
 use Rattle.std.specs.List.{concat}
 use Rattle.unicode_segmentation.specs.Grapheme.{graphemes}
-use Rattle.mc_text.specs.Fit.{columns_in, run_within, fitted}
-use Rattle.mc_text.specs.Drawn.{drawn}
+use Rattle.mc_text.specs.Fit.{columns_in, run_within, fitted_text}
+use Rattle.mc_text.specs.Drawn.{drawn_text}
 use Rattle.key_screen.specs.declared.cells.Attr.{Attr}
 use Rattle.key_screen.specs.declared.cells.Attr.TheVariants.{Plain}
 use Rattle.key_screen.specs.Grids.{CellGrid, written_at}
-use Rattle.screen_frame.specs.declared.panes.Item.{Item}
+use Rattle.screen_frame.specs.declared.panes.ListingLine.{ListingLine}
 
 -- a text, the row and column of its first cell, counted from 1, and how it looks
 pub record Piece : Type 0 where
@@ -17,9 +17,9 @@ pub record Piece : Type 0 where
   pub look : Attr
 
 -- a screen on which pieces are written, one after the other
-abbrev pub painted : CellGrid → List Piece → CellGrid
-painted grid [] = grid
-painted grid (piece ∷ pieces) = painted (written_at grid piece.row piece.column piece.text piece.look) pieces
+abbrev pub painted_grid : CellGrid → List Piece → CellGrid
+painted_grid grid [] = grid
+painted_grid grid (piece ∷ pieces) = painted_grid (written_at grid piece.row piece.column piece.text piece.look) pieces
 
 -- a text as it stands
 abbrev pub text_at : ℕ → ℕ → List ℕ → Attr → Piece
@@ -27,11 +27,11 @@ text_at row column text look = record { row = row; column = column; text = text;
 
 -- a text as it is drawn, fitted to so many columns
 abbrev pub fitted_at : ℕ → ℕ → ℕ → List ℕ → Attr → Piece
-fitted_at row column room text look = text_at row column (fitted (drawn text) room) look
+fitted_at row column room text look = text_at row column (fitted_text (drawn_text text) room) look
 
 -- a text between walls, with so many columns inside: `|`, the text as it is drawn, fitted to these, and `|`
-abbrev pub walled : ℕ → ℕ → ℕ → Item → List Piece
-walled row column inside item =
+abbrev pub walled_pieces : ℕ → ℕ → ℕ → ListingLine → List Piece
+walled_pieces row column inside item =
     text_at row column (124 ∷ []) Plain
     ∷ fitted_at row (column + 1) inside item.text item.look
     ∷ text_at row (column + 1 + inside) (124 ∷ []) Plain
@@ -41,8 +41,8 @@ walled row column inside item =
 abbrev pub edge : ℕ → List ℕ
 edge inside = 43 ∷ (replicate inside 45 ++ 43 ∷ [])
 
--- a text cut as `fitted` cuts it, with no blanks behind it
-abbrev pub cut : List ℕ → ℕ → List ℕ
-cut text columns =
+-- a text cut as `fitted_text` cuts it, with no blanks behind it
+abbrev pub cut_text : List ℕ → ℕ → List ℕ
+cut_text text columns =
     if nat_le (columns_in text) columns then text
     else concat (run_within (columns - 1) (graphemes true text)) ++ 126 ∷ []

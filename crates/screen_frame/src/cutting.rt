@@ -1,13 +1,13 @@
 //! The title line of a panel: a text in a line of `-`.
 ghost use Rattle.std.specs.Prelude.{◌≡◌, ◌+◌, ◌-◌, string_bytes, IfOk};
-ghost use Rattle.screen_frame.specs.Pieces.{cut, edge};
+ghost use Rattle.screen_frame.specs.Pieces.{cut_text, edge};
 
 use mc_text::{NoMemory, Text, columns_of, push_run};
 use std::alloc::{AllocError, Global};
 
 /// The text, or where it takes more columns than these, what `fit` leaves of it and `~`.
 pub fn cut(alloc: Global, text: &str, columns: usize) -> Result<Text, NoMemory>
-    ensures { IfOk result (λ line. line ≡ cut text.now columns) }
+    ensures { IfOk result (λ line. line ≡ cut_text text.now columns) }
 {
     if columns_of(text) <= columns {
         return Text::from_str(alloc, text);

@@ -1,6 +1,6 @@
 //! The key bar in the last row.
 ghost use Rattle.std.specs.Prelude.{◌≡◌, ◌+◌, ◌<◌, ◌≤◌, ◌^◌, ◌++◌, length, map, string_bytes, OnOk, IfOk};
-ghost use Rattle.screen_frame.specs.KeyBars.{labels_of, labelled, bar_text};
+ghost use Rattle.screen_frame.specs.KeyBars.{labels_of, labelled_keys, bar_text};
 
 use mc_text::{NoMemory, Text, fit};
 use std::alloc::Global;

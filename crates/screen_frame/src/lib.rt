@@ -14,4 +14,4 @@ pub use jobs_line::JobCounts;
 pub use key_bar::KeyBar;
 pub use page::{Page, PageRow, PageRows, Run, paint_page};
 pub use panels::paint_panels;
-pub use panes::{Item, Items, Pane, Panes, Shape};
+pub use panes::{ListingLine, ListingLines, Pane, Panes, Shape};

@@ -1,6 +1,6 @@
 //! The frame of a page: of the viewer, and of the editor.
 ghost use Rattle.std.specs.Prelude.{◌≡◌, ◌+◌, ◌-◌, ◌<◌, ◌≤◌, ◌^◌, [], ◌∷◌, ◌++◌, length, take, OnOk, OnErr, IfOk};
-ghost use Rattle.screen_frame.specs.Pieces.{painted};
+ghost use Rattle.screen_frame.specs.Pieces.{painted_grid};
 ghost use Rattle.screen_frame.specs.Pages.{run_pieces, row_pieces, page_pieces, page_frame};
 
 use crate::key_bar::{KeyBar, bar_text};
@@ -92,7 +92,7 @@ fn write_page(
     columns: u16,
     page: &Page,
 ) -> Result<(), NoMemory>
-    ensures { OnOk result (grid.new ≡ painted grid.old (page_pieces lines columns page.now)) }
+    ensures { OnOk result (grid.new ≡ painted_grid grid.old (page_pieces lines columns page.now)) }
 {
     let rows = first_rows(page.rows.as_slice(), lines.saturating_sub(2));
     let keys = bar_text(alloc, page.bar)?;
@@ -114,7 +114,7 @@ fn first_rows(rows: &[PageRow], count: u16) -> &[PageRow]
 #[tactic(auto, using(crate::proofs::Painted::painted_append))]
 fn write_rows(grid: &mut Grid, alloc: Global, rows: &[PageRow]) -> Result<(), NoMemory>
     requires { length rows.now < 2 ^ 16 }
-    ensures { OnOk result (grid.new ≡ painted grid.old (row_pieces 2 rows.now)) }
+    ensures { OnOk result (grid.new ≡ painted_grid grid.old (row_pieces 2 rows.now)) }
 {
     let mut row = 2;
     for runs in rows {
@@ -126,7 +126,7 @@ fn write_rows(grid: &mut Grid, alloc: Global, rows: &[PageRow]) -> Result<(), No
 
 /// Writes the runs of a row.
 fn write_runs(grid: &mut Grid, alloc: Global, row: usize, runs: &[Run]) -> Result<(), NoMemory>
-    ensures { OnOk result (grid.new ≡ painted grid.old (run_pieces row runs.now)) }
+    ensures { OnOk result (grid.new ≡ painted_grid grid.old (run_pieces row runs.now)) }
 {
     for run in runs {
         let column = usize::from(run.column);

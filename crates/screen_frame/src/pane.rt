@@ -1,10 +1,10 @@
 //! A pane, row by row.
 ghost use Rattle.std.specs.Prelude.{◌≡◌, ◌+◌, ◌-◌, ◌/◌, ◌<◌, ◌^◌, [], ◌∷◌, length, get_or, string_bytes, OnOk, IfOk};
-ghost use Rattle.screen_frame.specs.Pieces.{painted, text_at, edge};
+ghost use Rattle.screen_frame.specs.Pieces.{painted_grid, text_at, edge};
 ghost use Rattle.screen_frame.specs.Panes.{title_row, title_look, heading_row, item_row, item_rows, items_in_row, no_item, name_row, unnamed_text, pane_rows};
 
 use crate::cutting::{cut, edge_of};
-use crate::panes::{Item, Pane, Shape};
+use crate::panes::{ListingLine, Pane, Shape};
 use crate::writing::{Place, write_fitted, write_walled};
 use key_screen::{Attr, Grid};
 use mc_text::{NoMemory, Text, drawn};
@@ -28,7 +28,7 @@ pub fn write_pane(
     width: u16,
     pane: &Pane,
 ) -> Result<(), NoMemory>
-    ensures { OnOk result (grid.new ≡ painted grid.old (pane_rows lines column width pane.now)) }
+    ensures { OnOk result (grid.new ≡ painted_grid grid.old (pane_rows lines column width pane.now)) }
 {
     let stand = Stand {
         column,
@@ -43,7 +43,7 @@ pub fn write_pane(
 
 /// Writes its first line, with the title.
 fn write_title(grid: &mut Grid, alloc: Global, stand: Stand, pane: &Pane) -> Result<(), NoMemory>
-    ensures { OnOk result (grid.new ≡ painted grid.old (title_row stand.column stand.inside pane.now)) }
+    ensures { OnOk result (grid.new ≡ painted_grid grid.old (title_row stand.column stand.inside pane.now)) }
 {
     let look = look_of_title(pane);
     let column = usize::from(stand.column);
@@ -68,9 +68,9 @@ fn look_of_title(pane: &Pane) -> Attr
 
 /// Writes its heading, over each of its columns.
 fn write_heading(grid: &mut Grid, alloc: Global, stand: Stand, pane: &Pane) -> Result<(), NoMemory>
-    ensures { OnOk result (grid.new ≡ painted grid.old (heading_row stand.column stand.inside pane.now)) }
+    ensures { OnOk result (grid.new ≡ painted_grid grid.old (heading_row stand.column stand.inside pane.now)) }
 {
-    let heading = Item {
+    let heading = ListingLine {
         text: pane.heading.copy(alloc)?,
         look: Attr::Plain,
     };
@@ -86,7 +86,7 @@ fn write_items(
     height: u16,
     pane: &Pane,
 ) -> Result<(), NoMemory>
-    ensures { OnOk result (grid.new ≡ painted grid.old (item_rows stand.column stand.inside height pane.now height)) }
+    ensures { OnOk result (grid.new ≡ painted_grid grid.old (item_rows stand.column stand.inside height pane.now height)) }
 {
     for place in 0..height {
         write_items_at(grid, alloc, stand, height, pane, place)?;
@@ -103,9 +103,9 @@ fn write_items_at(
     pane: &Pane,
     place: u16,
 ) -> Result<(), NoMemory>
-    ensures { OnOk result (grid.new ≡ painted grid.old (item_row stand.column stand.inside height pane.now place)) }
+    ensures { OnOk result (grid.new ≡ painted_grid grid.old (item_row stand.column stand.inside height pane.now place)) }
 {
-    let blank = Item {
+    let blank = ListingLine {
         text: Text::from_str(alloc, "")?,
         look: Attr::Plain,
     };
@@ -117,7 +117,7 @@ fn write_items_at(
 }
 
 /// The item of a place, or the other one where there is none.
-fn item_at<'a>(items: &'a [Item], place: usize, other: &'a Item) -> &'a Item
+fn item_at<'a>(items: &'a [ListingLine], place: usize, other: &'a ListingLine) -> &'a ListingLine
     ensures { result.now ≡ get_or items.now place other.now }
 {
     match items.get(place) {
@@ -133,10 +133,10 @@ fn write_row(
     stand: Stand,
     shape: Shape,
     row: usize,
-    first: &Item,
-    second: &Item,
+    first: &ListingLine,
+    second: &ListingLine,
 ) -> Result<(), NoMemory>
-    ensures { OnOk result (grid.new ≡ painted grid.old (items_in_row shape row stand.column stand.inside first.now second.now)) }
+    ensures { OnOk result (grid.new ≡ painted_grid grid.old (items_in_row shape row stand.column stand.inside first.now second.now)) }
 {
     match shape {
         Shape::Full => {
@@ -157,10 +157,10 @@ fn write_two(
     alloc: Global,
     stand: Stand,
     row: usize,
-    first: &Item,
-    second: &Item,
+    first: &ListingLine,
+    second: &ListingLine,
 ) -> Result<(), NoMemory>
-    ensures { OnOk result (grid.new ≡ painted grid.old (items_in_row Shape.Brief row stand.column stand.inside first.now second.now)) }
+    ensures { OnOk result (grid.new ≡ painted_grid grid.old (items_in_row Shape.Brief row stand.column stand.inside first.now second.now)) }
 {
     let column = usize::from(stand.column);
     let inside = usize::from(stand.inside).saturating_sub(1);
@@ -187,7 +187,7 @@ fn write_name(
     row: u16,
     pane: &Pane,
 ) -> Result<(), NoMemory>
-    ensures { OnOk result (grid.new ≡ painted grid.old (name_row row stand.column stand.inside pane.now)) }
+    ensures { OnOk result (grid.new ≡ painted_grid grid.old (name_row row stand.column stand.inside pane.now)) }
 {
     let row = usize::from(row);
     let column = usize::from(stand.column);
@@ -222,7 +222,7 @@ fn unnamed_text(alloc: Global, count: u64) -> Result<Text, NoMemory>
 
 /// Writes its last line.
 fn write_end(grid: &mut Grid, alloc: Global, stand: Stand, row: u16) -> Result<(), NoMemory>
-    ensures { OnOk result (grid.new ≡ painted grid.old (text_at row stand.column (edge stand.inside) Attr.Plain ∷ [])) }
+    ensures { OnOk result (grid.new ≡ painted_grid grid.old (text_at row stand.column (edge stand.inside) Attr.Plain ∷ [])) }
 {
     let edge = edge_of(alloc, usize::from(stand.inside))?;
     grid.write_at(

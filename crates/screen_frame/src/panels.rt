@@ -1,6 +1,6 @@
 //! The frame of the panels.
 ghost use Rattle.std.specs.Prelude.{◌≡◌, ◌<◌, ◌^◌, OnOk, IfOk};
-ghost use Rattle.screen_frame.specs.Pieces.{painted};
+ghost use Rattle.screen_frame.specs.Pieces.{painted_grid};
 ghost use Rattle.screen_frame.specs.Panes.{pane_pieces};
 ghost use Rattle.screen_frame.specs.JobsLine.{live_jobs};
 ghost use Rattle.screen_frame.specs.Frames.{rows_below, panels_frame};
@@ -44,7 +44,7 @@ fn write_below(
     jobs: &JobCounts,
 ) -> Result<(), NoMemory>
     requires { live_jobs jobs.now < 2 ^ 64 }
-    ensures { OnOk result (grid.new ≡ painted grid.old (rows_below lines columns jobs.now)) }
+    ensures { OnOk result (grid.new ≡ painted_grid grid.old (rows_below lines columns jobs.now)) }
 {
     let said = jobs_text(alloc, jobs)?;
     let keys = bar_text(alloc, KeyBar::Panels)?;
@@ -62,7 +62,7 @@ fn write_panes(
     columns: u16,
     panes: &Panes,
 ) -> Result<(), NoMemory>
-    ensures { OnOk result (grid.new ≡ painted grid.old (pane_pieces lines columns panes.now)) }
+    ensures { OnOk result (grid.new ≡ painted_grid grid.old (pane_pieces lines columns panes.now)) }
 {
     match panes {
         Panes::Both(left, right) => {

@@ -8,34 +8,34 @@ use std::marker::Model;
 
 /// A line of a listing.
 #[derive(Drop)]
-pub struct Item {
+pub struct ListingLine {
     pub text: Text,
     pub look: Attr,
 }
 
 /// Lines of a listing, from the first one that is shown.
 #[derive(Drop)]
-pub struct Items(pub Vec<Item>);
+pub struct ListingLines(pub Vec<ListingLine>);
 
-impl Model for Items {
+impl Model for ListingLines {
     ghost use Rattle.std.specs.Prelude.{List};
-    ghost use Rattle.screen_frame.specs.declared.panes.Item.{Item};
+    ghost use Rattle.screen_frame.specs.declared.panes.ListingLine.{ListingLine};
 
-    ghost Value = { List Item };
+    ghost Value = { List ListingLine };
 
     ghost view = { λ l. l.0.items };
 }
 
-impl Items {
+impl ListingLines {
     /// None yet. It takes no memory.
-    pub fn new(alloc: Global) -> Items
+    pub fn new(alloc: Global) -> ListingLines
         ensures { result ≡ [] }
     {
-        Items(Vec::new(alloc))
+        ListingLines(Vec::new(alloc))
     }
 
     /// One more at the end.
-    pub fn push(&mut self, item: Item) -> Result<(), NoMemory>
+    pub fn push(&mut self, item: ListingLine) -> Result<(), NoMemory>
         ensures done { OnOk result (self.new ≡ self.old ++ item ∷ []) }
         ensures refused { OnErr result (self.new ≡ self.old) }
     {
@@ -44,7 +44,7 @@ impl Items {
     }
 
     /// The lines.
-    pub fn as_slice(&self) -> &[Item]
+    pub fn as_slice(&self) -> &[ListingLine]
         ensures { result.now ≡ self.now }
     {
         self.0.as_slice()
@@ -68,7 +68,7 @@ pub struct Pane {
     /// The heading of each of its columns.
     pub heading: Text,
     pub shape: Shape,
-    pub items: Items,
+    pub items: ListingLines,
     /// The current name.
     pub name: Text,
     /// How many names can't be shown.

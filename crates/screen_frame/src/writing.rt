@@ -1,7 +1,7 @@
 //! Texts written on a screen, from a cell on.
 ghost use Rattle.std.specs.Prelude.{◌≡◌, ◌+◌, ◌<◌, ◌^◌, [], ◌∷◌, OnOk};
 ghost use Rattle.key_screen.specs.declared.cells.Attr.TheVariants.{Plain};
-ghost use Rattle.screen_frame.specs.Pieces.{painted, fitted_at, walled};
+ghost use Rattle.screen_frame.specs.Pieces.{painted_grid, fitted_at, walled_pieces};
 
 use key_screen::{Attr, Grid};
 use mc_text::{NoMemory, drawn, fit};
@@ -24,7 +24,7 @@ pub fn write_fitted(
     text: &str,
     look: Attr,
 ) -> Result<(), NoMemory>
-    ensures { OnOk result (grid.new ≡ painted grid.old (fitted_at place.row place.column place.room text.now look ∷ [])) }
+    ensures { OnOk result (grid.new ≡ painted_grid grid.old (fitted_at place.row place.column place.room text.now look ∷ [])) }
 {
     let shown = drawn(alloc, text)?;
     let line = fit(alloc, shown.as_str(), place.room)?;
@@ -42,7 +42,7 @@ pub fn write_walled(
 ) -> Result<(), NoMemory>
     requires column { place.column < 2 ^ 18 }
     requires room { place.room < 2 ^ 18 }
-    ensures { OnOk result (grid.new ≡ painted grid.old (walled place.row place.column place.room (record { text = text.now; look = look }))) }
+    ensures { OnOk result (grid.new ≡ painted_grid grid.old (walled_pieces place.row place.column place.room (record { text = text.now; look = look }))) }
 {
     let inside = Place {
         row: place.row,
@@ -64,7 +64,7 @@ pub fn write_line(
     text: &str,
     look: Attr,
 ) -> Result<(), NoMemory>
-    ensures { OnOk result (grid.new ≡ painted grid.old (fitted_at row 1 columns text.now look ∷ [])) }
+    ensures { OnOk result (grid.new ≡ painted_grid grid.old (fitted_at row 1 columns text.now look ∷ [])) }
 {
     let place = Place {
         row: usize::from(row),

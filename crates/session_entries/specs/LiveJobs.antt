@@ -10,19 +10,19 @@ use Rattle.session_entries.specs.declared.history.Event.{Event}
 use Rattle.session_entries.specs.declared.history.Event.TheVariants.{Key, Look, Sought, Order, Step, Next, Closed}
 use Rattle.session_entries.specs.declared.history.Event.TheVariants as event
 use Rattle.session_entries.specs.declared.history.Entry.{Entry}
-use Rattle.job_reports.specs.Jobs.{Item, item_of}
+use Rattle.job_reports.specs.Jobs.{ItemOfJob, item_of}
 use Rattle.session_entries.specs.Sources.{first_item}
 
 -- a live job
 pub record LiveJob : Type 0 where
   pub id : ℕ
   -- what it works on
-  pub item : Item
+  pub item : ItemOfJob
   -- the part that stands
   pub part : Option Route
 
 -- a job just begun
-abbrev pub live : ℕ → Item → LiveJob
+abbrev pub live : ℕ → ItemOfJob → LiveJob
 live id item = record { id = id; item = item; part = None }
 
 -- what a report says of a job's part
@@ -50,14 +50,14 @@ after_report id (Ended ending part) (job ∷ jobs) = if job.id == id then jobs e
 after_report id did (job ∷ jobs) = if job.id == id then record job { part = part_after did job.part } ∷ jobs else job ∷ after_report id did jobs
 
 -- the job with this number goes on with its next source
-abbrev pub turned : ℕ → Item → LiveJob → LiveJob
-turned id item job = if job.id == id then live id item else job
+abbrev pub turned_live_job : ℕ → ItemOfJob → LiveJob → LiveJob
+turned_live_job id item job = if job.id == id then live id item else job
 
 -- the live jobs after an event
 abbrev pub after_event : Event → List LiveJob → List LiveJob
 after_event (event.Began id plan background) jobs = option_map_or (λ item. live id item ∷ jobs) (first_item plan) jobs
 after_event (Step id did) jobs = after_report id did jobs
-after_event (Next id plan) jobs = option_map_or (λ item. map (turned id item) jobs) (item_of plan) jobs
+after_event (Next id plan) jobs = option_map_or (λ item. map (turned_live_job id item) jobs) (item_of plan) jobs
 after_event (Key key now refusals lost) jobs = jobs
 after_event (Look refusals) jobs = jobs
 after_event Sought jobs = jobs
@@ -70,7 +70,7 @@ live_jobs [] = []
 live_jobs (e ∷ older) = after_event e.what (live_jobs older)
 
 -- what the live job with this number works on
-abbrev pub live_item : ℕ → List LiveJob → Option Item
+abbrev pub live_item : ℕ → List LiveJob → Option ItemOfJob
 live_item id [] = None
 live_item id (job ∷ jobs) = if job.id == id then Some job.item else live_item id jobs
 

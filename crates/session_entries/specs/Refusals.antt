@@ -10,7 +10,7 @@ use Rattle.resolving.specs.declared.error.ResolveError.{ResolveError}
 use Rattle.resolving.specs.declared.error.ResolveError.TheVariants as resolve
 use Rattle.resolving.specs.declared.walking.Wanted.TheVariants.{FolderAlone}
 use Rattle.resolving.specs.Errors.{Answers}
-use Rattle.resolving.specs.Resolution.{resolved}
+use Rattle.resolving.specs.Resolution.{resolved_path}
 use Rattle.job_reports.specs.Reading.{IsRefusedWith}
 use Rattle.session_entries.specs.declared.refusal.PlanError.{PlanError}
 use Rattle.session_entries.specs.declared.refusal.PlanError.TheVariants.{NoSelection, TooLong, Nested, Source, BadMask, Target, TargetThere, SameFile, IntoItself, TwoToOne, BadLinkText}
@@ -19,7 +19,7 @@ use Rattle.session_entries.specs.declared.refusal.Refusal.TheVariants as refusal
 
 -- a typed text leads to no folder
 abbrev pub LeadsNowhere : CallLog → ResolveError → Type 0
-LeadsNowhere log e = (from : Route) × ((typed : List ℕ) × Answers {A = Route} (resolved (current log) FolderAlone from typed) (Err e))
+LeadsNowhere log e = (from : Route) × ((typed : List ℕ) × Answers {A = Route} (resolved_path (current log) FolderAlone from typed) (Err e))
 
 -- a look at a path is refused
 abbrev pub IsUnseen : CallLog → ResolveError → Type 0

@@ -9,7 +9,7 @@ use Rattle.job_reports.specs.declared.report.Did.TheVariants.{Ended, Merges}
 use Rattle.job_reports.specs.declared.report.Ending.TheVariants.{Finished}
 use Rattle.job_reports.specs.declared.report.Transfer.{Transfer}
 use Rattle.job_reports.specs.declared.report.Transfer.TheVariants.{ByCopy, ByMove}
-use Rattle.job_reports.specs.Jobs.{Item, is_workable, item_of}
+use Rattle.job_reports.specs.Jobs.{ItemOfJob, is_workable, item_of}
 use Rattle.job_reports.specs.Reports.{ends}
 use Rattle.session_entries.specs.declared.history.Event.{Event}
 use Rattle.session_entries.specs.declared.history.Event.TheVariants.{Key, Look, Sought, Order, Step, Next, Closed}
@@ -36,11 +36,11 @@ abbrev pub are_workable : Job → Bool
 are_workable job = are_some_workable (sources_of job)
 
 -- the item with which a job begins: that of its first source
-abbrev pub item_in : List Job → Option Item
+abbrev pub item_in : List Job → Option ItemOfJob
 item_in [] = None
 item_in (source ∷ more) = item_of source
 
-abbrev pub first_item : Job → Option Item
+abbrev pub first_item : Job → Option ItemOfJob
 first_item job = item_in (sources_of job)
 
 -- all but the first

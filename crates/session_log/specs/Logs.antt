@@ -14,9 +14,9 @@ abbrev pub plain_entry : ℕ → ℕ → Event → Entry
 plain_entry calls faults what = record { seat = 0; calls = calls; faults = faults; shown = 0; what = what }
 
 -- these entries, and before them this event, if there is one
-abbrev pub followed : ℕ → ℕ → Option Event → List Entry → List Entry
-followed calls faults None newest = newest
-followed calls faults (Some what) newest = plain_entry calls faults what ∷ newest
+abbrev pub entries_with_event : ℕ → ℕ → Option Event → List Entry → List Entry
+entries_with_event calls faults None newest = newest
+entries_with_event calls faults (Some what) newest = plain_entry calls faults what ∷ newest
 
 -- how many jobs these entries began
 abbrev pub begun_by : Event → ℕ

@@ -1,6 +1,6 @@
 //! The history as it is written: entries are added in room that was made before, so that nothing is half written down.
 ghost use Rattle.std.specs.Prelude.{◌≡◌, ◌+◌, ◌-◌, ◌^◌, ◌≤◌, ◌<◌, [], ◌∷◌, length, IfOk, OnOk, OnErr, reverse};
-ghost use Rattle.session_log.specs.Logs.{begun_by, followed, jobs_begun, plain_entry};
+ghost use Rattle.session_log.specs.Logs.{begun_by, entries_with_event, jobs_begun, plain_entry};
 ghost use Rattle.session_log.specs.Told.{end_news as news_of, is_end_or_look as ends_or_looks, is_report as does_report, news_left as last_news, reported_waits as waits_in, told_end, waits_told as last_waits};
 
 use job_reports::{Did, Ending, Waits, is_end};
@@ -68,7 +68,7 @@ impl Log {
     /// Adds what is written directly after an entry, if there is something.
     pub fn note_after(&mut self, calls: u64, faults: u64, what: Option<Event>)
         requires { 0 < self.old.spare }
-        ensures added { self.new.newest ≡ followed calls faults what self.old.newest }
+        ensures added { self.new.newest ≡ entries_with_event calls faults what self.old.newest }
         ensures room { self.old.spare ≤ self.new.spare + 1 }
     {
         if let Some(what) = what {

@@ -2,7 +2,7 @@
 use Rattle.std.proofs.Common.{◌≡◌, ℕ, suc, Bool, true, false, cond, List, [], ◌∷◌, ◌++◌, map, Option, Some, None, is_some, option_map, encode_utf8_all, refl, sym, subst, ap, ◌∙◌, inl, inr, arith}
 use mathlib.Core.Bool.{true≢false}
 use Rattle.std.specs.List.{concat}
-use Rattle.tagging.specs.Globs.{stands_for, is_wild, is_match, cut_of, captures_of, after_text, longer_or, longest_front, one_in_front, nothing_in_front, Takes, TakesOne, TakeAll, IsCut, MatchesGlob, wild_texts, AreLongerFirst, AreCaptures}
+use Rattle.tagging.specs.Globs.{stands_for, is_wild, is_match, cut_of, captures_of, after_text, longer_or, longest_prefix, one_in_front, nothing_in_front, Takes, TakesOne, TakeAll, IsCut, MatchesGlob, wild_texts, AreLongerFirst, AreCaptures}
 use Rattle.tagging.specs.declared.glob.GlobPart.{GlobPart}
 use Rattle.tagging.specs.declared.glob.GlobPart.TheVariants.{Plain, AnyOne, AnyText, OneOf}
 
@@ -32,10 +32,10 @@ longer_cut parts c name (Some []) other long here = here
 longer_cut parts c name (Some (text ∷ cut)) other long here = record { whole = ap (λ rest. c ∷ rest) long.whole; takes = (tt, long.takes.1) }
 
 star_gives : (parts : List GlobPart) (cut_rest : List ℕ → Option (List (List ℕ))) → Cuts parts cut_rest
-    → (name : List ℕ) → GivesCut (AnyText ∷ parts) name (longest_front cut_rest name)
+    → (name : List ℕ) → GivesCut (AnyText ∷ parts) name (longest_prefix cut_rest name)
 star_gives parts cut_rest cuts [] = front_cut parts [] [] (cut_rest []) (cuts.gives [])
 star_gives parts cut_rest cuts (c ∷ name) =
-    longer_cut parts c name (longest_front cut_rest name) (after_text [] (cut_rest (c ∷ name))) (star_gives parts cut_rest cuts name)
+    longer_cut parts c name (longest_prefix cut_rest name) (after_text [] (cut_rest (c ∷ name))) (star_gives parts cut_rest cuts name)
     (front_cut parts [] (c ∷ name) (cut_rest (c ∷ name)) (cuts.gives (c ∷ name)))
 
 -- a list in two parts that has a first member
@@ -66,24 +66,24 @@ both_longer : (parts : List GlobPart) (c d : ℕ) (text : List ℕ) (rest : List
     → IsBetter (AnyText ∷ parts) (text ∷ rest) longer → IsBetter (AnyText ∷ parts) ((d ∷ text) ∷ rest) (longer_or c longer here)
 both_longer parts c d text rest None here better = absurd better
 both_longer parts c d text rest (Some []) here better = absurd better
-both_longer parts c d text rest (Some (front ∷ cut)) here (inl longer) = inl (omega arith)
-both_longer parts c d text rest (Some (front ∷ cut)) here (inr same) = inr (ap suc same.0, same.1)
+both_longer parts c d text rest (Some (prefix ∷ cut)) here (inl longer) = inl (omega arith)
+both_longer parts c d text rest (Some (prefix ∷ cut)) here (inr same) = inr (ap suc same.0, same.1)
 
 star_better : (parts : List GlobPart) (cut_rest : List ℕ → Option (List (List ℕ))) → Cuts parts cut_rest
-    → (name text : List ℕ) (rest : List (List ℕ)) → text ++ concat rest ≡ name → TakeAll parts rest → IsBetter (AnyText ∷ parts) (text ∷ rest) (longest_front cut_rest name)
+    → (name text : List ℕ) (rest : List (List ℕ)) → text ++ concat rest ≡ name → TakeAll parts rest → IsBetter (AnyText ∷ parts) (text ∷ rest) (longest_prefix cut_rest name)
 star_better parts cut_rest cuts [] [] rest whole takes = here_better parts rest (cut_rest []) (cuts.better [] rest (record { whole = whole; takes = takes }))
 star_better parts cut_rest cuts [] (d ∷ text) rest whole takes = absurd (no_text d (text ++ concat rest) whole)
 star_better parts cut_rest cuts (c ∷ name) [] rest whole takes =
-    longer_better parts c rest (longest_front cut_rest name) (after_text [] (cut_rest (c ∷ name)))
+    longer_better parts c rest (longest_prefix cut_rest name) (after_text [] (cut_rest (c ∷ name)))
     (here_better parts rest (cut_rest (c ∷ name)) (cuts.better (c ∷ name) rest (record { whole = whole; takes = takes })))
 star_better parts cut_rest cuts (c ∷ name) (d ∷ text) rest whole takes =
-    both_longer parts c d text rest (longest_front cut_rest name) (after_text [] (cut_rest (c ∷ name)))
+    both_longer parts c d text rest (longest_prefix cut_rest name) (after_text [] (cut_rest (c ∷ name)))
     (star_better parts cut_rest cuts name text rest (tail_of d c (text ++ concat rest) name whole) takes)
 
-star_cuts : (parts : List GlobPart) (cut_rest : List ℕ → Option (List (List ℕ))) → Cuts parts cut_rest → Cuts (AnyText ∷ parts) (longest_front cut_rest)
+star_cuts : (parts : List GlobPart) (cut_rest : List ℕ → Option (List (List ℕ))) → Cuts parts cut_rest → Cuts (AnyText ∷ parts) (longest_prefix cut_rest)
 star_cuts parts cut_rest cuts = record { gives = star_gives parts cut_rest cuts; better = better }
   where
-    better : (name : List ℕ) (other : List (List ℕ)) → IsCut (AnyText ∷ parts) name other → IsBetter (AnyText ∷ parts) other (longest_front cut_rest name)
+    better : (name : List ℕ) (other : List (List ℕ)) → IsCut (AnyText ∷ parts) name other → IsBetter (AnyText ∷ parts) other (longest_prefix cut_rest name)
     better name [] cut = absurd cut.takes
     better name (text ∷ rest) cut = star_better parts cut_rest cuts name text rest cut.whole cut.takes.1
 

@@ -7,8 +7,8 @@ use Rattle.std.proofs.lemmas.Str.{chars_past_char, chars-append, chars-nil, IsUt
 use Rattle.std.proofs.lemmas.List.{append-nil, length-append}
 use Rattle.std.proofs.Math.Seq.{drop-append_seam, take-append_seam}
 use Rattle.tagging.proofs.WalkLemmas.{AnyText-or_single}
-use Rattle.tagging.specs.Globs.{stands_for, is_wild, is_match, cut_of, captures_of, after_text, longest_front, wild_texts}
-use Rattle.tagging.specs.Fronts.{LeavesCut, IsFront, LosesLast}
+use Rattle.tagging.specs.Globs.{stands_for, is_wild, is_match, cut_of, captures_of, after_text, longest_prefix, wild_texts}
+use Rattle.tagging.specs.Fronts.{LeavesCut, IsPrefixTaken, LosesLast}
 use Rattle.tagging.specs.declared.glob.GlobPart.{GlobPart}
 use Rattle.tagging.specs.declared.glob.GlobPart.TheVariants.{AnyText}
 
@@ -20,7 +20,7 @@ after_captures front (Some captured) = Some (front ++ captured)
 -- no end of a text is cut but perhaps the text itself
 abbrev NoShorterEnd : (List ℕ → Option (List (List ℕ))) → List ℕ → Type 0
 NoShorterEnd cut_rest [] = Unit {0}
-NoShorterEnd cut_rest (c ∷ text) = longest_front cut_rest text ≡ None
+NoShorterEnd cut_rest (c ∷ text) = longest_prefix cut_rest text ≡ None
 
 -- the fronts of a text that are longer than this one leave a rest that the parts don't match
 pub record HasTried (parts : List GlobPart) (text front : List ℕ) : Type 0 where
@@ -30,7 +30,7 @@ pub record HasTried (parts : List GlobPart) (text front : List ℕ) : Type 0 whe
   pub no_shorter : NoShorterEnd (cut_of parts) (chars back)
 
 -- the text itself isn't cut, and no end is
-nothing_here : (cut_rest : List ℕ → Option (List (List ℕ))) (text : List ℕ) → cut_rest text ≡ None → NoShorterEnd cut_rest text → longest_front cut_rest text ≡ None
+nothing_here : (cut_rest : List ℕ → Option (List (List ℕ))) (text : List ℕ) → cut_rest text ≡ None → NoShorterEnd cut_rest text → longest_prefix cut_rest text ≡ None
 nothing_here cut_rest [] none shorter = ap (after_text []) none
 nothing_here cut_rest (c ∷ text) none shorter = rw (shorter, none) refl
 
@@ -44,7 +44,7 @@ not_matched parts text differs = go (cut_of parts text) differs
 
 -- the front before an end that is cut, where no shorter end is
 longest_before : (cut_rest : List ℕ → Option (List (List ℕ))) (front back : List ℕ) (cut : List (List ℕ)) → cut_rest back ≡ Some cut → NoShorterEnd cut_rest back
-    → longest_front cut_rest (front ++ back) ≡ Some (front ∷ cut)
+    → longest_prefix cut_rest (front ++ back) ≡ Some (front ∷ cut)
 longest_before cut_rest [] [] cut is shorter = ap (after_text []) is
 longest_before cut_rest [] (c ∷ back) cut is shorter = rw (shorter, is) refl
 longest_before cut_rest (c ∷ front) back cut is shorter = rw (longest_before cut_rest front back cut is shorter) refl
@@ -87,13 +87,13 @@ tried_last parts text front is_text tried matches = record {
   front = front;
   is_text = is_text;
   joins = tried.joins;
-  cut = ap (λ bytes. longest_front (cut_of parts) (chars bytes)) (sym tried.joins)
-      ∙ ap (longest_front (cut_of parts)) (chars-append front tried.back is_text)
+  cut = ap (λ bytes. longest_prefix (cut_of parts) (chars bytes)) (sym tried.joins)
+      ∙ ap (longest_prefix (cut_of parts)) (chars-append front tried.back is_text)
       ∙ go (cut_of parts (chars tried.back)) refl matches;
 }
   where
     go : (answer : Option (List (List ℕ))) → cut_of parts (chars tried.back) ≡ answer → is_some answer ≡ true
-        → longest_front (cut_of parts) (chars front ++ chars tried.back) ≡ after_text (chars front) (cut_of parts (chars tried.back))
+        → longest_prefix (cut_of parts) (chars front ++ chars tried.back) ≡ after_text (chars front) (cut_of parts (chars tried.back))
     go None is matches = absurd (true≢false (sym matches))
     go (Some cut) is matches = longest_before (cut_of parts) (chars front) (chars tried.back) cut is tried.no_shorter ∙ ap (after_text (chars front)) (sym is)
 
@@ -148,15 +148,15 @@ pub fits : (part : GlobPart) (behind : List GlobPart) (text more : List ℕ) →
 fits part behind text more leaves = omega (arith, ap length leaves.joins, length-append leaves.front more)
 
 pub front_is : (part : GlobPart) (behind : List GlobPart) (text more : List ℕ) → LeavesCut part behind text more
-    → IsFront part behind text (take (length text - length more) text) more
+    → IsPrefixTaken part behind text (take (length text - length more) text) more
 front_is part behind text more leaves =
     let is : take (length text - length more) text ≡ leaves.front =
     ap (λ n. take n text) (front_length part behind text more leaves)
     ∙ ap (take (length leaves.front)) (sym leaves.joins) ∙ take-append_seam leaves.front more in
-    subst (λ front. IsFront part behind text front more) (sym is) (record { is_text = leaves.is_text; joins = leaves.joins; cut = leaves.cut })
+    subst (λ front. IsPrefixTaken part behind text front more) (sym is) (record { is_text = leaves.is_text; joins = leaves.joins; cut = leaves.cut })
 
 -- what a wildcard takes is captured
-pub captures_of-front : (part : GlobPart) (behind : List GlobPart) (text front more : List ℕ) → IsFront part behind text front more
+pub captures_of-front : (part : GlobPart) (behind : List GlobPart) (text front more : List ℕ) → IsPrefixTaken part behind text front more
     → captures_of (part ∷ behind) (chars text) ≡ after_captures (if is_wild part then front ∷ [] else []) (captures_of behind (chars more))
 unfolding captures_of
 captures_of-front part behind text front more taken =

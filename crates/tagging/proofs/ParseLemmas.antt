@@ -1,7 +1,7 @@
 -- A part takes its characters from the front of the text, so a text has no more parts than characters.
 use Rattle.std.proofs.Common.{◌≡◌, ℕ, zero, suc, ◌-◌, ◌≤◌, Bool, true, false, cond, ◌==◌, List, [], ◌∷◌, ◌++◌, length, Option, Some, None, option_map, Result, Ok, Err, encode_utf8_all, refl, subst, ap, ◌∙◌, arith, append_assoc}
 use Rattle.tagging.specs.Brackets.{Bracket}
-use Rattle.tagging.specs.GlobText.{marks_up_to_close, marks_of, after_marks, listed, bracket_of, quoted_part, bracket_part, first_part, after_parts, and_then_parts, parts_within, spans_after}
+use Rattle.tagging.specs.GlobText.{marks_up_to_close, marks_of, after_marks, listed_bracket, bracket_of, quoted_part, bracket_part, first_part, after_parts, and_then_parts, parts_within, spans_after}
 use Rattle.tagging.specs.declared.error.PatternError.{PatternError}
 use Rattle.tagging.specs.declared.glob.GlobPart.{GlobPart}
 use Rattle.tagging.specs.declared.glob.GlobPart.TheVariants.{Plain, AnyOne, AnyText}
@@ -16,9 +16,9 @@ abbrev PartLeavesNoMore : List ℕ → Result (GlobPart × List ℕ) PatternErro
 PartLeavesNoMore text (Err fault) = Unit {0}
 PartLeavesNoMore text (Ok (part, rest)) = length rest ≤ length text
 
-after_marks-leaves : (front : List Mark) (c : ℕ) (text : List ℕ) (found : Option (List Mark × List ℕ)) → LeavesNoMore text found → LeavesNoMore (c ∷ text) (after_marks front found)
-after_marks-leaves front c text None leaves = tt
-after_marks-leaves front c text (Some (marks, rest)) leaves = omega arith
+after_marks-leaves : (prefix : List Mark) (c : ℕ) (text : List ℕ) (found : Option (List Mark × List ℕ)) → LeavesNoMore text found → LeavesNoMore (c ∷ text) (after_marks prefix found)
+after_marks-leaves prefix c text None leaves = tt
+after_marks-leaves prefix c text (Some (marks, rest)) leaves = omega arith
 
 marks-leave : (quoted : Bool) (text : List ℕ) → LeavesNoMore text (marks_up_to_close quoted text)
 marks-leave quoted [] = tt
@@ -43,7 +43,7 @@ marks_of-leaves (c ∷ text) = go (c == 93)
     go true = after_marks-leaves (record { character = c; quoted = false } ∷ []) c text (marks_up_to_close false text) (marks-leave false text)
     go false = marks-leave false (c ∷ text)
 
-listed-leaves : (negated : Bool) (text : List ℕ) → LeavesNoMore text (listed negated text)
+listed-leaves : (negated : Bool) (text : List ℕ) → LeavesNoMore text (listed_bracket negated text)
 listed-leaves negated text = go (marks_of text) (marks_of-leaves text)
   where
     go : (found : Option (List Mark × List ℕ)) → LeavesNoMore text found
@@ -59,8 +59,8 @@ bracket_of-leaves (c ∷ text) = go (c == 33)
     longer None leaves = tt
     longer (Some (bracket, rest)) leaves = omega arith
 
-    go : (negated : Bool) → LeavesNoMore (c ∷ text) (cond negated (listed true text) (listed false (c ∷ text)))
-    go true = longer (listed true text) (listed-leaves true text)
+    go : (negated : Bool) → LeavesNoMore (c ∷ text) (cond negated (listed_bracket true text) (listed_bracket false (c ∷ text)))
+    go true = longer (listed_bracket true text) (listed-leaves true text)
     go false = listed-leaves false (c ∷ text)
 
 quoted_part-leaves : (at : ℕ) (text : List ℕ) → PartLeavesNoMore text (quoted_part at text)
@@ -116,10 +116,10 @@ pub parts_within-fault : (size c : ℕ) (text : List ℕ) (fault : PatternError)
     → parts_within (length (c ∷ text)) size (c ∷ text) ≡ Err fault
 parts_within-fault size c text fault is = ap (λ first. and_then_parts first (parts_within (length text) size)) is
 
-pub after_parts-push : (front : List GlobPart) (part : GlobPart) (parts : Result (List GlobPart) PatternError)
-    → after_parts (front ++ part ∷ []) parts ≡ after_parts front (after_parts (part ∷ []) parts)
-after_parts-push front part (Err fault) = refl
-after_parts-push front part (Ok parts) = ap Ok (append_assoc front (part ∷ []) parts)
+pub after_parts-push : (prefix : List GlobPart) (part : GlobPart) (parts : Result (List GlobPart) PatternError)
+    → after_parts (prefix ++ part ∷ []) parts ≡ after_parts prefix (after_parts (part ∷ []) parts)
+after_parts-push prefix part (Err fault) = refl
+after_parts-push prefix part (Ok parts) = ap Ok (append_assoc prefix (part ∷ []) parts)
 
 pub after_parts-nil : (parts : Result (List GlobPart) PatternError) → after_parts [] parts ≡ parts
 after_parts-nil (Err fault) = refl

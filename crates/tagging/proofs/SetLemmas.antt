@@ -12,7 +12,7 @@ use Rattle.tagging.proofs.WalkLemmas.{same_answers}
 use Rattle.std.specs.BTreeSet.{BTreeSet, contains_text, keys}
 use Rattle.std.specs.String.{string_bytes}
 use Rattle.std.specs.FinSet.{contains, insert, remove, union, difference, same_set, from_list_push, contains-empty, contains-insert, contains-remove, contains-union, contains-difference, contains-from_list, contains_tied, slice_cmp-IsAntisymmetric, nat_cmp-IsAntisymmetric}
-use Rattle.tagging.specs.TagSets.{TagSet, names_in, tag_set, inverted}
+use Rattle.tagging.specs.TagSets.{TagSet, names_in, tag_set, inverted_tags}
 
 list_any-map : {A : Type 0} (f : A → List ℕ) (p : List ℕ → Bool) (xs : List A) → list_any p (map f xs) ≡ list_any (λ x. p (f x)) xs
 list_any-map f p [] = refl
@@ -95,14 +95,14 @@ difference-nil s = same_tags s (difference s (names_in [])) (λ q. sym (
     go true = refl
     go false = refl
 
-contains-inverted : (s n : TagSet) (q : List ℕ) → contains (inverted s n) q ≡ ((contains s q && not (contains n q)) || (contains n q && not (contains s q)))
+contains-inverted : (s n : TagSet) (q : List ℕ) → contains (inverted_tags s n) q ≡ ((contains s q && not (contains n q)) || (contains n q && not (contains s q)))
 contains-inverted s n q =
     contains-union nat_list_cmp_total (difference s n) (difference n s) q
     ∙ ap (λ b. b || contains (difference n s) q) (contains-difference nat_list_cmp_total s n q)
     ∙ ap (λ b. (contains s q && not (contains n q)) || b) (contains-difference nat_list_cmp_total n s q)
 
-pub inverted-nil : (s : TagSet) → s ≡ inverted s (names_in [])
-inverted-nil s = same_tags s (inverted s (names_in [])) (λ q. sym (
+pub inverted-nil : (s : TagSet) → s ≡ inverted_tags s (names_in [])
+inverted-nil s = same_tags s (inverted_tags s (names_in [])) (λ q. sym (
     contains-inverted s (names_in []) q
     ∙ ap (λ b. (contains s q && not b) || (b && not (contains s q))) (contains-empty (slice_cmp nat_cmp) q) ∙ go (contains s q)))
   where
@@ -159,10 +159,10 @@ unfolding is_same
 same_answer s name q e = contains_tied nat_list_cmp_total s q name ((Equal-is (slice_cmp nat_cmp q name)).0 e)
 
 pub inverted-push : (s : TagSet) (names : List (List ℕ)) (name : List ℕ)
-    → (if not (contains s name) then insert (inverted s (names_in names)) name else remove (inverted s (names_in names)) name) ≡ inverted s (names_in (names ++ name ∷ []))
+    → (if not (contains s name) then insert (inverted_tags s (names_in names)) name else remove (inverted_tags s (names_in names)) name) ≡ inverted_tags s (names_in (names ++ name ∷ []))
 unfolding set_one
-inverted-push s names name = same_tags (set_one (not (contains s name)) (inverted s (names_in names)) name) (inverted s (names_in (names ++ name ∷ []))) (λ q.
-    contains-set_one (not (contains s name)) (inverted s (names_in names)) name q
+inverted-push s names name = same_tags (set_one (not (contains s name)) (inverted_tags s (names_in names)) name) (inverted_tags s (names_in (names ++ name ∷ []))) (λ q.
+    contains-set_one (not (contains s name)) (inverted_tags s (names_in names)) name q
     ∙ ap (λ b. cond (is_same q name) (not (contains s name)) b) (contains-inverted s (names_in names) q)
     ∙ go (is_same q name) (contains s name) (contains s q) (contains (names_in names) q) (same_answer s name q)
     ∙ sym (contains-inverted s (names_in (names ++ name ∷ [])) q

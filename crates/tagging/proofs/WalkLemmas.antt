@@ -2,7 +2,7 @@
 use Rattle.std.proofs.Common.{◌≡◌, ℕ, Bool, true, false, cond, ◌||◌, ◌&&◌, List, [], ◌∷◌, Option, Some, None, is_some, refl, sym, ap, ◌∙◌, ◌⊎◌, inl, inr}
 use mathlib.Core.Bool.{true≢false}
 use Rattle.tagging.specs.Stretches.{AreMatchedAlike}
-use Rattle.tagging.specs.Globs.{stands_for, is_match, cut_of, after_text, longer_or, longest_front, one_in_front}
+use Rattle.tagging.specs.Globs.{stands_for, is_match, cut_of, after_text, longer_or, longest_prefix, one_in_front}
 use Rattle.tagging.specs.declared.glob.GlobPart.{GlobPart}
 use Rattle.tagging.specs.declared.glob.GlobPart.TheVariants.{Plain, AnyOne, AnyText, OneOf}
 
@@ -24,13 +24,13 @@ HasText None = Unit {0}
 HasText (Some []) = ⊥
 HasText (Some (text ∷ cut)) = Unit {0}
 
-front_has_text : (cut_rest : List ℕ → Option (List (List ℕ))) (text : List ℕ) → HasText (longest_front cut_rest text)
+front_has_text : (cut_rest : List ℕ → Option (List (List ℕ))) (text : List ℕ) → HasText (longest_prefix cut_rest text)
 front_has_text cut_rest [] = go (cut_rest [])
   where
     go : (cut : Option (List (List ℕ))) → HasText (after_text [] cut)
     go None = tt
     go (Some cut) = tt
-front_has_text cut_rest (c ∷ text) = go (longest_front cut_rest text) (cut_rest (c ∷ text))
+front_has_text cut_rest (c ∷ text) = go (longest_prefix cut_rest text) (cut_rest (c ∷ text))
   where
     go : (longer here : Option (List (List ℕ))) → HasText (longer_or c longer (after_text [] here))
     go (Some (text ∷ cut)) here = tt
@@ -40,8 +40,8 @@ front_has_text cut_rest (c ∷ text) = go (longest_front cut_rest text) (cut_res
     go None (Some cut) = tt
 
 is_some-longer_or : (c : ℕ) (cut_rest : List ℕ → Option (List (List ℕ))) (text : List ℕ) (other : Option (List (List ℕ)))
-    → is_some (longer_or c (longest_front cut_rest text) other) ≡ (is_some other || is_some (longest_front cut_rest text))
-is_some-longer_or c cut_rest text other = go (longest_front cut_rest text) (front_has_text cut_rest text)
+    → is_some (longer_or c (longest_prefix cut_rest text) other) ≡ (is_some other || is_some (longest_prefix cut_rest text))
+is_some-longer_or c cut_rest text other = go (longest_prefix cut_rest text) (front_has_text cut_rest text)
   where
     go : (cut : Option (List (List ℕ))) → HasText cut → is_some (longer_or c cut other) ≡ (is_some other || is_some cut)
     go None has = sym (or_false (is_some other))
@@ -88,7 +88,7 @@ pub is_match-star : (parts : List GlobPart) (c : ℕ) (text : List ℕ)
 unfolding is_match
 is_match-star parts c text =
     is_some-longer_or c (cut_of parts) text (after_text [] (cut_of parts (c ∷ text)))
-    ∙ ap (λ b. b || is_some (longest_front (cut_of parts) text)) (is_some-after_text [] (cut_of parts (c ∷ text)))
+    ∙ ap (λ b. b || is_some (longest_prefix (cut_of parts) text)) (is_some-after_text [] (cut_of parts (c ∷ text)))
 
 -- what is left to try after some parts have taken their characters
 pub record IsWalked (all : List GlobPart) (name : List ℕ) (parts : List GlobPart) (text : List ℕ) : Type 0 where

@@ -12,7 +12,7 @@ pub record LeavesCut (part : GlobPart) (behind : List GlobPart) (text more : Lis
   pub cut : cut_of (part ∷ behind) (chars text) ≡ after_text (chars front) (cut_of behind (chars more))
 
 -- the same, of a front that is given
-pub record IsFront (part : GlobPart) (behind : List GlobPart) (text front more : List ℕ) : Type 0 where
+pub record IsPrefixTaken (part : GlobPart) (behind : List GlobPart) (text front more : List ℕ) : Type 0 where
   pub is_text : IsUtf8 front
   pub joins : front ++ more ≡ text
   pub cut : cut_of (part ∷ behind) (chars text) ≡ after_text (chars front) (cut_of behind (chars more))

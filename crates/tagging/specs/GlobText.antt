@@ -32,8 +32,8 @@ spans_after zero (mark ∷ marks) = span_to (range_end marks) mark.character (λ
 
 -- more marks in front
 abbrev pub after_marks : List Mark → Option (List Mark × List ℕ) → Option (List Mark × List ℕ)
-after_marks front None = None
-after_marks front (Some (marks, rest)) = Some (front ++ marks, rest)
+after_marks prefix None = None
+after_marks prefix (Some (marks, rest)) = Some (prefix ++ marks, rest)
 
 -- the marks up to the `]` that closes the list, and the text behind it; `quoted` says that a backslash stands before
 abbrev pub marks_up_to_close : Bool → List ℕ → Option (List Mark × List ℕ)
@@ -52,13 +52,13 @@ marks_of (c ∷ text) =
     else marks_up_to_close false (c ∷ text)
 
 -- the bracket of a list, and the text behind it
-abbrev pub listed : Bool → List ℕ → Option (Bracket × List ℕ)
-listed negated text = option_map (λ (marks, rest). (record { negated = negated; spans = spans_after 0 marks }, rest)) (marks_of text)
+abbrev pub listed_bracket : Bool → List ℕ → Option (Bracket × List ℕ)
+listed_bracket negated text = option_map (λ (marks, rest). (record { negated = negated; spans = spans_after 0 marks }, rest)) (marks_of text)
 
 -- the bracket whose `[` stands before the text, and the text behind it; nothing where it isn't closed
 abbrev pub bracket_of : List ℕ → Option (Bracket × List ℕ)
 bracket_of [] = None
-bracket_of (c ∷ text) = if c == 33 then listed true text else listed false (c ∷ text)
+bracket_of (c ∷ text) = if c == 33 then listed_bracket true text else listed_bracket false (c ∷ text)
 
 -- what stands quoted, at byte `at`
 abbrev pub quoted_part : ℕ → List ℕ → Result (GlobPart × List ℕ) PatternError
@@ -80,8 +80,8 @@ first_part at c text =
 
 -- more parts in front
 abbrev pub after_parts : List GlobPart → Result (List GlobPart) PatternError → Result (List GlobPart) PatternError
-after_parts front (Err fault) = Err fault
-after_parts front (Ok parts) = Ok (front ++ parts)
+after_parts prefix (Err fault) = Err fault
+after_parts prefix (Ok parts) = Ok (prefix ++ parts)
 
 -- a part, and then those of the text behind it
 abbrev pub and_then_parts : Result (GlobPart × List ℕ) PatternError → (List ℕ → Result (List GlobPart) PatternError) → Result (List GlobPart) PatternError

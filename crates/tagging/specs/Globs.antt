@@ -82,10 +82,10 @@ longer_or character (Some []) other = other
 longer_or character None other = other
 
 -- a front of the text, as long as may be, before a cut of the rest
-abbrev pub longest_front : (List ℕ → Option (List (List ℕ))) → List ℕ → Option (List (List ℕ))
-longest_front cut_rest [] = after_text [] (cut_rest [])
-longest_front cut_rest (character ∷ text) =
-    longer_or character (longest_front cut_rest text) (after_text [] (cut_rest (character ∷ text)))
+abbrev pub longest_prefix : (List ℕ → Option (List (List ℕ))) → List ℕ → Option (List (List ℕ))
+longest_prefix cut_rest [] = after_text [] (cut_rest [])
+longest_prefix cut_rest (character ∷ text) =
+    longer_or character (longest_prefix cut_rest text) (after_text [] (cut_rest (character ∷ text)))
 
 -- one character in front, before a cut of the rest
 abbrev pub one_in_front : GlobPart → (List ℕ → Option (List (List ℕ))) → List ℕ → Option (List (List ℕ))
@@ -101,7 +101,7 @@ nothing_in_front (character ∷ text) = None
 -- that longest cut, found part by part
 abbrev pub cut_of : List GlobPart → List ℕ → Option (List (List ℕ))
 cut_of [] = nothing_in_front
-cut_of (AnyText ∷ parts) = longest_front (cut_of parts)
+cut_of (AnyText ∷ parts) = longest_prefix (cut_of parts)
 cut_of (Plain plain ∷ parts) = one_in_front (Plain plain) (cut_of parts)
 cut_of (AnyOne ∷ parts) = one_in_front AnyOne (cut_of parts)
 cut_of (OneOf bracket ∷ parts) = one_in_front (OneOf bracket) (cut_of parts)

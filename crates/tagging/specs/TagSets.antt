@@ -18,9 +18,9 @@ abbrev pub tag_set : {A : Type 0} → BTreeSet (String A) → TagSet
 tag_set texts = names_in (map string_bytes (keys texts))
 
 -- one name with the other answer
-abbrev pub toggled : TagSet → List ℕ → TagSet
-toggled tags name = if set.contains tags name then set.remove tags name else set.insert tags name
+abbrev pub toggled_tags : TagSet → List ℕ → TagSet
+toggled_tags tags name = if set.contains tags name then set.remove tags name else set.insert tags name
 
 -- each of these names with the other answer
-abbrev pub inverted : TagSet → TagSet → TagSet
-inverted tags names = set.union (set.difference tags names) (set.difference names tags)
+abbrev pub inverted_tags : TagSet → TagSet → TagSet
+inverted_tags tags names = set.union (set.difference tags names) (set.difference names tags)

@@ -3,7 +3,7 @@ ghost use Rattle.std.specs.Prelude.{◌≡◌, ◌≢◌, List, ◌∷◌, ◌++
 ghost use Rattle.tagging.specs.Globs.{is_wild, cut_of, captures_of, AreCaptures};
 ghost use Rattle.tagging.specs.declared.glob.GlobPart.{GlobPart};
 ghost use Rattle.tagging.specs.declared.glob.GlobPart.TheVariants.{AnyText};
-ghost use Rattle.tagging.specs.Fronts.{IsFront, LeavesCut, LosesLast};
+ghost use Rattle.tagging.specs.Fronts.{IsPrefixTaken, LeavesCut, LosesLast};
 
 use crate::first_char::first_char;
 use crate::glob::{GlobPart, ShellPattern};
@@ -54,7 +54,7 @@ fn capture(alloc: Global, captured: &mut Texts, part: &GlobPart, text: &str) -> 
 /// The text that the part takes at the front, as long as may be, and the text behind it, which the parts behind match.
 fn front_of<'a>(part: &GlobPart, behind: &[GlobPart], text: &'a str) -> Option<(&'a str, &'a str)>
     ensures { MatchOption result (cut_of (part.now ∷ behind.now) (chars text.now) ≡ None)
-        (λ (front, more). IsFront part.now behind.now text.now front.now more.now) }
+        (λ (front, more). IsPrefixTaken part.now behind.now text.now front.now more.now) }
 {
     let more = behind_part(part, behind, text)?;
     let (front, _) = text.split_at(text.len() - more.len());

@@ -4,7 +4,7 @@ ghost use Rattle.std.specs.FinSet as set;
 ghost use Rattle.std.specs.Ordering.{nat_cmp};
 ghost use Rattle.std.specs.Cmp.Lexicographic.{slice_cmp};
 ghost use Rattle.std.specs.Coded.{coded_list, coded_ℕ};
-ghost use Rattle.tagging.specs.TagSets.{names_in, toggled, inverted, tag_set};
+ghost use Rattle.tagging.specs.TagSets.{names_in, toggled_tags, inverted_tags, tag_set};
 ghost use Rattle.tagging.specs.Patterns.{is_found};
 
 use crate::keep::keep_if;
@@ -57,7 +57,7 @@ impl Tags {
     /// Tags a name that wasn't tagged, and takes the tag of one that was. Answers whether it is tagged now.
     pub fn toggle(&mut self, alloc: Global, name: &Name) -> Result<bool, NoMemory>
         ensures answer { IfOk result (λ tagged. tagged ≡ not (set.contains self.old name.now)) }
-        ensures done { OnOk result (self.new ≡ toggled self.old name.now) }
+        ensures done { OnOk result (self.new ≡ toggled_tags self.old name.now) }
         ensures refused { OnErr result (self.new ≡ self.old) }
     {
         if self.has(name.text()) {
@@ -106,7 +106,7 @@ impl Tags {
 
     /// Tags those of the names that weren't tagged, and takes the tags of the others of them.
     pub fn invert(&mut self, alloc: Global, names: &Names) -> Result<(), NoMemory>
-        ensures done { OnOk result (self.new ≡ inverted self.old (names_in names.now)) }
+        ensures done { OnOk result (self.new ≡ inverted_tags self.old (names_in names.now)) }
         ensures refused { OnErr result (self.new ≡ self.old) }
     {
         let mut after = self.copy(alloc)?;

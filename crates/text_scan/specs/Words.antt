@@ -17,6 +17,6 @@ abbrev pub is_blank : ℕ → Bool
 is_blank byte = byte == 32 || byte == 9
 
 -- the text without leading blanks and tabs
-abbrev pub unindented : List ℕ → List ℕ
-unindented [] = []
-unindented (byte ∷ text) = if is_blank byte then unindented text else byte ∷ text
+abbrev pub unindented_text : List ℕ → List ℕ
+unindented_text [] = []
+unindented_text (byte ∷ text) = if is_blank byte then unindented_text text else byte ∷ text

@@ -1,6 +1,6 @@
 //! A text behind the word or the white space with which it begins.
 ghost use Rattle.std.specs.Prelude.{◌≡◌, ◌++◌, ◌<◌, length, IfSome, option_map};
-ghost use Rattle.text_scan.specs.Words.{behind_word, behind_indent, unindented};
+ghost use Rattle.text_scan.specs.Words.{behind_word, behind_indent, unindented_text};
 
 /// The text behind a word with which it begins.
 pub fn behind_word<'a>(text: &'a str, word: &str) -> Option<&'a str>
@@ -26,7 +26,7 @@ pub fn behind_indent(text: &str) -> Option<&str>
 
 /// The text without leading blanks and tabs.
 pub fn unindented(text: &str) -> &str
-    ensures { result.now ≡ unindented text.now }
+    ensures { result.now ≡ unindented_text text.now }
 {
     let mut words = text;
     while let Some(behind) = behind_indent(words) {

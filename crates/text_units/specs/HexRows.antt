@@ -24,14 +24,14 @@ digits_column bytes column =
     let place = if nat_lt column 24 then column else column - 1 in byte_column bytes (place / 3) (place % 3)
 
 -- a byte as a character of ASCII that can be printed, or a dot
-abbrev pub printed : ℕ → ℕ
-printed byte = if nat_le 32 byte && nat_le byte 126 then byte else 46
+abbrev pub printed_byte : ℕ → ℕ
+printed_byte byte = if nat_le 32 byte && nat_le byte 126 then byte else 46
 
 -- what stands in a column behind the offset: two blanks, the digits, two blanks, the bytes as characters
 abbrev pub behind_offset : List ℕ → ℕ → ℕ
 behind_offset bytes column =
     if nat_lt column 2 then 32 else if nat_lt column 50 then digits_column bytes (column - 2) else
-    if nat_lt column 52 then 32 else printed (slice_index bytes (column - 52))
+    if nat_lt column 52 then 32 else printed_byte (slice_index bytes (column - 52))
 
 -- what stands in a column of a row
 unfoldable pub hex_column : ℕ → List ℕ → ℕ → ℕ

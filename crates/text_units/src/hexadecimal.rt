@@ -1,7 +1,7 @@
 //! Rows of bytes in hexadecimal: an offset, the digits of at most sixteen bytes, and the bytes as characters, column by column.
 
 ghost use Rattle.std.specs.Prelude.{◌≡◌, ◌+◌, ◌-◌, ◌*◌, ◌<◌, ◌≤◌, ◌/◌, ◌%◌, ◌^◌, ◌++◌, length, min, string_bytes, IfOk};
-ghost use Rattle.text_units.specs.HexRows.{hex_digit, offset_digits, digit_at, byte_column, digits_column, printed, behind_offset, hex_column, hex_columns, hex_row};
+ghost use Rattle.text_units.specs.HexRows.{hex_digit, offset_digits, digit_at, byte_column, digits_column, printed_byte, behind_offset, hex_column, hex_columns, hex_row};
 
 use mc_text::{NoMemory, Text};
 use std::alloc::Global;
@@ -104,7 +104,7 @@ fn hex_digit(digit: u8) -> u8
 
 /// A byte as a character of ASCII that can be printed, or a dot.
 fn printed(byte: u8) -> u8
-    ensures value { result ≡ printed byte }
+    ensures value { result ≡ printed_byte byte }
     ensures ascii { result < 128 }
 {
     if byte < 32 {

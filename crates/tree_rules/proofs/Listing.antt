@@ -14,7 +14,7 @@ use Rattle.tree_trait.specs.declared.calls.Children.{Children}
 use Rattle.tree_trait.specs.FileSystem.{lookup, node, is_of}
 use Rattle.tree_trait.specs.CrashImages.{Among}
 use Rattle.tree_trait.specs.Answers.{name_cmp, AllAfter, IsAscending, IsListing}
-use Rattle.tree_rules.specs.Listed.{with_name, gathered}
+use Rattle.tree_rules.specs.Listed.{with_name, gathered_names}
 
 then_equal : (a b : Ordering) → ordering_then a b ≡ Equal → (a ≡ Equal) × (b ≡ Equal)
 then_equal Less b h = cc
@@ -97,44 +97,44 @@ module _ (s : FileSystem) (f : ℕ) where
   pick : NameEdit → Bool
   pick e = (e.folder == f) && is_some (lookup s.names f e.name)
 
-  pub gathered_ascends : (edits : List NameEdit) → IsAscending (gathered s f edits)
+  pub gathered_ascends : (edits : List NameEdit) → IsAscending (gathered_names s f edits)
   gathered_ascends [] = tt
   gathered_ascends (e ∷ edits) = go ((e.folder == f) && is_some (lookup s.names f e.name)) (gathered_ascends edits)
     where
-      go : (b : Bool) → IsAscending (gathered s f edits) → IsAscending (cond b (with_name e.name (gathered s f edits)) (gathered s f edits))
-      go true ih = with_ascends e.name (gathered s f edits) ih
+      go : (b : Bool) → IsAscending (gathered_names s f edits) → IsAscending (cond b (with_name e.name (gathered_names s f edits)) (gathered_names s f edits))
+      go true ih = with_ascends e.name (gathered_names s f edits) ih
       go false ih = ih
 
-  pub gathered_leads : (edits : List NameEdit) (m : List ℕ) → Among (gathered s f edits) m → is_some (lookup s.names f m) ≡ true
+  pub gathered_leads : (edits : List NameEdit) (m : List ℕ) → Among (gathered_names s f edits) m → is_some (lookup s.names f m) ≡ true
   gathered_leads [] m h = absurd h
   gathered_leads (e ∷ edits) m h = go ((e.folder == f) && is_some (lookup s.names f e.name)) refl (gathered_leads edits m) h
     where
-      go : (b : Bool) → ((e.folder == f) && is_some (lookup s.names f e.name)) ≡ b → (Among (gathered s f edits) m → is_some (lookup s.names f m) ≡ true) → Among (cond b (with_name e.name (gathered s f edits)) (gathered s f edits)) m → is_some (lookup s.names f m) ≡ true
-      go true is ih h = elim (with_only e.name (gathered s f edits) m h) [
+      go : (b : Bool) → ((e.folder == f) && is_some (lookup s.names f e.name)) ≡ b → (Among (gathered_names s f edits) m → is_some (lookup s.names f m) ≡ true) → Among (cond b (with_name e.name (gathered_names s f edits)) (gathered_names s f edits)) m → is_some (lookup s.names f m) ≡ true
+      go true is ih h = elim (with_only e.name (gathered_names s f edits) m h) [
         | inl same ↦ subst (λ n. is_some (lookup s.names f n) ≡ true) (sym same) (and_parts _ _ is).1
         | inr other ↦ ih other
       ]
       go false is ih h = ih h
 
-  pub gathered_all : (edits : List NameEdit) (m : List ℕ) → is_some (lookup edits f m) ≡ true → is_some (lookup s.names f m) ≡ true → Among (gathered s f edits) m
+  pub gathered_all : (edits : List NameEdit) (m : List ℕ) → is_some (lookup edits f m) ≡ true → is_some (lookup s.names f m) ≡ true → Among (gathered_names s f edits) m
   gathered_all [] m h leads = absurd (false≢true h)
   gathered_all (e ∷ edits) m h leads = go (is_of f m e) refl (λ rest. gathered_all edits m rest leads) h
     where
-      keep : (b : Bool) → Among (gathered s f edits) m → Among (cond b (with_name e.name (gathered s f edits)) (gathered s f edits)) m
-      keep true h = with_in e.name (gathered s f edits) m h
+      keep : (b : Bool) → Among (gathered_names s f edits) m → Among (cond b (with_name e.name (gathered_names s f edits)) (gathered_names s f edits)) m
+      keep true h = with_in e.name (gathered_names s f edits) m h
       keep false h = h
 
-      take_it : (b : Bool) → b ≡ true → e.name ≡ m → Among (cond b (with_name e.name (gathered s f edits)) (gathered s f edits)) m
-      take_it true is same = subst (λ n. Among (with_name e.name (gathered s f edits)) n) same (with_self e.name (gathered s f edits))
+      take_it : (b : Bool) → b ≡ true → e.name ≡ m → Among (cond b (with_name e.name (gathered_names s f edits)) (gathered_names s f edits)) m
+      take_it true is same = subst (λ n. Among (with_name e.name (gathered_names s f edits)) n) same (with_self e.name (gathered_names s f edits))
       take_it false is same = absurd (false≢true is)
 
-      go : (b : Bool) → is_of f m e ≡ b → (is_some (lookup edits f m) ≡ true → Among (gathered s f edits) m) → is_some (cond b e.to (lookup edits f m)) ≡ true → Among (gathered s f (e ∷ edits)) m
+      go : (b : Bool) → is_of f m e ≡ b → (is_some (lookup edits f m) ≡ true → Among (gathered_names s f edits) m) → is_some (cond b e.to (lookup edits f m)) ≡ true → Among (gathered_names s f (e ∷ edits)) m
       go true is ih h =
           let name : e.name ≡ m = (bytes_eq-Decides e.name m).0 (and_parts _ _ is).1 in
           take_it ((e.folder == f) && is_some (lookup s.names f e.name)) (and_from _ _ (and_parts _ _ is).0 (subst (λ n. is_some (lookup s.names f n) ≡ true) (sym name) leads)) name
       go false is ih h = keep ((e.folder == f) && is_some (lookup s.names f e.name)) (ih h)
 
-pub listing : (s : FileSystem) (f : ℕ) (children : Children) → children.names ≡ gathered s f s.names → children.unnamed ≡ (node s f).unnamed → IsListing s f children
+pub listing : (s : FileSystem) (f : ℕ) (children : Children) → children.names ≡ gathered_names s f s.names → children.unnamed ≡ (node s f).unnamed → IsListing s f children
 listing s f children names unnamed = record {
   names = λ m. (
     λ among. gathered_leads s f s.names m (subst (λ ns. Among ns m) names among),
@@ -143,5 +143,5 @@ listing s f children names unnamed = record {
   unnamed = unnamed;
 }
 
-pub listing_ascends : (s : FileSystem) (f : ℕ) (children : Children) → children.names ≡ gathered s f s.names → IsAscending children.names
+pub listing_ascends : (s : FileSystem) (f : ℕ) (children : Children) → children.names ≡ gathered_names s f s.names → IsAscending children.names
 listing_ascends s f children names = subst IsAscending (sym names) (gathered_ascends s f s.names)

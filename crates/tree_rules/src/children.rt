@@ -1,10 +1,10 @@
 //! What `list` tells.
 ghost use Rattle.std.specs.Prelude.{◌≡◌, ◌≤◌, length, insert, if◌then◌else◌, reverse, IfOk, OnOk};
 ghost use Rattle.tree_trait.specs.Calls.{ListFolder};
-ghost use Rattle.tree_trait.specs.Change.{found};
+ghost use Rattle.tree_trait.specs.Change.{found_node};
 ghost use Rattle.tree_trait.specs.Answers.{IsAscending, IsListing};
 ghost use Rattle.tree_rules.specs.Told.{IsTold};
-ghost use Rattle.tree_rules.specs.Listed.{with_name, gathered};
+ghost use Rattle.tree_rules.specs.Listed.{with_name, gathered_names};
 
 use crate::lookups::{lookup, unnamed_at};
 use crate::refusals::refuse_list;
@@ -51,7 +51,7 @@ fn gather(
     folder: usize,
     edits: &[NameEdit],
 ) -> Result<Vec<Name>, NoMemory>
-    ensures { IfOk result (λ names. names.items ≡ gathered fs.now folder edits.now) }
+    ensures { IfOk result (λ names. names.items ≡ gathered_names fs.now folder edits.now) }
 {
     match edits {
         [] => Ok(Vec::new(alloc)),
@@ -81,7 +81,7 @@ fn children_of(alloc: Global, fs: &FileSystem, i: usize) -> Result<Children, NoM
 /// The answer of `list`.
 pub fn read_children(alloc: Global, fs: &FileSystem, names: &[Name]) -> Result<Children, TreeError>
     ensures answer { IsTold fs.now (ListFolder (reverse names.now)) result
-        (IsListing fs.now (found fs.now (reverse names.now))) }
+        (IsListing fs.now (found_node fs.now (reverse names.now))) }
     ensures ascending { IfOk result (λ children. IsAscending children.names) }
 {
     match refuse_list(fs, names) {

@@ -2,7 +2,7 @@
 ghost use Rattle.std.specs.Prelude.{◌≡◌, ◌≤◌, ◌^◌, length, reverse, Some, Ok};
 ghost use Rattle.tree_trait.specs.FileSystem.{find, node};
 ghost use Rattle.tree_trait.specs.Calls.{Stat, ReadAt};
-ghost use Rattle.tree_trait.specs.Change.{found};
+ghost use Rattle.tree_trait.specs.Change.{found_node};
 ghost use Rattle.tree_trait.specs.Answers.{IsMeta, IsRead};
 ghost use Rattle.tree_rules.specs.Told.{IsTold};
 
@@ -77,7 +77,7 @@ pub fn read_bytes(
     into: &mut [u8],
 ) -> Result<usize, TreeError>
     ensures { IsTold fs.now (ReadAt (reverse names.now) offset (length into.old)) result
-        (IsRead (node fs.now (found fs.now (reverse names.now))).bytes offset into.old into.new) }
+        (IsRead (node fs.now (found_node fs.now (reverse names.now))).bytes offset into.old into.new) }
 {
     match refuse_read(fs, names, offset, into.len()) {
         Some(e) => Err(e),

@@ -1,7 +1,7 @@
 //! What refuses the calls that change a tree: the first of their checks that stands, after the walk to their path.
 ghost use Rattle.std.specs.Prelude.{◌≡◌, ◌∷◌, ◌+◌, ◌≤◌, ◌^◌, ◌&&◌, ◌||◌, is_some, [], None, Ok, MatchResult, length, not, reverse};
 ghost use Rattle.tree_trait.specs.Calls.{Stat, ListFolder, ReadAt, ReadLink, MakeFile, WriteAt, SetMode, Rename, RemoveFile, RemoveFolder, SyncFile, SyncFolder};
-ghost use Rattle.tree_trait.specs.Refusals.{refusal_of, is_folder, lacks, first_of, is_link, missing, exists, a_folder, no_folder, a_special, denied, thing, folder_of, is_empty, is_mount, no_room, rename_refusal};
+ghost use Rattle.tree_trait.specs.Refusals.{refusal_of, is_folder, lacks, first_of, is_link, missing, exists, a_folder, no_folder, a_special, denied_access, thing, folder_of, is_empty, is_mount, no_room, rename_refusal};
 ghost use Rattle.tree_trait.specs.declared.calls.TreeError.TheVariants.{NoSpace, Special, Mounted, NotEmpty, Denied, IsFolder, NotFolder};
 ghost use Rattle.tree_rules.specs.Spot.{place_of};
 
@@ -36,7 +36,7 @@ pub fn refuse_stat(fs: &FileSystem, names: &[Name]) -> Option<TreeError>
 /// The checks of `list`.
 fn check_list(fs: &FileSystem, spot: &Spot) -> Option<TreeError>
     ensures { result ≡ first_of (missing (place_of spot.now) ∷ no_folder fs.now (place_of spot.now)
-        ∷ denied 0o400 (thing fs.now (place_of spot.now)) ∷ []) }
+        ∷ denied_access 0o400 (thing fs.now (place_of spot.now)) ∷ []) }
 {
     if spot.there.is_none() {
         return Some(TreeError::Missing);
@@ -63,7 +63,7 @@ pub fn refuse_list(fs: &FileSystem, names: &[Name]) -> Option<TreeError>
 
 /// The checks of a making.
 fn check_make(fs: &FileSystem, spot: &Spot) -> Option<TreeError>
-    ensures { result ≡ first_of (exists (place_of spot.now) ∷ denied 0o200 (folder_of fs.now (place_of spot.now)) ∷ []) }
+    ensures { result ≡ first_of (exists (place_of spot.now) ∷ denied_access 0o200 (folder_of fs.now (place_of spot.now)) ∷ []) }
 {
     if spot.there.is_some() {
         return Some(TreeError::Exists);
@@ -87,7 +87,7 @@ pub fn refuse_make(fs: &FileSystem, names: &[Name]) -> Option<TreeError>
 /// The checks of `write_at` but for the mount's room.
 fn check_file(fs: &FileSystem, spot: &Spot, bit: u16) -> Option<TreeError>
     ensures { result ≡ first_of (missing (place_of spot.now) ∷ a_folder fs.now (place_of spot.now)
-        ∷ a_special fs.now (place_of spot.now) ∷ denied bit (thing fs.now (place_of spot.now)) ∷ []) }
+        ∷ a_special fs.now (place_of spot.now) ∷ denied_access bit (thing fs.now (place_of spot.now)) ∷ []) }
 {
     if spot.there.is_none() {
         return Some(TreeError::Missing);
@@ -115,7 +115,7 @@ fn check_write(
 ) -> Option<TreeError>
     requires { offset + count ≤ 2 ^ 63 }
     ensures { result ≡ first_of (missing (place_of spot.now) ∷ a_folder fs.now (place_of spot.now)
-        ∷ a_special fs.now (place_of spot.now) ∷ denied 0o200 (thing fs.now (place_of spot.now))
+        ∷ a_special fs.now (place_of spot.now) ∷ denied_access 0o200 (thing fs.now (place_of spot.now))
         ∷ (no_room fs.now (reverse names.now) (place_of spot.now) offset count, NoSpace) ∷ []) }
 {
     if spot.there.is_none() {
@@ -209,7 +209,7 @@ pub fn refuse_set_mode(fs: &FileSystem, names: &[Name], mode: u16) -> Option<Tre
 /// The checks of `remove_file`.
 fn check_remove_file(fs: &FileSystem, spot: &Spot) -> Option<TreeError>
     ensures { result ≡ first_of (missing (place_of spot.now) ∷ a_folder fs.now (place_of spot.now)
-        ∷ denied 0o200 (folder_of fs.now (place_of spot.now)) ∷ []) }
+        ∷ denied_access 0o200 (folder_of fs.now (place_of spot.now)) ∷ []) }
 {
     if spot.there.is_none() {
         return Some(TreeError::Missing);
@@ -252,7 +252,7 @@ fn is_mount(fs: &FileSystem, spot: &Spot) -> bool
 fn check_remove_folder(fs: &FileSystem, spot: &Spot) -> Option<TreeError>
     ensures { result ≡ first_of (missing (place_of spot.now) ∷ no_folder fs.now (place_of spot.now)
         ∷ (is_mount fs.now (place_of spot.now), Mounted) ∷ (not (is_empty fs.now (place_of spot.now)), NotEmpty)
-        ∷ denied 0o200 (folder_of fs.now (place_of spot.now)) ∷ []) }
+        ∷ denied_access 0o200 (folder_of fs.now (place_of spot.now)) ∷ []) }
 {
     if spot.there.is_none() {
         return Some(TreeError::Missing);

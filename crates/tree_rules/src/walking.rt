@@ -1,8 +1,8 @@
 //! Walks from the root.
 ghost use Rattle.std.specs.Prelude.{◌≡◌, ◌∷◌, reverse, length, Ok, Err, MatchResult, unwrap_or};
 ghost use Rattle.tree_trait.specs.FileSystem.{find};
-ghost use Rattle.tree_trait.specs.Change.{found};
-ghost use Rattle.tree_trait.specs.Refusals.{step, last_step, reached, walk};
+ghost use Rattle.tree_trait.specs.Change.{found_node};
+ghost use Rattle.tree_trait.specs.Refusals.{step, last_step, reached_node, walk};
 ghost use Rattle.tree_rules.specs.Spot.{place_of};
 
 use crate::lookups::{folder_at, lacks_at, lookup};
@@ -34,7 +34,7 @@ fn step(fs: &FileSystem, folder: usize, name: &Name) -> Result<usize, TreeError>
 
 /// The node that a path leads to, whose names stand here from the root on.
 fn reach(fs: &FileSystem, names: &[Name]) -> Result<usize, TreeError>
-    ensures { result ≡ reached fs.now (reverse names.now) }
+    ensures { result ≡ reached_node fs.now (reverse names.now) }
 {
     match names {
         [] => Ok(0),
@@ -107,14 +107,14 @@ pub fn find_in(fs: &FileSystem, front: &[Name], name: &Name) -> Option<usize>
 
 /// The number of the node that a name leads to in the folder of a path, and 0 where it leads nowhere.
 pub fn found_in(fs: &FileSystem, front: &[Name], name: &Name) -> usize
-    ensures { result ≡ found fs.now (name.now ∷ reverse front.now) }
+    ensures { result ≡ found_node fs.now (name.now ∷ reverse front.now) }
 {
     find_in(fs, front, name).unwrap_or(0)
 }
 
 /// The number of the node that a path leads to, and 0 where it leads nowhere.
 pub fn found(fs: &FileSystem, names: &[Name]) -> usize
-    ensures { result ≡ found fs.now (reverse names.now) }
+    ensures { result ≡ found_node fs.now (reverse names.now) }
 {
     find(fs, names).unwrap_or(0)
 }

@@ -8,7 +8,7 @@ use Rattle.tree_trait.specs.Calls.{Call, Stat, ListFolder, ReadAt, ReadLink, Mak
 use Rattle.mc_text.specs.Routes.{Route, same_path, is_prefix}
 use Rattle.tree_trait.specs.FileSystem.{lookup, node}
 use Rattle.std.specs.Prelude.{is_none, is_some, ◌||◌, ◌&&◌, if◌then◌else◌, length}
-use Rattle.tree_trait.specs.Refusals.{is_folder, is_link, lacks, step, and_then, reached, Place, last_step, walk, after_walk, first_of, thing, folder_of, is_empty, is_mount, no_room, same_mount, missing, exists, a_folder, no_folder, a_special, denied, rename_refusal, refusal_of}
+use Rattle.tree_trait.specs.Refusals.{is_folder, is_link, lacks, step, and_then, reached_node, Place, last_step, walk, after_walk, first_of, thing, folder_of, is_empty, is_mount, no_room, same_mount, missing, exists, a_folder, no_folder, a_special, denied_access, rename_refusal, refusal_of}
 use Rattle.tree_trait.specs.Answers.{IsCause, Reads, HasCause}
 use Rattle.tree_trait.specs.Change.{CallLog, current}
 
@@ -42,13 +42,13 @@ then_blames : (A B : Type 0) (next : A → Result B TreeError) (r : Result A Tre
 then_blames A B next (Ok x) f h = f x
 then_blames A B next (Err e) f h = h
 
-pub reached_blames : (s : FileSystem) (path : Route) → Blames (reached s path)
+pub reached_blames : (s : FileSystem) (path : Route) → Blames (reached_node s path)
 reached_blames s [] = tt
-reached_blames s (name ∷ folder) = then_blames ℕ ℕ (step s name) (reached s folder) (step_blames s name) (reached_blames s folder)
+reached_blames s (name ∷ folder) = then_blames ℕ ℕ (step s name) (reached_node s folder) (step_blames s name) (reached_blames s folder)
 
 pub walk_blames : (s : FileSystem) (path : Route) → Blames (walk s path)
 walk_blames s [] = tt
-walk_blames s (name ∷ folder) = then_blames ℕ Place (last_step s name) (reached s folder) (last_blames s name) (reached_blames s folder)
+walk_blames s (name ∷ folder) = then_blames ℕ Place (last_step s name) (reached_node s folder) (last_blames s name) (reached_blames s folder)
 
 after_names : (r : Result Place TreeError) (checks : Place → Option TreeError) → ((p : Place) → Names (checks p)) → Blames r
     → Names (let o : Option TreeError = elim r [ Err e ↦ Some e | Ok place ↦ checks place ] in o)
@@ -87,18 +87,18 @@ rename_names s from to a b =
 
 pub refusal_names : (s : FileSystem) (call : Call) → Names (refusal_of s call)
 refusal_names s (Stat path) = listed s path (λ p. missing p ∷ []) (λ p. (tt, tt))
-refusal_names s (ListFolder path) = listed s path (λ p. missing p ∷ no_folder s p ∷ denied 0o400 (thing s p) ∷ []) (λ p. (tt, (tt, (tt, tt))))
-refusal_names s (ReadAt path offset count) = listed s path (λ p. missing p ∷ a_folder s p ∷ a_special s p ∷ denied 0o400 (thing s p) ∷ []) (λ p. (tt, (tt, (tt, (tt, tt)))))
+refusal_names s (ListFolder path) = listed s path (λ p. missing p ∷ no_folder s p ∷ denied_access 0o400 (thing s p) ∷ []) (λ p. (tt, (tt, (tt, tt))))
+refusal_names s (ReadAt path offset count) = listed s path (λ p. missing p ∷ a_folder s p ∷ a_special s p ∷ denied_access 0o400 (thing s p) ∷ []) (λ p. (tt, (tt, (tt, (tt, tt)))))
 refusal_names s (ReadLink path) = listed s path (λ p. missing p ∷ (not (is_link (thing s p)), Special) ∷ []) (λ p. (tt, (tt, tt)))
-refusal_names s (MakeFile path mode) = listed s path (λ p. exists p ∷ denied 0o200 (folder_of s p) ∷ []) (λ p. (tt, (tt, tt)))
-refusal_names s (WriteAt path offset bytes) = listed s path (λ p. missing p ∷ a_folder s p ∷ a_special s p ∷ denied 0o200 (thing s p) ∷ (no_room s path p offset (length bytes), NoSpace) ∷ []) (λ p. (tt, (tt, (tt, (tt, (tt, tt))))))
+refusal_names s (MakeFile path mode) = listed s path (λ p. exists p ∷ denied_access 0o200 (folder_of s p) ∷ []) (λ p. (tt, (tt, tt)))
+refusal_names s (WriteAt path offset bytes) = listed s path (λ p. missing p ∷ a_folder s p ∷ a_special s p ∷ denied_access 0o200 (thing s p) ∷ (no_room s path p offset (length bytes), NoSpace) ∷ []) (λ p. (tt, (tt, (tt, (tt, (tt, tt))))))
 refusal_names s (SetMode path mode) = listed s path (λ p. missing p ∷ a_special s p ∷ []) (λ p. (tt, (tt, tt)))
-refusal_names s (MakeFolder path mode) = listed s path (λ p. exists p ∷ denied 0o200 (folder_of s p) ∷ []) (λ p. (tt, (tt, tt)))
-refusal_names s (MakeLink path text) = listed s path (λ p. exists p ∷ denied 0o200 (folder_of s p) ∷ []) (λ p. (tt, (tt, tt)))
+refusal_names s (MakeFolder path mode) = listed s path (λ p. exists p ∷ denied_access 0o200 (folder_of s p) ∷ []) (λ p. (tt, (tt, tt)))
+refusal_names s (MakeLink path text) = listed s path (λ p. exists p ∷ denied_access 0o200 (folder_of s p) ∷ []) (λ p. (tt, (tt, tt)))
 refusal_names s (Rename from to) =
     after_names (walk s from) (λ a. after_walk s to (λ b. rename_refusal s from to a b)) (λ a. after_names (walk s to) (λ b. rename_refusal s from to a b) (λ b. rename_names s from to a b) (walk_blames s to)) (walk_blames s from)
-refusal_names s (RemoveFile path) = listed s path (λ p. missing p ∷ a_folder s p ∷ denied 0o200 (folder_of s p) ∷ []) (λ p. (tt, (tt, (tt, tt))))
-refusal_names s (RemoveFolder path) = listed s path (λ p. missing p ∷ no_folder s p ∷ (is_mount s p, Mounted) ∷ (not (is_empty s p), NotEmpty) ∷ denied 0o200 (folder_of s p) ∷ []) (λ p. (tt, (tt, (tt, (tt, (tt, tt))))))
+refusal_names s (RemoveFile path) = listed s path (λ p. missing p ∷ a_folder s p ∷ denied_access 0o200 (folder_of s p) ∷ []) (λ p. (tt, (tt, (tt, tt))))
+refusal_names s (RemoveFolder path) = listed s path (λ p. missing p ∷ no_folder s p ∷ (is_mount s p, Mounted) ∷ (not (is_empty s p), NotEmpty) ∷ denied_access 0o200 (folder_of s p) ∷ []) (λ p. (tt, (tt, (tt, (tt, (tt, tt))))))
 refusal_names s (SyncFile path) = listed s path (λ p. missing p ∷ a_folder s p ∷ a_special s p ∷ []) (λ p. (tt, (tt, (tt, tt))))
 refusal_names s (SyncFolder path) = listed s path (λ p. missing p ∷ no_folder s p ∷ []) (λ p. (tt, (tt, tt)))
 

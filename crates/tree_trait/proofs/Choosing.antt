@@ -3,7 +3,7 @@ use Rattle.std.proofs.Common.{◌≡◌, ℕ, Bool, true, false, not, ◌&&◌, 
 use Rattle.std.proofs.lemmas.Bool.{and_parts}
 use Rattle.tree_trait.specs.declared.file_system.FileSystem.{FileSystem}
 use Rattle.tree_trait.specs.Change.{Change, Nothing, Makes, Moves, Removes, Sets, Writes, Syncs, after_change}
-use Rattle.tree_trait.specs.CrashImages.{is_unsynced, Lost, MayLeave, is_write, without, unless_synced, chosen}
+use Rattle.tree_trait.specs.CrashImages.{is_unsynced, Lost, MayLeave, is_write, without, unless_synced, image_by_bits}
 
 lost_without : (fill : List ℕ → List ℕ) (s : FileSystem) (c : Change) → Lost s c (without fill s c)
 lost_without fill s Nothing = refl
@@ -20,16 +20,16 @@ either_way : (fill : List ℕ → List ℕ) (s image : FileSystem) (c : Change) 
 either_way fill s image c later true is h = inr (is, (without fill s c, lost_without fill s c, h))
 either_way fill s image c later false is h = inl h
 
-pub chosen_leaves : (fill : List ℕ → List ℕ) (s : FileSystem) (cs : List Change) (keep : List Bool) → MayLeave s cs (chosen fill s cs keep)
+pub chosen_leaves : (fill : List ℕ → List ℕ) (s : FileSystem) (cs : List Change) (keep : List Bool) → MayLeave s cs (image_by_bits fill s cs keep)
 chosen_leaves fill s [] keep = refl
 chosen_leaves fill s (c ∷ later) [] =
-    either_way fill s (chosen fill s (c ∷ later) []) c later (is_unsynced c later) refl (chosen_leaves fill (unless_synced fill s c later) later [])
+    either_way fill s (image_by_bits fill s (c ∷ later) []) c later (is_unsynced c later) refl (chosen_leaves fill (unless_synced fill s c later) later [])
 chosen_leaves fill s (c ∷ later) (bit ∷ keep) =
     go (is_unsynced c later && not (is_write c)) bit refl (λ x. chosen_leaves fill x later keep) (chosen_leaves fill (unless_synced fill s c later) later (bit ∷ keep))
   where
-    go : (p b : Bool) → (is_unsynced c later && not (is_write c)) ≡ p → ((x : FileSystem) → MayLeave x later (chosen fill x later keep))
-        → MayLeave (unless_synced fill s c later) later (chosen fill (unless_synced fill s c later) later (bit ∷ keep))
-        → MayLeave s (c ∷ later) (cond p (chosen fill (cond b (after_change s c) (without fill s c)) later keep) (chosen fill (unless_synced fill s c later) later (bit ∷ keep)))
+    go : (p b : Bool) → (is_unsynced c later && not (is_write c)) ≡ p → ((x : FileSystem) → MayLeave x later (image_by_bits fill x later keep))
+        → MayLeave (unless_synced fill s c later) later (image_by_bits fill (unless_synced fill s c later) later (bit ∷ keep))
+        → MayLeave s (c ∷ later) (cond p (image_by_bits fill (cond b (after_change s c) (without fill s c)) later keep) (image_by_bits fill (unless_synced fill s c later) later (bit ∷ keep)))
     go true true is ih other = inl (ih (after_change s c))
     go true false is ih other = inr ((and_parts _ _ is).0, (without fill s c, lost_without fill s c, ih (without fill s c)))
-    go false b is ih other = either_way fill s (chosen fill (unless_synced fill s c later) later (bit ∷ keep)) c later (is_unsynced c later) refl other
+    go false b is ih other = either_way fill s (image_by_bits fill (unless_synced fill s c later) later (bit ∷ keep)) c later (is_unsynced c later) refl other

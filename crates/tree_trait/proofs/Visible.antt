@@ -8,9 +8,9 @@ use Rattle.mc_text.specs.Routes.{Route, same_path}
 use Rattle.tree_trait.specs.declared.file_system.Node.{Node}
 use Rattle.tree_trait.specs.declared.file_system.FileSystem.{FileSystem}
 use Rattle.tree_trait.specs.Calls.{RemoveFile}
-use Rattle.tree_trait.specs.FileSystem.{lookup, find, no_node, node, value, Spot, put, starts_mount, visible_tree}
+use Rattle.tree_trait.specs.FileSystem.{lookup, find, no_node, node, value, Spot, view_with, starts_mount, visible_tree}
 use Rattle.tree_trait.specs.Refusals.{is_folder, refusal_of}
-use Rattle.tree_trait.specs.Change.{Removes, after_change, change_of, found}
+use Rattle.tree_trait.specs.Change.{Removes, after_change, change_of, found_node}
 use Rattle.tree_trait.specs.CrashImages.{same_name}
 use Rattle.tree_trait.specs.Shape.{IsTree, IsRemovable}
 use Rattle.tree_trait.proofs.Finding.{same_name-true, same_name-self, find-once, and_then-some}
@@ -55,15 +55,15 @@ module _ (s : FileSystem) (tree : IsTree s) where
   module _ (f : ℕ) (name : List ℕ) (up : Route) (folder : find s up ≡ Some f) where
     -- a name of a folder that is found is that of one path
     only_path : (k : ℕ) (m : List ℕ) (q : Route) → find s q ≡ Some k → same_name f name k m ≡ true → (m ∷ q) ≡ name ∷ up
-    only_path k m q found on =
+    only_path k m q found_node on =
         let w = same_name-true f k name m on in
-        let u : q ≡ up = find-once s tree q up k found (folder ∙ ap Some w.0) in cc
+        let u : q ≡ up = find-once s tree q up k found_node (folder ∙ ap Some w.0) in cc
 
     only_name : (k : ℕ) (m : List ℕ) (q : Route) → find s q ≡ Some k → (m ∷ q) ≡ name ∷ up → same_name f name k m ≡ true
-    only_name k m q found e =
+    only_name k m q found_node e =
         let q_is : q ≡ up = cc in
         let m_is : name ≡ m = cc in
-        let found_up : find s up ≡ Some k = subst (λ r. find s r ≡ Some k) q_is found in
+        let found_up : find s up ≡ Some k = subst (λ r. find s r ≡ Some k) q_is found_node in
         let k_is : f ≡ k = cc in
         subst (λ j. same_name f name j m ≡ true) k_is (subst (λ n. same_name f name f n ≡ true) m_is (same_name-self f name))
 
@@ -129,10 +129,10 @@ not_true false c h off = refl
 
 -- a removal that isn't refused leaves nothing at its path
 pub removal_shows : (s : FileSystem) (path : Route) (time : ℤ) → IsTree s → refusal_of s (RemoveFile path) ≡ None
-    → (p : Route) → visible_tree (after_change s (change_of s (RemoveFile path) time)) p ≡ put (visible_tree s) path None p
+    → (p : Route) → visible_tree (after_change s (change_of s (RemoveFile path) time)) p ≡ view_with (visible_tree s) path None p
 removal_shows s path time tree permits p =
     let r = removable s path tree permits in
-    subst (λ q. visible_tree (after_change s (change_of s (RemoveFile q) time)) p ≡ put (visible_tree s) q None p) (sym r.path_is) (
+    subst (λ q. visible_tree (after_change s (change_of s (RemoveFile q) time)) p ≡ view_with (visible_tree s) q None p) (sym r.path_is) (
     rw r.folder (
     ap (seen s) (find_is r) ∙ seen_gone s (same_path p (r.name ∷ r.up)) (find s p) (λ on. is_no_mount r on)))
   where

@@ -8,7 +8,7 @@ use Rattle.tree_trait.specs.declared.calls.TreeError.TheVariants.{Missing, NotFo
 use Rattle.tree_trait.specs.Calls.{Stat, ListFolder, RemoveFile}
 use Rattle.mc_text.specs.Routes.{Route}
 use Rattle.tree_trait.specs.FileSystem.{lookup, find, node}
-use Rattle.tree_trait.specs.Refusals.{is_folder, lacks, step, and_then, reached, Place, last_step, walk, first_of, thing, folder_of, missing, a_folder, no_folder, denied, refusal_of}
+use Rattle.tree_trait.specs.Refusals.{is_folder, lacks, step, and_then, reached_node, Place, last_step, walk, first_of, thing, folder_of, missing, a_folder, no_folder, denied_access, refusal_of}
 use Rattle.tree_trait.specs.Shape.{IsTree, IsRemovable}
 
 pub cond_some : {A : Type 0} (b : Bool) (x y : Option A) → cond b x y ≡ None → ((b ≡ true) × (x ≡ None)) ⊎ ((b ≡ false) × (y ≡ None))
@@ -38,10 +38,10 @@ step-lookup s name f x h =
     found_in (lookup s.names f name) x (check_passed (lacks 0o100 (node s f)) Denied _ x (check_passed (not (is_folder (node s f))) NotFolder _ x h).1).1
 
 -- a walk reaches the node that the path leads to
-pub reached-find : (s : FileSystem) (path : Route) (x : ℕ) → reached s path ≡ Ok x → find s path ≡ Some x
+pub reached-find : (s : FileSystem) (path : Route) (x : ℕ) → reached_node s path ≡ Ok x → find s path ≡ Some x
 reached-find s [] x h = cc
 reached-find s (name ∷ folder) x h =
-    let p = and_then-ok (step s name) (reached s folder) x h in
+    let p = and_then-ok (step s name) (reached_node s folder) x h in
     ap (option_and_then (λ f. lookup s.names f name)) (reached-find s folder p.0 p.1) ∙ step-lookup s name p.0 x p.2
 
 pub passed_walk : (r : Result Place TreeError) (checks : Place → Option TreeError) → (let o : Option TreeError = elim r [ Err e ↦ Some e | Ok place ↦ checks place ] in o) ≡ None → (p : Place) × (r ≡ Ok p) × (checks p ≡ None)
@@ -61,10 +61,10 @@ removable s [] tree h =
     let a = check_passes (is_folder (node s 0)) IsFolder _ h in
     absurd (false≢true (sym a.0 ∙ tree.root))
 removable s (name ∷ up) tree h =
-    let w = passed_walk (walk s (name ∷ up)) (λ p. first_of (missing p ∷ a_folder s p ∷ denied 0o200 (folder_of s p) ∷ [])) h in
-    let r = and_then-ok (last_step s name) (reached s up) w.0 w.1 in
+    let w = passed_walk (walk s (name ∷ up)) (λ p. first_of (missing p ∷ a_folder s p ∷ denied_access 0o200 (folder_of s p) ∷ [])) h in
+    let r = and_then-ok (last_step s name) (reached_node s up) w.0 w.1 in
     let q = ok_same ((check_passed (lacks 0o100 (node s r.0)) Denied _ w.0 (check_passed (not (is_folder (node s r.0))) NotFolder _ w.0 r.2).1).1) in
-    let checks = subst (λ p. first_of (missing p ∷ a_folder s p ∷ denied 0o200 (folder_of s p) ∷ []) ≡ None) q w.2 in
+    let checks = subst (λ p. first_of (missing p ∷ a_folder s p ∷ denied_access 0o200 (folder_of s p) ∷ []) ≡ None) q w.2 in
     let a = check_passes (is_none (lookup s.names r.0 name)) Missing _ checks in
     let there = some_there (lookup s.names r.0 name) a.0 in
     let b = check_passes (is_folder (node s (unwrap_or (lookup s.names r.0 name) (length s.nodes)))) IsFolder _ a.1 in
@@ -83,7 +83,7 @@ removable s (name ∷ up) tree h =
 pub walk-find : (s : FileSystem) (path : Route) (place : Place) → walk s path ≡ Ok place → find s path ≡ place.there
 walk-find s [] place h = ap (λ (p : Place). p.there) (sym (ok_same h))
 walk-find s (name ∷ up) place h =
-    let r = and_then-ok (last_step s name) (reached s up) place h in
+    let r = and_then-ok (last_step s name) (reached_node s up) place h in
     let q = ok_same ((check_passed (lacks 0o100 (node s r.0)) Denied _ place (check_passed (not (is_folder (node s r.0))) NotFolder _ place r.2).1).1) in
     ap (option_and_then (λ f. lookup s.names f name)) (reached-find s up r.0 r.1) ∙ ap (λ (p : Place). p.there) (sym q)
 
@@ -100,7 +100,7 @@ stat-found s path h =
 -- what may be listed is there
 pub list-found : (s : FileSystem) (path : Route) → refusal_of s (ListFolder path) ≡ None → find s path ≡ Some (unwrap_or (find s path) 0)
 list-found s path h =
-    let w = passed_walk (walk s path) (λ p. first_of (missing p ∷ no_folder s p ∷ denied 0o400 (thing s p) ∷ [])) h in
+    let w = passed_walk (walk s path) (λ p. first_of (missing p ∷ no_folder s p ∷ denied_access 0o400 (thing s p) ∷ [])) h in
     found_place s path w.0.there (walk-find s path w.0 w.1) (check_passes (is_none w.0.there) Missing _ w.2).0
 
 -- where the walk to a name in a folder ended
@@ -112,7 +112,7 @@ pub record IsLast (s : FileSystem) (name : List ℕ) (up : Route) (place : Place
 
 pub last_place : (s : FileSystem) (name : List ℕ) (up : Route) (place : Place) → walk s (name ∷ up) ≡ Ok place → IsLast s name up place
 last_place s name up place h =
-    let r = and_then-ok (last_step s name) (reached s up) place h in
+    let r = and_then-ok (last_step s name) (reached_node s up) place h in
     let a = check_passed (not (is_folder (node s r.0))) NotFolder _ place r.2 in
     let b = check_passed (lacks 0o100 (node s r.0)) Denied _ place a.1 in
     let q = ok_same b.1 in

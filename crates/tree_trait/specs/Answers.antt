@@ -15,7 +15,7 @@ use Rattle.tree_trait.specs.declared.calls.Meta.{Meta}
 use Rattle.tree_trait.specs.declared.calls.Children.{Children}
 use Rattle.tree_trait.specs.FileSystem.{lookup, node}
 use Rattle.tree_trait.specs.Refusals.{refusal_of, mount_of}
-use Rattle.tree_trait.specs.Change.{CallLog, Nothing, current, with_change, change_of, torn_write, found}
+use Rattle.tree_trait.specs.Change.{CallLog, Nothing, current, with_change, change_of, torn_write, found_node}
 
 -- a count with one more, which stays at its last value
 abbrev pub one_more : ℕ → ℕ
@@ -61,10 +61,10 @@ mount_number (m ∷ mounts) folder = if m.folder == folder then 0 else mount_num
 
 -- what `stat` tells
 pub record IsMeta (s : FileSystem) (path : Route) (meta : Meta) : Type 0 where
-  pub kind : meta.kind ≡ (node s (found s path)).kind
-  pub size : meta.size ≡ length (node s (found s path)).bytes
-  pub mode : meta.mode ≡ (node s (found s path)).mode
-  pub mtime : meta.mtime ≡ (node s (found s path)).mtime
+  pub kind : meta.kind ≡ (node s (found_node s path)).kind
+  pub size : meta.size ≡ length (node s (found_node s path)).bytes
+  pub mode : meta.mode ≡ (node s (found_node s path)).mode
+  pub mtime : meta.mtime ≡ (node s (found_node s path)).mtime
   pub mount : meta.mount ≡ mount_number s.mounts (mount_of s path)
 
 -- the order of names, byte by byte

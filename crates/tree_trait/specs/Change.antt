@@ -36,17 +36,17 @@ after_change s (Sets i mode) = record s { nodes = slice_set s.nodes i (record (n
 after_change s (Writes i bytes mtime) = with_bytes s i bytes mtime
 after_change s (Syncs i) = s
 
-abbrev pub found : FileSystem → Route → ℕ
-found s path = unwrap_or (find s path) 0
+abbrev pub found_node : FileSystem → Route → ℕ
+found_node s path = unwrap_or (find s path) 0
 
 -- a change of the name of a path in its folder; the root has none
 abbrev pub of_name : FileSystem → Route → (ℕ → List ℕ → Change) → Change
 of_name s [] change = Nothing
-of_name s (name ∷ folder) change = change (found s folder) name
+of_name s (name ∷ folder) change = change (found_node s folder) name
 
 -- bytes with others written over them at an offset, zeros between
-abbrev pub overwritten : List ℕ → ℕ → List ℕ → List ℕ
-overwritten old offset bytes =
+abbrev pub overwritten_bytes : List ℕ → ℕ → List ℕ → List ℕ
+overwritten_bytes old offset bytes =
     take offset (old ++ replicate (offset - length old) 0) ++ bytes ++ drop (offset + length bytes) old
 
 -- what a call does where no check of it fails, with the time that it gives to a file
@@ -56,21 +56,21 @@ change_of s (ListFolder path) time = Nothing
 change_of s (ReadAt path offset count) time = Nothing
 change_of s (ReadLink path) time = Nothing
 change_of s (MakeFile path mode) time = of_name s path (λ f name. Makes f name (record { kind = File; bytes = []; mode = mode; mtime = time; unnamed = 0 }))
-change_of s (WriteAt path offset bytes) time = Writes (found s path) (overwritten (node s (found s path)).bytes offset bytes) time
-change_of s (SetMode path mode) time = Sets (found s path) mode
+change_of s (WriteAt path offset bytes) time = Writes (found_node s path) (overwritten_bytes (node s (found_node s path)).bytes offset bytes) time
+change_of s (SetMode path mode) time = Sets (found_node s path) mode
 change_of s (MakeFolder path mode) time = of_name s path (λ f name. Makes f name (record { kind = Folder; bytes = []; mode = mode; mtime = pos 0; unnamed = 0 }))
 change_of s (MakeLink path text) time = of_name s path (λ f name. Makes f name (record { kind = Link; bytes = text; mode = 0; mtime = pos 0; unnamed = 0 }))
 change_of s (Rename from to) time =
     if same_path from to then Nothing else
-    of_name s from (λ f old. of_name s to (λ g new. Moves f old g new (found s from) (find s to)))
-change_of s (RemoveFile path) time = of_name s path (λ f name. Removes f name (found s path))
-change_of s (RemoveFolder path) time = of_name s path (λ f name. Removes f name (found s path))
-change_of s (SyncFile path) time = Syncs (found s path)
-change_of s (SyncFolder path) time = Syncs (found s path)
+    of_name s from (λ f old. of_name s to (λ g new. Moves f old g new (found_node s from) (find s to)))
+change_of s (RemoveFile path) time = of_name s path (λ f name. Removes f name (found_node s path))
+change_of s (RemoveFolder path) time = of_name s path (λ f name. Removes f name (found_node s path))
+change_of s (SyncFile path) time = Syncs (found_node s path)
+change_of s (SyncFolder path) time = Syncs (found_node s path)
 
 -- what a write that failed leaves
 abbrev pub torn_write : FileSystem → Call → List ℕ → Change
-torn_write s (WriteAt path offset bytes) left = Writes (found s path) left (pos 0)
+torn_write s (WriteAt path offset bytes) left = Writes (found_node s path) left (pos 0)
 torn_write s call left = Nothing
 
 abbrev pub after_changes : FileSystem → List Change → FileSystem

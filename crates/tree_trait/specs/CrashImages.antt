@@ -156,10 +156,10 @@ unless_synced fill s c later = if is_unsynced c later then without fill s c else
 -- The image in which those unsynced changes of names and modes stand for which there is a bit `true`: the bits are in
 -- the order of these changes, and one that is missing is `false`. A file with unsynced writes holds what `fill` makes of
 -- the bytes that were written.
-abbrev pub chosen : (List ℕ → List ℕ) → FileSystem → List Change → List Bool → FileSystem
-chosen fill s [] keep = s
-chosen fill s (c ∷ later) [] = chosen fill (unless_synced fill s c later) later []
-chosen fill s (c ∷ later) (bit ∷ keep) =
+abbrev pub image_by_bits : (List ℕ → List ℕ) → FileSystem → List Change → List Bool → FileSystem
+image_by_bits fill s [] keep = s
+image_by_bits fill s (c ∷ later) [] = image_by_bits fill (unless_synced fill s c later) later []
+image_by_bits fill s (c ∷ later) (bit ∷ keep) =
     if is_unsynced c later && not (is_write c)
-    then chosen fill (if bit then after_change s c else without fill s c) later keep
-    else chosen fill (unless_synced fill s c later) later (bit ∷ keep)
+    then image_by_bits fill (if bit then after_change s c else without fill s c) later keep
+    else image_by_bits fill (unless_synced fill s c later) later (bit ∷ keep)

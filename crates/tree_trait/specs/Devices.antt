@@ -8,7 +8,7 @@ use Rattle.tree_trait.specs.declared.devices.SpawnError.{SpawnError}
 use Rattle.tree_trait.specs.declared.devices.SpawnError.TheVariants.{Fault, Memory}
 
 -- bytes were taken from the front of those that are left, and none only at their end or into no room
-pub record TakesFront (left : List ℕ) (room : List ℕ) (count : ℕ) (new : Option (List ℕ)) : Type 0 where
+pub record TakesPrefix (left : List ℕ) (room : List ℕ) (count : ℕ) (new : Option (List ℕ)) : Type 0 where
   pub some : count ≤ length left
   pub bytes : take count room ≡ take count left
   pub rest : new ≡ Some (drop count left)
@@ -16,7 +16,7 @@ pub record TakesFront (left : List ℕ) (room : List ℕ) (count : ℕ) (new : O
 
 -- what a source has left after a call that read into this room; a failed one took nothing
 abbrev pub HasTaken : List ℕ → List ℕ → Result ℕ SourceFault → Option (List ℕ) → Type 0
-HasTaken left room (Ok count) new = TakesFront left room count new
+HasTaken left room (Ok count) new = TakesPrefix left room count new
 HasTaken left room (Err fault) new = new ≡ Some left
 
 -- what a sink was given after a call; a failed one gave it a front of the bytes

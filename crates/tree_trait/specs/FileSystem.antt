@@ -63,5 +63,5 @@ abbrev pub visible_tree : FileSystem → View
 visible_tree s path = record { value = value_at s path; is_mount = option_map_or (starts_mount s) (find s path) false }
 
 -- a view in which one path has another value; where mounts begin stays
-abbrev pub put : View → Route → Option Value → View
-put v path new p = if same_path p path then record (v p) { value = new } else v p
+abbrev pub view_with : View → Route → Option Value → View
+view_with v path new p = if same_path p path then record (v p) { value = new } else v p

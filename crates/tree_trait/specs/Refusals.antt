@@ -58,9 +58,9 @@ and_then next (Ok x) = next x
 and_then next (Err e) = Err e
 
 -- the node that a walk reaches
-abbrev pub reached : FileSystem → Route → Result ℕ TreeError
-reached s [] = Ok 0
-reached s (name ∷ folder) = and_then (step s name) (reached s folder)
+abbrev pub reached_node : FileSystem → Route → Result ℕ TreeError
+reached_node s [] = Ok 0
+reached_node s (name ∷ folder) = and_then (step s name) (reached_node s folder)
 
 -- where a walk ends: the folder that holds the last name, if there is one, and what the name leads to
 pub record Place : Type 0 where
@@ -76,7 +76,7 @@ last_step s name f =
 
 abbrev pub walk : FileSystem → Route → Result Place TreeError
 walk s [] = Ok (record { holder = None; there = Some 0 })
-walk s (name ∷ folder) = and_then (last_step s name) (reached s folder)
+walk s (name ∷ folder) = and_then (last_step s name) (reached_node s folder)
 
 -- the error of the first check that stands
 abbrev pub first_of : List (Bool × TreeError) → Option TreeError
@@ -181,22 +181,22 @@ no_folder s p = (not (is_folder (thing s p)), NotFolder)
 abbrev pub a_special : FileSystem → Place → Bool × TreeError
 a_special s p = (not (is_file (thing s p)) && not (is_folder (thing s p)), Special)
 
-abbrev pub denied : ℕ → Node → Bool × TreeError
-denied bit n = (lacks bit n, Denied)
+abbrev pub denied_access : ℕ → Node → Bool × TreeError
+denied_access bit n = (lacks bit n, Denied)
 
 -- the first check of a call that fails, or none
 abbrev pub refusal_of : FileSystem → Call → Option TreeError
 refusal_of s (Stat path) = after_walk s path (λ p. first_of (missing p ∷ []))
-refusal_of s (ListFolder path) = after_walk s path (λ p. first_of (missing p ∷ no_folder s p ∷ denied 0o400 (thing s p) ∷ []))
-refusal_of s (ReadAt path offset count) = after_walk s path (λ p. first_of (missing p ∷ a_folder s p ∷ a_special s p ∷ denied 0o400 (thing s p) ∷ []))
+refusal_of s (ListFolder path) = after_walk s path (λ p. first_of (missing p ∷ no_folder s p ∷ denied_access 0o400 (thing s p) ∷ []))
+refusal_of s (ReadAt path offset count) = after_walk s path (λ p. first_of (missing p ∷ a_folder s p ∷ a_special s p ∷ denied_access 0o400 (thing s p) ∷ []))
 refusal_of s (ReadLink path) = after_walk s path (λ p. first_of (missing p ∷ (not (is_link (thing s p)), Special) ∷ []))
-refusal_of s (MakeFile path mode) = after_walk s path (λ p. first_of (exists p ∷ denied 0o200 (folder_of s p) ∷ []))
-refusal_of s (WriteAt path offset bytes) = after_walk s path (λ p. first_of (missing p ∷ a_folder s p ∷ a_special s p ∷ denied 0o200 (thing s p) ∷ (no_room s path p offset (length bytes), NoSpace) ∷ []))
+refusal_of s (MakeFile path mode) = after_walk s path (λ p. first_of (exists p ∷ denied_access 0o200 (folder_of s p) ∷ []))
+refusal_of s (WriteAt path offset bytes) = after_walk s path (λ p. first_of (missing p ∷ a_folder s p ∷ a_special s p ∷ denied_access 0o200 (thing s p) ∷ (no_room s path p offset (length bytes), NoSpace) ∷ []))
 refusal_of s (SetMode path mode) = after_walk s path (λ p. first_of (missing p ∷ a_special s p ∷ []))
-refusal_of s (MakeFolder path mode) = after_walk s path (λ p. first_of (exists p ∷ denied 0o200 (folder_of s p) ∷ []))
-refusal_of s (MakeLink path text) = after_walk s path (λ p. first_of (exists p ∷ denied 0o200 (folder_of s p) ∷ []))
+refusal_of s (MakeFolder path mode) = after_walk s path (λ p. first_of (exists p ∷ denied_access 0o200 (folder_of s p) ∷ []))
+refusal_of s (MakeLink path text) = after_walk s path (λ p. first_of (exists p ∷ denied_access 0o200 (folder_of s p) ∷ []))
 refusal_of s (Rename from to) = after_walk s from (λ a. after_walk s to (λ b. rename_refusal s from to a b))
-refusal_of s (RemoveFile path) = after_walk s path (λ p. first_of (missing p ∷ a_folder s p ∷ denied 0o200 (folder_of s p) ∷ []))
-refusal_of s (RemoveFolder path) = after_walk s path (λ p. first_of (missing p ∷ no_folder s p ∷ (is_mount s p, Mounted) ∷ (not (is_empty s p), NotEmpty) ∷ denied 0o200 (folder_of s p) ∷ []))
+refusal_of s (RemoveFile path) = after_walk s path (λ p. first_of (missing p ∷ a_folder s p ∷ denied_access 0o200 (folder_of s p) ∷ []))
+refusal_of s (RemoveFolder path) = after_walk s path (λ p. first_of (missing p ∷ no_folder s p ∷ (is_mount s p, Mounted) ∷ (not (is_empty s p), NotEmpty) ∷ denied_access 0o200 (folder_of s p) ∷ []))
 refusal_of s (SyncFile path) = after_walk s path (λ p. first_of (missing p ∷ a_folder s p ∷ a_special s p ∷ []))
 refusal_of s (SyncFolder path) = after_walk s path (λ p. first_of (missing p ∷ no_folder s p ∷ []))

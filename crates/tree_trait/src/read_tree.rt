@@ -2,7 +2,7 @@
 ghost use Rattle.std.specs.Prelude.{◌≡◌, ℕ, ◌≤◌, length, Option, IfOk};
 ghost use Rattle.tree_trait.specs.Calls.{Stat, ListFolder, ReadAt, ReadLink};
 ghost use Rattle.tree_trait.specs.FileSystem.{node};
-ghost use Rattle.tree_trait.specs.Change.{CallLog, current, found};
+ghost use Rattle.tree_trait.specs.Change.{CallLog, current, found_node};
 ghost use Rattle.tree_trait.specs.Answers.{HasCause, IfKnown, Reads, count_after, IsMeta, IsListing, IsRead, IsLinkText, IsInRange, IsAscending};
 
 use crate::calls::{Children, Meta, TreeError};
@@ -29,7 +29,7 @@ pub trait ReadTree {
     /// The children of a folder, in byte order of their names.
     fn list(&mut self, alloc: Global, path: &Path) -> Result<Children, TreeError>
         ensures answer { IfKnown (contents self.old) (λ log.
-            Reads log (ListFolder path.now) result (IsListing (current log) (found (current log) path.now))) }
+            Reads log (ListFolder path.now) result (IsListing (current log) (found_node (current log) path.now))) }
         ensures same { contents self.new ≡ contents self.old }
         ensures ascending { IfOk result (λ children. IsAscending children.names) }
         ensures cause { HasCause TreeError.Fault (fault_count self.old) (fault_count self.new) result }
@@ -45,7 +45,7 @@ pub trait ReadTree {
         into: &mut [u8],
     ) -> Result<usize, TreeError>
         ensures answer { IfKnown (contents self.old) (λ log. Reads log (ReadAt path.now offset (length into.old)) result
-            (IsRead (node (current log) (found (current log) path.now)).bytes offset into.old into.new)) }
+            (IsRead (node (current log) (found_node (current log) path.now)).bytes offset into.old into.new)) }
         ensures same { contents self.new ≡ contents self.old }
         ensures in_room { IfOk result (λ count. count ≤ length into.old) }
         ensures cause { HasCause TreeError.Fault (fault_count self.old) (fault_count self.new) result }
@@ -54,7 +54,7 @@ pub trait ReadTree {
     /// The text of a link.
     fn read_link(&mut self, alloc: Global, path: &Path) -> Result<Text, TreeError>
         ensures answer { IfKnown (contents self.old) (λ log. Reads log (ReadLink path.now) result
-            (λ text. text ≡ (node (current log) (found (current log) path.now)).bytes)) }
+            (λ text. text ≡ (node (current log) (found_node (current log) path.now)).bytes)) }
         ensures same { contents self.new ≡ contents self.old }
         ensures link_text { IfOk result IsLinkText }
         ensures cause { HasCause TreeError.Fault (fault_count self.old) (fault_count self.new) result }

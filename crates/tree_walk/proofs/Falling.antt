@@ -2,7 +2,7 @@
 use Rattle.std.proofs.Common.{◌≡◌, ℕ, zero, suc, Bool, ◌+◌, ◌-◌, ◌*◌, ◌^◌, ◌<◌, ◌≤◌, List, [], ◌∷◌, length, drop, refl, sym, ap, subst, arith}
 use Rattle.std.proofs.Math.Nat.{mul-le-mul_right, suc-mul}
 use Rattle.mc_text.specs.Routes.{Route}
-use Rattle.tree_walk.specs.Places.{IsLeft, OpenFolder, Place, entered, passed}
+use Rattle.tree_walk.specs.Places.{IsLeft, OpenFolder, Place, entered_place, passed_place}
 use Rattle.tree_walk.specs.Ranks.{rank, rank_around, weight}
 
 some_weight : (left : ℕ) → 1 ≤ weight left
@@ -16,7 +16,7 @@ one_less (name ∷ names) some = refl
 less_by : (n w rest : ℕ) → 1 ≤ w → (1 + n * w) + rest < (1 + suc n * w) + rest
 less_by n w rest some = let s : suc n * w ≡ n * w + w = suc-mul n w in omega (arith, some, s)
 
-pub pass_falls : (left : Bool) (w : Place) → 1 ≤ length w.inner.names → rank (passed left w) < rank w
+pub pass_falls : (left : Bool) (w : Place) → 1 ≤ length w.inner.names → rank (passed_place left w) < rank w
 pass_falls left w some =
     subst (λ n. (1 + length (drop 1 w.inner.names) * weight w.left) + rank_around (suc w.left) w.around < (1 + n * weight w.left) + rank_around (suc w.left) w.around) (sym (one_less w.inner.names some))
     (less_by (length (drop 1 w.inner.names)) (weight w.left) (rank_around (suc w.left) w.around) (some_weight w.left))
@@ -29,7 +29,7 @@ opens : (n less k : ℕ) (around : List OpenFolder) → n ≤ 2 ^ 64
 opens n less k around few =
     sums (n * weight less) (2 ^ 64 * weight less) (k * weight (suc less)) (suc k * weight (suc less)) (rank_around (suc (suc less)) around) (mul-le-mul_right (weight less) few) (suc-mul k (weight (suc less)))
 
-pub enter_falls : (path : Route) (names : List (List ℕ)) (w : Place) → 1 ≤ length w.inner.names → 1 ≤ w.left → length names ≤ 2 ^ 64 → rank (entered path names w) < rank w
+pub enter_falls : (path : Route) (names : List (List ℕ)) (w : Place) → 1 ≤ length w.inner.names → 1 ≤ w.left → length names ≤ 2 ^ 64 → rank (entered_place path names w) < rank w
 enter_falls path names w some deeper few =
     let e : suc (w.left - 1) ≡ w.left = omega (arith, deeper) in
     subst (λ l. (1 + length names * weight (w.left - 1)) + ((1 + length (drop 1 w.inner.names) * weight (suc (w.left - 1))) + rank_around (suc (suc (w.left - 1))) w.around) < (1 + length w.inner.names * weight l) + rank_around (suc l) w.around) e

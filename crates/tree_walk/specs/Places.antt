@@ -48,30 +48,30 @@ abbrev pub is_named_as_part : List ℕ → Bool
 is_named_as_part name = starts_with nat_eq name (46 ∷ 109 ∷ 99 ∷ 46 ∷ [])
 
 -- a folder of which nothing was met yet
-abbrev pub opened : Route → List (List ℕ) → OpenFolder
-opened path names = record { path = path; names = names; spared = false }
+abbrev pub opened_folder : Route → List (List ℕ) → OpenFolder
+opened_folder path names = record { path = path; names = names; spared = false }
 
 -- a walk that is to begin; it goes down 256 levels below its outermost folder
-abbrev pub unopened : Place
-unopened = record { inner = opened [] []; around = []; left = 256 }
+abbrev pub unopened_walk : Place
+unopened_walk = record { inner = opened_folder [] []; around = []; left = 256 }
 
-abbrev pub noted : Bool → OpenFolder → OpenFolder
-noted left folder = record folder { spared = folder.spared || left }
+abbrev pub noted_folder : Bool → OpenFolder → OpenFolder
+noted_folder left folder = record folder { spared = folder.spared || left }
 
 abbrev pub without_next : OpenFolder → OpenFolder
 without_next folder = record folder { names = drop 1 folder.names }
 
 -- the next name is done with
-abbrev pub passed : Bool → Place → Place
-passed left place = record place { inner = noted left (without_next place.inner) }
+abbrev pub passed_place : Bool → Place → Place
+passed_place left place = record place { inner = noted_folder left (without_next place.inner) }
 
 -- the walk goes down into the folder that has the next name
-abbrev pub entered : Route → List (List ℕ) → Place → Place
-entered path names place = record { inner = opened path names; around = without_next place.inner ∷ place.around; left = place.left - 1 }
+abbrev pub entered_place : Route → List (List ℕ) → Place → Place
+entered_place path names place = record { inner = opened_folder path names; around = without_next place.inner ∷ place.around; left = place.left - 1 }
 
 -- the folder that is worked is done with, and the one around it is worked again
 pub record IsLeft (left : Bool) (old new : Place) : Type 0 where
   pub outer : OpenFolder
   pub was : old.around ≡ outer ∷ new.around
-  pub inner : new.inner ≡ noted left outer
+  pub inner : new.inner ≡ noted_folder left outer
   pub levels : new.left ≡ old.left + 1

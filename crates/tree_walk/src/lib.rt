@@ -7,4 +7,4 @@ mod walk;
 
 pub use around::Around;
 pub use opened::Opened;
-pub use walk::{LEVELS, Walk};
+pub use walk::{WALK_LEVELS, Walk};

@@ -1,6 +1,6 @@
 //! Where a walk stands: the folder that is worked, those around it, and how many levels it may go down.
 ghost use Rattle.std.specs.Prelude.{◌≡◌, ◌+◌, ◌<◌, ◌≤◌, ◌==◌, ◌∷◌, ◌^◌, [], drop, length, suc, IfNone, IfSome, OnOk};
-ghost use Rattle.tree_walk.specs.Places.{IsLeft, entered, is_outermost, opened, passed, unopened};
+ghost use Rattle.tree_walk.specs.Places.{IsLeft, entered_place, is_outermost, opened_folder, passed_place, unopened_walk};
 ghost use Rattle.tree_walk.specs.Ranks.{rank, rank_around, weight};
 
 use crate::around::Around;
@@ -11,7 +11,7 @@ use std::marker::Model;
 use std::mem;
 
 /// A walk goes down so many levels below its outermost folder.
-pub const LEVELS: u32 = 256;
+pub const WALK_LEVELS: u32 = 256;
 
 /// A walk over what lies in a folder, the outermost.
 #[derive(Debug, Drop)]
@@ -35,18 +35,18 @@ impl Model for Walk {
 impl Walk {
     /// A walk that is to begin: its outermost folder isn't open yet. It takes no memory.
     pub fn new(alloc: Global) -> Walk
-        ensures { result.place ≡ unopened }
+        ensures { result.place ≡ unopened_walk }
     {
         Walk {
             inner: Opened::nothing(alloc),
             around: Around::new(alloc),
-            left: LEVELS,
+            left: WALK_LEVELS,
         }
     }
 
     /// Opens the outermost folder.
     pub fn open(&mut self, folder: Path, names: Names)
-        ensures opened { self.new.place ≡ record self.old.place { inner = opened folder names } }
+        ensures opened { self.new.place ≡ record self.old.place { inner = opened_folder folder names } }
         ensures falls { rank self.new.place < weight (suc self.old.place.left) + rank_around (suc self.old.place.left) self.old.place.around }
     {
         self.inner = Opened::new(folder, names);
@@ -98,7 +98,7 @@ impl Walk {
 
     /// The next name is done with: what it leads to is gone, or was left.
     pub fn pass(&mut self, left: bool)
-        ensures passed { self.new.place ≡ passed left self.old.place }
+        ensures passed { self.new.place ≡ passed_place left self.old.place }
         ensures falls { 1 ≤ length self.old.place.inner.names → rank self.new.place < rank self.old.place }
     {
         self.inner.pass();
@@ -110,7 +110,7 @@ impl Walk {
     pub fn enter(&mut self, path: Path, names: Names)
         requires deeper { 1 ≤ self.old.place.left }
         requires room { 0 < self.old.spare }
-        ensures entered { self.new.place ≡ entered path names self.old.place }
+        ensures entered { self.new.place ≡ entered_place path names self.old.place }
         ensures falls { 1 ≤ length self.old.place.inner.names → rank self.new.place < rank self.old.place }
     {
         self.inner.pass();

@@ -38,9 +38,9 @@ found_lines page l =
     titled_rows (list_title l) l.first l.current (map path_text (take page (drop l.first l.findings.found)))
 
 -- over a screen
-abbrev pub painted : Option Asking → ℕ → ListingState → CellGrid → CellGrid
-painted None page listing grid = with_box grid (found_lines page listing)
-painted (Some asking) page listing grid = with_input grid asking.line
+abbrev pub painted_search : Option Asking → ℕ → ListingState → CellGrid → CellGrid
+painted_search None page listing grid = with_box grid (found_lines page listing)
+painted_search (Some asking) page listing grid = with_input grid asking.line
 
 abbrev pub with_find : FindScreen → CellGrid → CellGrid
-with_find s grid = painted s.asking (page_of s.lines) s.listing grid
+with_find s grid = painted_search s.asking (page_of s.lines) s.listing grid

@@ -11,7 +11,7 @@ use Rattle.ui_words.specs.BoxKeys.{line_reply}
 use Rattle.resolving.specs.declared.error.ResolveError.TheVariants as resolve
 use Rattle.resolving.specs.declared.walking.Wanted.TheVariants.{AnyThing}
 use Rattle.resolving.specs.Errors.{Answers}
-use Rattle.resolving.specs.Resolution.{resolved}
+use Rattle.resolving.specs.Resolution.{resolved_path}
 use Rattle.resolving.specs.Homes.{with_home}
 use Rattle.tagging.specs.declared.pattern.PatternKind.{PatternKind}
 use Rattle.tagging.specs.Patterns.{PatternText}
@@ -26,7 +26,7 @@ use Rattle.ui_find.specs.declared.command.FindCommand.{FindCommand}
 use Rattle.ui_find.specs.declared.command.FindCommand.TheVariants.{Move, Choose, Stop, Leave, Nothing}
 use Rattle.ui_find.specs.FindKeys.{find_command}
 use Rattle.ui_find.specs.Questions.{asks}
-use Rattle.ui_find.specs.Listings.{IsBegun, ListingState, chosen, moved_by, no_listing, stopped}
+use Rattle.ui_find.specs.Listings.{IsBegun, ListingState, chosen_path, moved_by, no_listing, stopped_search}
 
 -- how many lines the screen has, the folder from which a typed start leads, HOME, how patterns are read, whether hidden names are met,
 -- the line that asks, and the list
@@ -40,8 +40,8 @@ pub record FindScreen : Type 0 where
   pub listing : ListingState
 
 -- as it opens
-abbrev pub opened : ℕ → Route → Option Route → PatternKind → Bool → FindScreen
-opened lines folder home kind hidden = record {
+abbrev pub opened_find_screen : ℕ → Route → Option Route → PatternKind → Bool → FindScreen
+opened_find_screen lines folder home kind hidden = record {
   lines = lines;
   folder = folder;
   home = home;
@@ -59,7 +59,7 @@ with_line asking before = record before { asking = asking }
 -- a way leads to the start, by what was typed with HOME in place of its tilde, and the names are asked for
 pub record IsStart (text : List ℕ) (contents : Option CallLog) (before after : FindScreen) : Type 0 where
   pub start : Route
-  pub way : IfKnown contents (λ log. Answers {A = Route} (resolved (current log) AnyThing before.folder (with_home before.home text)) (Ok start))
+  pub way : IfKnown contents (λ log. Answers {A = Route} (resolved_path (current log) AnyThing before.folder (with_home before.home text)) (Ok start))
   pub after_is : after ≡ with_line (Some (asks (Names start))) before
 
 -- what an answer to the first line comes to: the thing to which it leads along links is the start, whatever it is
@@ -67,7 +67,7 @@ abbrev pub StartLeads : List ℕ → Option CallLog → FindAct → FindScreen �
 StartLeads text contents Stays before after = IsStart text contents before after
 StartLeads text contents (Refused (NoWay why)) before after =
     (after ≡ before) × (why ≢ resolve.Memory)
-    × IfKnown contents (λ log. Answers {A = Route} (resolved (current log) AnyThing before.folder (with_home before.home text)) (Err why))
+    × IfKnown contents (λ log. Answers {A = Route} (resolved_path (current log) AnyThing before.folder (with_home before.home text)) (Err why))
 StartLeads text contents (Refused NoPattern) before after = ⊥
 StartLeads text contents (Goes path) before after = ⊥
 StartLeads text contents Leaves before after = ⊥
@@ -113,8 +113,8 @@ choice (Some path) = Goes path
 abbrev pub CommandLeads : FindCommand → FindAct → FindScreen → FindScreen → Type 0
 CommandLeads (Move base) act before after =
     (act ≡ Stays) × (after ≡ with_listing (moved_by (page_of before.lines) base before.listing) before)
-CommandLeads Choose act before after = (act ≡ choice (chosen before.listing)) × (after ≡ before)
-CommandLeads Stop act before after = (act ≡ Stays) × (after ≡ with_listing (stopped before.listing) before)
+CommandLeads Choose act before after = (act ≡ choice (chosen_path before.listing)) × (after ≡ before)
+CommandLeads Stop act before after = (act ≡ Stays) × (after ≡ with_listing (stopped_search before.listing) before)
 CommandLeads Leave act before after = (act ≡ Leaves) × (after ≡ before)
 CommandLeads Nothing act before after = (act ≡ Stays) × (after ≡ before)
 

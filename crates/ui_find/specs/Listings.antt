@@ -65,8 +65,8 @@ abbrev pub no_listing : ListingState
 no_listing = record { search = None; findings = no_findings; current = 0; first = 0 }
 
 -- a search that begins
-abbrev pub begun : Finder → ListingState
-begun finder = record { search = Some finder; findings = no_findings; current = 0; first = 0 }
+abbrev pub begun_search : Finder → ListingState
+begun_search finder = record { search = Some finder; findings = no_findings; current = 0; first = 0 }
 
 -- what the list comes to on a file system that stays as it is: nothing more, or all that is yet to be found
 abbrev pub comes_to_by : FileSystem → Option Finder → FindingsState → FindingsState
@@ -82,7 +82,7 @@ pub record IsBegun (start : Route) (name : PatternText) (content : List ℕ) (hi
   pub finder : Finder
   pub search : finder.search ≡ record { name = name; content = content; recursive = true; hidden = hidden }
   pub list : (s : FileSystem) → comes_to s listing ≡ told_all (found_list s finder.search start) no_findings
-  pub is : listing ≡ begun finder
+  pub is : listing ≡ begun_search finder
 
 -- what is left of a search that takes this course
 abbrev pub left_by : Course → Finder → Option Finder
@@ -129,9 +129,9 @@ moved_by page base l =
     record l { current = current; first = scrolled_to page l.first current }
 
 -- the current path, where there is one
-abbrev pub chosen : ListingState → Option Route
-chosen l = slice_get l.findings.found l.current
+abbrev pub chosen_path : ListingState → Option Route
+chosen_path l = slice_get l.findings.found l.current
 
 -- nothing more is sought
-abbrev pub stopped : ListingState → ListingState
-stopped l = record l { search = None }
+abbrev pub stopped_search : ListingState → ListingState
+stopped_search l = record l { search = None }

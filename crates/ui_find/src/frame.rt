@@ -2,7 +2,7 @@
 ghost use Rattle.std.specs.Prelude.{◌≡◌, ◌<◌, ◌^◌, map, IfOk, OnOk};
 ghost use Rattle.mc_text.specs.Routes.{path_text};
 ghost use Rattle.mc_dialogs.specs.Boxes.{with_box};
-ghost use Rattle.ui_find.specs.FindFrames.{found_lines, painted, with_find};
+ghost use Rattle.ui_find.specs.FindFrames.{found_lines, painted_search, with_find};
 
 use crate::asking::Asking;
 use crate::listing::Listing;
@@ -38,7 +38,7 @@ fn paint_over(
     listing: &Listing,
 ) -> Result<(), NoMemory>
     requires { page < 2 ^ 16 }
-    ensures { OnOk result (grid.new ≡ painted asking.now page listing.now grid.old) }
+    ensures { OnOk result (grid.new ≡ painted_search asking.now page listing.now grid.old) }
 {
     match asking {
         None => paint_found(grid, alloc, page, listing),

@@ -1,7 +1,7 @@
 //! The list of the found paths, and the search that goes on beside it.
 ghost use Rattle.std.specs.Prelude.{◌≡◌, ◌≤◌, ◌<◌, ◌^◌, is_some, true, None, Some, OnOk, OnErr};
 ghost use Rattle.std.specs.Option.{option_map};
-ghost use Rattle.ui_find.specs.Listings.{IsKept, StepLeads, begun, chosen, moved_by, no_listing, steps_to_end, stopped};
+ghost use Rattle.ui_find.specs.Listings.{IsKept, StepLeads, begun_search, chosen_path, moved_by, no_listing, steps_to_end, stopped_search};
 
 use crate::findings::{Course, Findings};
 use find_file::Finder;
@@ -47,7 +47,7 @@ impl Listing {
 
     /// A search begins. It takes no memory.
     pub fn of(alloc: Global, finder: Finder) -> Listing
-        ensures { result ≡ begun finder }
+        ensures { result ≡ begun_search finder }
     {
         Listing {
             search: Some(finder),
@@ -115,7 +115,7 @@ impl Listing {
 
     /// Ends the search. What was found stays.
     pub fn stop(&mut self)
-        ensures { self.new ≡ stopped self.old }
+        ensures { self.new ≡ stopped_search self.old }
     {
         let _findings = &self.findings;
         self.search = None;
@@ -133,7 +133,7 @@ impl Listing {
 
     /// The current path, where there is one.
     pub fn chosen(&self) -> Option<&Path>
-        ensures { option_map (λ path. path.now) result ≡ chosen self.now }
+        ensures { option_map (λ path. path.now) result ≡ chosen_path self.now }
     {
         self.findings.found().get(self.current)
     }

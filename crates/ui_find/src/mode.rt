@@ -1,7 +1,7 @@
 //! Things are sought: what is asked for, and then what was found.
 ghost use Rattle.std.specs.Prelude.{◌≡◌, ◌≤◌, ◌<◌, false, true, is_some, IfOk, OnOk, OnErr};
 ghost use Rattle.ui_find.specs.Listings.{IsKept, StepLeads, steps_to_end};
-ghost use Rattle.ui_find.specs.FindScreens.{KeyLeads, ReadsTree, looks, opened, with_listing};
+ghost use Rattle.ui_find.specs.FindScreens.{KeyLeads, ReadsTree, looks, opened_find_screen, with_listing};
 
 mod line_keys;
 mod list_keys;
@@ -48,7 +48,7 @@ impl FindMode {
         kind: PatternKind,
         hidden: bool,
     ) -> Result<FindMode, NoMemory>
-        ensures { IfOk result (λ mode. mode ≡ opened lines folder.now home.now kind hidden) }
+        ensures { IfOk result (λ mode. mode ≡ opened_find_screen lines folder.now home.now kind hidden) }
     {
         let asked = Asked::Start;
         let line = start_line(alloc)?;

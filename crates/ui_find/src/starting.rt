@@ -4,7 +4,7 @@ ghost use Rattle.tree_trait.specs.Answers.{HasCause, IfKnown};
 ghost use Rattle.tree_trait.specs.Change.{current};
 ghost use Rattle.resolving.specs.declared.walking.Wanted.TheVariants.{AnyThing};
 ghost use Rattle.resolving.specs.Errors.{Answers, CarriesCause, count_told};
-ghost use Rattle.resolving.specs.Resolution.{resolved};
+ghost use Rattle.resolving.specs.Resolution.{resolved_path};
 ghost use Rattle.resolving.specs.Homes.{with_home as with_home_of};
 ghost use Rattle.ui_find.specs.Listings.{IsBegun};
 
@@ -26,7 +26,7 @@ pub fn start_at<T: ReadTree>(
     typed: &str,
 ) -> Result<Path, ResolveError>
     ensures answer { IfKnown (T.contents tree.old) (λ log.
-        Answers (resolved (current log) AnyThing folder.now (with_home_of home.now typed.now)) result) }
+        Answers (resolved_path (current log) AnyThing folder.now (with_home_of home.now typed.now)) result) }
     ensures same { T.contents tree.new ≡ T.contents tree.old }
     ensures cause { HasCause ResolveError.Fault (T.fault_count tree.old) (T.fault_count tree.new) result }
     ensures counts { T.fault_count tree.new ≡ count_told (T.fault_count tree.old) result }

@@ -23,15 +23,15 @@ pub data JobBoxState : Type 0 where
   AnswerBox : (waits : Waits) → JobBoxState
 
 -- a box as it is seen
-abbrev pub seen : JobBox → JobBoxState
-seen (box.Delete chosen) = DeleteBox chosen.paths
-seen (box.SourceMask how chosen typed) = MaskBox how chosen.paths typed
-seen (box.CarryTo source typed) = TargetBox source.carry source.chosen.paths source.mask typed
-seen (box.MakeFolder typed) = FolderBox typed
-seen (box.LinkText typed) = LinkTextBox typed
-seen (box.LinkName text typed) = LinkNameBox text typed
-seen (box.Mode chosen asked) = NewModeBox chosen.paths asked
-seen (box.Answer waits) = AnswerBox waits
+abbrev pub seen_job_box : JobBox → JobBoxState
+seen_job_box (box.Delete chosen) = DeleteBox chosen.paths
+seen_job_box (box.SourceMask how chosen typed) = MaskBox how chosen.paths typed
+seen_job_box (box.CarryTo source typed) = TargetBox source.carry source.chosen.paths source.mask typed
+seen_job_box (box.MakeFolder typed) = FolderBox typed
+seen_job_box (box.LinkText typed) = LinkTextBox typed
+seen_job_box (box.LinkName text typed) = LinkNameBox text typed
+seen_job_box (box.Mode chosen asked) = NewModeBox chosen.paths asked
+seen_job_box (box.Answer waits) = AnswerBox waits
 
 -- what a box goes by besides the tree: the live jobs, the folders of the current panel and of the other one, and HOME
 pub record Around : Type 0 where

@@ -8,7 +8,7 @@ use Rattle.job_reports.specs.declared.waits.Waits.TheVariants as waits
 use Rattle.job_reports.specs.Waits.{waits_of}
 use Rattle.job_answers.specs.declared.answer.Waiting.{Waiting}
 use Rattle.job_answers.specs.declared.answer.Waiting.TheVariants as waiting
-use Rattle.job_answers.specs.Answers.{answered, waiting_of}
+use Rattle.job_answers.specs.Answers.{answer_result, waiting_of}
 
 -- no job is live
 abbrev pub none_live : List JobRow → Bool
@@ -25,7 +25,7 @@ row_waiting row = option_map waiting_with (waits_of row)
 
 -- what a job waits with can be answered so
 abbrev pub takes_answer : JobRow → Answer → Bool
-takes_answer row answer = is_ok (answered (row_waiting row) answer)
+takes_answer row answer = is_ok (answer_result (row_waiting row) answer)
 
 -- the live job can be answered so
 abbrev pub can_answer : List JobRow → Answer → Bool

@@ -31,7 +31,7 @@ use Rattle.ui_plans.specs.Folders.{FolderLeads}
 use Rattle.ui_plans.specs.Links.{LinkLeads}
 use Rattle.ui_job_boxes.specs.declared.job_box.JobReply.{JobReply}
 use Rattle.ui_job_boxes.specs.declared.job_box.JobReply.TheVariants.{Stays, Shuts, Opens, Begins, Answers, Refuses}
-use Rattle.ui_job_boxes.specs.JobBoxes.{Around, JobBoxState, DeleteBox, MaskBox, TargetBox, FolderBox, LinkTextBox, LinkNameBox, NewModeBox, AnswerBox, seen}
+use Rattle.ui_job_boxes.specs.JobBoxes.{Around, JobBoxState, DeleteBox, MaskBox, TargetBox, FolderBox, LinkTextBox, LinkNameBox, NewModeBox, AnswerBox, seen_job_box}
 use Rattle.ui_job_boxes.specs.LiveJobs.{can_answer, none_live}
 
 -- JOBS THAT ARE CONFIRMED
@@ -57,7 +57,7 @@ PlansAlone rows Leads reply = MatchBool (none_live rows) (IsPlanned Leads reply)
 
 -- another box stands in its place
 abbrev pub OpensBox : JobBoxState → JobReply → Type 0
-OpensBox box (Opens next) = seen next ≡ box
+OpensBox box (Opens next) = seen_job_box next ≡ box
 OpensBox box Stays = ⊥
 OpensBox box Shuts = ⊥
 OpensBox box (Begins job) = ⊥

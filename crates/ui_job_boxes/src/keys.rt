@@ -1,7 +1,7 @@
 //! What a key comes to in a box.
 ghost use Rattle.std.specs.Prelude.{◌≡◌, false, OnErr, OnOk, IfOk};
 ghost use Rattle.ui_plans.specs.Reading.{ReadsTree};
-ghost use Rattle.ui_job_boxes.specs.JobBoxes.{seen, seen_around};
+ghost use Rattle.ui_job_boxes.specs.JobBoxes.{seen_job_box, seen_around};
 ghost use Rattle.ui_job_boxes.specs.Replies.{BoxLeads, IsAllowed, box_after, reply_refusals, stays};
 
 use crate::answering::key_in_answer;
@@ -26,8 +26,8 @@ impl JobBox {
         around: &Surroundings<'_>,
         key: Key,
     ) -> Result<JobReply, NoMemory>
-        ensures leads { IfOk result (BoxLeads (seen self.old) (T.contents tree.old) (seen_around around.now) key) }
-        ensures state { OnOk result (seen self.new ≡ box_after (seen self.old) key) }
+        ensures leads { IfOk result (BoxLeads (seen_job_box self.old) (T.contents tree.old) (seen_around around.now) key) }
+        ensures state { OnOk result (seen_job_box self.new ≡ box_after (seen_job_box self.old) key) }
         ensures kept { IfOk result (λ reply. stays reply ≡ false → self.new ≡ self.old) }
         ensures lost { OnErr result (self.new ≡ self.old) }
         ensures allowed { IfOk result (IsAllowed around.now.rows.now) }

@@ -3,7 +3,7 @@ ghost use Rattle.std.specs.Prelude.{◌≡◌, false, OnErr, OnOk, IfOk};
 ghost use Rattle.mc_dialogs.specs.InputKeys.{input_after, input_shut};
 ghost use Rattle.ui_words.specs.BoxKeys.{line_reply as line_reply_of};
 ghost use Rattle.ui_words.specs.BoxLines.{target_line as target_line_of};
-ghost use Rattle.ui_job_boxes.specs.JobBoxes.{TargetBox, seen};
+ghost use Rattle.ui_job_boxes.specs.JobBoxes.{TargetBox, seen_job_box};
 ghost use Rattle.ui_job_boxes.specs.Lines.{StaysWhereTaken};
 ghost use Rattle.ui_job_boxes.specs.Replies.{AsksNothing, LinkTextLeads, MaskLeads, stays};
 
@@ -47,7 +47,7 @@ fn ask_target(
     chosen: &Chosen,
     mask: Text,
 ) -> Result<JobBox, NoMemory>
-    ensures { IfOk result (λ asks. seen asks ≡ TargetBox carry chosen.now.paths mask (target_line_of carry other.now)) }
+    ensures { IfOk result (λ asks. seen_job_box asks ≡ TargetBox carry chosen.now.paths mask (target_line_of carry other.now)) }
 {
     let line = target_line(alloc, carry, other)?;
     let chosen = Chosen {

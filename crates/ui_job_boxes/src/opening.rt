@@ -1,7 +1,7 @@
 //! The boxes as they open.
 ghost use Rattle.std.specs.Prelude.{◌≡◌, IfOk};
 ghost use Rattle.ui_words.specs.BoxLines.{folder_line};
-ghost use Rattle.ui_job_boxes.specs.JobBoxes.{FolderBox, LinkTextBox, seen};
+ghost use Rattle.ui_job_boxes.specs.JobBoxes.{FolderBox, LinkTextBox, seen_job_box};
 ghost use Rattle.ui_job_boxes.specs.Openings.{box_of, link_asked};
 
 use crate::job_box::JobBox;
@@ -16,7 +16,7 @@ use ui_words::{Chosen, folder_line, link_text_line, mask_line, mode_box, thing_t
 impl JobBox {
     /// The box on things, of which the first has this mode, where a mode is asked for.
     pub fn open(alloc: Global, opens: Opens, chosen: Chosen, mode: u16) -> Result<JobBox, NoMemory>
-        ensures { IfOk result (λ asks. seen asks ≡ box_of opens chosen.paths mode) }
+        ensures { IfOk result (λ asks. seen_job_box asks ≡ box_of opens chosen.paths mode) }
     {
         match opens {
             Opens::Delete => Ok(JobBox::Delete(chosen)),
@@ -30,14 +30,14 @@ impl JobBox {
 
     /// The box that asks for a new folder.
     pub fn ask_folder(alloc: Global) -> Result<JobBox, NoMemory>
-        ensures { IfOk result (λ asks. seen asks ≡ FolderBox folder_line) }
+        ensures { IfOk result (λ asks. seen_job_box asks ≡ FolderBox folder_line) }
     {
         Ok(JobBox::MakeFolder(folder_line(alloc)?))
     }
 
     /// The box that asks, in this panel, what a new link is to say.
     pub fn ask_link(alloc: Global, panel: &Panel) -> Result<JobBox, NoMemory>
-        ensures { IfOk result (λ asks. seen asks ≡ LinkTextBox (link_asked panel.now)) }
+        ensures { IfOk result (λ asks. seen_job_box asks ≡ LinkTextBox (link_asked panel.now)) }
     {
         Ok(JobBox::LinkText(first_line(alloc, panel)?))
     }

@@ -2,7 +2,7 @@
 ghost use Rattle.std.specs.Prelude.{◌≡◌, ◌<◌, ◌^◌, length, OnOk};
 ghost use Rattle.mc_dialogs.specs.Boxes.{with_box};
 ghost use Rattle.mc_dialogs.specs.QuestionKeys.{plain_lines as plain_lines_of};
-ghost use Rattle.ui_job_boxes.specs.JobBoxes.{seen};
+ghost use Rattle.ui_job_boxes.specs.JobBoxes.{seen_job_box};
 ghost use Rattle.ui_job_boxes.specs.Paintings.{with_job_box};
 
 use crate::job_box::JobBox;
@@ -15,7 +15,7 @@ use ui_words::{delete_lines, waits_lines};
 impl JobBox {
     /// Paints it over a screen. Where memory is wanting, a part of it may stand.
     pub fn paint(&self, alloc: Global, grid: &mut Grid) -> Result<(), NoMemory>
-        ensures { OnOk result (grid.new ≡ with_job_box (seen self.now) grid.old) }
+        ensures { OnOk result (grid.new ≡ with_job_box (seen_job_box self.now) grid.old) }
     {
         match self {
             JobBox::Delete(chosen) => {

@@ -14,7 +14,7 @@ use Rattle.resolving.specs.declared.error.ResolveError.{ResolveError}
 use Rattle.resolving.specs.declared.error.ResolveError.TheVariants as resolve
 use Rattle.resolving.specs.declared.walking.Wanted.TheVariants.{FolderAlone}
 use Rattle.resolving.specs.Errors.{Answers}
-use Rattle.resolving.specs.Resolution.{resolved}
+use Rattle.resolving.specs.Resolution.{resolved_path}
 use Rattle.tagging.specs.declared.glob.GlobPart.{GlobPart}
 use Rattle.job_reports.specs.declared.job.Pair.{Pair}
 use Rattle.op_plan.specs.declared.mask.MaskPiece.{MaskPiece}
@@ -23,11 +23,11 @@ use Rattle.op_plan.specs.declared.error.PlanError.{PlanError}
 use Rattle.op_plan.specs.declared.error.PlanError.TheVariants as place
 use Rattle.op_plan.specs.declared.job.Job.TheVariants as planned
 use Rattle.op_plan.specs.Answering.{CarriesPlanCause, Plans, and_then, or_bad_mask, unless}
-use Rattle.op_plan.specs.Checks.{all_there, into_itself, is_too_long, nested, none_across, none_into, none_nested, none_same, none_twice, paired, some_source, sources_in, targets_from, targets_in, there_or, two_to_one}
-use Rattle.op_plan.specs.Destinations.{folder_at, front_of, in_target, last_part}
+use Rattle.op_plan.specs.Checks.{all_there, into_itself, is_too_long, nested_error, none_across, none_into, none_nested, none_same, none_twice, paired_sources, some_source, sources_in, targets_from, targets_in, there_or, two_to_one}
+use Rattle.op_plan.specs.Destinations.{folder_at, folder_prefix, in_target, last_part}
 use Rattle.op_plan.specs.Masks.{pieces_of}
 use Rattle.op_plan.specs.Meeting.{first_across, first_two, meet}
-use Rattle.op_plan.specs.Naming.{chosen, names_for, pattern_in}
+use Rattle.op_plan.specs.Naming.{chosen_sources, names_for, pattern_in}
 use Rattle.op_plan.specs.Planning.{apart, folder_for, pairs_into, pairs_of, placed_masked, placed_there, plan_of, sources_of}
 use Rattle.session_entries.specs.Refusals.{IsSourceRefused, IsTargetRefused}
 use Rattle.ui_words.specs.declared.carry.Carry.{Carry}
@@ -84,7 +84,7 @@ module _ (log : CallLog) (error : PlanError) where
   some_cause [] h = by_error place.NoSelection tt cc
   some_cause (source ∷ sources) h = absurd cc
 
-  met : (sources : List Route) (o : Option (Route × Route)) → first_two meet [] sources ≡ o → unless (option_map nested o) ≡ Err error → HasOwnCause log error
+  met : (sources : List Route) (o : Option (Route × Route)) → first_two meet [] sources ≡ o → unless (option_map nested_error o) ≡ Err error → HasOwnCause log error
   met sources None is h = absurd cc
   met sources (Some (one, second)) is h =
       by_error (place.Nested one second) (two (λ path. Unit {0}) meet [] sources one second is tt (each (λ path. Unit {0}) (λ path. tt) sources)).1 cc
@@ -156,9 +156,9 @@ module _ (log : CallLog) (error : PlanError) where
 
     into_cause : (folder : Route) (names : List (List ℕ)) → pairs_into folder paths names ≡ Err error → HasOwnCause log error
     into_cause folder names h =
-        refused_in (HasOwnCause log error) (targets_in folder names) (λ targets. apart (paired paths targets)) error h
+        refused_in (HasOwnCause log error) (targets_in folder names) (λ targets. apart (paired_sources paths targets)) error h
         (λ long. long_cause (list_any (is_too_long folder) names) (map (λ name. name ∷ folder) names) long)
-        (λ targets is h. apart_cause (paired paths targets) h (each_paired (IsThere log) paths targets there))
+        (λ targets is h. apart_cause (paired_sources paths targets) h (each_paired (IsThere log) paths targets there))
 
     mask_cause : (o : Option (List (List ℕ))) → or_bad_mask o ≡ Err error → HasOwnCause log error
     mask_cause (Some names) h = absurd cc
@@ -170,35 +170,35 @@ module _ (log : CallLog) (error : PlanError) where
         (λ bad. mask_cause (names_for pattern (Star ∷ []) paths) bad)
         (λ names is h. into_cause folder names h)
 
-    answers : (from : Route) (front : List ℕ) (why : ResolveError) → resolved (current log) FolderAlone from front ≡ Err why
-        → Answers {A = Route} (resolved (current log) FolderAlone from front) (Err why)
-    answers from front (resolve.Tree path e) is = is
-    answers from front resolve.TooManyLinks is = is
-    answers from front resolve.TooLong is = is
-    answers from front resolve.BadName is = is
-    answers from front resolve.Fault is = tt
-    answers from front resolve.Memory is = tt
+    answers : (from : Route) (prefix : List ℕ) (why : ResolveError) → resolved_path (current log) FolderAlone from prefix ≡ Err why
+        → Answers {A = Route} (resolved_path (current log) FolderAlone from prefix) (Err why)
+    answers from prefix (resolve.Tree path e) is = is
+    answers from prefix resolve.TooManyLinks is = is
+    answers from prefix resolve.TooLong is = is
+    answers from prefix resolve.BadName is = is
+    answers from prefix resolve.Fault is = tt
+    answers from prefix resolve.Memory is = tt
 
-    nowhere : (from : Route) (front : List ℕ) (r : Result Route ResolveError) → resolved (current log) FolderAlone from front ≡ r → in_target r ≡ Err error
+    nowhere : (from : Route) (prefix : List ℕ) (r : Result Route ResolveError) → resolved_path (current log) FolderAlone from prefix ≡ r → in_target r ≡ Err error
         → HasOwnCause log error
-    nowhere from front (Ok folder) is h = absurd cc
-    nowhere from front (Err why) is h = by_error (place.Target why) (inl (from, (front, answers from front why is))) cc
+    nowhere from prefix (Ok folder) is h = absurd cc
+    nowhere from prefix (Err why) is h = by_error (place.Target why) (inl (from, (prefix, answers from prefix why is))) cc
 
-    masked_cause : (pattern : Option (List GlobPart)) (mask : List MaskPiece) (from : Route) (front : List ℕ)
-        → placed_masked (current log) pattern paths mask from front ≡ Err error → HasOwnCause log error
-    masked_cause pattern mask from front h =
+    masked_cause : (pattern : Option (List GlobPart)) (mask : List MaskPiece) (from : Route) (prefix : List ℕ)
+        → placed_masked (current log) pattern paths mask from prefix ≡ Err error → HasOwnCause log error
+    masked_cause pattern mask from prefix h =
         refused_in (HasOwnCause log error) (or_bad_mask (names_for pattern mask paths))
-        (λ names. and_then (folder_at (current log) from front) (λ folder. pairs_into folder paths names)) error h
+        (λ names. and_then (folder_at (current log) from prefix) (λ folder. pairs_into folder paths names)) error h
         (λ bad. mask_cause (names_for pattern mask paths) bad)
-        (λ names is h. refused_in (HasOwnCause log error) (folder_at (current log) from front) (λ folder. pairs_into folder paths names) error h
-        (λ lost. nowhere from front (resolved (current log) FolderAlone from front) refl lost)
+        (λ names is h. refused_in (HasOwnCause log error) (folder_at (current log) from prefix) (λ folder. pairs_into folder paths names) error h
+        (λ lost. nowhere from prefix (resolved_path (current log) FolderAlone from prefix) refl lost)
         (λ folder is h. into_cause folder names h))
 
-    target_cause : (pattern : Option (List GlobPart)) (mask : List MaskPiece) (from : Route) (front : List ℕ) (folder : Option Route)
-        → option_map_or (placed_there pattern paths) folder (placed_masked (current log) pattern paths mask from front) ≡ Err error
+    target_cause : (pattern : Option (List GlobPart)) (mask : List MaskPiece) (from : Route) (prefix : List ℕ) (folder : Option Route)
+        → option_map_or (placed_there pattern paths) folder (placed_masked (current log) pattern paths mask from prefix) ≡ Err error
         → HasOwnCause log error
-    target_cause pattern mask from front (Some folder) h = placed_cause pattern folder h
-    target_cause pattern mask from front None h = masked_cause pattern mask from front h
+    target_cause pattern mask from prefix (Some folder) h = placed_cause pattern folder h
+    target_cause pattern mask from prefix None h = masked_cause pattern mask from prefix h
 
   -- THE PLAN
 
@@ -207,11 +207,11 @@ module _ (log : CallLog) (error : PlanError) where
       let pattern : Option (List GlobPart) = pattern_in mask in
       let pieces : List MaskPiece = pieces_of (chars (last_part typed)) in
       let rest : List Route → Result (List Pair) PlanError = λ left. option_map_or (placed_there pattern left)
-      (folder_for (current log) pieces from typed) (placed_masked (current log) pattern left pieces from (front_of typed)) in
-      refused_in (HasOwnCause log error) (sources_of (current log) (chosen pattern paths)) rest error h
-      (λ bad. source_cause (chosen pattern paths) bad)
-      (λ left is h. let at = are_there log (chosen pattern paths) left is in
-      target_cause left at pattern pieces from (front_of typed) (folder_for (current log) pieces from typed) h)
+      (folder_for (current log) pieces from typed) (placed_masked (current log) pattern left pieces from (folder_prefix typed)) in
+      refused_in (HasOwnCause log error) (sources_of (current log) (chosen_sources pattern paths)) rest error h
+      (λ bad. source_cause (chosen_sources pattern paths) bad)
+      (λ left is h. let at = are_there log (chosen_sources pattern paths) left is in
+      target_cause left at pattern pieces from (folder_prefix typed) (folder_for (current log) pieces from typed) h)
 
   plan_cause : (how : Carry) (paths : List Route) (mask : List ℕ) (from : Route) (typed : List ℕ)
       → plan_of (current log) (carry_request how paths mask from typed) ≡ Err error → HasOwnCause log error
@@ -225,13 +225,13 @@ module _ (log : CallLog) (error : PlanError) where
       (λ pairs is h. absurd cc)
 
 module _ (log : CallLog) (how : Carry) (paths : List Route) (mask : List ℕ) (from : Route) (typed : List ℕ) where
-  abbrev Comes : PlanError → Type 0
-  Comes error = Plans (plan_of (current log) (carry_request how paths mask from typed)) (Err error)
+  abbrev GivesError : PlanError → Type 0
+  GivesError error = Plans (plan_of (current log) (carry_request how paths mask from typed)) (Err error)
 
   own : (error : PlanError) → plan_of (current log) (carry_request how paths mask from typed) ≡ Err error → HasOwnCause log error
   own error h = plan_cause log error how paths mask from typed h
 
-  of_source : (at : Route) (e : TreeError) → Comes (place.Source at e) → e ≢ tree.Memory → IsSourceRefused log at e
+  of_source : (at : Route) (e : TreeError) → GivesError (place.Source at e) → e ≢ tree.Memory → IsSourceRefused log at e
   of_source at tree.Fault known some = tt
   of_source at tree.Memory known some = absurd (some refl)
   of_source at tree.Missing known some = own (place.Source at tree.Missing) (known refl)
@@ -246,7 +246,7 @@ module _ (log : CallLog) (how : Carry) (paths : List Route) (mask : List ℕ) (f
   of_source at tree.NoSpace known some = own (place.Source at tree.NoSpace) (known refl)
   of_source at tree.Special known some = own (place.Source at tree.Special) (known refl)
 
-  of_target : (e : ResolveError) → Comes (place.Target e) → IsTargetRefused log e
+  of_target : (e : ResolveError) → GivesError (place.Target e) → IsTargetRefused log e
   of_target resolve.Fault known = inl (from, (typed, tt))
   of_target (resolve.Tree at e) known = own (place.Target (resolve.Tree at e)) (known refl)
   of_target resolve.TooManyLinks known = own (place.Target resolve.TooManyLinks) (known refl)
@@ -254,7 +254,7 @@ module _ (log : CallLog) (how : Carry) (paths : List Route) (mask : List ℕ) (f
   of_target resolve.BadName known = own (place.Target resolve.BadName) (known refl)
   of_target resolve.Memory known = own (place.Target resolve.Memory) (known refl)
 
-  carry_cause : (error : PlanError) → Comes error → CarriesPlanCause error → HasTreeCause log error
+  carry_cause : (error : PlanError) → GivesError error → CarriesPlanCause error → HasTreeCause log error
   carry_cause place.NoSelection known carried = tt
   carry_cause (place.Nested one second) known carried = own (place.Nested one second) (known refl)
   carry_cause (place.Source at e) known carried = of_source at e known carried

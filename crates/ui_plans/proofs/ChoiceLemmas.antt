@@ -1,7 +1,7 @@
 -- What choosing one thing comes to, from the look at it.
 use Rattle.std.proofs.Common.{◌≡◌, ◌≤◌, ℕ, true, List, [], ◌∷◌, length, sym, ◌∙◌, ap, subst, Option, IfOk, Result, Ok, Err}
 use Rattle.mc_text.specs.declared.error.NoMemory.{NoMemory}
-use Rattle.mc_text.specs.Routes.{Route, spelled}
+use Rattle.mc_text.specs.Routes.{Route, spelled_route}
 use Rattle.tree_trait.specs.declared.calls.TreeError.{TreeError}
 use Rattle.tree_trait.specs.declared.calls.Meta.{Meta}
 use Rattle.tree_trait.specs.Calls.{Stat}
@@ -25,7 +25,7 @@ module _ (box : Opens) (contents : Option CallLog) (folder : Route) where
   is_thing name path meta TooLong is seen h = absurd h
   is_thing name path meta (Refused refused e) is seen h = absurd h
 
-  pub one_chosen : (name : List ℕ) (path : Route) (meta : Meta) (result : Result Choice NoMemory) → path ≡ name ∷ folder → length (spelled (name ∷ folder)) ≤ 4096
+  pub one_chosen : (name : List ℕ) (path : Route) (meta : Meta) (result : Result Choice NoMemory) → path ≡ name ∷ folder → length (spelled_route (name ∷ folder)) ≤ 4096
       → IfKnown contents (λ log. Reads log (Stat path) (let r : Result Meta TreeError = Ok meta in r) (IsMeta (current log) path))
       → IfOk result (IsThing path meta) → IfOk result (IsChoiceOf box (sight contents) (paths_in folder (name ∷ [])))
   one_chosen name path meta (Ok choice) is near reads h = is_thing name path meta choice is (thing_look contents (name ∷ folder) path meta is near reads) h

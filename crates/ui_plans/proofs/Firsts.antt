@@ -5,7 +5,7 @@ use Rattle.std.specs.List.{find}
 use Rattle.std.specs.Option.{option_map_or}
 use Rattle.mc_text.specs.Routes.{Route}
 use Rattle.job_reports.specs.declared.job.Pair.{Pair}
-use Rattle.op_plan.specs.Checks.{paired}
+use Rattle.op_plan.specs.Checks.{paired_sources}
 use Rattle.op_plan.specs.Meeting.{first_across, first_two, or_two, with_first}
 
 -- all of a list have it
@@ -26,7 +26,7 @@ each_and P [] ys h g = g
 each_and P (x ∷ xs) ys h g = (h.0, each_and P xs ys h.1 g)
 
 -- the sources of pairs are those of which they are made
-pub each_paired : (P : Route → Type 0) (sources targets : List Route) → Each P sources → Each (λ (pair : Pair). P pair.source) (paired sources targets)
+pub each_paired : (P : Route → Type 0) (sources targets : List Route) → Each P sources → Each (λ (pair : Pair). P pair.source) (paired_sources sources targets)
 each_paired P [] targets h = tt
 each_paired P (source ∷ sources) [] h = tt
 each_paired P (source ∷ sources) (target ∷ targets) h = (h.0, each_paired P sources targets h.1)

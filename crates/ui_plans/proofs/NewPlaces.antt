@@ -15,13 +15,13 @@ use Rattle.resolving.specs.declared.error.ResolveError.{ResolveError}
 use Rattle.resolving.specs.declared.error.ResolveError.TheVariants as resolve
 use Rattle.resolving.specs.declared.walking.Wanted.TheVariants.{FolderAlone}
 use Rattle.resolving.specs.Errors.{Answers}
-use Rattle.resolving.specs.Resolution.{resolved}
+use Rattle.resolving.specs.Resolution.{resolved_path}
 use Rattle.job_reports.proofs.PermittedCalls.{stat_missing}
 use Rattle.op_plan.specs.declared.error.PlanError.{PlanError}
 use Rattle.op_plan.specs.declared.error.PlanError.TheVariants as place
 use Rattle.op_plan.specs.Answering.{HasPlanCause, IsPlaceError, Plans, and_then, is_fault, or_bad_mask}
 use Rattle.op_plan.specs.Checks.{is_too_long, target_in}
-use Rattle.op_plan.specs.Destinations.{folder_at, front_of, in_target, last_part}
+use Rattle.op_plan.specs.Destinations.{folder_at, folder_prefix, in_target, last_part}
 use Rattle.op_plan.specs.Naming.{checked_name}
 use Rattle.op_plan.specs.Planning.{nothing_there, place_of}
 use Rattle.session_entries.specs.declared.refusal.Refusal.{Refusal}
@@ -41,7 +41,7 @@ abbrev in_folder : CallLog → List ℕ → Route → Result Route PlanError
 in_folder log name folder = and_then (target_in folder name) (λ target. nothing_there (refusal_of (current log) (Stat target)) target)
 
 abbrev at_front : CallLog → Route → List ℕ → List ℕ → Result Route PlanError
-at_front log from typed name = and_then (folder_at (current log) from (front_of typed)) (λ folder. in_folder log name folder)
+at_front log from typed name = and_then (folder_at (current log) from (folder_prefix typed)) (λ folder. in_folder log name folder)
 
 -- nothing stands where a new thing may be
 there : (told : Option TreeError) (target path : Route) → nothing_there told target ≡ Ok path → (told ≡ Some Missing) × (target ≡ path)
@@ -63,7 +63,7 @@ there (Some Memory) target path h = absurd cc
 seen_missing : (log : CallLog) (from : Route) (typed : List ℕ) (path : Route) → place_of (current log) from typed ≡ Ok path → refusal_of (current log) (Stat path) ≡ Some Missing
 seen_missing log from typed path h =
     let named = after (or_bad_mask (checked_name (last_part typed))) (at_front log from typed) path h in
-    let held = after (folder_at (current log) from (front_of typed)) (in_folder log named.0) path named.2 in
+    let held = after (folder_at (current log) from (folder_prefix typed)) (in_folder log named.0) path named.2 in
     let at = after (target_in held.0 named.0) (λ target. nothing_there (refusal_of (current log) (Stat target)) target) path held.2 in
     let is = there (refusal_of (current log) (Stat at.0)) at.0 path at.2 in
     subst (λ p. refusal_of (current log) (Stat p) ≡ Some Missing) is.1 is.0
@@ -73,8 +73,8 @@ module _ (log : CallLog) (from : Route) (typed : List ℕ) where
   bad_mask (Some x) e h = absurd cc
   bad_mask None e h = let is : place.BadMask ≡ e = cc in subst (λ e. HasTreeCause log e) is tt
 
-  answers : (why : ResolveError) → resolved (current log) FolderAlone from (front_of typed) ≡ Err why
-      → Answers {A = Route} (resolved (current log) FolderAlone from (front_of typed)) (Err why)
+  answers : (why : ResolveError) → resolved_path (current log) FolderAlone from (folder_prefix typed) ≡ Err why
+      → Answers {A = Route} (resolved_path (current log) FolderAlone from (folder_prefix typed)) (Err why)
   answers (resolve.Tree path e) is = is
   answers resolve.TooManyLinks is = is
   answers resolve.TooLong is = is
@@ -82,9 +82,9 @@ module _ (log : CallLog) (from : Route) (typed : List ℕ) where
   answers resolve.Fault is = tt
   answers resolve.Memory is = tt
 
-  nowhere : (r : Result Route ResolveError) (e : PlanError) → resolved (current log) FolderAlone from (front_of typed) ≡ r → in_target r ≡ Err e → HasTreeCause log e
+  nowhere : (r : Result Route ResolveError) (e : PlanError) → resolved_path (current log) FolderAlone from (folder_prefix typed) ≡ r → in_target r ≡ Err e → HasTreeCause log e
   nowhere (Ok folder) e is h = absurd cc
-  nowhere (Err why) e is h = let same : place.Target why ≡ e = cc in subst (λ e. HasTreeCause log e) same (inl (from, (front_of typed, answers why is)))
+  nowhere (Err why) e is h = let same : place.Target why ≡ e = cc in subst (λ e. HasTreeCause log e) same (inl (from, (folder_prefix typed, answers why is)))
 
   too_long : (long : Bool) (target : Route) (e : PlanError) → (let r : Result Route PlanError = if long then Err (place.Target resolve.TooLong) else Ok target in r) ≡ Err e → HasTreeCause log e
   too_long true target e h = let is : place.Target resolve.TooLong ≡ e = cc in subst (λ e. HasTreeCause log e) is (inr (inr refl))
@@ -113,8 +113,8 @@ module _ (log : CallLog) (from : Route) (typed : List ℕ) where
   place_cause e h =
       refused_in (HasTreeCause log e) (or_bad_mask (checked_name (last_part typed))) (at_front log from typed) e h
       (λ bad. bad_mask (checked_name (last_part typed)) e bad)
-      (λ name is h. refused_in (HasTreeCause log e) (folder_at (current log) from (front_of typed)) (in_folder log name) e h
-      (λ lost. nowhere (resolved (current log) FolderAlone from (front_of typed)) e refl lost)
+      (λ name is h. refused_in (HasTreeCause log e) (folder_at (current log) from (folder_prefix typed)) (in_folder log name) e h
+      (λ lost. nowhere (resolved_path (current log) FolderAlone from (folder_prefix typed)) e refl lost)
       (λ folder is h. refused_in (HasTreeCause log e) (target_in folder name) (λ target. nothing_there (refusal_of (current log) (Stat target)) target) e h
       (λ long. too_long (is_too_long folder name) (name ∷ folder) e long)
       (λ target is h. not_there (refusal_of (current log) (Stat target)) target e refl h)))

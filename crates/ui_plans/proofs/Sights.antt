@@ -2,7 +2,7 @@
 use Rattle.std.proofs.Common.{◌≡◌, ℕ, ◌≤◌, Bool, true, false, ◌&&◌, List, length, refl, sym, ◌∙◌, ap, subst, Option, Some, None, Result, Ok, arith}
 use Rattle.std.specs.Prelude.{is_some, nat_le}
 use Rattle.std.specs.Option.{option_map}
-use Rattle.mc_text.specs.Routes.{Route, spelled}
+use Rattle.mc_text.specs.Routes.{Route, spelled_route}
 use Rattle.tree_trait.specs.declared.calls.TreeError.{TreeError}
 use Rattle.tree_trait.specs.declared.calls.Meta.{Meta}
 use Rattle.tree_trait.specs.Calls.{Stat}
@@ -22,7 +22,7 @@ both_hold true b p q = sym q
 both_hold false b p q = sym p
 
 -- something stands where a look was answered, so it may be asked of where its path isn't too long
-may_ask : (contents : Option CallLog) (path : Route) (meta : Meta) → length (spelled path) ≤ 4096
+may_ask : (contents : Option CallLog) (path : Route) (meta : Meta) → length (spelled_route path) ≤ 4096
     → IfKnown contents (λ log. Reads log (Stat path) (let r : Result Meta TreeError = Ok meta in r) (IsMeta (current log) path)) → MayAsk (sight contents) path true
 may_ask None path meta near reads = tt
 may_ask (Some log) path meta near reads =
@@ -41,11 +41,11 @@ has_mode (Some log) path meta reads =
     (ap (λ (mode : ℕ). Some mode) (sym r.1.mode))
 
 -- what a look at a thing says of it
-pub thing_look : (contents : Option CallLog) (wanted path : Route) (meta : Meta) → path ≡ wanted → length (spelled wanted) ≤ 4096
+pub thing_look : (contents : Option CallLog) (wanted path : Route) (meta : Meta) → path ≡ wanted → length (spelled_route wanted) ≤ 4096
     → IfKnown contents (λ log. Reads log (Stat path) (let r : Result Meta TreeError = Ok meta in r) (IsMeta (current log) path))
     → MayAsk (sight contents) wanted true × HasMode (sight contents) wanted meta.mode
 thing_look contents wanted path meta same close reads =
-    let near : length (spelled path) ≤ 4096 = subst (λ (q : Route). length (spelled q) ≤ 4096) (sym same) close in (
+    let near : length (spelled_route path) ≤ 4096 = subst (λ (q : Route). length (spelled_route q) ≤ 4096) (sym same) close in (
       subst (λ q. MayAsk (sight contents) q true) same (may_ask contents path meta near reads),
       subst (λ q. HasMode (sight contents) q meta.mode) same (has_mode contents path meta reads),
     )

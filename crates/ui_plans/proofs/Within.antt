@@ -3,14 +3,14 @@ use Rattle.std.proofs.Common.{◌≡◌, ◌⊎◌, inl, inr, ℕ, ◌<◌, ◌�
 use Rattle.std.specs.Prelude.{filter, nat_le, nat_lt, not}
 use Rattle.std.specs.List.{list_all, list_any}
 use Rattle.std.proofs.lemmas.List.Folds.{list_all-map, list_any_at}
-use Rattle.mc_text.specs.Routes.{Route, is_prefix, same_path, spelled}
+use Rattle.mc_text.specs.Routes.{Route, is_prefix, same_path, spelled_route}
 use Rattle.tagging.specs.declared.glob.GlobPart.{GlobPart}
 use Rattle.op_plan.specs.declared.mask.MaskPiece.{MaskPiece}
 use Rattle.op_plan.specs.declared.mask.MaskPiece.TheVariants.{Star}
 use Rattle.op_plan.specs.Asking.{ArePairsFor, ArePlaced}
 use Rattle.op_plan.specs.Checks.{sources_in, targets_from}
 use Rattle.op_plan.specs.Meeting.{meet}
-use Rattle.op_plan.specs.Naming.{chosen, has_match}
+use Rattle.op_plan.specs.Naming.{chosen_sources, has_match}
 use Rattle.op_plan.specs.Soundness.{ArePairsApart}
 use Rattle.job_reports.specs.declared.job.Job.{Job}
 use Rattle.job_reports.specs.declared.job.Job.TheVariants as plan
@@ -64,7 +64,7 @@ lt_true : (n m : ℕ) → n < m → nat_lt n m ≡ true
 lt_true n m h = grind arith
 
 pub long_at : (folder : Route) (names : List (List ℕ)) (at : ℕ) (name : List ℕ) → at < length names → name ≡ get_or names at name
-    → 4096 < length (spelled (name ∷ folder)) → list_any (λ name. is_too_long (name ∷ folder)) names ≡ true
+    → 4096 < length (spelled_route (name ∷ folder)) → list_any (λ name. is_too_long (name ∷ folder)) names ≡ true
 long_at folder names at name within is long =
     list_any_at (λ name. is_too_long (name ∷ folder)) names at name within
     (subst (λ (n : List ℕ). is_too_long (n ∷ folder) ≡ true) is (lt_true _ _ long))
@@ -102,7 +102,7 @@ each_kept {X} P test (x ∷ xs) h = by_test (test x) (each_kept P test xs h.1)
     by_test true rest = (h.0, rest)
     by_test false rest = rest
 
-left_within : (pattern : Option (List GlobPart)) (paths : List Route) → can_be_chosen paths ≡ true → Each (λ path. is_within path ≡ true) (chosen pattern paths)
+left_within : (pattern : Option (List GlobPart)) (paths : List Route) → can_be_chosen paths ≡ true → Each (λ path. is_within path ≡ true) (chosen_sources pattern paths)
 left_within None paths h = each_within paths h
 left_within (Some pattern) paths h = each_kept (λ path. is_within path ≡ true) (has_match pattern) paths (each_within paths h)
 
@@ -130,9 +130,9 @@ none_of true b h = absurd cc
 none_of false b h = (refl, h)
 
 -- a path that doesn't begin with another isn't that one
-other_path : (front path : Route) → is_prefix front path ≡ false → same_path front path ≡ false
-other_path front [] h = h
-other_path front (name ∷ folder) h = (none_of (same_path front (name ∷ folder)) (is_prefix front folder) h).0
+other_path : (prefix path : Route) → is_prefix prefix path ≡ false → same_path prefix path ≡ false
+other_path prefix [] h = h
+other_path prefix (name ∷ folder) h = (none_of (same_path prefix (name ∷ folder)) (is_prefix prefix folder) h).0
 
 -- where no source meets a target, none is its own
 fewer : (sources : List Route) (target : Route) (targets : List Route)
@@ -150,8 +150,8 @@ apart_each (pair ∷ pairs) h =
     let at = none_of (list_any (meet pair.source) (targets_from (pair ∷ pairs)))
     (list_any (λ source. list_any (meet source) (targets_from (pair ∷ pairs))) (sources_in pairs)) h in
     let first = none_of (meet pair.source pair.target) (list_any (meet pair.source) (targets_from pairs)) at.0 in
-    let front = none_of (is_prefix pair.source pair.target) (is_prefix pair.target pair.source) first.0 in
-    (other_path pair.source pair.target front.0, apart_each pairs (fewer (sources_in pairs) pair.target (targets_from pairs) at.1))
+    let prefix = none_of (is_prefix pair.source pair.target) (is_prefix pair.target pair.source) first.0 in
+    (other_path pair.source pair.target prefix.0, apart_each pairs (fewer (sources_in pairs) pair.target (targets_from pairs) at.1))
 
 goes : (how : Carry) (pair : Pair) → lie_within pair ≡ true → same_path pair.source pair.target ≡ false → can_go how pair ≡ true
 goes carry.Copy pair within apart = within

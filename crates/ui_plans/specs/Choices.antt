@@ -1,7 +1,7 @@
 -- What choosing the things that are selected comes to.
 use Rattle.std.specs.Prelude.{◌≡◌, ⊤, ℕ, Bool, true, false, List, [], ◌∷◌, length, map, nat_lt, Option, Some, None}
 use Rattle.std.specs.List.{list_any}
-use Rattle.mc_text.specs.Routes.{Route, spelled}
+use Rattle.mc_text.specs.Routes.{Route, spelled_route}
 use Rattle.tree_trait.specs.declared.calls.Meta.{Meta}
 use Rattle.tree_trait.specs.FileSystem.{View}
 use Rattle.session_entries.specs.declared.refusal.PlanError.TheVariants as plan
@@ -23,7 +23,7 @@ paths_in folder = map (λ name. name ∷ folder)
 
 -- a path of more than 4,096 bytes
 abbrev pub is_too_long : Route → Bool
-is_too_long path = nat_lt 4096 (length (spelled path))
+is_too_long path = nat_lt 4096 (length (spelled_route path))
 
 abbrev pub are_several : {X : Type 0} → List X → Bool
 are_several [] = false

@@ -2,7 +2,7 @@
 use Rattle.std.specs.Prelude.{◌≡◌, ℕ, Bool, true, false, ◌&&◌, not, is_some, nat_le, ⊤, List, [], ◌∷◌, length, Option, Some, None}
 use Rattle.std.specs.List.{list_all}
 use Rattle.std.specs.Option.{option_map}
-use Rattle.mc_text.specs.Routes.{Route, same_path, spelled}
+use Rattle.mc_text.specs.Routes.{Route, same_path, spelled_route}
 use Rattle.tree_trait.specs.FileSystem.{Value, View}
 use Rattle.job_reports.specs.declared.job.Job.{Job}
 use Rattle.job_reports.specs.declared.job.Job.TheVariants as plan
@@ -14,7 +14,7 @@ use Rattle.ui_words.specs.declared.carry.Carry.TheVariants as carry
 -- a box may ask of the thing at a path: exactly where something stands there, as far as the tree can be seen, and the path isn't too long
 abbrev pub MayAsk : Option View → Route → Bool → Type 0
 MayAsk None path asks = ⊤
-MayAsk (Some view) path asks = asks ≡ (is_some (view path).value && nat_le (length (spelled path)) 4096)
+MayAsk (Some view) path asks = asks ≡ (is_some (view path).value && nat_le (length (spelled_route path)) 4096)
 
 -- the thing at a path has a mode, as far as the tree can be seen
 abbrev pub HasMode : Option View → Route → ℕ → Type 0

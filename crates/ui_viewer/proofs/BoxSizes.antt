@@ -1,11 +1,11 @@
 -- A box that is painted over a screen leaves its size as it was.
 use Rattle.std.proofs.Common.{◌≡◌, ℕ, ◌+◌, ◌-◌, Bool, true, false, List, [], ◌∷◌, length, refl}
 use Rattle.std.specs.Prelude.{if◌then◌else◌, ◌&&◌}
-use Rattle.mc_text.specs.Fit.{columns_in, fitted}
-use Rattle.mc_text.specs.Drawn.{drawn}
+use Rattle.mc_text.specs.Fit.{columns_in, fitted_text}
+use Rattle.mc_text.specs.Drawn.{drawn_text}
 use Rattle.key_screen.specs.declared.cells.Attr.{Attr}
 use Rattle.key_screen.specs.declared.cells.Attr.TheVariants.{Plain, Reverse}
-use Rattle.key_screen.specs.Grids.{CellGrid, written, written_at}
+use Rattle.key_screen.specs.Grids.{CellGrid, grid_with_text, written_at}
 use Rattle.key_screen.specs.KeySpelling.{is_within}
 use Rattle.mc_dialogs.specs.declared.frame.Line.{Line}
 use Rattle.mc_dialogs.specs.Boxes.{columns_inside, edge, middle, with_box, with_line, with_lines}
@@ -25,14 +25,14 @@ module _ (lines columns : ℕ) where
   text_sized : (grid : CellGrid) (row column : ℕ) (text : List ℕ) (attr : Attr) → IsSized lines columns grid → IsSized lines columns (written_at grid row column text attr)
   unfolding written_at
   text_sized grid row column text attr h =
-      either (is_within 1 grid.lines row && is_within 1 grid.columns column) (written grid row column text attr) grid (record { lines_are = h.lines_are; columns_are = h.columns_are }) h
+      either (is_within 1 grid.lines row && is_within 1 grid.columns column) (grid_with_text grid row column text attr) grid (record { lines_are = h.lines_are; columns_are = h.columns_are }) h
 
   line_sized : (grid : CellGrid) (row column inside : ℕ) (line : Line) → IsSized lines columns grid → IsSized lines columns (with_line grid row column inside line)
   line_sized grid row column inside line h =
       let left = written_at grid row column (124 ∷ 32 ∷ []) Plain in
-      let text = written_at left row (column + 2) (fitted (drawn line.text) inside) line.attr in
+      let text = written_at left row (column + 2) (fitted_text (drawn_text line.text) inside) line.attr in
       text_sized text row (column + 2 + inside) (32 ∷ 124 ∷ []) Plain
-      (text_sized left row (column + 2) (fitted (drawn line.text) inside) line.attr (text_sized grid row column (124 ∷ 32 ∷ []) Plain h))
+      (text_sized left row (column + 2) (fitted_text (drawn_text line.text) inside) line.attr (text_sized grid row column (124 ∷ 32 ∷ []) Plain h))
 
   lines_sized : (grid : CellGrid) (row column inside : ℕ) (all : List Line) → IsSized lines columns grid → IsSized lines columns (with_lines grid row column inside all)
   lines_sized grid row column inside [] h = h
@@ -51,7 +51,7 @@ module _ (lines columns : ℕ) where
   field_sized grid row column inside before behind h =
       let start = shown_before before inside in
       let room = inside - columns_in start in
-      let end = fitted (drawn behind) room in
+      let end = fitted_text (drawn_text behind) room in
       let cursor = column + (inside - room) in
       let started = written_at grid row column start Plain in
       let whole = written_at started row cursor end Plain in

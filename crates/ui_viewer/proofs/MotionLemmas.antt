@@ -4,7 +4,7 @@ use Rattle.std.specs.Prelude.{⊤}
 use Rattle.mc_viewer.specs.declared.error.ViewError.{ViewError}
 use Rattle.mc_viewer.specs.declared.error.ViewError.TheVariants as error
 use Rattle.mc_viewer.specs.declared.state.State.{State}
-use Rattle.mc_viewer.specs.Steps.{Viewing}
+use Rattle.mc_viewer.specs.ViewerSteps.{Viewing}
 use Rattle.mc_viewer.specs.Viewing.{IsReadError, IfRead}
 
 abbrev pub moved_to : State → Viewing → Viewing

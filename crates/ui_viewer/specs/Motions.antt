@@ -5,7 +5,7 @@ use Rattle.mc_viewer.specs.declared.error.ViewError.{ViewError}
 use Rattle.mc_viewer.specs.declared.search.Search.TheVariants.{Plain, Regex}
 use Rattle.mc_viewer.specs.declared.state.ViewStep.TheVariants as step
 use Rattle.mc_viewer.specs.Searches.{IsSearchError, after_next, after_search}
-use Rattle.mc_viewer.specs.Steps.{Viewing, after_step}
+use Rattle.mc_viewer.specs.ViewerSteps.{Viewing, after_step}
 use Rattle.mc_viewer.specs.Viewing.{IsReadError}
 use Rattle.ui_viewer.specs.declared.asking.Question.{Question}
 use Rattle.ui_viewer.specs.declared.asking.Question.TheVariants.{Line, Byte, PlainText, Expression}
@@ -14,10 +14,10 @@ use Rattle.ui_viewer.specs.declared.motion.Motion.TheVariants.{Step, Search, Sea
 use Rattle.ui_viewer.specs.Numbers.{number_in}
 
 -- where it leads, in a file of these bytes: the viewer then, or why there is nothing to lead to
-abbrev pub led : Motion → List ℕ → Viewing → Result Viewing ViewError
-led (Step by) bytes v = Ok (record v { state = after_step bytes by v.state })
-led (Search what) bytes v = after_search bytes what v
-led SearchNext bytes v = after_next bytes v
+abbrev pub led_viewing : Motion → List ℕ → Viewing → Result Viewing ViewError
+led_viewing (Step by) bytes v = Ok (record v { state = after_step bytes by v.state })
+led_viewing (Search what) bytes v = after_search bytes what v
+led_viewing SearchNext bytes v = after_next bytes v
 
 -- why it may fail on any tree: a step finds nothing missing
 abbrev pub MayRefuse : Motion → ViewError → Type 0

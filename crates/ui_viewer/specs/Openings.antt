@@ -7,7 +7,7 @@ use Rattle.tree_trait.specs.Answers.{HasRisen, IfKnown}
 use Rattle.resolving.specs.declared.error.ResolveError.TheVariants as resolve
 use Rattle.resolving.specs.declared.walking.Wanted.TheVariants.{AnyThing}
 use Rattle.resolving.specs.Errors.{Answers}
-use Rattle.resolving.specs.Resolution.{resolved}
+use Rattle.resolving.specs.Resolution.{resolved_path}
 use Rattle.mc_viewer.specs.declared.subject.Subject.TheVariants.{File}
 use Rattle.mc_viewer.specs.Viewing.{IsRefused}
 use Rattle.ui_viewer.specs.declared.opening.Opening.{Opening}
@@ -16,7 +16,7 @@ use Rattle.ui_viewer.specs.ViewerScreens.{IsOpened}
 
 -- the thing of a name in a folder leads to this path, along links
 abbrev pub LeadsTo : Option CallLog → Route → List ℕ → Route → Type 0
-LeadsTo contents folder name path = IfKnown contents (λ log. resolved (current log) AnyThing folder name ≡ Ok path)
+LeadsTo contents folder name path = IfKnown contents (λ log. resolved_path (current log) AnyThing folder name ≡ Ok path)
 
 -- what lies at a path without links is viewed, or refused as the tree refuses a reading of it
 abbrev pub OpensPath : Option CallLog → Route → ℕ → ℕ → Opening → Type 0
@@ -28,7 +28,7 @@ OpensPath contents path lines columns (Unread at why) =
 -- the same with the thing of a name in a folder; or no way leads to it, as the tree says
 abbrev pub OpensThing : Option CallLog → Route → List ℕ → ℕ → ℕ → Opening → Type 0
 OpensThing contents folder name lines columns (NoWay why) =
-    (why ≢ resolve.Memory) × IfKnown contents (λ log. Answers {A = Route} (resolved (current log) AnyThing folder name) (Err why))
+    (why ≢ resolve.Memory) × IfKnown contents (λ log. Answers {A = Route} (resolved_path (current log) AnyThing folder name) (Err why))
 OpensThing contents folder name lines columns (Viewed mode) =
     (path : Route) × LeadsTo contents folder name path × OpensPath contents path lines columns (Viewed mode)
 OpensThing contents folder name lines columns (Unread at why) =

@@ -10,8 +10,8 @@ use Rattle.mc_viewer.specs.declared.error.ViewError.{ViewError}
 use Rattle.mc_viewer.specs.declared.error.ViewError.TheVariants as error
 use Rattle.mc_viewer.specs.declared.subject.Subject.TheVariants.{File}
 use Rattle.mc_viewer.specs.Searches.{IsMissed}
-use Rattle.mc_viewer.specs.Steps.{Viewing, begun, page_of}
-use Rattle.mc_viewer.specs.Viewing.{AsTheTreeSays, IsReadable, OfReading, held}
+use Rattle.mc_viewer.specs.ViewerSteps.{Viewing, begun_viewing, page_of}
+use Rattle.mc_viewer.specs.Viewing.{AsTheTreeSays, IsReadable, OfReading, held_bytes}
 use Rattle.ui_words.specs.declared.replies.LineReply.{LineReply}
 use Rattle.ui_words.specs.declared.replies.LineReply.TheVariants as line
 use Rattle.ui_words.specs.BoxKeys.{closes_message, line_reply}
@@ -23,7 +23,7 @@ use Rattle.ui_viewer.specs.declared.command.ViewerCommand.{ViewerCommand}
 use Rattle.ui_viewer.specs.declared.command.ViewerCommand.TheVariants as command
 use Rattle.ui_viewer.specs.declared.motion.Motion.{Motion}
 use Rattle.ui_viewer.specs.declared.motion.Motion.TheVariants as motion
-use Rattle.ui_viewer.specs.Motions.{MayRefuse, Reads, led, motion_of}
+use Rattle.ui_viewer.specs.Motions.{MayRefuse, Reads, led_viewing, motion_of}
 use Rattle.ui_viewer.specs.Questions.{opened_line, place_question}
 use Rattle.ui_viewer.specs.ViewerKeys.{viewer_command}
 
@@ -39,7 +39,7 @@ pub record ViewerScreen : Type 0 where
 abbrev pub opened_screen : Route → ℕ → ℕ → List (List ℕ) → ViewerScreen
 opened_screen path lines columns rows = record {
   title = path_text path;
-  viewer = begun (File path) lines (max columns 1);
+  viewer = begun_viewing (File path) lines (max columns 1);
   rows = rows;
   asking = None;
   refused = None;
@@ -48,7 +48,7 @@ opened_screen path lines columns rows = record {
 -- a file is opened at its top, and can be read; the rows are those of its first page, as the file stands
 pub record IsOpened (contents : Option CallLog) (path : Route) (lines columns : ℕ) (opened : ViewerScreen) : Type 0 where
   pub begins : opened ≡ opened_screen path lines columns opened.rows
-  pub shown : IfKnown (held contents (File path)) (λ bytes. opened.rows ≡ page_of bytes opened.viewer.state)
+  pub shown : IfKnown (held_bytes contents (File path)) (λ bytes. opened.rows ≡ page_of bytes opened.viewer.state)
   pub readable : IfKnown contents (λ log. IsReadable log (File path))
 
 -- MOTIONS
@@ -56,8 +56,8 @@ pub record IsOpened (contents : Option CallLog) (path : Route) (lines columns : 
 -- The viewer stands where the motion leads in the file as it stands, and the rows are those of the page there. The line that asked
 -- for it is shut; nothing else changes.
 pub record IsLed (motion : Motion) (contents : Option CallLog) (before after : ViewerScreen) : Type 0 where
-  pub led_to : IfKnown (held contents before.viewer.subject) (λ bytes. led motion bytes before.viewer ≡ Ok after.viewer)
-  pub shown : IfKnown (held contents before.viewer.subject) (λ bytes. after.rows ≡ page_of bytes after.viewer.state)
+  pub led_to : IfKnown (held_bytes contents before.viewer.subject) (λ bytes. led_viewing motion bytes before.viewer ≡ Ok after.viewer)
+  pub shown : IfKnown (held_bytes contents before.viewer.subject) (λ bytes. after.rows ≡ page_of bytes after.viewer.state)
   pub subject : after.viewer.subject ≡ before.viewer.subject
   pub readable : IfKnown contents (λ log. Reads motion before.viewer → IsReadable log before.viewer.subject)
   pub rest : after ≡ record before { viewer = after.viewer; rows = after.rows; asking = None }
@@ -65,7 +65,7 @@ pub record IsLed (motion : Motion) (contents : Option CallLog) (before after : V
 -- The motion is refused, since the tree refuses the file, or since there is nothing to lead to. The viewer stays where it stood, the
 -- line that asked stays open, and a message says why.
 pub record IsRefused (motion : Motion) (contents : Option CallLog) (why : ViewError) (before after : ViewerScreen) : Type 0 where
-  pub missed : IfKnown (held contents before.viewer.subject) (λ bytes. IsMissed (led motion bytes before.viewer) why)
+  pub missed : IfKnown (held_bytes contents before.viewer.subject) (λ bytes. IsMissed (led_viewing motion bytes before.viewer) why)
   pub as_told : IfKnown contents (λ log. AsTheTreeSays log before.viewer.subject why)
   pub readable : IfKnown contents (λ log. OfReading why (Reads motion before.viewer → IsReadable log before.viewer.subject))
   pub kind : MayRefuse motion why
@@ -155,8 +155,8 @@ abbrev pub wanted_by : Option Asking → Key → Option Motion
 wanted_by None key = wanted_by_command (viewer_command key)
 wanted_by (Some asking) key = wanted_by_reply asking.question (line_reply (input_shut asking.line key))
 
-abbrev pub wanted : Key → ViewerScreen → Option Motion
-wanted key s = if is_some s.refused then None else wanted_by s.asking key
+abbrev pub wanted_motion : Key → ViewerScreen → Option Motion
+wanted_motion key s = if is_some s.refused then None else wanted_by s.asking key
 
 -- Reading leaves the tree as it was. A fault is told only where the tree's count of faults has risen.
 pub record ReadsTree {A E : Type 0} (act : A → ViewerAct) (result : Result A E) (before after : Option CallLog) (faults faults_after : ℕ) : Type 0 where

@@ -5,7 +5,7 @@ ghost use Rattle.mc_viewer.specs.declared.subject.Subject.TheVariants.{File};
 ghost use Rattle.mc_viewer.specs.Viewing.{AsTheTreeSays, IsReadError};
 ghost use Rattle.ui_viewer.specs.Motions.{LooksAtNothing};
 ghost use Rattle.ui_viewer.specs.declared.act.ViewerAct.{ViewerAct as ViewerActType};
-ghost use Rattle.ui_viewer.specs.ViewerScreens.{IsOpened, KeyLeads, ReadsTree, after_message, shuts_message as does_shut, wanted};
+ghost use Rattle.ui_viewer.specs.ViewerScreens.{IsOpened, KeyLeads, ReadsTree, after_message, shuts_message as does_shut, wanted_motion};
 
 mod line_keys;
 mod page_keys;
@@ -76,7 +76,7 @@ impl ViewerMode {
         key: Key,
     ) -> Result<ViewerAct, NoMemory>
         ensures leads { IfOk result (λ act. KeyLeads (T.contents tree.old) key act self.old self.new) }
-        ensures still { LooksAtNothing (wanted key self.old) self.old.viewer → tree.new ≡ tree.old }
+        ensures still { LooksAtNothing (wanted_motion key self.old) self.old.viewer → tree.new ≡ tree.old }
         ensures lost { OnErr result (self.new ≡ self.old) }
         ensures reads { ReadsTree (λ (act : ViewerActType). act) result (T.contents tree.old) (T.contents tree.new) (T.fault_count tree.old) (T.fault_count tree.new) }
     {

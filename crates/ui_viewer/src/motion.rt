@@ -3,9 +3,9 @@ ghost use Rattle.std.specs.Prelude.{◌≡◌, Some, Ok, IfErr, IfOk, OnOk, OnEr
 ghost use Rattle.std.specs.Option.{option_map};
 ghost use Rattle.tree_trait.specs.Answers.{IfKnown, HasCause};
 ghost use Rattle.mc_viewer.specs.Searches.{IsMissed, IsSearchError};
-ghost use Rattle.mc_viewer.specs.Steps.{page_of};
-ghost use Rattle.mc_viewer.specs.Viewing.{held, AsTheTreeSays, IfRead, IsReadable};
-ghost use Rattle.ui_viewer.specs.Motions.{LooksAtNothing, MayRefuse, Reads, led, motion_of};
+ghost use Rattle.mc_viewer.specs.ViewerSteps.{page_of};
+ghost use Rattle.mc_viewer.specs.Viewing.{held_bytes, AsTheTreeSays, IfRead, IsReadable};
+ghost use Rattle.ui_viewer.specs.Motions.{LooksAtNothing, MayRefuse, Reads, led_viewing, motion_of};
 ghost use Rattle.ui_viewer.specs.Numbers.{number_in};
 
 use crate::asking::Question;
@@ -73,11 +73,11 @@ pub fn page_after<T: ReadTree>(
     tree: &mut T,
     motion: Motion,
 ) -> Result<Rows, ViewError>
-    ensures led { IfKnown (held (T.contents tree.old) viewer.old.subject) (λ bytes.
-        OnOk result (led motion bytes viewer.old ≡ Ok viewer.new)) }
-    ensures missed { IfKnown (held (T.contents tree.old) viewer.old.subject) (λ bytes.
-        IfErr result (IsMissed (led motion bytes viewer.old))) }
-    ensures shown { IfKnown (held (T.contents tree.old) viewer.old.subject) (λ bytes.
+    ensures led { IfKnown (held_bytes (T.contents tree.old) viewer.old.subject) (λ bytes.
+        OnOk result (led_viewing motion bytes viewer.old ≡ Ok viewer.new)) }
+    ensures missed { IfKnown (held_bytes (T.contents tree.old) viewer.old.subject) (λ bytes.
+        IfErr result (IsMissed (led_viewing motion bytes viewer.old))) }
+    ensures shown { IfKnown (held_bytes (T.contents tree.old) viewer.old.subject) (λ bytes.
         IfOk result (λ rows. rows ≡ page_of bytes viewer.new.state)) }
     ensures subject { viewer.new.subject ≡ viewer.old.subject }
     ensures stays { OnErr result (viewer.new ≡ viewer.old) }

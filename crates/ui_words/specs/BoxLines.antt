@@ -2,7 +2,7 @@
 use Rattle.std.specs.Prelude.{ℕ, ◌%◌, Bool, true, false, List, [], ◌∷◌, ◌++◌, Option, Some, None, codes}
 use Rattle.std.specs.Option.{option_map_or}
 use Rattle.std.specs.Fmt.{decimal}
-use Rattle.mc_text.specs.Routes.{Route, path_text, spelled}
+use Rattle.mc_text.specs.Routes.{Route, path_text, spelled_route}
 use Rattle.job_reports.specs.declared.question.Question.{Question}
 use Rattle.job_reports.specs.declared.report.Trouble.{Trouble}
 use Rattle.job_reports.specs.declared.waits.Waits.{Waits}
@@ -121,7 +121,7 @@ link_name_line = record { title = codes "Link name"; before = []; behind = [] }
 
 -- what the destination is at first: the other panel's folder and a slash
 abbrev pub target_text : Route → List ℕ
-target_text folder = spelled folder ++ codes "/"
+target_text folder = spelled_route folder ++ codes "/"
 
 -- the line that asks where things are to be copied or moved to, as it opens
 abbrev pub target_title : Carry → List ℕ

@@ -94,6 +94,6 @@ cut_some text word behind split =
     let blank = found.1.0 in
     let parts : text ≡ word ++ blank ∷ behind =
     sym (take-append-drop i text)
-    ∙ ap (λ front. front ++ drop i text) (sym split.3)
+    ∙ ap (λ prefix. prefix ++ drop i text) (sym split.3)
     ∙ ap (λ back. word ++ back) (drop_at_char blank text i split.1 found.1.2 (small blank found.1.1) ∙ ap (λ back. blank ∷ back) (sym split.4)) in
     cut_at text word behind blank parts (subst IsUnbroken (sym split.3) (unbroken (take i text) found.0)) (either blank found.1.1)

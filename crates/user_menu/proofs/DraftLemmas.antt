@@ -3,8 +3,8 @@ use Rattle.std.proofs.Common.{◌≡◌, ℕ, zero, suc, ◌+◌, ◌<◌, true,
 use Rattle.std.specs.List.{join_with_byte}
 use Rattle.std.proofs.lemmas.List.{append-nil}
 use Rattle.user_menu.specs.Menus.{MenuEntry}
-use Rattle.user_menu.specs.MenuFiles.{conditions_ahead, commands_ahead, joined, entries_behind}
-use Rattle.user_menu.specs.Drafts.{is_some_entry, with_lines, extended, continued}
+use Rattle.user_menu.specs.MenuFiles.{conditions_ahead, commands_ahead, joined_lines, entries_behind}
+use Rattle.user_menu.specs.Drafts.{is_some_entry, with_lines, extended_entries, continued_entries}
 use Rattle.user_menu.specs.declared.file.Draft.{Draft}
 use Rattle.user_menu.specs.declared.line.Asked as one
 use Rattle.user_menu.specs.declared.line.LineRead.{LineRead}
@@ -14,14 +14,14 @@ abbrev pub with_more : MenuEntry → List (List ℕ) → MenuEntry
 with_more entry more = record { conditions = entry.conditions; title = entry.title; commands = with_lines entry.commands more }
 
 extended-cons : (entry : MenuEntry) (entries : List MenuEntry) (more : List (List ℕ)) → 0 < length entries
-    → extended (entry ∷ entries) more ≡ entry ∷ extended entries more
+    → extended_entries (entry ∷ entries) more ≡ entry ∷ extended_entries entries more
 extended-cons entry [] more some = absurd (omega arith)
 extended-cons entry (next ∷ entries) more some = refl
 
 -- a line that is put at the end of the last entry
 pub extended-put : (entries : List MenuEntry) (last : ℕ) (entry : MenuEntry) (line : List ℕ) (more : List (List ℕ))
     → length entries ≡ last + 1 → get_or entries last entry ≡ entry
-    → extended (set entries last (with_more entry (line ∷ []))) more ≡ extended entries (line ∷ more)
+    → extended_entries (set entries last (with_more entry (line ∷ []))) more ≡ extended_entries entries (line ∷ more)
 extended-put [] last entry line more len is = absurd (omega arith)
 extended-put (first ∷ []) zero entry line more len is = ap (λ one. with_more one (line ∷ more) ∷ []) (sym is)
 extended-put (first ∷ []) (suc last) entry line more len is = absurd (omega arith)
@@ -31,14 +31,14 @@ extended-put (first ∷ next ∷ entries) (suc last) entry line more len is =
     ∙ ap (λ others. first ∷ others) (extended-put (next ∷ entries) last entry line more (omega arith) is)
 
 -- no more lines
-pub extended-nothing : (entries : List MenuEntry) → extended entries [] ≡ entries
+pub extended-nothing : (entries : List MenuEntry) → extended_entries entries [] ≡ entries
 extended-nothing [] = refl
 extended-nothing (entry ∷ []) = refl
 extended-nothing (entry ∷ next ∷ entries) = ap (λ others. entry ∷ others) (extended-nothing (next ∷ entries))
 
 -- an entry more at the end
 extended-push : (entries : List MenuEntry) (entry : MenuEntry) (more : List (List ℕ))
-    → extended (entries ++ entry ∷ []) more ≡ entries ++ with_more entry more ∷ []
+    → extended_entries (entries ++ entry ∷ []) more ≡ entries ++ with_more entry more ∷ []
 extended-push [] entry more = refl
 extended-push (first ∷ []) entry more = refl
 extended-push (first ∷ next ∷ entries) entry more = ap (λ others. first ∷ others) (extended-push (next ∷ entries) entry more)
@@ -57,34 +57,34 @@ with_lines-some : (text : List ℕ) (lines : List (List ℕ)) → with_lines (So
 with_lines-some text [] = refl
 with_lines-some text (line ∷ lines) = with_lines-some (text ++ 10 ∷ line) lines ∙ ap Some (joined-onto text line lines)
 
-with_lines-joined : (lines : List (List ℕ)) → with_lines None lines ≡ joined lines
+with_lines-joined : (lines : List (List ℕ)) → with_lines None lines ≡ joined_lines lines
 with_lines-joined [] = refl
 with_lines-joined (line ∷ lines) = with_lines-some line lines
 
 begun : (entries : List MenuEntry) (waiting : List one.Asked) (title : List ℕ) (lines : List LineRead)
-    → extended (entries ++ record { conditions = waiting; title = title; commands = None } ∷ []) (commands_ahead lines) ++ entries_behind (conditions_ahead lines) lines
-    ≡ extended entries [] ++ entries_behind (waiting ++ []) (Title title ∷ lines)
+    → extended_entries (entries ++ record { conditions = waiting; title = title; commands = None } ∷ []) (commands_ahead lines) ++ entries_behind (conditions_ahead lines) lines
+    ≡ extended_entries entries [] ++ entries_behind (waiting ++ []) (Title title ∷ lines)
 begun entries waiting title lines =
     let new : MenuEntry = record { conditions = waiting; title = title; commands = None } in
     let said : List one.Asked → Option (List ℕ) → MenuEntry = λ conditions commands. record { conditions = conditions; title = title; commands = commands } in
     ap (λ all. all ++ entries_behind (conditions_ahead lines) lines)
     (extended-push entries new (commands_ahead lines)
     ∙ ap (λ commands. entries ++ said waiting commands ∷ []) (with_lines-joined (commands_ahead lines)))
-    ∙ append_assoc entries (said waiting (joined (commands_ahead lines)) ∷ []) (entries_behind (conditions_ahead lines) lines)
-    ∙ ap (λ all. all ++ said waiting (joined (commands_ahead lines)) ∷ entries_behind (conditions_ahead lines) lines) (sym (extended-nothing entries))
-    ∙ ap (λ conditions. extended entries [] ++ said conditions (joined (commands_ahead lines)) ∷ entries_behind (conditions_ahead lines) lines)
+    ∙ append_assoc entries (said waiting (joined_lines (commands_ahead lines)) ∷ []) (entries_behind (conditions_ahead lines) lines)
+    ∙ ap (λ all. all ++ said waiting (joined_lines (commands_ahead lines)) ∷ entries_behind (conditions_ahead lines) lines) (sym (extended-nothing entries))
+    ∙ ap (λ conditions. extended_entries entries [] ++ said conditions (joined_lines (commands_ahead lines)) ∷ entries_behind (conditions_ahead lines) lines)
     (sym (append-nil waiting))
 
 -- a title begins an entry
 pub continued-begun : (old new : Draft) (title : List ℕ) (lines : List LineRead)
     → new.entries.items ≡ old.entries.items ++ record { conditions = old.waiting.items; title = title; commands = None } ∷ []
     → new.waiting.items ≡ []
-    → continued new lines ≡ continued old (Title title ∷ lines)
+    → continued_entries new lines ≡ continued_entries old (Title title ∷ lines)
 continued-begun old new title lines more none =
-    ap (λ waiting. extended new.entries.items (commands_ahead lines) ++ entries_behind (waiting ++ conditions_ahead lines) lines) none
-    ∙ ap (λ entries. extended entries (commands_ahead lines) ++ entries_behind (conditions_ahead lines) lines) more
+    ap (λ waiting. extended_entries new.entries.items (commands_ahead lines) ++ entries_behind (waiting ++ conditions_ahead lines) lines) none
+    ∙ ap (λ entries. extended_entries entries (commands_ahead lines) ++ entries_behind (conditions_ahead lines) lines) more
     ∙ begun old.entries.items old.waiting.items title lines
 
 -- at the end nothing more is said
-pub continued-ended : (draft : Draft) → continued draft [] ≡ draft.entries.items
-continued-ended draft = append-nil (extended draft.entries.items []) ∙ extended-nothing draft.entries.items
+pub continued-ended : (draft : Draft) → continued_entries draft [] ≡ draft.entries.items
+continued-ended draft = append-nil (extended_entries draft.entries.items []) ∙ extended-nothing draft.entries.items

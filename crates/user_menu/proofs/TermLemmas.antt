@@ -3,7 +3,7 @@ use Rattle.std.proofs.Common.{◌≡◌, ℕ, zero, suc, ◌+◌, ◌<◌, ◌�
 use Rattle.std.specs.Option.{option_map_or}
 use Rattle.std.specs.List.{position_or_len}
 use Rattle.tagging.specs.declared.pattern.PatternKind.{PatternKind}
-use Rattle.text_scan.specs.Words.{behind_word, unindented, is_blank}
+use Rattle.text_scan.specs.Words.{behind_word, unindented_text, is_blank}
 use Rattle.user_menu.specs.Words.{FirstWord, cut_word, first_word}
 use Rattle.user_menu.specs.declared.condition.Joint.{Joint}
 use Rattle.user_menu.specs.declared.condition.Joined.{Joined}
@@ -20,11 +20,11 @@ weaker : {A : Type 0} (P Q : A → Type 0) (o : Option A) → ((x : A) → P x �
 weaker P Q None more h = h
 weaker P Q (Some x) more h = more x h
 
-unindented-short : (text : List ℕ) → length (unindented text) ≤ length text
+unindented-short : (text : List ℕ) → length (unindented_text text) ≤ length text
 unindented-short [] = omega arith
 unindented-short (byte ∷ text) =
     let ih = unindented-short text in
-    elim (is_blank byte) as (λ b. length (cond b (unindented text) (byte ∷ text)) ≤ length (byte ∷ text)) [ true ↦ omega (arith, ih) | false ↦ omega arith ]
+    elim (is_blank byte) as (λ b. length (cond b (unindented_text text) (byte ∷ text)) ≤ length (byte ∷ text)) [ true ↦ omega (arith, ih) | false ↦ omega arith ]
 
 behind_signs-short : (text : List ℕ) → length (behind_signs text) ≤ length text
 behind_signs-short [] = omega arith
@@ -41,8 +41,8 @@ cut_word-short (byte ∷ text) =
 first_word-short : (text : List ℕ) → IfSome (first_word text) (λ read. length read.rest < length text)
 first_word-short text =
     let less = unindented-short text in
-    weaker (λ (read : FirstWord). length read.rest < length (unindented text)) (λ (read : FirstWord). length read.rest < length text)
-    (first_word text) (λ read h. omega (arith, less, h)) (cut_word-short (unindented text))
+    weaker (λ (read : FirstWord). length read.rest < length (unindented_text text)) (λ (read : FirstWord). length read.rest < length text)
+    (first_word text) (λ read h. omega (arith, less, h)) (cut_word-short (unindented_text text))
 
 behind_word-short : (word text : List ℕ) → IfSome (behind_word word text) (λ rest. length rest ≤ length text)
 behind_word-short [] text = omega arith
@@ -130,10 +130,10 @@ terms_of-step kind joint (byte ∷ text) =
 
 -- ---- one term taken
 
-onto-cons : (front : List Joined) (first : Joined) (more : Option (List Joined))
-    → onto_terms front (option_map (λ others. first ∷ others) more) ≡ onto_terms (front ++ first ∷ []) more
-onto-cons front first None = refl
-onto-cons front first (Some more) = ap Some (sym (append_assoc front (first ∷ []) more))
+onto-cons : (prefix : List Joined) (first : Joined) (more : Option (List Joined))
+    → onto_terms prefix (option_map (λ others. first ∷ others) more) ≡ onto_terms (prefix ++ first ∷ []) more
+onto-cons prefix first None = refl
+onto-cons prefix first (Some more) = ap Some (sym (append_assoc prefix (first ∷ []) more))
 
 abbrev joined_term : Joint → FirstTerm → Joined
 joined_term joint read = record { joint = joint; term = read.term }

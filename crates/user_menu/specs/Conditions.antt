@@ -24,9 +24,9 @@ opposite Plain = Turned
 opposite Turned = Plain
 
 -- a sense in which another one stands
-abbrev pub turned : Sense → Sense → Sense
-turned Plain inner = inner
-turned Turned inner = opposite inner
+abbrev pub turned_sense : Sense → Sense → Sense
+turned_sense Plain inner = inner
+turned_sense Turned inner = opposite inner
 
 -- the sense that leading signs give, among which blanks may stand: each turns it
 abbrev pub sense_of : List ℕ → Sense

@@ -8,8 +8,8 @@ use Rattle.user_menu.specs.Conditions.{terms_of}
 
 -- terms before others
 abbrev pub onto_terms : List Joined → Option (List Joined) → Option (List Joined)
-onto_terms front None = None
-onto_terms front (Some more) = Some (front ++ more)
+onto_terms prefix None = None
+onto_terms prefix (Some more) = Some (prefix ++ more)
 
 -- the terms so far with those to come
 abbrev pub terms_at : PatternKind → List Joined → Course → Option (List Joined)

@@ -19,13 +19,13 @@ with_lines commands [] = commands
 with_lines commands (line ∷ lines) = with_lines (with_line commands line) lines
 
 -- more command lines at the last of some entries
-abbrev pub extended : List MenuEntry → List (List ℕ) → List MenuEntry
-extended [] more = []
-extended (entry ∷ []) more =
+abbrev pub extended_entries : List MenuEntry → List (List ℕ) → List MenuEntry
+extended_entries [] more = []
+extended_entries (entry ∷ []) more =
     record { conditions = entry.conditions; title = entry.title; commands = with_lines entry.commands more } ∷ []
-extended (entry ∷ next ∷ entries) more = entry ∷ extended (next ∷ entries) more
+extended_entries (entry ∷ next ∷ entries) more = entry ∷ extended_entries (next ∷ entries) more
 
 -- the entries so far, with what other lines say behind them
-abbrev pub continued : Draft → List LineRead → List MenuEntry
-continued draft lines =
-    extended draft.entries.items (commands_ahead lines) ++ entries_behind (draft.waiting.items ++ conditions_ahead lines) lines
+abbrev pub continued_entries : Draft → List LineRead → List MenuEntry
+continued_entries draft lines =
+    extended_entries draft.entries.items (commands_ahead lines) ++ entries_behind (draft.waiting.items ++ conditions_ahead lines) lines

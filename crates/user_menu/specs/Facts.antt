@@ -4,11 +4,11 @@ use Rattle.std.specs.List.{list_any}
 use Rattle.std.specs.Option.{option_map_or}
 use Rattle.mc_text.specs.declared.kind.Kind.{Kind}
 use Rattle.mc_text.specs.Names.{name_fault}
-use Rattle.mc_text.specs.Routes.{Route, spelled, path_text, path_fault, route_of, begins_with_slash}
+use Rattle.mc_text.specs.Routes.{Route, spelled_route, path_text, path_fault, route_of, begins_with_slash}
 use Rattle.tagging.specs.Patterns.{is_found}
 use Rattle.tree_trait.specs.declared.file_system.FileSystem.{FileSystem}
 use Rattle.tree_trait.specs.Calls.{Stat}
-use Rattle.tree_trait.specs.Change.{CallLog, current, found}
+use Rattle.tree_trait.specs.Change.{CallLog, current, found_node}
 use Rattle.tree_trait.specs.FileSystem.{node}
 use Rattle.tree_trait.specs.Refusals.{refusal_of, file_kind, folder_kind, link_kind}
 use Rattle.user_menu.specs.declared.condition.Panel.{Panel}
@@ -39,7 +39,7 @@ absolute_route text = if is_some (path_fault text) then None else Some (route_of
 abbrev pub entry_route : Route → List ℕ → Option Route
 entry_route folder text =
     if is_some (name_fault text) then None else
-    if nat_lt 4096 (length (spelled (text ∷ folder))) then None else Some (text ∷ folder)
+    if nat_lt 4096 (length (spelled_route (text ∷ folder))) then None else Some (text ∷ folder)
 
 -- the path that an argument asks for
 abbrev pub route_asked : Route → List ℕ → Option Route
@@ -48,7 +48,7 @@ route_asked folder argument = if begins_with_slash argument then absolute_route 
 -- the thing at a path can be looked at, and somebody may run it
 abbrev pub stands_runnable : FileSystem → Route → Bool
 stands_runnable s path =
-    is_none (refusal_of s (Stat path)) && is_runnable (node s (found s path)).kind (node s (found s path)).mode
+    is_none (refusal_of s (Stat path)) && is_runnable (node s (found_node s path)).kind (node s (found_node s path)).mode
 
 -- the argument leads to a program
 abbrev pub is_program : FileSystem → Route → List ℕ → Bool

@@ -26,18 +26,18 @@ abbrev pub value_of : FileSystem → Fact → Fact → Joined → Value
 value_of s here other one = record { joint = one.joint; is_met = is_met s one.term here other }
 
 -- a value joined to that of all before it
-abbrev pub joined : Joint → Bool → Bool → Bool
-joined And so_far next = so_far && next
-joined Or so_far next = so_far || next
+abbrev pub joined_value : Joint → Bool → Bool → Bool
+joined_value And so_far next = so_far && next
+joined_value Or so_far next = so_far || next
 
 -- the fold of values from left to right
-abbrev pub folded : Bool → List Value → Bool
-folded so_far [] = so_far
-folded so_far (value ∷ values) = folded (joined value.joint so_far value.is_met) values
+abbrev pub folded_values : Bool → List Value → Bool
+folded_values so_far [] = so_far
+folded_values so_far (value ∷ values) = folded_values (joined_value value.joint so_far value.is_met) values
 
 -- the condition holds; without terms it does
 abbrev pub holds_in : FileSystem → List Joined → Fact → Fact → Bool
-holds_in s terms here other = folded true (map (value_of s here other) terms)
+holds_in s terms here other = folded_values true (map (value_of s here other) terms)
 
 -- a fact of each test of a condition
 abbrev pub EachTest : (Test → Type 0) → List Joined → Type 0

@@ -58,9 +58,9 @@ commands_ahead (Title title ∷ lines) = []
 commands_ahead (BadCondition ∷ lines) = commands_ahead lines
 
 -- command lines, joined by newlines
-abbrev pub joined : List (List ℕ) → Option (List ℕ)
-joined [] = None
-joined (line ∷ lines) = Some (join_with_byte 10 (line ∷ lines))
+abbrev pub joined_lines : List (List ℕ) → Option (List ℕ)
+joined_lines [] = None
+joined_lines (line ∷ lines) = Some (join_with_byte 10 (line ∷ lines))
 
 -- each title with the conditions that stand between the title before and it, and the commands up to the next one;
 -- `conditions` are those of the next title
@@ -71,7 +71,7 @@ entries_behind conditions (Command line ∷ lines) = entries_behind conditions l
 entries_behind conditions (Asked asked ∷ lines) = entries_behind conditions lines
 entries_behind conditions (Patterns kind ∷ lines) = entries_behind conditions lines
 entries_behind conditions (Title title ∷ lines) =
-    record { conditions = conditions; title = title; commands = joined (commands_ahead lines) }
+    record { conditions = conditions; title = title; commands = joined_lines (commands_ahead lines) }
     ∷ entries_behind (conditions_ahead lines) lines
 entries_behind conditions (BadCondition ∷ lines) = entries_behind conditions lines
 

@@ -4,7 +4,7 @@ use Rattle.std.specs.Option.{option_map_or}
 use Rattle.std.specs.Str.{bytes_eq}
 use Rattle.tagging.specs.declared.pattern.PatternKind.{PatternKind}
 use Rattle.tagging.specs.declared.pattern.PatternKind.TheVariants as kind_of
-use Rattle.text_scan.specs.Words.{behind_word, behind_indent, unindented}
+use Rattle.text_scan.specs.Words.{behind_word, behind_indent, unindented_text}
 use Rattle.user_menu.specs.Conditions.{condition_of}
 use Rattle.user_menu.specs.declared.condition.Joined.{Joined}
 use Rattle.user_menu.specs.declared.line.Purpose.{Purpose}
@@ -52,4 +52,4 @@ abbrev pub reading_of : PatternKind → List ℕ → LineRead
 reading_of kind line =
     if length line == 0 then Passed else
     option_map_or (λ comment. Passed) (behind_word (codes "#") line)
-    (option_map_or (λ words. Command (unindented words)) (behind_indent line) (word_line kind line))
+    (option_map_or (λ words. Command (unindented_text words)) (behind_indent line) (word_line kind line))

@@ -33,14 +33,14 @@ last_asked question (asked ∷ more) =
     option_or (last_asked question more) (if is_for asked.purpose question then Some asked.condition else None)
 
 -- an entry without a condition is shown, and isn't the default
-abbrev pub unasked : Question → Bool
-unasked asks.Shown = true
-unasked asks.Default = false
+abbrev pub is_unasked : Question → Bool
+is_unasked asks.Shown = true
+is_unasked asks.Default = false
 
 -- the answer to a question of an entry
 abbrev pub answer_of : FileSystem → Fact → Fact → Question → MenuEntry → Bool
 answer_of s here other question entry =
-    option_map_or (λ condition. holds_in s condition here other) (last_asked question entry.conditions) (unasked question)
+    option_map_or (λ condition. holds_in s condition here other) (last_asked question entry.conditions) (is_unasked question)
 
 -- how an entry stands
 abbrev pub standing_of : FileSystem → Fact → Fact → MenuEntry → Standing
@@ -63,12 +63,12 @@ first_default at (Shown ∷ more) = first_default (at + 1) more
 first_default at (Default ∷ more) = Some at
 
 -- what is shown of entries that stand so
-abbrev pub chosen : List Standing → of_menu.Shown
-chosen standings = record { entries = shown_places 0 standings; default = first_default 0 standings }
+abbrev pub chosen_entries : List Standing → of_menu.Shown
+chosen_entries standings = record { entries = shown_places 0 standings; default = first_default 0 standings }
 
 -- what is shown of a menu
 abbrev pub shown_entries : FileSystem → List MenuEntry → Fact → Fact → of_menu.Shown
-shown_entries s menu here other = chosen (map (standing_of s here other) menu)
+shown_entries s menu here other = chosen_entries (map (standing_of s here other) menu)
 
 -- what is shown with one entry more
 abbrev pub with_standing : of_menu.Shown → ℕ → Standing → of_menu.Shown

@@ -1,7 +1,7 @@
 -- The first word of a text.
 use Rattle.std.specs.Prelude.{ℕ, List, [], ◌∷◌, Option, Some, None}
 use Rattle.std.specs.List.{before_first, after_first}
-use Rattle.text_scan.specs.Words.{is_blank, unindented}
+use Rattle.text_scan.specs.Words.{is_blank, unindented_text}
 
 -- a word that was read, and the text behind the blank or tab that ends it
 pub record FirstWord : Type 0 where
@@ -16,4 +16,4 @@ cut_word (byte ∷ text) =
 
 -- the first run of bytes without blanks and tabs
 abbrev pub first_word : List ℕ → Option FirstWord
-first_word text = cut_word (unindented text)
+first_word text = cut_word (unindented_text text)

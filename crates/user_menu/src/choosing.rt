@@ -1,6 +1,6 @@
 //! What is shown of entries, by how each of them stands.
 ghost use Rattle.std.specs.Prelude.{◌≡◌, IfOk, OnOk, unwrap_or};
-ghost use Rattle.user_menu.specs.ShownEntries.{chosen, with_standing};
+ghost use Rattle.user_menu.specs.ShownEntries.{chosen_entries, with_standing};
 
 use crate::menu::Shown;
 use mc_text::{NoMemory, Places};
@@ -16,7 +16,7 @@ pub enum Standing {
 
 /// What is shown of entries: the numbers of those that aren't hidden, and the first that may be the default.
 pub fn chosen(alloc: Global, standings: &[Standing]) -> Result<Shown, NoMemory>
-    ensures { IfOk result (λ shown. shown ≡ chosen standings.now) }
+    ensures { IfOk result (λ shown. shown ≡ chosen_entries standings.now) }
 {
     let mut shown = Shown {
         entries: Places(Vec::new(alloc)),

@@ -2,7 +2,7 @@
 ghost use Rattle.std.specs.Prelude.{◌≡◌, ◌≢◌, ℕ, ◌+◌, ◌<◌, [], ◌∷◌, ◌++◌, List, Some, None, false, vec_len, IfOk, IfErr, OnOk};
 ghost use Rattle.user_menu.specs.declared.line.LineRead.{LineRead};
 ghost use Rattle.user_menu.specs.MenuFiles.{IsMenuFile, menu_fault, fault_from, kind_first, kind_after, readings, entries_of};
-ghost use Rattle.user_menu.specs.Drafts.{has_entry, extended, continued};
+ghost use Rattle.user_menu.specs.Drafts.{has_entry, extended_entries, continued_entries};
 
 use crate::error::MenuError;
 use crate::line::{Asked, LineRead, read_line};
@@ -81,7 +81,7 @@ fn kind_after(kind: PatternKind, read: &LineRead) -> PatternKind
 /// Takes what the line `at` says.
 fn take_line(alloc: Global, draft: &mut Draft, read: LineRead, at: usize) -> Result<(), MenuError>
     ensures said { OnOk result ((lines : List LineRead) →
-        continued draft.new lines ≡ continued draft.old (read ∷ lines)) }
+        continued_entries draft.new lines ≡ continued_entries draft.old (read ∷ lines)) }
     ensures goes_on { OnOk result ((lines : List LineRead) →
         fault_from (at + 1) (has_entry draft.new) lines
         ≡ fault_from at (has_entry draft.old) (read ∷ lines)) }
@@ -133,7 +133,7 @@ fn begin_entry(alloc: Global, draft: &mut Draft, title: Text) -> Result<(), NoMe
 fn add_line(alloc: Global, entries: &mut Vec<Entry>, line: Text) -> Result<(), NoMemory>
     requires { 0 < vec_len entries.old }
     ensures extended { OnOk result ((more : List (List ℕ)) →
-        extended entries.new.items more ≡ extended entries.old.items (line ∷ more)) }
+        extended_entries entries.new.items more ≡ extended_entries entries.old.items (line ∷ more)) }
     ensures same_entries { OnOk result (vec_len entries.new ≡ vec_len entries.old) }
 {
     let last = entries.len() - 1;

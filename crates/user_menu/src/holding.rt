@@ -5,7 +5,7 @@ ghost use Rattle.tree_trait.specs.Answers.{HasCause};
 ghost use Rattle.mc_text.specs.Routes.{path_text};
 ghost use Rattle.tagging.specs.Patterns.{is_found};
 ghost use Rattle.user_menu.specs.Facts.{fact_of, is_true, IsAskedOf, AsksNoTree};
-ghost use Rattle.user_menu.specs.Holding.{is_met, joined, folded, holds_in, EachTest};
+ghost use Rattle.user_menu.specs.Holding.{is_met, joined_value, folded_values, holds_in, EachTest};
 
 use crate::condition::{Condition, Joint, Panel, Sense, Term, Test};
 use crate::fact::Fact;
@@ -53,7 +53,7 @@ pub struct Value {
 
 /// The value of terms, taken from left to right: none of them binds closer than another.
 fn folded(values: &[Value]) -> bool
-    ensures { result ≡ folded true values.now }
+    ensures { result ≡ folded_values true values.now }
 {
     let mut so_far = true;
     for value in values {
@@ -64,7 +64,7 @@ fn folded(values: &[Value]) -> bool
 
 /// A value joined to that of all before it.
 fn joined(joint: Joint, so_far: bool, next: bool) -> bool
-    ensures { result ≡ joined joint so_far next }
+    ensures { result ≡ joined_value joint so_far next }
 {
     match joint {
         Joint::And => so_far && next,

@@ -3,7 +3,7 @@ ghost use Rattle.std.specs.Prelude.{◌≡◌, ◌⊎◌, IfOk, IfErr, option_co
 ghost use Rattle.tree_trait.specs.declared.file_system.FileSystem.{FileSystem};
 ghost use Rattle.tree_trait.specs.Answers.{HasCause};
 ghost use Rattle.user_menu.specs.Facts.{IsAskedOf, AsksNoTree};
-ghost use Rattle.user_menu.specs.ShownEntries.{is_for, last_asked, unasked, answer_of, standing_of, EachTestAsked};
+ghost use Rattle.user_menu.specs.ShownEntries.{is_for, last_asked, is_unasked, answer_of, standing_of, EachTestAsked};
 
 use crate::choosing::Standing;
 use crate::condition::Condition;
@@ -71,7 +71,7 @@ fn answer_of<T: ReadTree>(
 
 /// The answer where an entry has no condition for a question.
 fn unasked(question: Question) -> bool
-    ensures { result ≡ unasked question }
+    ensures { result ≡ is_unasked question }
 {
     match question {
         Question::Shown => true,

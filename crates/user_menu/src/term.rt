@@ -1,6 +1,6 @@
 //! One term of a condition: signs, a letter, an argument.
 ghost use Rattle.std.specs.Prelude.{◌≡◌, ◌<◌, length, IfSome, IfOk, MatchOption};
-ghost use Rattle.user_menu.specs.Conditions.{turned, opposite, sense_of, behind_signs, letter_of, test_of, first_term};
+ghost use Rattle.user_menu.specs.Conditions.{turned_sense, opposite, sense_of, behind_signs, letter_of, test_of, first_term};
 ghost use Rattle.user_menu.specs.TermViews.{letter_view, term_view};
 
 use crate::condition::{Panel, Sense, Term, Test};
@@ -59,7 +59,7 @@ fn read_signs(text: &str) -> (Sense, &str)
 /// What the sign or blank with which a text begins makes of the sense, and the text behind it.
 fn read_sign(text: &str) -> Option<(Sense, &str)>
     ensures sense { MatchOption result (sense_of text.now ≡ Sense.Plain)
-        (λ (turn, rest). sense_of text.now ≡ turned turn (sense_of rest.now)) }
+        (λ (turn, rest). sense_of text.now ≡ turned_sense turn (sense_of rest.now)) }
     ensures behind { MatchOption result (behind_signs text.now ≡ text.now)
         (λ (turn, rest). behind_signs text.now ≡ behind_signs rest.now) }
     ensures shorter { IfSome result (λ (turn, rest). length rest.now < length text.now) }
@@ -75,7 +75,7 @@ fn read_sign(text: &str) -> Option<(Sense, &str)>
 
 /// A sense in which another one stands.
 fn turned(outer: Sense, inner: Sense) -> Sense
-    ensures { result ≡ turned outer inner }
+    ensures { result ≡ turned_sense outer inner }
 {
     match outer {
         Sense::Plain => inner,

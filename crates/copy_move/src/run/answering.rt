@@ -1,7 +1,7 @@
 //! What an answer to a question or a trouble, an order and the close of the session make of a job.
 ghost use Rattle.std.specs.Prelude.{◌≡◌, Err, Ok, OnErr, OnOk, Some, false};
-ghost use Rattle.job_answers.specs.Answers.{answered as by_table};
-ghost use Rattle.copy_move.specs.Jobs.{MayAnswer, answered, closed_job, ended_course, skipping_by, waiting_on, waits_on};
+ghost use Rattle.job_answers.specs.Answers.{answer_result as by_table};
+ghost use Rattle.copy_move.specs.Jobs.{MayAnswer, answered_job, closed_job, ended_course, skipping_by, waiting_on, waits_on};
 
 use super::{Course, Halt, Run};
 use job_answers::{Then, Waiting, then_after};
@@ -11,7 +11,7 @@ impl Run {
     /// Answers the question or the trouble, by the table of what may be answered. `NotAsked` where the job waits for none, `WrongAnswer`
     /// where it is none to what the job waits with, as a skip at a barrier; the job is as it was then.
     pub fn answer(&mut self, answer: Answer) -> Result<(), AnswerError>
-        ensures taken { OnOk result (self.new ≡ answered answer self.old) }
+        ensures taken { OnOk result (self.new ≡ answered_job answer self.old) }
         ensures fits { OnOk result (MayAnswer self.old answer) }
         ensures not_asked { result ≡ Err AnswerError.NotAsked → waits_on self.old.course ≡ false }
         ensures wrong { result ≡ Err AnswerError.WrongAnswer → by_table (waiting_on self.old.course) answer ≡ Err AnswerError.WrongAnswer }
@@ -60,7 +60,7 @@ impl Run {
     /// Does what an answer that may be given comes to.
     fn follow(&mut self, next: Then, answer: Answer)
         requires table { by_table (waiting_on self.old.course) answer ≡ Ok next }
-        ensures { self.new ≡ answered answer self.old }
+        ensures { self.new ≡ answered_job answer self.old }
     {
         match next {
             Then::Decides => self.note_reply(answer),
@@ -73,7 +73,7 @@ impl Run {
     /// The question is decided, for this item or for all.
     fn note_reply(&mut self, answer: Answer)
         requires table { by_table (waiting_on self.old.course) answer ≡ Ok Then.Decides }
-        ensures { self.new ≡ answered answer self.old }
+        ensures { self.new ≡ answered_job answer self.old }
     {
         self.replies.note(answer);
         self.course = Course::GoesOn;
@@ -82,7 +82,7 @@ impl Run {
     /// What was refused is taken up once more.
     fn take_anew(&mut self, answer: Answer)
         requires table { by_table (waiting_on self.old.course) answer ≡ Ok Then.Retries }
-        ensures { self.new ≡ answered answer self.old }
+        ensures { self.new ≡ answered_job answer self.old }
     {
         self.work.retry();
         self.course = Course::GoesOn;
@@ -91,7 +91,7 @@ impl Run {
     /// What stands next is to be left as it is, and with `SkipAll` all that meets a trouble of the same kind later.
     fn pass_over(&mut self, answer: Answer)
         requires table { by_table (waiting_on self.old.course) answer ≡ Ok Then.Skips }
-        ensures { self.new ≡ answered answer self.old }
+        ensures { self.new ≡ answered_job answer self.old }
     {
         let Course::InTrouble(halt) = self.course else {
             unreachable!()
@@ -115,7 +115,7 @@ impl Run {
     /// It makes its last steps.
     fn end_by(&mut self, answer: Answer)
         requires table { by_table (waiting_on self.old.course) answer ≡ Ok Then.Ends }
-        ensures { self.new ≡ answered answer self.old }
+        ensures { self.new ≡ answered_job answer self.old }
     {
         self.course = Course::Ends(Ending::Aborted);
     }

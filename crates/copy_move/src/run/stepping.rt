@@ -6,7 +6,7 @@ ghost use Rattle.tree_trait.specs.Answers.{IfKnown};
 ghost use Rattle.tree_trait.specs.CrashImages.{Among};
 ghost use Rattle.copy_move.specs.Jobs.{IsGoing, course_after, is_fresh};
 ghost use Rattle.copy_move.specs.Settling.{NoneForFolder, NoneOwed};
-ghost use Rattle.copy_move.specs.Steps.{OwedSyncStep, OwnStep, RunStep, SkipSteps, WindingStep};
+ghost use Rattle.copy_move.specs.JobStepReports.{OwedSyncStep, OwnStep, RunStep, SkipSteps, WindingStep};
 
 use super::{Course, Halt, Run};
 use crate::owed::first_owed;

@@ -3,7 +3,7 @@ ghost use Rattle.std.specs.Prelude.{◌≡◌, ◌≢◌, ◌+◌, ◌≤◌, If
 ghost use Rattle.mc_edit.specs.declared.error.EditError.TheVariants.{Memory};
 ghost use Rattle.gap_text.specs.Places.{first_place};
 ghost use Rattle.mc_edit.specs.Brackets.{partner_of};
-ghost use Rattle.mc_edit.specs.Commands.{found, all_replaced};
+ghost use Rattle.mc_edit.specs.Commands.{text_at_found, all_replaced};
 
 use super::{Editor, LARGEST_TEXT, Splice};
 use crate::brackets::partner_of;
@@ -17,10 +17,10 @@ use std::alloc::Global;
 impl Editor {
     /// The point goes to the first place behind it where the bytes stand.
     pub(super) fn find(&mut self, what: &Bytes) -> Result<(), EditError>
-        ensures done { OnOk result (found (first_place self.old.text.bytes what.now
+        ensures done { OnOk result (text_at_found (first_place self.old.text.bytes what.now
             (self.old.text.point + 1)) self.old ≡ Ok self.new) }
         ensures refused { IfErr result (λ error.
-            found (first_place self.old.text.bytes what.now (self.old.text.point + 1)) self.old ≡ Err error) }
+            text_at_found (first_place self.old.text.bytes what.now (self.old.text.point + 1)) self.old ≡ Err error) }
         ensures same { OnErr result (self.new ≡ self.old) }
     {
         let Some(at) = place_behind(&self.text, self.point, slice_of(what)) else {
@@ -32,9 +32,9 @@ impl Editor {
 
     /// The point goes to the bracket that belongs to the one at the point.
     pub(super) fn bracket(&mut self) -> Result<(), EditError>
-        ensures done { OnOk result (found
+        ensures done { OnOk result (text_at_found
             (partner_of self.old.text.bytes self.old.text.point) self.old ≡ Ok self.new) }
-        ensures refused { IfErr result (λ error. found
+        ensures refused { IfErr result (λ error. text_at_found
             (partner_of self.old.text.bytes self.old.text.point) self.old ≡ Err error) }
         ensures same { OnErr result (self.new ≡ self.old) }
     {

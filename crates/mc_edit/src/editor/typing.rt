@@ -1,7 +1,7 @@
 //! The commands that put bytes in and take them out.
 ghost use Rattle.std.specs.Prelude.{◌≡◌, ◌≢◌, IfErr, OnOk, OnErr, Ok, Err, ◌≤◌, length, encode_utf8};
 ghost use Rattle.mc_edit.specs.declared.error.EditError.TheVariants.{Memory};
-ghost use Rattle.mc_edit.specs.Commands.{typed, removed};
+ghost use Rattle.mc_edit.specs.Commands.{text_with_typed, removed_text};
 ghost use Rattle.mc_edit.specs.Lines.{line_start, line_end, line_past};
 ghost use Rattle.mc_edit.specs.Moves.{left_of, right_of};
 
@@ -14,8 +14,8 @@ use std::alloc::Global;
 
 impl Editor {
     pub(super) fn insert(&mut self, alloc: Global, character: char) -> Result<(), EditError>
-        ensures done { OnOk result (typed self.old (encode_utf8 character) ≡ Ok self.new) }
-        ensures refused { IfErr result (λ error. error ≢ Memory → typed self.old
+        ensures done { OnOk result (text_with_typed self.old (encode_utf8 character) ≡ Ok self.new) }
+        ensures refused { IfErr result (λ error. error ≢ Memory → text_with_typed self.old
             (encode_utf8 character) ≡ Err error) }
         ensures same { OnErr result (self.new ≡ self.old) }
     {
@@ -27,8 +27,8 @@ impl Editor {
     #[tactic(auto, unfolding(crate::specs::Edits::largest_text))]
     pub(super) fn put_in(&mut self, alloc: Global, new: &[u8]) -> Result<(), EditError>
         requires { length new.now ≤ 16777216 }
-        ensures done { OnOk result (typed self.old new.now ≡ Ok self.new) }
-        ensures refused { IfErr result (λ error. error ≢ Memory → typed self.old new.now
+        ensures done { OnOk result (text_with_typed self.old new.now ≡ Ok self.new) }
+        ensures refused { IfErr result (λ error. error ≢ Memory → text_with_typed self.old new.now
             ≡ Err error) }
         ensures same { OnErr result (self.new ≡ self.old) }
     {
@@ -45,10 +45,10 @@ impl Editor {
     }
 
     pub(super) fn backspace(&mut self, alloc: Global) -> Result<(), EditError>
-        ensures done { OnOk result (removed self.old
+        ensures done { OnOk result (removed_text self.old
             (left_of self.old.text.bytes self.old.text.point) self.old.text.point ≡ Ok self.new) }
         ensures refused { IfErr result (λ error. error ≢ Memory →
-            removed self.old (left_of self.old.text.bytes self.old.text.point) self.old.text.point ≡ Err error) }
+            removed_text self.old (left_of self.old.text.bytes self.old.text.point) self.old.text.point ≡ Err error) }
         ensures same { OnErr result (self.new ≡ self.old) }
     {
         let from = left_of(alloc, &self.text, self.point)?;
@@ -56,10 +56,10 @@ impl Editor {
     }
 
     pub(super) fn delete_under(&mut self, alloc: Global) -> Result<(), EditError>
-        ensures done { OnOk result (removed self.old self.old.text.point
+        ensures done { OnOk result (removed_text self.old self.old.text.point
             (right_of self.old.text.bytes self.old.text.point) ≡ Ok self.new) }
         ensures refused { IfErr result (λ error. error ≢ Memory →
-            removed self.old self.old.text.point (right_of self.old.text.bytes self.old.text.point) ≡ Err error) }
+            removed_text self.old self.old.text.point (right_of self.old.text.bytes self.old.text.point) ≡ Err error) }
         ensures same { OnErr result (self.new ≡ self.old) }
     {
         let to = right_of(alloc, &self.text, self.point)?;
@@ -75,8 +75,8 @@ impl Editor {
     ) -> Result<(), EditError>
         requires ordered { from ≤ to }
         requires within { to ≤ length self.old.text.bytes }
-        ensures done { OnOk result (removed self.old from to ≡ Ok self.new) }
-        ensures refused { IfErr result (λ error. error ≢ Memory → removed self.old from to
+        ensures done { OnOk result (removed_text self.old from to ≡ Ok self.new) }
+        ensures refused { IfErr result (λ error. error ≢ Memory → removed_text self.old from to
             ≡ Err error) }
         ensures same { OnErr result (self.new ≡ self.old) }
     {
@@ -93,11 +93,11 @@ impl Editor {
 
     /// The point's line is taken out with its newline, and the point stands where the line began.
     pub(super) fn delete_line(&mut self, alloc: Global) -> Result<(), EditError>
-        ensures done { OnOk result (removed self.old
+        ensures done { OnOk result (removed_text self.old
             (line_start self.old.text.bytes self.old.text.point)
             (line_past self.old.text.bytes self.old.text.point) ≡ Ok self.new) }
         ensures refused { IfErr result (λ error. error ≢ Memory →
-            removed self.old (line_start self.old.text.bytes self.old.text.point)
+            removed_text self.old (line_start self.old.text.bytes self.old.text.point)
             (line_past self.old.text.bytes self.old.text.point) ≡ Err error) }
         ensures same { OnErr result (self.new ≡ self.old) }
     {
@@ -107,10 +107,10 @@ impl Editor {
     }
 
     pub(super) fn delete_to_end(&mut self, alloc: Global) -> Result<(), EditError>
-        ensures done { OnOk result (removed self.old self.old.text.point
+        ensures done { OnOk result (removed_text self.old self.old.text.point
             (line_end self.old.text.bytes self.old.text.point) ≡ Ok self.new) }
         ensures refused { IfErr result (λ error. error ≢ Memory →
-            removed self.old self.old.text.point (line_end self.old.text.bytes self.old.text.point) ≡ Err error) }
+            removed_text self.old self.old.text.point (line_end self.old.text.bytes self.old.text.point) ≡ Err error) }
         ensures same { OnErr result (self.new ≡ self.old) }
     {
         let to = line_end(&self.text, self.point);

@@ -1,7 +1,7 @@
 //! How many jobs are in each state.
 ghost use Rattle.std.specs.Prelude.{◌≡◌, ◌≤◌, ◌<◌, ◌+◌, ◌^◌, length};
 ghost use Rattle.screen_frame.specs.JobsLine.{live_jobs};
-ghost use Rattle.mc_ui.specs.Frames.{counted as one_more, counts_of as counts_in};
+ghost use Rattle.mc_ui.specs.Frames.{counts_with_job as one_more, counts_of as counts_in};
 
 use job_reports::{JobRow, JobState};
 use screen_frame::JobCounts;

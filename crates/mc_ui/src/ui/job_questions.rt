@@ -1,7 +1,7 @@
 //! The boxes of jobs. A box was taken out while it is worked in, and is put back where it stays.
 ghost use Rattle.std.specs.Prelude.{◌≡◌, [], false, true, OnErr, OnOk, IfOk};
 ghost use Rattle.ui_words.specs.BoxLines.{folder_line};
-ghost use Rattle.ui_job_boxes.specs.JobBoxes.{FolderBox, LinkTextBox, seen};
+ghost use Rattle.ui_job_boxes.specs.JobBoxes.{FolderBox, LinkTextBox, seen_job_box};
 ghost use Rattle.ui_job_boxes.specs.Openings.{link_asked};
 ghost use Rattle.ui_plans.specs.Reading.{ReadsTree};
 ghost use Rattle.mc_ui.specs.declared.asks.KeyAct.{KeyAct as KeyActType};
@@ -50,11 +50,11 @@ impl Ui {
         key: Key,
     ) -> Result<KeyAct, NoMemory>
         requires clear { self.old.over ≡ NoBox }
-        ensures leads { IfOk result (λ act. JobLeads (seen asks) (T.contents tree.old) rows.now key act.refusals
-            (record self.old { over = OneJobBox (seen asks) }) (with_ask act.ask self.new)) }
-        ensures asks { IfOk result (λ act. Asks rows.now act.ask act.refusals (record self.old { over = OneJobBox (seen asks) }) self.new) }
+        ensures leads { IfOk result (λ act. JobLeads (seen_job_box asks) (T.contents tree.old) rows.now key act.refusals
+            (record self.old { over = OneJobBox (seen_job_box asks) }) (with_ask act.ask self.new)) }
+        ensures asks { IfOk result (λ act. Asks rows.now act.ask act.refusals (record self.old { over = OneJobBox (seen_job_box asks) }) self.new) }
         ensures rest { record self.new { over = NoBox; message = self.old.message } ≡ self.old }
-        ensures lost { OnErr result (self.new ≡ record self.old { over = OneJobBox (seen asks) }) }
+        ensures lost { OnErr result (self.new ≡ record self.old { over = OneJobBox (seen_job_box asks) }) }
         ensures reads { ReadsTree (λ (act : KeyActType). act.refusals) result (T.contents tree.old) (T.contents tree.new)
             (T.fault_count tree.old) (T.fault_count tree.new) }
     {

@@ -1,7 +1,7 @@
 //! The boxes of the panels. A box was taken out while it is worked in, and is put back where it stays.
 ghost use Rattle.std.specs.Prelude.{◌≡◌, None, OnErr, OnOk, IfOk};
 ghost use Rattle.ui_plans.specs.Reading.{ReadsTree};
-ghost use Rattle.panel_boxes.specs.Openings.{opened as opened_box};
+ghost use Rattle.panel_boxes.specs.Openings.{opened_panel_box as opened_box};
 ghost use Rattle.panel_boxes.specs.Replies.{box_after, reply_to};
 ghost use Rattle.mc_ui.specs.declared.asks.Ask.{Ask};
 ghost use Rattle.mc_ui.specs.declared.asks.KeyAct.{KeyAct as KeyActType};

@@ -5,7 +5,7 @@ ghost use Rattle.panel_state.specs.Panels.{current_name};
 ghost use Rattle.ui_plans.specs.Reading.{ReadsTree};
 ghost use Rattle.ui_viewer.specs.Openings.{OpensThing};
 ghost use Rattle.ui_viewer.specs.Motions.{LooksAtNothing};
-ghost use Rattle.ui_viewer.specs.ViewerScreens.{KeyLeads as ViewerKeyLeads, wanted};
+ghost use Rattle.ui_viewer.specs.ViewerScreens.{KeyLeads as ViewerKeyLeads, wanted_motion};
 ghost use Rattle.mc_ui.specs.declared.asks.KeyAct.{KeyAct as KeyActType};
 ghost use Rattle.mc_ui.specs.declared.ui.viewer_keys.ViewerDeed.{ViewerDeed as ViewerDeedType};
 ghost use Rattle.mc_ui.specs.Viewings.{goes_on as goes_on_by, opening_refusals, told_by as told_of_act, viewed_path as path_viewed};
@@ -117,7 +117,7 @@ impl Ui {
         ensures unasked { IfOk result (λ act. is_request act.ask ≡ false) }
         ensures size { HasSameSize self.old self.new }
         ensures settled { self.new.planned ≡ None }
-        ensures still { LooksAtNothing (wanted key viewed.mode) viewed.mode.viewer → tree.new ≡ tree.old }
+        ensures still { LooksAtNothing (wanted_motion key viewed.mode) viewed.mode.viewer → tree.new ≡ tree.old }
         ensures lost { OnErr result (self.new ≡ record self.old { viewing = Some viewed }) }
         ensures reads { ReadsTree (λ (act : KeyActType). act.refusals) result (T.contents tree.old) (T.contents tree.new)
             (T.fault_count tree.old) (T.fault_count tree.new) }
@@ -213,7 +213,7 @@ fn work_viewer<T: ReadTree>(
 ) -> Result<ViewerDeed, NoMemory>
     ensures leads { IfOk result (λ deed. ViewerKeyLeads (T.contents tree.old) key deed.act mode.old mode.new) }
     ensures told { IfOk result (λ deed. deed.refusals ≡ told_of_act deed.act (path_viewed mode.old.viewer.subject)) }
-    ensures still { LooksAtNothing (wanted key mode.old) mode.old.viewer → tree.new ≡ tree.old }
+    ensures still { LooksAtNothing (wanted_motion key mode.old) mode.old.viewer → tree.new ≡ tree.old }
     ensures lost { OnErr result (mode.new ≡ mode.old) }
     ensures reads { ReadsTree (λ (deed : ViewerDeedType). deed.refusals) result (T.contents tree.old) (T.contents tree.new)
         (T.fault_count tree.old) (T.fault_count tree.new) }

@@ -1,9 +1,9 @@
 //! Steps and searches with the page behind them: a viewer goes nowhere where it can't show what is there.
 ghost use Rattle.std.specs.Prelude.{◌≡◌, ◌≢◌, ◌≤◌, None, Ok, IfOk, IfErr, OnOk, OnErr, true};
 ghost use Rattle.tree_trait.specs.Answers.{IfKnown, HasCause};
-ghost use Rattle.mc_viewer.specs.Viewing.{held, IfRead, IsReadable, IsReadError, AsTheTreeSays, is_output};
+ghost use Rattle.mc_viewer.specs.Viewing.{held_bytes, IfRead, IsReadable, IsReadError, AsTheTreeSays, is_output};
 ghost use Rattle.mc_viewer.specs.Searches.{after_search, after_next, IsMissed, IsSearchError};
-ghost use Rattle.mc_viewer.specs.Steps.{page_of, after_step};
+ghost use Rattle.mc_viewer.specs.ViewerSteps.{page_of, after_step};
 
 use super::{Viewer, moved_on};
 use crate::error::ViewError;
@@ -39,9 +39,9 @@ impl Viewer {
         tree: &mut T,
         step: ViewStep,
     ) -> Result<Rows, ViewError>
-        ensures done { IfKnown (held (T.contents tree.old) self.old.subject) (λ bytes.
+        ensures done { IfKnown (held_bytes (T.contents tree.old) self.old.subject) (λ bytes.
             OnOk result (self.new ≡ record self.old { state = after_step bytes step self.old.state })) }
-        ensures shown { IfKnown (held (T.contents tree.old) self.old.subject) (λ bytes.
+        ensures shown { IfKnown (held_bytes (T.contents tree.old) self.old.subject) (λ bytes.
             IfOk result (λ rows. rows ≡ page_of bytes self.new.state)) }
         ensures subject { self.new.subject ≡ self.old.subject }
         ensures last { self.new.last ≡ self.old.last }
@@ -68,11 +68,11 @@ impl Viewer {
         tree: &mut T,
         what: Search,
     ) -> Result<Rows, ViewError>
-        ensures found { IfKnown (held (T.contents tree.old) self.old.subject) (λ bytes.
+        ensures found { IfKnown (held_bytes (T.contents tree.old) self.old.subject) (λ bytes.
             OnOk result (after_search bytes what self.old ≡ Ok self.new)) }
-        ensures missed { IfKnown (held (T.contents tree.old) self.old.subject) (λ bytes.
+        ensures missed { IfKnown (held_bytes (T.contents tree.old) self.old.subject) (λ bytes.
             IfErr result (IsMissed (after_search bytes what self.old))) }
-        ensures shown { IfKnown (held (T.contents tree.old) self.old.subject) (λ bytes.
+        ensures shown { IfKnown (held_bytes (T.contents tree.old) self.old.subject) (λ bytes.
             IfOk result (λ rows. rows ≡ page_of bytes self.new.state)) }
         ensures subject { self.new.subject ≡ self.old.subject }
         ensures stays { OnErr result (self.new ≡ self.old) }
@@ -101,11 +101,11 @@ impl Viewer {
         alloc: Global,
         tree: &mut T,
     ) -> Result<Rows, ViewError>
-        ensures found { IfKnown (held (T.contents tree.old) self.old.subject) (λ bytes.
+        ensures found { IfKnown (held_bytes (T.contents tree.old) self.old.subject) (λ bytes.
             OnOk result (after_next bytes self.old ≡ Ok self.new)) }
-        ensures missed { IfKnown (held (T.contents tree.old) self.old.subject) (λ bytes.
+        ensures missed { IfKnown (held_bytes (T.contents tree.old) self.old.subject) (λ bytes.
             IfErr result (IsMissed (after_next bytes self.old))) }
-        ensures shown { IfKnown (held (T.contents tree.old) self.old.subject) (λ bytes.
+        ensures shown { IfKnown (held_bytes (T.contents tree.old) self.old.subject) (λ bytes.
             IfOk result (λ rows. rows ≡ page_of bytes self.new.state)) }
         ensures subject { self.new.subject ≡ self.old.subject }
         ensures stays { OnErr result (self.new ≡ self.old) }
@@ -134,7 +134,7 @@ fn page_at<T: ReadTree>(
     state: State,
 ) -> Result<Rows, ViewError>
     requires wide { 1 ≤ state.columns }
-    ensures shown { IfKnown (held (T.contents tree.old) subject.now) (λ bytes.
+    ensures shown { IfKnown (held_bytes (T.contents tree.old) subject.now) (λ bytes.
         IfOk result (λ rows. rows ≡ page_of bytes state)) }
     ensures readable { IfKnown (T.contents tree.old) (λ log. IfOk result (λ _. IsReadable log subject.now)) }
     ensures refused { IfKnown (T.contents tree.old) (λ log. IfErr result (AsTheTreeSays log subject.now)) }

@@ -2,7 +2,7 @@
 ghost use Rattle.std.specs.Prelude.{◌≡◌, ◌<◌, ◌^◌, None, IfOk, OnErr};
 ghost use Rattle.ui_find.specs.FindKeys.{find_command as command_of_key};
 ghost use Rattle.ui_find.specs.FindScreens.{CommandLeads, choice, page_of as rows_of};
-ghost use Rattle.ui_find.specs.Listings.{chosen};
+ghost use Rattle.ui_find.specs.Listings.{chosen_path};
 
 use super::FindMode;
 use crate::act::FindAct;
@@ -46,7 +46,7 @@ pub fn page_of(lines: u16) -> usize
 
 /// What Enter comes to.
 fn chosen_in(alloc: Global, listing: &Listing) -> Result<FindAct, NoMemory>
-    ensures { IfOk result (λ act. act ≡ choice (chosen listing.now)) }
+    ensures { IfOk result (λ act. act ≡ choice (chosen_path listing.now)) }
 {
     match listing.chosen() {
         None => Ok(FindAct::Leaves),

@@ -1,13 +1,13 @@
 -- Some folders were left; fewer are open with each.
 use Rattle.std.proofs.Common.{length}
-use Rattle.copy_tree.specs.Standing.{seen}
-use Rattle.copy_tree.specs.Steps.{IsWorkable}
+use Rattle.copy_tree.specs.Standing.{seen_copy}
+use Rattle.copy_tree.specs.TreeCopySteps.{IsWorkable}
 use Rattle.copy_job.specs.Leaving.{LeavesSettled}
 use Rattle.copy_job.proofs.leaving.leave_settled.Given as goal
 
 abbrev pub invariant-loop-machine : goal.invariant-loop-machine
 invariant-loop-machine l = record {
-  leaves : LeavesSettled (seen l.fn.machine) (seen l.machine);
+  leaves : LeavesSettled (seen_copy l.fn.machine) (seen_copy l.machine);
   workable : IsWorkable l.machine.item;
 }
 

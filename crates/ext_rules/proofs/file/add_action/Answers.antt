@@ -2,7 +2,7 @@ use Rattle.std.proofs.Common.{◌≡◌, ◌∷◌, [], ◌-◌, List, set, ap, 
 use Rattle.std.proofs.lemmas.Result.{on_ok_weaker}
 use Rattle.ext_rules.specs.declared.actions.Action.{Action}
 use Rattle.ext_rules.specs.FileRules.{FileRule}
-use Rattle.ext_rules.specs.Drafts.{extended}
+use Rattle.ext_rules.specs.Drafts.{extended_rules}
 use Rattle.ext_rules.proofs.DraftLemmas.{with_actions, extended-put}
 use Rattle.ext_rules.proofs.file.add_action.Goals as goal
 
@@ -13,8 +13,8 @@ returns-clause-extended c =
     let rule : FileRule = c.index_mut.result.now in
     on_ok_weaker
     {P = c.push.new.self ≡ with_actions rule (c.args.action ∷ [])}
-    {Q = (more : List Action) → extended (set rules last c.push.new.self) more ≡ extended rules (c.args.action ∷ more)}
+    {Q = (more : List Action) → extended_rules (set rules last c.push.new.self) more ≡ extended_rules rules (c.args.action ∷ more)}
     c.push.result
-    (λ is more. ap (λ new. extended (set rules last new) more) is
+    (λ is more. ap (λ new. extended_rules (set rules last new) more) is
     ∙ extended-put rules last rule c.args.action more (omega arith) (sym c.index_mut.ensures.value))
     c.push.ensures

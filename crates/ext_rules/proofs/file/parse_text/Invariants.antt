@@ -3,14 +3,14 @@ use Rattle.std.proofs.Common.{◌≡◌, ◌+◌, ◌≤◌, false, length}
 use denote.Text.{Utf8}
 use denote.Shadow.{shadow}
 use Rattle.ext_rules.specs.ExtFiles.{fault_from, readings, rules_said}
-use Rattle.ext_rules.specs.Drafts.{has_rule, continued}
+use Rattle.ext_rules.specs.Drafts.{has_rule, continued_rules}
 use Rattle.ext_rules.proofs.file.parse_text.Given as goal
 
 abbrev pub invariant-loop-line : goal.invariant-loop-line
 invariant-loop-line l = record {
   utf8 : shadow (Utf8 l.rest);
   faults : fault_from l.at (has_rule l.rules.items) (readings l.rest) ≡ fault_from 1 false (readings l.text);
-  said : continued l.rules.items (readings l.rest) ≡ rules_said (readings l.text);
+  said : continued_rules l.rules.items (readings l.rest) ≡ rules_said (readings l.text);
   counted : l.at + length l.rest ≤ length l.text + 1;
 }
 

@@ -2,7 +2,7 @@
 use Rattle.std.proofs.Common.{◌≡◌, ℕ, Bool, Global, ◌-◌, ◌<◌, ◌≤◌, ◌++◌, length, take, drop, sym, ap, subst, ◌∙◌, arith}
 use Rattle.std.specs.Prelude.{Vec, Option, MatchOption}
 use Rattle.tree_trait.specs.FileSystem.{node}
-use Rattle.tree_trait.specs.Change.{current, found}
+use Rattle.tree_trait.specs.Change.{current, found_node}
 use Rattle.find_file.specs.FoundList.{holds}
 use Rattle.find_file.proofs.Reading.{read-end, read-found, read-on, last-short, at_none, at_some, read-error}
 use Rattle.find_file.proofs.content.read_through.Goals as goal
@@ -10,7 +10,7 @@ use Rattle.find_file.proofs.content.read_through.Goals as goal
 pub returns-in-Ok-None-clause-answer : goal.returns-in-Ok-None-clause-answer
 returns-in-Ok-None-clause-answer g c = λ log tells few.
     let told = c.in-Ok-None.ensures.answer log (c.loop-offset.invariant.same ∙ tells) in
-    let file = (node (current log) (found (current log) c.args.path.now)).bytes in
+    let file = (node (current log) (found_node (current log) c.args.path.now)).bytes in
     let offset = c.loop-offset.offset in (
       told.0,
       read-end c.args.finder.now file offset c.requires.some c.loop-offset.kept.items (c.loop-offset.invariant.left log tells)
@@ -21,7 +21,7 @@ returns-in-Ok-None-clause-answer g c = λ log tells few.
 pub returns-then-is_in-clause-answer : goal.returns-then-is_in-clause-answer
 returns-then-is_in-clause-answer g c = λ log tells few.
     let told = c.in-Ok-Some.ensures.answer log (c.loop-offset.invariant.same ∙ tells) in
-    let file = (node (current log) (found (current log) c.args.path.now)).bytes in
+    let file = (node (current log) (found_node (current log) c.args.path.now)).bytes in
     let offset = c.loop-offset.offset in
     let kept = c.loop-offset.kept.items in
     let content = c.args.finder.now in (
@@ -49,7 +49,7 @@ loop-offset-preserved g c =
       begun = λ log tells more. (c.in-Ok-Some.ensures.answer log (c.loop-offset.invariant.same ∙ tells)).0;
       left = λ log tells.
           let told = c.in-Ok-Some.ensures.answer log (c.loop-offset.invariant.same ∙ tells) in
-          let file = (node (current log) (found (current log) c.args.path.now)).bytes in
+          let file = (node (current log) (found_node (current log) c.args.path.now)).bytes in
           read-on content file offset c.requires.some kept (c.loop-offset.invariant.left log tells) c.in-Ok-Some.piece.items stretch
           (at_some c.in-Ok-Some.field-0 c.in-Ok-Some.piece (length file ≤ offset) (λ bytes. bytes.items ≡ take (length bytes.items) (drop offset file)) c.in-Ok-Some.field-0-is told.1)
           (c.in-Ok.ensures ∙ (ap (λ l. l ++ c.as_slice-bytes.result.now) c.as_slice.ensures.value ∙ ap (λ l. kept ++ l) c.as_slice-bytes.ensures.value))
@@ -59,7 +59,7 @@ loop-offset-preserved g c =
 
 pub returns-clause-answer : goal.returns-clause-answer
 returns-clause-answer g c = λ log tells few.
-    let file = (node (current log) (found (current log) c.args.path.now)).bytes in (
+    let file = (node (current log) (found_node (current log) c.args.path.now)).bytes in (
       c.loop-offset.invariant.begun log tells (omega arith),
       read-end c.args.finder.now file c.loop-offset.offset c.requires.some c.loop-offset.kept.items (c.loop-offset.invariant.left log tells)
           (omega (arith, few)) (subst (λ n. length c.loop-offset.kept.items < n) c.requires.width c.loop-offset.invariant.short),
@@ -67,7 +67,7 @@ returns-clause-answer g c = λ log tells few.
 
 pub returns-in-Err-clause-answer : goal.returns-in-Err-clause-answer
 returns-in-Err-clause-answer g c = λ log tells few.
-    let file = (node (current log) (found (current log) c.args.path.now)).bytes in
+    let file = (node (current log) (found_node (current log) c.args.path.now)).bytes in
     let offset = c.loop-offset.offset in
     read-error (Option (Vec ℕ Global)) Bool log c.args.path.now 0 0
     (λ piece. MatchOption piece (length file ≤ offset) (λ bytes. bytes.items ≡ take (length bytes.items) (drop offset file)))

@@ -3,7 +3,7 @@ use Rattle.std.proofs.Common.{◌≡◌, ◌-◌, ◌^◌, ◌<◌, ◌≤◌, �
 use Rattle.std.specs.Prelude.{Some, None}
 use Rattle.tree_trait.specs.Calls.{ReadAt}
 use Rattle.tree_trait.specs.FileSystem.{node}
-use Rattle.tree_trait.specs.Change.{CallLog, current, found}
+use Rattle.tree_trait.specs.Change.{CallLog, current, found_node}
 use Rattle.tree_trait.specs.Refusals.{refusal_of}
 use Rattle.find_file.specs.FoundList.{holds}
 use Rattle.find_file.proofs.content.read_through.Given as goal
@@ -15,8 +15,8 @@ invariant-loop-offset g l = record {
   short : length l.kept.items < l.width;
   begun : (log : CallLog) → g.T.ReadTree.contents l.fn.tree ≡ Some log → 0 < l.offset → refusal_of (current log) (ReadAt l.path 0 0) ≡ None;
   left : (log : CallLog) → g.T.ReadTree.contents l.fn.tree ≡ Some log
-      → holds l.finder (node (current log) (found (current log) l.path)).bytes
-      ≡ holds l.finder (l.kept.items ++ drop l.offset (node (current log) (found (current log) l.path)).bytes);
+      → holds l.finder (node (current log) (found_node (current log) l.path)).bytes
+      ≡ holds l.finder (l.kept.items ++ drop l.offset (node (current log) (found_node (current log) l.path)).bytes);
 }
 
 abbrev pub decreases-loop-offset : goal.decreases-loop-offset

@@ -2,7 +2,7 @@ use Rattle.std.proofs.Common.{◌≡◌, ◌<◌, ◌≤◌, ◌+◌, ◌∷◌,
 use Rattle.std.proofs.lemmas.Grind.{common_steps}
 use Rattle.std.proofs.lemmas.List.{nil_from_length}
 use Rattle.hotlist.specs.HotLists.{HotList, NoMore, before, list_of}
-use Rattle.hotlist.specs.Places.{removed, changed_at, from_position, item_at, inside}
+use Rattle.hotlist.specs.Places.{list_without_item, changed_at, from_position, item_at, inside}
 use Rattle.hotlist.proofs.PlaceLemmas.{from_position-drop, item_at-here, item_at-below}
 use Rattle.hotlist.proofs.EditLemmas.{changed_at-set, changed_at-none, list_of-set, without_position-remove, removed-past, removed-below}
 use Rattle.hotlist.proofs.edit.+removing.Goals as goal
@@ -23,7 +23,7 @@ pub remove_in-returns-then-position-len-clause-removed : goal.remove_in-returns-
 remove_in-returns-then-position-len-clause-removed t c =
     let items = c.args.items.now.items in
     let place : c.args.place.now ≡ c.in-Some.position.now ∷ c.in-Some.below.now = grind (arith, common_steps, c.in-Some.ensures.cases) in
-    ap (λ p. removed p (list_of items)) place ∙ removed-past c.in-Some.position.now c.in-Some.below.now items (grind (arith, common_steps))
+    ap (λ p. list_without_item p (list_of items)) place ∙ removed-past c.in-Some.position.now c.in-Some.below.now items (grind (arith, common_steps))
 
 pub remove_in-returns-then-is_empty-clause-removed : goal.remove_in-returns-then-is_empty-clause-removed
 remove_in-returns-then-is_empty-clause-removed t c =
@@ -31,7 +31,7 @@ remove_in-returns-then-is_empty-clause-removed t c =
     let place : c.args.place.now ≡ c.in-Some.position.now ∷ c.in-Some.below.now = grind (arith, common_steps, c.in-Some.ensures.cases) in
     let alone : c.in-Some.below.now ≡ [] = nil_from_length _ (grind (arith, common_steps)) in
     let here : c.in-Some.position.now < length items = grind (arith, common_steps) in
-    ap (λ p. removed p (list_of items)) place ∙ ap (λ below. removed (c.in-Some.position.now ∷ below) (list_of items)) alone
+    ap (λ p. list_without_item p (list_of items)) place ∙ ap (λ below. list_without_item (c.in-Some.position.now ∷ below) (list_of items)) alone
     ∙ without_position-remove c.in-Some.position.now items here ∙ ap (λ others. Some (list_of others)) (sym c.remove.ensures.items)
 
 pub remove_in-returns-then-is_empty-clause-item : goal.remove_in-returns-then-is_empty-clause-item
@@ -51,13 +51,13 @@ remove_in-returns-clause-removed t c =
     let place : c.args.place.now ≡ c.in-Some.position.now ∷ c.in-Some.below.now = grind (arith, common_steps, c.in-Some.ensures.cases) in
     let here : c.in-Some.position.now < length items = grind (arith, common_steps) in
     let more : 0 < length c.in-Some.below.now = grind (arith, common_steps) in
-    let whole : removed c.args.place.now (list_of items) ≡ changed_at c.in-Some.position.now (removed c.in-Some.below.now) (list_of items) =
-    ap (λ p. removed p (list_of items)) place ∙ removed-below c.in-Some.position.now c.in-Some.below.now (list_of items) more in
+    let whole : list_without_item c.args.place.now (list_of items) ≡ changed_at c.in-Some.position.now (list_without_item c.in-Some.below.now) (list_of items) =
+    ap (λ p. list_without_item p (list_of items)) place ∙ removed-below c.in-Some.position.now c.in-Some.below.now (list_of items) more in
     by_option c.remove_below.result c.remove_below.ensures.removed
-    (λ none. whole ∙ changed_at-none c.in-Some.position.now (removed c.in-Some.below.now) items c.index_mut.result.now here
-    (λ others. ap (λ old. changed_at 0 (removed c.in-Some.below.now) (before old others)) (sym c.index_mut.ensures.value) ∙ none others))
-    (λ _ changes. whole ∙ changed_at-set c.in-Some.position.now (removed c.in-Some.below.now) items c.remove_below.new.group c.index_mut.result.now here
-    (λ others. ap (λ old. changed_at 0 (removed c.in-Some.below.now) (before old others)) (sym c.index_mut.ensures.value) ∙ changes others))
+    (λ none. whole ∙ changed_at-none c.in-Some.position.now (list_without_item c.in-Some.below.now) items c.index_mut.result.now here
+    (λ others. ap (λ old. changed_at 0 (list_without_item c.in-Some.below.now) (before old others)) (sym c.index_mut.ensures.value) ∙ none others))
+    (λ _ changes. whole ∙ changed_at-set c.in-Some.position.now (list_without_item c.in-Some.below.now) items c.remove_below.new.group c.index_mut.result.now here
+    (λ others. ap (λ old. changed_at 0 (list_without_item c.in-Some.below.now) (before old others)) (sym c.index_mut.ensures.value) ∙ changes others))
 
 pub remove_in-returns-clause-same : goal.remove_in-returns-clause-same
 remove_in-returns-clause-same t c =

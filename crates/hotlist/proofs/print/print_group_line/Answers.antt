@@ -1,7 +1,7 @@
 use Rattle.std.proofs.Common.{◌++◌, codes, ap, ◌∙◌}
 use Rattle.std.specs.List.{flat_map}
 use Rattle.std.specs.String.{string_bytes}
-use Rattle.hotlist.specs.Printed.{escaped}
+use Rattle.hotlist.specs.Printed.{escaped_byte}
 use Rattle.hotlist.proofs.PrintLemmas.{group-pieces}
 use Rattle.hotlist.proofs.print.print_group_line.Goals as goal
 
@@ -9,7 +9,7 @@ pub returns : goal.returns
 returns c =
     c.in_ok-push_str-2.ensures.bytes
     ∙ ap (λ text. text ++ codes "\"\n") (c.in_ok-push_escaped.ensures
-    ∙ ap (λ label. string_bytes c.push_str.new.self ++ flat_map escaped label) c.as_str.ensures
-    ∙ ap (λ text. text ++ flat_map escaped c.args.label.now) (c.in_ok-push_str.ensures.bytes
+    ∙ ap (λ label. string_bytes c.push_str.new.self ++ flat_map escaped_byte label) c.as_str.ensures
+    ∙ ap (λ text. text ++ flat_map escaped_byte c.args.label.now) (c.in_ok-push_str.ensures.bytes
     ∙ ap (λ text. text ++ codes "GROUP \"") c.in_ok-push_indent.ensures))
     ∙ group-pieces (string_bytes c.args.text.now) c.args.depth c.args.label.now

@@ -1,6 +1,6 @@
 -- The lines that are passed in a piece lead further.
 use Rattle.std.proofs.Common.{◌≡◌, ◌+◌, length, drop, ap, sym, ◌∙◌, arith, length-take, length-drop}
-use Rattle.mc_viewer.specs.Viewing.{held}
+use Rattle.mc_viewer.specs.Viewing.{held_bytes}
 use Rattle.mc_viewer.specs.Rows.{line_behind}
 use Rattle.mc_viewer.proofs.StepLemmas.{line-none, line-last}
 use Rattle.mc_viewer.proofs.lines.line_behind.Goals as goal
@@ -14,7 +14,7 @@ loop-start-preserved g c = record {
   way = λ bytes known size_is.
       let start = c.loop-start.start in
       let passed = c.pass_lines-passed.result in
-      let still = ap (λ t. held t c.args.subject.now) c.loop-start.invariant.same ∙ known in
+      let still = ap (λ t. held_bytes t c.args.subject.now) c.loop-start.invariant.same ∙ known in
       let shown = c.as_slice.ensures.value ∙ c.in_ok-piece.ensures.shown bytes still in
       let there : c.min-start.result ≡ start + passed.bytes = omega (
         arith,
@@ -41,7 +41,7 @@ returns-clause-shown g c = λ bytes known size_is.
 
 pub returns-then-len-eq0-clause-shown : goal.returns-then-len-eq0-clause-shown
 returns-then-len-eq0-clause-shown g c = λ bytes known size_is.
-    let still = ap (λ t. held t c.args.subject.now) c.loop-start.invariant.same ∙ known in
+    let still = ap (λ t. held_bytes t c.args.subject.now) c.loop-start.invariant.same ∙ known in
     absurd (omega (
       arith,
       c.if-len-eq0.true,

@@ -1,6 +1,6 @@
 -- One row further.
 use Rattle.std.proofs.Common.{◌≡◌, ◌+◌, ◌-◌, suc, ap, sym, ◌∙◌, arith}
-use Rattle.mc_viewer.specs.Viewing.{held}
+use Rattle.mc_viewer.specs.Viewing.{held_bytes}
 use Rattle.mc_viewer.specs.Rows.{all_rows, rows_up}
 use Rattle.mc_viewer.proofs.StepLemmas.{up-further, up-none}
 use Rattle.mc_viewer.proofs.moves.rows_up.Goals as goal
@@ -16,7 +16,7 @@ loop-preserved g c = record {
       let left = c.args.count - (c.loop.counter + 1) in
       let more = c.args.count - c.loop.counter in
       let one_more : more ≡ suc left = omega arith in
-      let still = ap (λ t. held t c.args.subject.now) c.loop.invariant.same ∙ known in
+      let still = ap (λ t. held_bytes t c.args.subject.now) c.loop.invariant.same ∙ known in
       up-further left more one_more rows c.loop.row c.in_ok-row.row (c.in_ok-row.ensures.shown bytes still size_is)
       ∙ c.loop.invariant.way bytes known size_is;
 }

@@ -1,7 +1,7 @@
 -- The rows from the one that holds the top on.
 use Rattle.std.proofs.Common.{ℕ, List, ap, sym, ◌∙◌, map, take}
 use Rattle.std.proofs.lemmas.Result.{IfOk-weaker}
-use Rattle.mc_viewer.specs.Viewing.{held}
+use Rattle.mc_viewer.specs.Viewing.{held_bytes}
 use Rattle.mc_viewer.specs.Rows.{all_rows, rows_from}
 use Rattle.mc_viewer.specs.Pages.{shown_row}
 use Rattle.mc_viewer.proofs.StartLemmas.{from-at}
@@ -10,8 +10,8 @@ use Rattle.mc_viewer.proofs.pages.page_rows.Goals as goal
 pub returns-clause-shown : goal.returns-clause-shown
 returns-clause-shown g c = λ bytes known.
     let size_is = c.in_ok-size.ensures.shown bytes known in
-    let still = ap (λ t. held t c.args.subject.now) c.in_ok-size.ensures.same ∙ known in
-    let later = ap (λ t. held t c.args.subject.now) c.in_ok-first.ensures.same ∙ still in
+    let still = ap (λ t. held_bytes t c.args.subject.now) c.in_ok-size.ensures.same ∙ known in
+    let later = ap (λ t. held_bytes t c.args.subject.now) c.in_ok-first.ensures.same ∙ still in
     let layout = c.args.layout in
     let shown = map (shown_row layout bytes) in
     let row = c.in_ok-first.ensures.row bytes still (sym size_is) in

@@ -1,6 +1,6 @@
 -- Each row, and those behind it.
 use Rattle.std.proofs.Common.{◌≡◌, ℕ, List, suc, ◌-◌, ◌<◌, ◌++◌, map, take, drop, length, ap, ◌∙◌, arith}
-use Rattle.mc_viewer.specs.Viewing.{held}
+use Rattle.mc_viewer.specs.Viewing.{held_bytes}
 use Rattle.mc_viewer.specs.Rows.{row_starts}
 use Rattle.mc_viewer.specs.Pages.{shown_row}
 use Rattle.mc_viewer.proofs.StartLemmas.{split-at, starts-end}
@@ -14,7 +14,7 @@ loop-row-preserved g c = record {
   later = omega (arith, c.in_ok-seen.ensures.cause.later, c.loop-row.invariant.later);
   kept = c.in_ok-seen.ensures.kept;
   all = λ bytes known size_is.
-      let still = ap (λ t. held t c.args.subject.now) c.loop-row.invariant.same ∙ known in
+      let still = ap (λ t. held_bytes t c.args.subject.now) c.loop-row.invariant.same ∙ known in
       let shape = c.args.layout.shape in
       let columns = c.args.layout.columns in
       let shown = shown_row c.args.layout bytes in

@@ -1,7 +1,7 @@
 -- What the row shows rests on the bytes that were read.
 use Rattle.std.proofs.Common.{◌≡◌, ℕ, List, min, ap, sym, ◌∙◌, take, drop, length, arith, length-drop, subst}
 use Rattle.std.proofs.lemmas.List.{take_min}
-use Rattle.mc_viewer.specs.Viewing.{held}
+use Rattle.mc_viewer.specs.Viewing.{held_bytes}
 use Rattle.mc_viewer.specs.Pages.{row_text}
 use Rattle.mc_viewer.specs.Windows.{window_of, IsKept}
 use Rattle.mc_viewer.proofs.SightLemmas.{row_text-window}
@@ -10,7 +10,7 @@ use Rattle.mc_viewer.proofs.pages.seen_row.Goals as goal
 
 pub end_seen-requires-clause-window : goal.end_seen-requires-clause-window
 end_seen-requires-clause-window g c = λ bytes known size_is.
-    let before = ap (λ t. held t c.args.subject.now) (sym c.in_ok-window.ensures.same) ∙ known in
+    let before = ap (λ t. held_bytes t c.args.subject.now) (sym c.in_ok-window.ensures.same) ∙ known in
     c.as_slice-shown.ensures.value
     ∙ window_read c.args.layout c.args.size c.args.row c.window_bytes-count.result bytes c.in_ok-window.window.items size_is c.window_bytes-count.ensures
     (c.in_ok-window.ensures.shown bytes before)
@@ -28,4 +28,4 @@ returns-clause-text g c = λ bytes known size_is.
 
 pub returns-clause-end : goal.returns-clause-end
 returns-clause-end g c = λ bytes known size_is.
-    c.in_ok-end.ensures.end bytes (ap (λ t. held t c.args.subject.now) c.in_ok-window.ensures.same ∙ known) size_is
+    c.in_ok-end.ensures.end bytes (ap (λ t. held_bytes t c.args.subject.now) c.in_ok-window.ensures.same ∙ known) size_is

@@ -1,7 +1,7 @@
 -- What a tree that is known reads of a file.
 use Rattle.std.proofs.Common.{◌≡◌, length, take, drop, ap, sym, ◌∙◌, arith}
 use Rattle.tree_trait.specs.FileSystem.{node}
-use Rattle.tree_trait.specs.Change.{current, found}
+use Rattle.tree_trait.specs.Change.{current, found_node}
 use Rattle.tree_trait.specs.Answers.{IsRead}
 use Rattle.mc_viewer.proofs.ReadingLemmas.{known-file, read-is, written-over, readable-file, refused-read, refused-said}
 use Rattle.mc_viewer.proofs.reading.file_piece.Goals as goal
@@ -12,7 +12,7 @@ returns-in_err-read-clause-refused g c = λ log known.
     let e = c.in_err-read.field-0.0 in
     refused-said log path e c.from_residual-in_err-read.result c.from_residual-in_err-read.ensures.1
     (refused-read log path c.args.at (length c.as_mut_slice.result.now) e
-    (IsRead (node (current log) (found (current log) path)).bytes c.args.at c.as_mut_slice.result.now c.read_at.new.into)
+    (IsRead (node (current log) (found_node (current log) path)).bytes c.args.at c.as_mut_slice.result.now c.read_at.new.into)
     (c.in_err-read.ensures.answer log known))
 
 pub returns-clause-shown : goal.returns-clause-shown
@@ -26,7 +26,7 @@ returns-clause-shown g c = λ bytes known.
     let into_len : length into ≡ old.len = omega (arith, ap length c.as_mut_slice.ensures.value, c.as_mut_slice.ensures.len, c.read_at.auto.into) in
     c.truncate.ensures.items
     ∙ ap (take c.in_ok-read.read) (written-over old.len into old.items into_len (omega arith))
-    ∙ read-is (node (current there.log) (found (current there.log) path)).bytes c.args.at c.args.count c.as_mut_slice.result.now c.read_at.new.into c.in_ok-read.read len
+    ∙ read-is (node (current there.log) (found_node (current there.log) path)).bytes c.args.at c.args.count c.as_mut_slice.result.now c.read_at.new.into c.in_ok-read.read len
     (c.in_ok-read.ensures.answer there.log there.is).1
     ∙ ap (λ l. take c.args.count (drop c.args.at l)) (sym there.holds)
 

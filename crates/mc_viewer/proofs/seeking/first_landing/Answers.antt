@@ -1,7 +1,7 @@
 -- From the top on, or from the start of its line.
 use Rattle.std.proofs.Common.{◌≡◌, Ok, IfOk, IfErr, ap, sym, subst, ◌∙◌}
 use Rattle.mc_viewer.specs.declared.layout.Layout.{Layout}
-use Rattle.mc_viewer.specs.Viewing.{held}
+use Rattle.mc_viewer.specs.Viewing.{held_bytes}
 use Rattle.mc_viewer.specs.Rows.{row_holding}
 use Rattle.mc_viewer.specs.Searches.{start_from, first_from, landing, IsMissed}
 use Rattle.mc_viewer.proofs.seeking.first_landing.Goals as goal
@@ -9,9 +9,9 @@ use Rattle.mc_viewer.proofs.seeking.first_landing.Goals as goal
 pub returns-clause-shown : goal.returns-clause-shown
 returns-clause-shown g c = λ bytes known.
     let size_is = c.in_ok-size.ensures.shown bytes known in
-    let still = ap (λ t. held t c.args.subject.now) c.in_ok-size.ensures.same ∙ known in
-    let later = ap (λ t. held t c.args.subject.now) c.in_ok-top.ensures.same ∙ still in
-    let last = ap (λ t. held t c.args.subject.now) c.in_ok-from.ensures.same ∙ later in
+    let still = ap (λ t. held_bytes t c.args.subject.now) c.in_ok-size.ensures.same ∙ known in
+    let later = ap (λ t. held_bytes t c.args.subject.now) c.in_ok-top.ensures.same ∙ still in
+    let last = ap (λ t. held_bytes t c.args.subject.now) c.in_ok-from.ensures.same ∙ later in
     let top_is = c.in_ok-top.ensures.shown bytes still (sym size_is)
     ∙ ap (λ (l : Layout). row_holding l.shape l.columns bytes c.args.state.top) c.layout_of-layout.ensures in
     let from_is : c.in_ok-from.from ≡ first_from bytes c.args.state c.args.what.now =
@@ -22,9 +22,9 @@ returns-clause-shown g c = λ bytes known.
 pub returns-clause-missed : goal.returns-clause-missed
 returns-clause-missed g c = λ bytes known.
     let size_is = c.in_ok-size.ensures.shown bytes known in
-    let still = ap (λ t. held t c.args.subject.now) c.in_ok-size.ensures.same ∙ known in
-    let later = ap (λ t. held t c.args.subject.now) c.in_ok-top.ensures.same ∙ still in
-    let last = ap (λ t. held t c.args.subject.now) c.in_ok-from.ensures.same ∙ later in
+    let still = ap (λ t. held_bytes t c.args.subject.now) c.in_ok-size.ensures.same ∙ known in
+    let later = ap (λ t. held_bytes t c.args.subject.now) c.in_ok-top.ensures.same ∙ still in
+    let last = ap (λ t. held_bytes t c.args.subject.now) c.in_ok-from.ensures.same ∙ later in
     let top_is = c.in_ok-top.ensures.shown bytes still (sym size_is)
     ∙ ap (λ (l : Layout). row_holding l.shape l.columns bytes c.args.state.top) c.layout_of-layout.ensures in
     let from_is : c.in_ok-from.from ≡ first_from bytes c.args.state c.args.what.now =

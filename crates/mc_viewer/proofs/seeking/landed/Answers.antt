@@ -4,7 +4,7 @@ use Rattle.mc_viewer.specs.declared.layout.Layout.{Layout}
 use Rattle.mc_viewer.specs.declared.state.State.{State}
 use Rattle.mc_viewer.specs.declared.search.Landing.{Landing}
 use Rattle.mc_viewer.specs.Rows.{row_holding}
-use Rattle.mc_viewer.specs.Steps.{to_byte}
+use Rattle.mc_viewer.specs.ViewerSteps.{to_byte}
 use Rattle.mc_viewer.proofs.seeking.landed.Goals as goal
 
 abbrev landing_of : State → ℕ → Landing

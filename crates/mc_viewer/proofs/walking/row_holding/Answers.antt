@@ -1,6 +1,6 @@
 -- From a row before the byte on.
 use Rattle.std.proofs.Common.{ap, ◌∙◌}
-use Rattle.mc_viewer.specs.Viewing.{held}
+use Rattle.mc_viewer.specs.Viewing.{held_bytes}
 use Rattle.mc_viewer.proofs.StartLemmas.{IsRow-first, holding-empty}
 use Rattle.mc_viewer.proofs.walking.row_holding.Goals as goal
 
@@ -14,10 +14,10 @@ returns-then-size-eq0-clause-row g c = λ bytes known size_is.
 
 pub returns-clause-shown : goal.returns-clause-shown
 returns-clause-shown g c = λ bytes known size_is.
-    let still = ap (λ t. held t c.args.subject.now) c.in_ok-from.ensures.same ∙ known in
+    let still = ap (λ t. held_bytes t c.args.subject.now) c.in_ok-from.ensures.same ∙ known in
     c.in_ok-row.ensures.shown bytes still size_is (c.in_ok-from.ensures.row bytes known size_is c.args.layout.columns)
 
 pub returns-clause-row : goal.returns-clause-row
 returns-clause-row g c = λ bytes known size_is.
-    let still = ap (λ t. held t c.args.subject.now) c.in_ok-from.ensures.same ∙ known in
+    let still = ap (λ t. held_bytes t c.args.subject.now) c.in_ok-from.ensures.same ∙ known in
     c.in_ok-row.ensures.row bytes still size_is (c.in_ok-from.ensures.row bytes known size_is c.args.layout.columns)

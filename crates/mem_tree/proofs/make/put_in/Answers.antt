@@ -3,10 +3,10 @@ use Rattle.std.specs.Prelude.{unwrap_or}
 use Rattle.tree_trait.specs.declared.file_system.NameEdit.{NameEdit}
 use Rattle.tree_trait.specs.declared.file_system.FileSystem.{FileSystem}
 use Rattle.tree_trait.specs.FileSystem.{lookup}
-use Rattle.tree_trait.specs.Change.{Makes, after_change, found}
+use Rattle.tree_trait.specs.Change.{Makes, after_change, found_node}
 use Rattle.tree_trait.proofs.Walking.{reached-find}
 use Rattle.mem_tree.specs.Held.{IsKept}
-use Rattle.mem_tree.specs.Puts.{unlocked}
+use Rattle.mem_tree.specs.Puts.{unlocked_system}
 use Rattle.mem_tree.proofs.Puts.{find-unlocked, may_put, none_of, kept_put}
 use Rattle.mem_tree.proofs.make.put_in.Goals as goal
 use Rattle.mem_tree.proofs.make.put_in.Goals.{In-Ok}
@@ -18,7 +18,7 @@ pub returns-in-Ok-clause-made : goal.returns-in-Ok-clause-made
 returns-in-Ok-clause-made c =
     let s = c.args.opening.now in
     let up = reverse c.args.front.now in
-    let at : found s up ≡ c.args.folder = ap (λ o. unwrap_or o 0) (sym (find-unlocked s up) ∙ reached-find (unlocked s) up c.args.folder c.requires.at) in
+    let at : found_node s up ≡ c.args.folder = ap (λ o. unwrap_or o 0) (sym (find-unlocked s up) ∙ reached-find (unlocked_system s) up c.args.folder c.requires.at) in
     c.in-Ok.ensures.made ∙ ap (λ f. after_change s (Makes f c.args.name.now c.args.node)) (sym at)
 
 pub returns-in-Ok-clause-refusal : goal.returns-in-Ok-clause-refusal

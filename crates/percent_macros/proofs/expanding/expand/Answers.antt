@@ -2,7 +2,7 @@ use Rattle.std.proofs.Common.{◌≡◌, ◌-◌, ◌++◌, ◌∷◌, List, ℕ
 use Rattle.std.specs.List.{flat_map}
 use Rattle.std.proofs.lemmas.List.{length-append}
 use Rattle.std.proofs.lemmas.Result.{err_from_is_err_and}
-use Rattle.percent_macros.specs.Expansion.{Expands, followed, spelling, IsFaultAt}
+use Rattle.percent_macros.specs.Expansion.{Expands, joined_expansions, spelling, IsFaultAt}
 use Rattle.percent_macros.proofs.ExpansionLemmas.{Expands-append, Expands-typed}
 use Rattle.percent_macros.proofs.expanding.expand.Goals as goal
 
@@ -21,7 +21,7 @@ loop-plain-preserved c =
       utf8 = search rules;
       front = (here.front ++ plain) ++ read.text;
       expands = subst (Expands c.args.context.now ((here.front ++ plain) ++ read.text))
-          (sym (read.added ∙ ap (λ draft. followed draft read.expanded) c.in_ok-write.ensures)) whole;
+          (sym (read.added ∙ ap (λ draft. joined_expansions draft read.expanded) c.in_ok-write.ensures)) whole;
       cut = here.cut ∙ ap (λ rest. here.front ++ rest) (c.in-Some.ensures.found.1 ∙ ap (λ rest. plain ++ rest) read.cut)
           ∙ regrouped here.front plain read.text c.in_ok-rest.rest.now;
     }

@@ -1,6 +1,6 @@
 use Rattle.std.proofs.Common.{◌≡◌, ◌++◌, ◌∷◌, [], Some, ap, ◌∙◌, sym, refl, append_assoc, arith}
 use Rattle.percent_macros.specs.MacroTable.{macro_named}
-use Rattle.percent_macros.specs.Expansion.{asked, meaning}
+use Rattle.percent_macros.specs.Expansion.{prompt_expansion, meaning}
 use Rattle.percent_macros.proofs.TableLemmas.{macro_named-ascii, BeginsNoMacro-char}
 use Rattle.percent_macros.proofs.ExpansionLemmas.{Expands-macro, Expands-prompt}
 use Rattle.percent_macros.proofs.expanding.read_macro.Goals as goal
@@ -20,7 +20,7 @@ returns-in_ok-ask-in-Some-eq123-default-clause-read c =
     c.in-Some-eq123-default.ensures.ascii (omega arith) ∙ ap (λ letter. letter ∷ c.in-Some-eq123-default.prompt.now) c.in-Some-eq123-default.field-0-0-test in
     record {
       text = 37 ∷ 123 ∷ (question ++ 125 ∷ []);
-      expanded = asked question;
+      expanded = prompt_expansion question;
       expands = Expands-prompt c.args.context.now question c.in-Some-split_at_mark.ensures.found.0;
       cut = ap (λ text. 37 ∷ text) behind ∙ ap (λ text. 37 ∷ 123 ∷ text) (c.in-Some-split_at_mark.ensures.found.1 ∙ sym (append_assoc question (125 ∷ []) rest));
       added = c.in_ok-ask-in-Some-eq123-default.ensures;

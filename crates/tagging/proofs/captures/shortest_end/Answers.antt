@@ -14,8 +14,8 @@ split_at-requires c =
     IsCharBoundary-at_seam c.args.text.now c.loop-front.front.now tried.back (sym tried.joins) tried.is_text
 
 -- the end that is tried
-end_is : (text front end back : List ℕ) → end ≡ drop (length front) text → front ++ back ≡ text → end ≡ back
-end_is text front end back is joins = is ∙ ap (drop (length front)) (sym joins) ∙ drop-append_seam front back
+end_is : (text prefix end back : List ℕ) → end ≡ drop (length prefix) text → prefix ++ back ≡ text → end ≡ back
+end_is text prefix end back is joins = is ∙ ap (drop (length prefix)) (sym joins) ∙ drop-append_seam prefix back
 
 pub returns-then-matches_parts : goal.returns-then-matches_parts
 returns-then-matches_parts c =

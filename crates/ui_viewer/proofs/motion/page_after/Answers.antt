@@ -1,10 +1,10 @@
 -- What the viewer's calls say of a step and of the next search is said of the motion.
 use Rattle.std.proofs.Common.{◌≡◌, ℕ, List, Some, Ok, OnOk, sym, subst}
 use Rattle.tree_trait.specs.Change.{CallLog}
-use Rattle.mc_viewer.specs.Steps.{after_step}
-use Rattle.mc_viewer.specs.Viewing.{held, IfRead, IsReadable}
+use Rattle.mc_viewer.specs.ViewerSteps.{after_step}
+use Rattle.mc_viewer.specs.Viewing.{held_bytes, IfRead, IsReadable}
 use Rattle.ui_viewer.specs.declared.motion.Motion.{Motion}
-use Rattle.ui_viewer.specs.Motions.{Reads, led}
+use Rattle.ui_viewer.specs.Motions.{Reads, led_viewing}
 use Rattle.ui_viewer.proofs.MotionLemmas.{step_read, stepped}
 use Rattle.ui_viewer.proofs.motion.page_after.Goals as goal
 
@@ -14,7 +14,7 @@ returns-in-Step-clause-led g c =
     let v = c.args.viewer.now in
     let after = c.step_to_page.new.self in
     let r = c.step_to_page.result in
-    subst (λ (m : Motion). (bytes : List ℕ) → held contents v.subject ≡ Some bytes → OnOk r (led m bytes v ≡ Ok after)) (sym c.in-Step.is)
+    subst (λ (m : Motion). (bytes : List ℕ) → held_bytes contents v.subject ≡ Some bytes → OnOk r (led_viewing m bytes v ≡ Ok after)) (sym c.in-Step.is)
     (λ bytes known. stepped (after_step bytes c.in-Step.step v.state) v after r (c.step_to_page.ensures.done bytes known))
 
 pub returns-in-Step-clause-readable : goal.returns-in-Step-clause-readable

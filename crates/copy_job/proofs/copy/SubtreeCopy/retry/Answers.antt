@@ -1,12 +1,12 @@
 -- The machine takes it anew.
 use Rattle.std.proofs.Common.{ap, ◌∙◌}
-use Rattle.copy_tree.specs.Standing.{Seen, seen}
+use Rattle.copy_tree.specs.Standing.{Seen, seen_copy}
 use Rattle.copy_job.specs.Standing.{SubtreeCopying, retries}
 use Rattle.copy_job.proofs.Held.{retried_held}
 use Rattle.copy_job.proofs.copy.SubtreeCopy.retry.Goals as goal
 
 pub invariant_of-self : goal.invariant_of-self
-invariant_of-self c = retried_held c.self.inside.top c.self.inside.folder (seen c.self.inside.machine) (seen c.retry.new.self) c.retry.ensures.retried c.self.invariant c.retry.ensures.workable
+invariant_of-self c = retried_held c.self.inside.top c.self.inside.folder (seen_copy c.self.inside.machine) (seen_copy c.retry.new.self) c.retry.ensures.retried c.self.invariant c.retry.ensures.workable
 
 pub returns-clause-retried : goal.returns-clause-retried
 returns-clause-retried c =

@@ -2,7 +2,7 @@
 use Rattle.std.proofs.Common.{ap, subst, sym, ◌∙◌, refl}
 use Rattle.copy_move.specs.declared.run.Course.{Course}
 use Rattle.copy_move.specs.Jobs.{IsSound, Running, at_barrier}
-use Rattle.copy_move.specs.Steps.{WorkSkips}
+use Rattle.copy_move.specs.JobStepReports.{WorkSkips}
 use Rattle.copy_move.proofs.run.Run.skip.Goals as goal
 
 pub returns : goal.returns

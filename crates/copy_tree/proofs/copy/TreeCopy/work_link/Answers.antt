@@ -1,6 +1,6 @@
 -- The link's copy made the step.
 use Rattle.std.proofs.Common.{refl}
-use Rattle.copy_tree.specs.Standing.{seen}
+use Rattle.copy_tree.specs.Standing.{seen_copy}
 use Rattle.copy_tree.proofs.Counting.{link_counts}
 use Rattle.copy_tree.proofs.Placed.{link_stands, link_stays}
 use Rattle.copy_tree.proofs.copy.TreeCopy.work_link.Goals as goal
@@ -11,7 +11,7 @@ returns-clause-works g c = record {
   tells = (let s = c.step-stepped.ensures in s.tells);
   called = (let s = c.step-stepped.ensures in s.called);
   falls = (let s = c.step-stepped.ensures in s.falls);
-  stands = link_stands c.step-stepped.new.self c.step-stepped.result.did c.is_dirty.result (seen c.args.self.now) (seen c.note.new.self) (seen c.put_link.new.self) c.requires.free c.is_dirty.ensures c.note.ensures c.put_link.ensures.settled;
+  stands = link_stands c.step-stepped.new.self c.step-stepped.result.did c.is_dirty.result (seen_copy c.args.self.now) (seen_copy c.note.new.self) (seen_copy c.put_link.new.self) c.requires.free c.is_dirty.ensures c.note.ensures c.put_link.ensures.settled;
 }
 
 pub returns-clause-counts : goal.returns-clause-counts

@@ -1,6 +1,6 @@
 -- A folder is gone into, or skipped.
 use Rattle.tree_trait.specs.declared.calls.Children.{Children}
-use Rattle.tree_trait.specs.Change.{current, found}
+use Rattle.tree_trait.specs.Change.{current, found_node}
 use Rattle.tree_trait.specs.Answers.{IsListing}
 use Rattle.find_file.specs.declared.walk.Task.TheVariants.{List as ListTask}
 use Rattle.find_file.proofs.Looking.{list-refused, works-refused, enters, works-enters, brings-children}
@@ -8,7 +8,7 @@ use Rattle.find_file.proofs.walk.Walk.list.Goals as goal
 
 pub returns-in-Err-clause-answer : goal.returns-in-Err-clause-answer
 returns-in-Err-clause-answer g c = λ log tells.
-    list-refused log c.args.search.now c.args.self.now c.requires Children (IsListing (current log) (found (current log) c.args.folder)) c.in-Err.error c.refused.new.self c.refused.result
+    list-refused log c.args.search.now c.args.self.now c.requires Children (IsListing (current log) (found_node (current log) c.args.folder)) c.in-Err.error c.refused.new.self c.refused.result
     c.args.folder c.names-short.ensures.short (c.in-Err.ensures.answer log tells) c.refused.ensures.told c.refused.ensures.waits
 
 pub returns-in-Err-clause-works : goal.returns-in-Err-clause-works

@@ -1,6 +1,6 @@
 -- A child is passed over, or taken up.
 use Rattle.std.proofs.Common.{◌∷◌, ◌∙◌, ◌≤◌, ◌<◌, length, subst, sym, ap}
-use Rattle.mc_text.specs.Routes.{Route, spelled}
+use Rattle.mc_text.specs.Routes.{Route, spelled_route}
 use Rattle.find_file.proofs.Standing.{passes-name, passes-path, takes}
 use Rattle.find_file.proofs.walk.Walk.meet.Goals as goal
 
@@ -16,7 +16,7 @@ returns-in-Ok c =
     takes c.args.search.now c.args.self.now c.requires c.in-Some.child.now c.in-Some.ensures.some c.take_up.new.self c.in-Ok.path c.take_up.result
     (sym c.leaves_out.ensures ∙ c.if-leaves_out.false)
     (c.in-Ok.ensures.joined ∙ ap (λ (folder : Route). name ∷ folder) same)
-    (subst (λ (folder : Route). length (spelled (name ∷ folder)) ≤ 4096) same c.in-Ok.ensures.fits)
+    (subst (λ (folder : Route). length (spelled_route (name ∷ folder)) ≤ 4096) same c.in-Ok.ensures.fits)
     c.take_up.ensures.told c.take_up.ensures.next c.take_up.ensures.refused
 
 pub returns-in-Err-TooLong : goal.returns-in-Err-TooLong
@@ -24,4 +24,4 @@ returns-in-Err-TooLong c =
     let name = c.in-Some.child.now.name in
     passes-path c.args.search.now c.args.self.now c.requires c.in-Some.child.now c.in-Some.ensures.some c.pass-in-Err-TooLong.new.self c.pass-in-Err-TooLong.result
     c.pass-in-Err-TooLong.ensures.none c.pass-in-Err-TooLong.ensures.passed
-    (subst (λ (folder : Route). 4096 < length (spelled (name ∷ folder))) c.path.ensures (c.in-Err-TooLong.ensures.too_long (λ h. absurd (cc))).1)
+    (subst (λ (folder : Route). 4096 < length (spelled_route (name ∷ folder))) c.path.ensures (c.in-Err-TooLong.ensures.too_long (λ h. absurd (cc))).1)

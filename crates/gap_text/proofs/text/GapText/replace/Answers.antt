@@ -1,6 +1,6 @@
 -- The blocks behind what gives way stay, and the half before the point becomes longer.
 use Rattle.std.proofs.Common.{◌+◌, ◌-◌, ◌*◌, ◌/◌, ◌≤◌, length, take, drop, ap, arith, length-drop, length-append, length-take-le}
-use Rattle.gap_text.specs.PointedText.{PointedText, deleted}
+use Rattle.gap_text.specs.PointedText.{PointedText, deleted_text}
 use Rattle.gap_text.proofs.KeptCountLemmas.{counts-inserted, counts-deleted, back-moved}
 use Rattle.gap_text.proofs.text.GapText.replace.Goals as goal
 
@@ -26,7 +26,7 @@ invariant_of-self-2 c =
     omega (arith, c.requires, ap (λ (t : PointedText). t.point) c.self.view_is, ap (λ (t : PointedText). length t.bytes) c.self.view_is) in
     let few : 65536 * ((length c.back.result.now - count) / 65536) ≤ length text.bytes - text.point - count =
     omega (arith, ap length c.back.ensures, length-drop text.point text.bytes) in
-    let point_in : text.point ≤ length (deleted text count).bytes =
+    let point_in : text.point ≤ length (deleted_text text count).bytes =
     omega (
       arith,
       within,
@@ -35,4 +35,4 @@ invariant_of-self-2 c =
     ) in
     let left = counts-deleted c.self.inside.before.items c.self.inside.behind.items text count _ within few c.self.invariant.0 c.self.invariant.1 in
     rw (c.in_ok-replace.ensures.done, c.truncate.ensures.items)
-    (counts-inserted c.self.inside.before.items _ c.args.bytes.now (deleted text count) point_in left.0 left.1)
+    (counts-inserted c.self.inside.before.items _ c.args.bytes.now (deleted_text text count) point_in left.0 left.1)

@@ -1,7 +1,7 @@
 use Rattle.std.proofs.Common.{◌≡◌, ℕ, suc, ◌-◌, ◌∷◌, ◌++◌, [], List, length, map, reverse, ap, ◌∙◌, arith}
 use Rattle.std.proofs.lemmas.List.{length-append, reverse-append, map-append}
 use Rattle.hotlist.specs.declared.draft.OpenGroup.{OpenGroup}
-use Rattle.hotlist.specs.HotLines.{Said, EndLine}
+use Rattle.hotlist.specs.HotLines.{Parsed, EndLine}
 use Rattle.hotlist.specs.HotFiles.{fault_at}
 use Rattle.hotlist.proofs.draft.Draft.end_group.Goals as goal
 
@@ -15,5 +15,5 @@ returns-clause-goes_on c = λ behind.
     ∙ reverse-append (lines outer) (c.in-Some.group.line ∷ []) in
     let room : suc (32 - length c.args.self.now.groups.items) ≡ 32 - length outer =
     omega (arith, ap length groups, length-append outer (c.in-Some.group ∷ [])) in
-    ap (λ u. fault_at (Said EndLine) c.args.at (32 - length c.args.self.now.groups.items) u behind) unclosed
+    ap (λ u. fault_at (Parsed EndLine) c.args.at (32 - length c.args.self.now.groups.items) u behind) unclosed
     ∙ ap (λ r. behind r (reverse (lines outer))) room

@@ -15,9 +15,9 @@ invariant_of-self c =
 
 pub returns-in-Partial-clause-keys : goal.returns-in-Partial-clause-keys
 returns-in-Partial-clause-keys c =
-    let front : spelling_of c.args.self.now ≡ Partial = ap spelling_of (sym c.self.view_is) ∙ c.self.invariant.1 in
+    let prefix : spelling_of c.args.self.now ≡ Partial = ap spelling_of (sym c.self.view_is) ∙ c.self.invariant.1 in
     let is = spelling_of-held c.self.inside.bytes c.self.inside.count c.args.byte c.args.self.now Partial (omega arith) c.self.view_is (sym c.in-Partial.is ∙ c.spelled.ensures) in
-    decoded_keys-one_more c.args.self.now c.args.byte Partial front is
+    decoded_keys-one_more c.args.self.now c.args.byte Partial prefix is
     ∙ told c.none.result _ _ _ c.none.ensures (take_more_set c.self.inside.bytes c.self.inside.count c.args.byte (omega arith) ∙ ap (λ held. held ++ c.args.byte ∷ []) c.self.view_is)
 
 pub returns-in-Partial-clause-bounded : goal.returns-in-Partial-clause-bounded
@@ -28,15 +28,15 @@ returns-in-Partial-clause-bounded c =
 
 pub returns-in-Whole-clause-keys : goal.returns-in-Whole-clause-keys
 returns-in-Whole-clause-keys c =
-    let front : spelling_of c.args.self.now ≡ Partial = ap spelling_of (sym c.self.view_is) ∙ c.self.invariant.1 in
+    let prefix : spelling_of c.args.self.now ≡ Partial = ap spelling_of (sym c.self.view_is) ∙ c.self.invariant.1 in
     let is = spelling_of-held c.self.inside.bytes c.self.inside.count c.args.byte c.args.self.now (Whole c.in-Whole.key) (omega arith) c.self.view_is (sym c.in-Whole.is ∙ c.spelled.ensures) in
-    decoded_keys-one_more c.args.self.now c.args.byte (Whole c.in-Whole.key) front is ∙ told c.one.result _ [] [] c.one.ensures refl
+    decoded_keys-one_more c.args.self.now c.args.byte (Whole c.in-Whole.key) prefix is ∙ told c.one.result _ [] [] c.one.ensures refl
 
 pub returns-in-Broken-clause-keys : goal.returns-in-Broken-clause-keys
 returns-in-Broken-clause-keys c =
-    let front : spelling_of c.args.self.now ≡ Partial = ap spelling_of (sym c.self.view_is) ∙ c.self.invariant.1 in
+    let prefix : spelling_of c.args.self.now ≡ Partial = ap spelling_of (sym c.self.view_is) ∙ c.self.invariant.1 in
     let is = spelling_of-held c.self.inside.bytes c.self.inside.count c.args.byte c.args.self.now Broken (omega arith) c.self.view_is (sym c.in-Broken.is ∙ c.spelled.ensures) in
-    decoded_keys-one_more c.args.self.now c.args.byte Broken front is ∙ c.feed_afresh.ensures.keys
+    decoded_keys-one_more c.args.self.now c.args.byte Broken prefix is ∙ c.feed_afresh.ensures.keys
 
 pub returns-in-Broken-clause-first_of_two : goal.returns-in-Broken-clause-first_of_two
 returns-in-Broken-clause-first_of_two c = λ _. c.feed_afresh.ensures.first_of_two

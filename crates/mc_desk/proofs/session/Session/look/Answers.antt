@@ -6,7 +6,7 @@ use Rattle.mc_desk.specs.LiveRows.{rows_of}
 use Rattle.mc_desk.proofs.Adding.{entry}
 use Rattle.mc_desk.specs.Outputs.{ShowsFrame}
 use Rattle.mc_ui.specs.Frames.{frame_of}
-use Rattle.mc_desk.specs.Standings.{awaited}
+use Rattle.mc_desk.specs.Standings.{awaited_look}
 use Rattle.mc_desk.proofs.Looked.{looked_whole, open_due}
 use Rattle.mc_desk.specs.declared.standing.Standing.{Standing}
 use Rattle.mc_desk.specs.Desks.{Seen, ShowsDesk, seen_of}
@@ -16,9 +16,9 @@ use Rattle.mc_desk.proofs.session.Session.look.Goals as goal
 pub invariant_of-self-2 : goal.invariant_of-self-2
 invariant_of-self-2 g c =
     let inside = c.self.inside in
-    let due : awaited inside.standing.due ≡ Some c.in-Some.field-0 = ap (λ (d : Seen). d.tally.due) c.self.view_is ∙ sym c.in-Some.ensures in
+    let due : awaited_look inside.standing.due ≡ Some c.in-Some.field-0 = ap (λ (d : Seen). d.tally.due) c.self.view_is ∙ sym c.in-Some.ensures in
     let opened = open_due g.N.Tag.start g.N.Tag.opening (g.T.ReadTree.contents inside.tree) g.N.Tag.tree_faults _ c.in-Some.field-0 c.self.invariant.desk due in
-    let some : IsSome (awaited inside.standing.due) = subst (λ (o : Option ℕ). IsSome o) (sym due) refl in
+    let some : IsSome (awaited_look inside.standing.due) = subst (λ (o : Option ℕ). IsSome o) (sym due) refl in
     let count = c.faults.result in
     let counted = c.faults.ensures in
     let had = c.self.invariant.counted in
@@ -40,7 +40,7 @@ invariant_of-self-2 g c =
 pub show-drawn-requires-clause-uncut : goal.show-drawn-requires-clause-uncut
 show-drawn-requires-clause-uncut g c =
     let inside = c.self.inside in
-    let due : awaited inside.standing.due ≡ Some c.in-Some.field-0 = ap (λ (d : Seen). d.tally.due) c.self.view_is ∙ sym c.in-Some.ensures in
+    let due : awaited_look inside.standing.due ≡ Some c.in-Some.field-0 = ap (λ (d : Seen). d.tally.due) c.self.view_is ∙ sym c.in-Some.ensures in
     let opened = open_due g.N.Tag.start g.N.Tag.opening (g.T.ReadTree.contents inside.tree) g.N.Tag.tree_faults _ c.in-Some.field-0 c.self.invariant.desk due in
     ap (λ (d : Seen). d.out.put.is_cut) c.self.view_is ∙ c.requires.uncut (sym (ap (λ (d : Seen). d.tally.closed) c.self.view_is) ∙ opened.0)
 

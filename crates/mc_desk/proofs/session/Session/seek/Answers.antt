@@ -6,7 +6,7 @@ use Rattle.session_log.specs.Told.{waits_told}
 use Rattle.mc_desk.specs.LiveRows.{rows_of}
 use Rattle.mc_desk.specs.Outputs.{ShowsFrame}
 use Rattle.mc_desk.specs.Searches.{HasSought, steps_ahead}
-use Rattle.mc_desk.specs.Standings.{awaited}
+use Rattle.mc_desk.specs.Standings.{awaited_look}
 use Rattle.mc_desk.specs.Desks.{Seen, seeks, seen_of}
 use Rattle.mc_ui.specs.Frames.{frame_of}
 use Rattle.mc_desk.proofs.Adding.{entry}
@@ -19,7 +19,7 @@ invariant_of-self-2 g c =
     let inside = c.self.inside in
     let seeking : seeks c.args.self.now ≡ true = search rules in
     let goes = seeks_open (seen_of inside.log inside.ui inside.standing inside.dirty inside.terminal inside.taken inside.keys) (ap seeks c.self.view_is ∙ seeking) in
-    let looked : awaited inside.standing.due ≡ None = ap (λ (d : Seen). d.tally.due) c.self.view_is ∙ c.requires.looked in
+    let looked : awaited_look inside.standing.due ≡ None = ap (λ (d : Seen). d.tally.due) c.self.view_is ∙ c.requires.looked in
     let from = g.T.ReadTree.fault_count inside.tree in
     let count = c.faults-faults.result in
     let counted = c.faults-faults.ensures in

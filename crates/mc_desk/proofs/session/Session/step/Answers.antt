@@ -7,10 +7,10 @@ use Rattle.job_reports.specs.declared.report.Did.TheVariants.{Ended}
 use Rattle.job_reports.specs.declared.report.Ending.TheVariants.{NoMemory}
 use Rattle.session_entries.specs.declared.history.Event.TheVariants.{Step}
 use Rattle.copy_move.specs.Jobs.{waits_on}
-use Rattle.copy_move.specs.Told.{told}
+use Rattle.copy_move.specs.Told.{told_job}
 use Rattle.mc_desk.specs.Tallies.{Tally}
 use Rattle.mc_desk.specs.declared.standing.Standing.{Standing}
-use Rattle.mc_desk.specs.Standings.{awaited}
+use Rattle.mc_desk.specs.Standings.{awaited_look}
 use Rattle.mc_desk.specs.Desks.{MovesDirty, Seen, rank_of, seen_of}
 use Rattle.mc_desk.proofs.Adding.{entry}
 use Rattle.job_sources.proofs.Following.{step_follows}
@@ -43,7 +43,7 @@ invariant_of-self-then-is_err g c =
           ∙ (ap (λ d. entry c.args.seat inside.standing.calls count 0 (Step c.in-Some.job.id d) ∷ c.reserve.new.self.newest) c.ended_without_memory.ensures
           ∙ ap (λ es. entry c.args.seat inside.standing.calls count 0 (Step c.in-Some.job.id (Ended NoMemory c.give_up.result)) ∷ es) c.reserve.ensures.same)))
           none
-          (ap (λ j. let t : Tally = record { job = option_map told j; last = inside.standing.last_id; has_unseen_end = true; closed = inside.standing.closed; due = awaited inside.standing.due; lost = inside.standing.lost; calls = inside.standing.calls } in t) none)
+          (ap (λ j. let t : Tally = record { job = option_map told_job j; last = inside.standing.last_id; has_unseen_end = true; closed = inside.standing.closed; due = awaited_look inside.standing.due; lost = inside.standing.lost; calls = inside.standing.calls } in t) none)
           refl refl (room_left inside.standing.closed inside.standing.job c.in-Some.job inside.log.spare c.reserve.new.self.spare c.note.new.self.spare is c.self.invariant.desk.room c.reserve.ensures.kept c.note.ensures.room) refl c.clear.ensures refl;
       counted = search rules;
       spawner = c.self.invariant.spawner;
@@ -75,7 +75,7 @@ invariant_of-self-2 g c =
       desk = desk_went g.N.Tag.start g.N.Tag.opening (g.T.ReadTree.contents inside.tree) (g.T.ReadTree.contents c.step-made.new.tree) g.N.Tag.tree_faults _ _ c.args.seat count made.calls total _ _ c.in-Some.job c.step-made.new.self made.did went
           c.requires.main c.self.invariant.desk is c.step-made.ensures.steps c.self.invariant.counted (omega (arith, counted)) (sym c.waits.ensures ∙ c.if-waits.false) c.go_on-what.ensures.goes fits c.saturating_add-calls.ensures
           more (c.put_back-2.ensures ∙ c.unless_waiting-kept.ensures)
-          (ap (λ u. let t : Tally = record { job = option_map told c.put_back-2.new.place; last = inside.standing.last_id; has_unseen_end = u; closed = inside.standing.closed; due = awaited inside.standing.due; lost = inside.standing.lost; calls = total } in t)
+          (ap (λ u. let t : Tally = record { job = option_map told_job c.put_back-2.new.place; last = inside.standing.last_id; has_unseen_end = u; closed = inside.standing.closed; due = awaited_look inside.standing.due; lost = inside.standing.lost; calls = total } in t)
           (c.end_waits-self-inside.ensures ∙ ap (λ b. b || inside.standing.has_unseen_end) c.has_ended-ended.ensures))
           refl refl room refl;
       counted = search rules;

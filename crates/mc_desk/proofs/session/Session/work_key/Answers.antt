@@ -9,8 +9,8 @@ use Rattle.mc_desk.specs.LiveRows.{rows_of}
 use Rattle.mc_desk.specs.Outputs.{ShowsFrame}
 use Rattle.mc_ui.specs.Frames.{frame_of}
 use Rattle.mc_desk.specs.declared.standing.Standing.{Standing}
-use Rattle.session_log.specs.Logs.{followed}
-use Rattle.mc_desk.specs.Standings.{after_deed, awaited, event_of}
+use Rattle.session_log.specs.Logs.{entries_with_event}
+use Rattle.mc_desk.specs.Standings.{after_deed, awaited_look, event_of}
 use Rattle.mc_desk.specs.Tallies.{next_id}
 use Rattle.mc_desk.proofs.Adding.{entry}
 use Rattle.mc_desk.proofs.Carried.{unknown_due, unknown_sought}
@@ -24,7 +24,7 @@ invariant_of-self-2 g c =
     let done = c.in-Ok-work.granted in
     let unclosed : inside.standing.closed ≡ false = ap (λ (d : Seen). d.tally.closed) c.self.view_is ∙ c.requires.unclosed in
     let unasked : inside.standing.quit ≡ false = ap (λ (d : Seen). d.quit) c.self.view_is ∙ c.requires.unasked in
-    let looked : awaited inside.standing.due ≡ None = ap (λ (d : Seen). d.tally.due) c.self.view_is ∙ c.requires.looked in
+    let looked : awaited_look inside.standing.due ≡ None = ap (λ (d : Seen). d.tally.due) c.self.view_is ∙ c.requires.looked in
     let sought : is_seeking inside.ui ≡ false = ap (λ (d : Seen). is_seeking d.screen) c.self.view_is ∙ c.requires.sought in
     let count = c.faults-faults.result in
     let counted = c.faults-faults.ensures in
@@ -42,8 +42,8 @@ invariant_of-self-2 g c =
           c.carry_out-follows.new.terminal inside.taken inside.keys count c.args.key c.args.now c.self.invariant.desk unclosed unasked looked sought c.work.ensures.reads.same (omega (arith, counted, had, later)) done.refusals
           (λ h. let risen = c.in-Ok-work.ensures.reads.fault h in omega (arith, counted, had, risen)) c.in-Ok-work.ensures.reads.called room c.in-Ok.rows c.in-Ok.ensures c.carry_out-follows.result.drawn done.deed worked
           (fits_after inside.terminal.display.grid c.carry_out-follows.new.terminal.display.grid inside.ui c.work.new.ui c.self.invariant.desk.shown.size c.carry_out-follows.ensures.shows.sized worked.size) shows
-          (c.note_after.ensures.added ∙ (ap (λ f. followed inside.standing.calls count f c.note.new.self.newest) c.carry_out-follows.ensures.told
-          ∙ ap (λ es. followed inside.standing.calls count (event_of done.deed inside.standing.job) es)
+          (c.note_after.ensures.added ∙ (ap (λ f. entries_with_event inside.standing.calls count f c.note.new.self.newest) c.carry_out-follows.ensures.told
+          ∙ ap (λ es. entries_with_event inside.standing.calls count (event_of done.deed inside.standing.job) es)
           (c.note.ensures.added ∙ ap (λ n. entry 0 inside.standing.calls count n (Key c.args.key c.args.now done.refusals false) ∷ inside.log.newest) c.shown.ensures.counted))));
       counted = search rules;
       spawner = c.self.invariant.spawner;
@@ -64,7 +64,7 @@ returns-clause-shows g c unclosed =
     let same : c.after_draw.new.self ≡ desk = c.in_ok-after_draw.ensures.same in
     let whole : desk.out.put.is_cut ≡ false = sym (ap (λ (d : Seen). d.out.put.is_cut) same) ∙ c.in_ok-after_draw.ensures.whole in
     let trouble : waits_told c.note_after.new.self.newest ≡ waits_told inside.log.newest =
-    ap waits_told (c.note_after.ensures.added ∙ ap (λ f. followed inside.standing.calls c.faults-faults.result f c.note.new.self.newest) c.carry_out-follows.ensures.told)
+    ap waits_told (c.note_after.ensures.added ∙ ap (λ f. entries_with_event inside.standing.calls c.faults-faults.result f c.note.new.self.newest) c.carry_out-follows.ensures.told)
     ∙ (waits_followed inside.standing.calls c.faults-faults.result c.in-Ok-work.granted.deed inside.standing.job c.note.new.self.newest ∙ ap waits_told c.note.ensures.added) in
     subst ShowsDesk (sym same)
     (shows_drawn desk c.carry_out-follows.result.drawn inside.terminal
@@ -73,16 +73,16 @@ returns-clause-shows g c unclosed =
 pub returns-clause-looked : goal.returns-clause-looked
 returns-clause-looked g c unknown =
     let inside = c.self.inside in
-    let looked : awaited inside.standing.due ≡ None = ap (λ (d : Seen). d.tally.due) c.self.view_is ∙ c.requires.looked in
+    let looked : awaited_look inside.standing.due ≡ None = ap (λ (d : Seen). d.tally.due) c.self.view_is ∙ c.requires.looked in
     let unasked : inside.standing.quit ≡ false = ap (λ (d : Seen). d.quit) c.self.view_is ∙ c.requires.unasked in
     ap (λ (d : Seen). d.tally.due) c.in_ok-after_draw.ensures.same
-    ∙ (ap (λ (s : Standing). awaited s.due) c.carry_out-follows.ensures.done
+    ∙ (ap (λ (s : Standing). awaited_look s.due) c.carry_out-follows.ensures.done
     ∙ (unknown_due _ c.in-Ok.rows c.next_id-next.result c.args.now c.args.key inside.ui c.work.new.ui c.in-Ok-work.granted.deed c.in-Ok-work.granted.refusals inside.standing unknown c.self.invariant.desk.settled c.in-Ok-work.ensures.worked looked unasked).0)
 
 pub returns-clause-unasked : goal.returns-clause-unasked
 returns-clause-unasked g c unknown =
     let inside = c.self.inside in
-    let looked : awaited inside.standing.due ≡ None = ap (λ (d : Seen). d.tally.due) c.self.view_is ∙ c.requires.looked in
+    let looked : awaited_look inside.standing.due ≡ None = ap (λ (d : Seen). d.tally.due) c.self.view_is ∙ c.requires.looked in
     let unasked : inside.standing.quit ≡ false = ap (λ (d : Seen). d.quit) c.self.view_is ∙ c.requires.unasked in
     ap (λ (d : Seen). d.quit) c.in_ok-after_draw.ensures.same
     ∙ (ap (λ (s : Standing). s.quit) c.carry_out-follows.ensures.done

@@ -1,7 +1,7 @@
 -- A splice changes the text unless it puts in what it takes out.
 use Rattle.std.proofs.Common.{◌≡◌, ◌+◌, ◌-◌, ◌≤◌, List, ℕ, length, sym, ap, arith, subst, ◌∙◌}
-use Rattle.gap_text.specs.UndoHistory.{noted}
-use Rattle.mc_edit.specs.Edits.{EditedText, spliced, largest_text}
+use Rattle.gap_text.specs.UndoHistory.{noted_history}
+use Rattle.mc_edit.specs.Edits.{EditedText, spliced_bytes, largest_text}
 use Rattle.mc_edit.proofs.SpliceLemmas.{length-spliced}
 use Rattle.mc_edit.proofs.ChangeLemmas.{splice-same, splice-large, splice-changed, splice_change, IsEditor-spliced, largest_is}
 use Rattle.mc_edit.proofs.editor.Editor.splice.Goals as goal
@@ -43,16 +43,16 @@ invariant_of-self-2 c =
     let history = c.self.inside.undo in
     let bytes_are : bytes ≡ c.args.self.now.text.bytes = ap (λ (e : EditedText). e.text.bytes) c.self.view_is in
     let within : to ≤ length bytes = omega (arith, c.requires.within, ap length bytes_are) in
-    let long : length (spliced bytes from to new) ≡ from + (length new + (length bytes - to)) =
+    let long : length (spliced_bytes bytes from to new) ≡ from + (length new + (length bytes - to)) =
     length-spliced bytes from to c.requires.ordered within new in
-    let small : length (spliced bytes from to new) ≤ largest_text =
+    let small : length (spliced_bytes bytes from to new) ≤ largest_text =
     omega (arith, largest_is, long, ap length c.slice_of.ensures, c.len.ensures.value, c.if-size-gt-LARGEST_TEXT.false) in
-    let whole : c.put.new.text.bytes ≡ spliced bytes from to new =
-    c.in_ok-put.ensures.done ∙ ap (λ l. spliced bytes from to l) c.slice_of-2.ensures in
-    let kept : c.note.new.self ≡ noted history (splice_change bytes from to new before point) =
-    c.note.ensures ∙ ap (λ (l : List ℕ). noted history (record { at = from; removed = l; inserted = new; before = before; after = point })) c.in_ok-removed.ensures in
-    let point_in : point ≤ length (spliced bytes from to new) =
-    subst (λ (l : List ℕ). point ≤ length (spliced l from to new)) (sym bytes_are) c.requires.point in
+    let whole : c.put.new.text.bytes ≡ spliced_bytes bytes from to new =
+    c.in_ok-put.ensures.done ∙ ap (λ l. spliced_bytes bytes from to l) c.slice_of-2.ensures in
+    let kept : c.note.new.self ≡ noted_history history (splice_change bytes from to new before point) =
+    c.note.ensures ∙ ap (λ (l : List ℕ). noted_history history (record { at = from; removed = l; inserted = new; before = before; after = point })) c.in_ok-removed.ensures in
+    let point_in : point ≤ length (spliced_bytes bytes from to new) =
+    subst (λ (l : List ℕ). point ≤ length (spliced_bytes l from to new)) (sym bytes_are) c.requires.point in
     rw (whole, kept)
     (IsEditor-spliced bytes from to c.requires.ordered within new before point c.self.inside.block history c.self.invariant point_in small)
 
@@ -67,14 +67,14 @@ returns-clause-done c =
     let history = c.self.inside.undo in
     let bytes_are : bytes ≡ c.args.self.now.text.bytes = ap (λ (e : EditedText). e.text.bytes) c.self.view_is in
     let within : to ≤ length bytes = omega (arith, c.requires.within, ap length bytes_are) in
-    let long : length (spliced bytes from to new) ≡ from + (length new + (length bytes - to)) =
+    let long : length (spliced_bytes bytes from to new) ≡ from + (length new + (length bytes - to)) =
     length-spliced bytes from to c.requires.ordered within new in
-    let small : length (spliced bytes from to new) ≤ largest_text =
+    let small : length (spliced_bytes bytes from to new) ≤ largest_text =
     omega (arith, largest_is, long, ap length c.slice_of.ensures, c.len.ensures.value, c.if-size-gt-LARGEST_TEXT.false) in
-    let whole : c.put.new.text.bytes ≡ spliced bytes from to new =
-    c.in_ok-put.ensures.done ∙ ap (λ l. spliced bytes from to l) c.slice_of-2.ensures in
-    let kept : c.note.new.self ≡ noted history (splice_change bytes from to new before point) =
-    c.note.ensures ∙ ap (λ (l : List ℕ). noted history (record { at = from; removed = l; inserted = new; before = before; after = point })) c.in_ok-removed.ensures in
+    let whole : c.put.new.text.bytes ≡ spliced_bytes bytes from to new =
+    c.in_ok-put.ensures.done ∙ ap (λ l. spliced_bytes bytes from to l) c.slice_of-2.ensures in
+    let kept : c.note.new.self ≡ noted_history history (splice_change bytes from to new before point) =
+    c.note.ensures ∙ ap (λ (l : List ℕ). noted_history history (record { at = from; removed = l; inserted = new; before = before; after = point })) c.in_ok-removed.ensures in
     rw (← c.self.view_is, whole, kept)
     (splice-changed bytes from to c.requires.ordered within new c.in_ok-removed.removed c.in_ok-removed.ensures before point
     c.self.inside.block history.past history.future (sym c.if-are_same.ensures) small history.depth c.self.invariant.depth)

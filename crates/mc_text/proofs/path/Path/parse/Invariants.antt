@@ -3,7 +3,7 @@ use Rattle.std.proofs.Common.{◌≡◌, ◌≤◌, ◌+◌, ◌++◌, length, d
 use Rattle.std.specs.Str.Iter.{split_steps}
 use Rattle.std.specs.Str.Pattern.{FindsChar}
 use Rattle.std.proofs.lemmas.Iterator.{YieldsList}
-use Rattle.mc_text.specs.Routes.{components_of, bad_component, spelled}
+use Rattle.mc_text.specs.Routes.{components_of, bad_component, spelled_route}
 use Rattle.mc_text.proofs.Components.{bytes_of, names_of}
 use Rattle.mc_text.proofs.path.Path.parse.Given as goal
 
@@ -18,6 +18,6 @@ invariant-loop-component l =
       names : l.names.items ++ names_of left ≡ names_of (components_of l.text);
       fault : bad_component l.at left ≡ bad_component 0 (components_of l.text);
       bytes : l.at + bytes_of left ≡ length l.text + 1;
-      spelled_bytes : l.spelled_bytes ≡ length (spelled (reverse l.names.items));
+      spelled_bytes : l.spelled_bytes ≡ length (spelled_route (reverse l.names.items));
       within : l.spelled_bytes + 1 ≤ l.at;
     }

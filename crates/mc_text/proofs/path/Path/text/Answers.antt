@@ -3,7 +3,7 @@ use Rattle.std.proofs.Common.{◌≡◌, ◌≢◌, ◌+◌, ◌≤◌, [], ◌�
 use Rattle.std.specs.String.{string_bytes}
 use Rattle.std.proofs.lemmas.Grind.{common_steps}
 use Rattle.std.proofs.lemmas.List.{reverse-append, length-reverse}
-use Rattle.mc_text.specs.Routes.{spelled}
+use Rattle.mc_text.specs.Routes.{spelled_route}
 use Rattle.mc_text.proofs.Components.{route-name, fault-more, fault-spelled}
 use Rattle.mc_text.proofs.path.Path.text.Goals as goal
 
@@ -29,7 +29,7 @@ returns-clause-sound c =
     let items = c.deref-name-items.result.now in
     let here = c.loop-name.invariant in
     let all : take c.loop-name.name-index items ≡ items = take_all c.loop-name.name-index items (omega arith) in
-    let route : string_bytes c.loop-name.text ≡ spelled (reverse items) = here.text ∙ ap (λ r. spelled (reverse r)) all in
+    let route : string_bytes c.loop-name.text ≡ spelled_route (reverse items) = here.text ∙ ap (λ r. spelled_route (reverse r)) all in
     let some : length (reverse items) ≢ 0 = rw (length-reverse items) (grind (arith, common_steps)) in
-    let short : length (spelled (reverse items)) ≤ 4096 = grind (arith, common_steps) in
+    let short : length (spelled_route (reverse items)) ≤ 4096 = grind (arith, common_steps) in
     rw route (fault-spelled (reverse items) some short (rw route at here.fault))

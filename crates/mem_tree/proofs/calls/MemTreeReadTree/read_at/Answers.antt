@@ -2,7 +2,7 @@ use Rattle.std.proofs.Common.{◌≡◌, ℕ, List, length, sym, ◌∙◌, ap, 
 use Rattle.mc_text.specs.Routes.{Route}
 use Rattle.tree_trait.specs.FileSystem.{node}
 use Rattle.tree_trait.specs.Calls.{ReadAt}
-use Rattle.tree_trait.specs.Change.{current, found}
+use Rattle.tree_trait.specs.Change.{current, found_node}
 use Rattle.tree_trait.specs.Answers.{Reads, IsMeta, IsListing, IsRead, IsInRange}
 use Rattle.tree_rules.specs.Told.{IsTold}
 use Rattle.mem_tree.specs.Records.{after}
@@ -16,13 +16,13 @@ returns-clause-answer c =
     let s = c.self.inside.opening in
     let t = c.self.inside.stands in
     let now = after s c.self.inside.records.items in
-    subst (λ (h : Held). Reads h.log (ReadAt c.args.path.now c.args.offset (length c.args.into.now)) c.fail_if-answer.result (IsRead (node (current h.log) (found (current h.log) c.args.path.now)).bytes c.args.offset c.args.into.now c.read_bytes-read.new.into)) c.self.view_is
-    (Reads-told c.self.inside.opening c.self.inside.records.items c.self.inside.stands c.self.invariant ℕ (ReadAt c.args.path.now c.args.offset (length c.args.into.now)) c.count-due.result c.read_bytes-read.result c.fail_if-answer.result (IsRead (node t (found t c.args.path.now)).bytes c.args.offset c.args.into.now c.read_bytes-read.new.into) (IsRead (node now (found now c.args.path.now)).bytes c.args.offset c.args.into.now c.read_bytes-read.new.into) (λ count h. subst (λ (bytes : List ℕ). IsRead bytes c.args.offset c.args.into.now c.read_bytes-read.new.into count) (bytes_now c.self.inside.opening c.self.inside.records.items c.self.inside.stands c.self.invariant c.args.path.now) h)
-    (subst (λ (p : Route). IsTold c.self.inside.stands (ReadAt p c.args.offset (length c.args.into.now)) c.read_bytes-read.result (IsRead (node c.self.inside.stands (found c.self.inside.stands p)).bytes c.args.offset c.args.into.now c.read_bytes-read.new.into)) c.names.ensures.names c.read_bytes-read.ensures) c.fail_if-answer.ensures)
+    subst (λ (h : Held). Reads h.log (ReadAt c.args.path.now c.args.offset (length c.args.into.now)) c.fail_if-answer.result (IsRead (node (current h.log) (found_node (current h.log) c.args.path.now)).bytes c.args.offset c.args.into.now c.read_bytes-read.new.into)) c.self.view_is
+    (Reads-told c.self.inside.opening c.self.inside.records.items c.self.inside.stands c.self.invariant ℕ (ReadAt c.args.path.now c.args.offset (length c.args.into.now)) c.count-due.result c.read_bytes-read.result c.fail_if-answer.result (IsRead (node t (found_node t c.args.path.now)).bytes c.args.offset c.args.into.now c.read_bytes-read.new.into) (IsRead (node now (found_node now c.args.path.now)).bytes c.args.offset c.args.into.now c.read_bytes-read.new.into) (λ count h. subst (λ (bytes : List ℕ). IsRead bytes c.args.offset c.args.into.now c.read_bytes-read.new.into count) (bytes_now c.self.inside.opening c.self.inside.records.items c.self.inside.stands c.self.invariant c.args.path.now) h)
+    (subst (λ (p : Route). IsTold c.self.inside.stands (ReadAt p c.args.offset (length c.args.into.now)) c.read_bytes-read.result (IsRead (node c.self.inside.stands (found_node c.self.inside.stands p)).bytes c.args.offset c.args.into.now c.read_bytes-read.new.into)) c.names.ensures.names c.read_bytes-read.ensures) c.fail_if-answer.ensures)
 
 pub returns-clause-counted : goal.returns-clause-counted
 returns-clause-counted c =
     let t = c.self.inside.stands in
     counted_read ℕ _ _ _ c.count-due.result c.read_bytes-read.result c.fail_if-answer.result c.self.view_is c.fail_if-answer.ensures
-    (told_no_fault ℕ t (ReadAt c.args.path.now c.args.offset (length c.args.into.now)) c.read_bytes-read.result (IsRead (node t (found t c.args.path.now)).bytes c.args.offset c.args.into.now c.read_bytes-read.new.into) (subst (λ (p : Route). IsTold c.self.inside.stands (ReadAt p c.args.offset (length c.args.into.now)) c.read_bytes-read.result (IsRead (node c.self.inside.stands (found c.self.inside.stands p)).bytes c.args.offset c.args.into.now c.read_bytes-read.new.into)) c.names.ensures.names c.read_bytes-read.ensures))
+    (told_no_fault ℕ t (ReadAt c.args.path.now c.args.offset (length c.args.into.now)) c.read_bytes-read.result (IsRead (node t (found_node t c.args.path.now)).bytes c.args.offset c.args.into.now c.read_bytes-read.new.into) (subst (λ (p : Route). IsTold c.self.inside.stands (ReadAt p c.args.offset (length c.args.into.now)) c.read_bytes-read.result (IsRead (node c.self.inside.stands (found_node c.self.inside.stands p)).bytes c.args.offset c.args.into.now c.read_bytes-read.new.into)) c.names.ensures.names c.read_bytes-read.ensures))
     (c.count-due.ensures.due ∙ ap (λ (fails : List ℕ). is_due fails c.self.inside.called) c.deref.ensures.value) c.count-due.ensures.called refl refl

@@ -3,7 +3,7 @@ use Rattle.mc_text.specs.Routes.{Route}
 use Rattle.tree_trait.specs.Answers.{Performs}
 use Rattle.tree_trait.specs.Calls.{SyncFolder}
 use Rattle.tree_trait.specs.Change.{change_of, torn_write}
-use Rattle.mem_tree.specs.Steps.{Plans}
+use Rattle.mem_tree.specs.CallSteps.{Plans}
 use Rattle.mem_tree.specs.Held.{Held, log_of}
 use Rattle.mem_tree.proofs.Plans.{no_fault}
 use Rattle.mem_tree.proofs.Endings.{Performs-concluded, kept_concluded, once_kept}

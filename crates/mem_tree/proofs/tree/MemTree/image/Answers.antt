@@ -2,7 +2,7 @@ use Rattle.std.proofs.Common.{rules, to_z, of_z, w64, ◌≡◌, ℕ, Bool, List
 use Rattle.std.proofs.lemmas.List.{take-map}
 use Rattle.tree_trait.specs.declared.file_system.FileSystem.{FileSystem}
 use Rattle.tree_trait.specs.Change.{Change}
-use Rattle.tree_trait.specs.CrashImages.{MayLeave, chosen}
+use Rattle.tree_trait.specs.CrashImages.{MayLeave, image_by_bits}
 use Rattle.tree_trait.proofs.Choosing.{chosen_leaves}
 use Rattle.mem_tree.specs.declared.choice.Choice.{Choice}
 use Rattle.mem_tree.specs.declared.record.Record.{Record}
@@ -10,7 +10,7 @@ use Rattle.mem_tree.specs.Records.{change_by, changes_by}
 use Rattle.mem_tree.specs.Live.{standing}
 use Rattle.mem_tree.specs.Held.{Held, IsKept, unused_tree, image_chosen}
 use Rattle.mem_tree.specs.Sound.{AllFit}
-use Rattle.mem_tree.specs.Fills.{filled}
+use Rattle.mem_tree.specs.Fills.{filled_bytes}
 use Rattle.mem_tree.proofs.Sounds.{fit_take, kept_image}
 use Rattle.mem_tree.proofs.tree.MemTree.image.Goals as goal
 use Rattle.mem_tree.proofs.tree.MemTree.image.Goals.{After-unused}
@@ -30,11 +30,11 @@ unused-requires c =
     (c.in_ok-stands.ensures ∙ ap (λ (x : FileSystem). standing x) c.in_ok-image.ensures))
 
 chosen_by : (h tree : Held) (read choice : Choice) (k : ℕ) (cs : List Change) (bits : List Bool) (image : FileSystem)
-    → image ≡ chosen (filled read.fill) h.log.opening cs bits → bits ≡ read.keep → cs ≡ take k h.log.changes
+    → image ≡ image_by_bits (filled_bytes read.fill) h.log.opening cs bits → bits ≡ read.keep → cs ≡ take k h.log.changes
     → h ≡ tree → read ≡ choice → image ≡ image_chosen tree.log k choice
 chosen_by h tree read choice k cs bits image is kept changes held chosen_is =
-    is ∙ (ap (chosen (filled read.fill) h.log.opening cs) kept
-    ∙ (ap (λ (cs : List Change). chosen (filled read.fill) h.log.opening cs read.keep) changes
+    is ∙ (ap (image_by_bits (filled_bytes read.fill) h.log.opening cs) kept
+    ∙ (ap (λ (cs : List Change). image_by_bits (filled_bytes read.fill) h.log.opening cs read.keep) changes
     ∙ (ap (λ (h : Held). image_chosen h.log k read) held ∙ ap (image_chosen tree.log k) chosen_is)))
 
 is_chosen : (c : After-unused) → c.in_ok-image.image ≡ image_chosen c.args.self.now.log c.args.at_call c.args.choice.now
@@ -55,4 +55,4 @@ returns-clause-member c =
     let t = c.args.self.now.log in
     subst (λ (x : FileSystem). MayLeave t.opening (take c.args.at_call t.changes) x)
     (sym (ap (λ (h : Held). h.log.opening) c.unused.ensures ∙ is_chosen c))
-    (chosen_leaves (filled c.args.choice.now.fill) t.opening (take c.args.at_call t.changes) c.args.choice.now.keep)
+    (chosen_leaves (filled_bytes c.args.choice.now.fill) t.opening (take c.args.at_call t.changes) c.args.choice.now.keep)

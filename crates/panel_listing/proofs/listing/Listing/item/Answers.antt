@@ -1,7 +1,7 @@
 -- The item under the number of the row.
 use Rattle.std.proofs.Common.{◌≡◌, ◌∙◌, ◌<◌, Some, None, [], ap, sym, subst, length, slice_index_or, arith}
 use Rattle.std.proofs.lemmas.List.{get_or_default}
-use Rattle.panel_listing.specs.Items.{unseen}
+use Rattle.panel_listing.specs.Items.{unseen_item}
 use Rattle.panel_listing.specs.Listings.{rows_in, place_of}
 use Rattle.panel_listing.proofs.RowLemmas.{row-there, row-past}
 use Rattle.panel_listing.proofs.listing.Listing.item.Goals as goal
@@ -24,7 +24,7 @@ returns-in-Some c =
     let here = c.in-Some.ensures in
     let there : place_of above c.args.row ≡ Some place = sym c.in_ok-place.ensures in
     let within : number < length items = subst (λ n. n < length items) here.1 (c.self.invariant.within place number here.0) in
-    ap Some (c.index.ensures ∙ get_or_default items number item (unseen []) within ∙ ap (λ n. slice_index_or items n (unseen [])) (sym here.1))
+    ap Some (c.index.ensures ∙ get_or_default items number item (unseen_item []) within ∙ ap (λ n. slice_index_or items n (unseen_item [])) (sym here.1))
     ∙ sym (row-there above items numbers c.args.row place number there here.0)
     ∙ ap (λ listing. slice_index_or (rows_in listing) c.args.row None) c.self.view_is
 

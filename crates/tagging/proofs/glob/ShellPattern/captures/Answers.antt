@@ -21,7 +21,7 @@ loop-part-preserved c =
     let left = captures_of c.in-Some.behind.now (chars c.in-Some-front_of.more.now) in
     record {
       text = search rules;
-      same = ap (λ front. after_captures front left) c.in_ok-capture.ensures
+      same = ap (λ prefix. after_captures prefix left) c.in_ok-capture.ensures
           ∙ after_captures-append c.loop-part.captured next left
           ∙ ap (after_captures c.loop-part.captured) (sym (captures_of-front c.in-Some.part.now c.in-Some.behind.now c.loop-part.rest.now _ _ c.in-Some-front_of.ensures))
           ∙ (rw c.in-Some.ensures.cases.0 at c.loop-part.invariant.same);

@@ -163,17 +163,17 @@ pub record Meanwhile (marks : Marks) (log : CallLog) (up : Route) (part target :
   pub not_it : (rest : Route) → IsUnder log (Moves f part f target i replaced) (rest ++ name ∷ other_folder) → ⊥
   pub not_here : IsUnder (with_change log (Moves f part f target i replaced)) (Removes g name j) up → ⊥
 
-abbrev pub placed : CallLog → ℕ → List ℕ → List ℕ → ℕ → Option ℕ → CallLog
-placed log f part target i replaced = with_change log (Moves f part f target i replaced)
+abbrev pub log_after_placing : CallLog → ℕ → List ℕ → List ℕ → ℕ → Option ℕ → CallLog
+log_after_placing log f part target i replaced = with_change log (Moves f part f target i replaced)
 
 -- At each moment it is as it is kept, and at the end the target leads, in each image, to the file that was placed.
 abbrev pub MeanwhileLaw : Type 0
 MeanwhileLaw = (marks : Marks) (log : CallLog) (up : Route) (part target : List ℕ) (f i : ℕ) (replaced : Option ℕ) (other_folder : Route) (name : List ℕ) (g j : ℕ)
     → Meanwhile marks log up part target f i replaced other_folder name g j
-    → IsGuarded marks (placed log f part target i replaced)
-    × IsGuarded marks (with_change (placed log f part target i replaced) (Removes g name j))
-    × IsGuarded marks (with_change (with_change (placed log f part target i replaced) (Removes g name j)) (Syncs f))
-    × IsSettledAt (with_change (with_change (placed log f part target i replaced) (Removes g name j)) (Syncs f)) (target ∷ up)
+    → IsGuarded marks (log_after_placing log f part target i replaced)
+    × IsGuarded marks (with_change (log_after_placing log f part target i replaced) (Removes g name j))
+    × IsGuarded marks (with_change (with_change (log_after_placing log f part target i replaced) (Removes g name j)) (Syncs f))
+    × IsSettledAt (with_change (with_change (log_after_placing log f part target i replaced) (Removes g name j)) (Syncs f)) (target ∷ up)
 
 -- Where nothing stands, and a crash leaves nothing, the same holds of all below.
 abbrev pub GoneLaw : Type 0

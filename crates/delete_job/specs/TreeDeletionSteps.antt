@@ -1,13 +1,13 @@
 -- What a step of a deletion reports, where the deletion stands then, and what it says of the tree's calls.
 use Rattle.std.specs.Prelude.{◌≡◌, ◌⊎◌, ℕ, ◌<◌, ◌≤◌, ⊤, Bool, true, false, List, length, Option, Some, None, Ok, Err, ◌+◌, slice_get}
-use Rattle.mc_text.specs.Routes.{Route, spelled}
+use Rattle.mc_text.specs.Routes.{Route, spelled_route}
 use Rattle.tree_trait.specs.declared.calls.TreeError.{TreeError}
 use Rattle.tree_trait.specs.declared.calls.TreeError.TheVariants.{Fault}
 use Rattle.tree_trait.specs.Calls.{Call, RemoveFile, RemoveFolder, SyncFolder}
 use Rattle.tree_trait.specs.declared.file_system.FileSystem.{FileSystem}
 use Rattle.tree_trait.specs.FileSystem.{node}
 use Rattle.tree_trait.specs.Refusals.{is_folder}
-use Rattle.tree_trait.specs.Change.{CallLog, current, found}
+use Rattle.tree_trait.specs.Change.{CallLog, current, found_node}
 use Rattle.tree_trait.specs.Answers.{IfKnown, HasRisen, Performs}
 use Rattle.job_reports.specs.declared.report.Cause.{Cause}
 use Rattle.job_reports.specs.declared.report.Ending.{Ending}
@@ -21,28 +21,28 @@ use Rattle.job_reports.specs.Reports.{IsFault}
 use Rattle.job_reports.specs.Stops.{out_of_memory_at, sync_answer, trouble_at}
 use Rattle.delete_job.specs.declared.deletion.Deletion.{Deletion}
 use Rattle.delete_job.specs.declared.deletion.Stage.TheVariants.{Going}
-use Rattle.delete_job.specs.Standing.{Item, Thing, End, Decides, IsDone, Leaves, after_item, at_barrier, item, rank_at, things_left, worked}
+use Rattle.delete_job.specs.Standing.{DeletionItem, Thing, End, Decides, IsDone, Leaves, after_item, at_barrier, item, rank_at, things_left, worked_folder}
 use Rattle.tree_walk.specs.Places.{Place}
 use Rattle.delete_job.specs.declared.deletion.Depth.{Depth}
 use Rattle.delete_job.specs.Descending.{Descends, Enters, IsAt, MayLook, StopsAt}
-use Rattle.job_unsynced.specs.Folders.{IsOwn, IsOwnAt, NoneBetween, NoneOf, joined}
+use Rattle.job_unsynced.specs.Folders.{IsOwn, IsOwnAt, NoneBetween, NoneOf, joined_folders}
 
 -- the call that removes an item
-abbrev pub removal_of : Item → Call
+abbrev pub removal_of : DeletionItem → Call
 removal_of (Thing path) = RemoveFile path
 removal_of (End folder) = RemoveFolder folder
 
-abbrev pub path_of : Item → Route
+abbrev pub path_of : DeletionItem → Route
 path_of (Thing path) = path
 path_of (End folder) = folder
 
 -- something in the folder that ends was left
-abbrev pub IsSpared : Item → Bool → Type 0
+abbrev pub IsSpared : DeletionItem → Bool → Type 0
 IsSpared (Thing path) spared = ⊥
 IsSpared (End folder) spared = spared ≡ true
 
 -- nothing was
-abbrev pub IsBare : Item → Bool → Type 0
+abbrev pub IsBare : DeletionItem → Bool → Type 0
 IsBare (Thing path) spared = ⊤
 IsBare (End folder) spared = spared ≡ false
 
@@ -55,8 +55,8 @@ Works d (Troubled trouble) new = (trouble.barrier ≡ false) × IsAt d new
 Works d did new = ⊥
 
 -- a thing that is to be removed was looked at, and is no folder
-abbrev pub IsSeen : FileSystem → Depth → Place → Item → Type 0
-IsSeen s depth place (Thing path) = MayLook depth place path × (is_folder (node s (found s path)) ≡ false)
+abbrev pub IsSeen : FileSystem → Depth → Place → DeletionItem → Type 0
+IsSeen s depth place (Thing path) = MayLook depth place path × (is_folder (node s (found_node s path)) ≡ false)
 IsSeen s depth place (End folder) = ⊤
 
 -- What it says of the tree's calls: a removal was done; a trouble is its refusal, or comes before it; what stays makes none.
@@ -69,11 +69,11 @@ WorkCalls d (Troubled trouble) log after =
 WorkCalls d did log after = ⊥
 
 -- What it makes of the dirty folders: that of a removed thing is one of them, and a folder that is gone is not.
-abbrev pub RemovalLeaves : Item → Route → List Route → List Route → Type 0
-RemovalLeaves (Thing thing) path folders after = after ≡ joined (folder_of path) folders
-RemovalLeaves (End folder) path folders after = after ≡ without path (joined (folder_of path) folders)
+abbrev pub RemovalLeaves : DeletionItem → Route → List Route → List Route → Type 0
+RemovalLeaves (Thing thing) path folders after = after ≡ joined_folders (folder_of path) folders
+RemovalLeaves (End folder) path folders after = after ≡ without path (joined_folders (folder_of path) folders)
 
-abbrev pub WorkLeaves : Item → Did → List Route → List Route → Type 0
+abbrev pub WorkLeaves : DeletionItem → Did → List Route → List Route → Type 0
 WorkLeaves item (Removed path) folders after = RemovalLeaves item path folders after
 WorkLeaves item did folders after = after ≡ folders
 
@@ -124,13 +124,13 @@ pub record KeepsRest (old new : Deletion) : Type 0 where
 abbrev pub Passes : Bool → Deletion → Deletion → Type 0
 Passes left old new = IsDone old.depth (item old) left old.walk.place new.walk.place × KeepsRest old new
 
-abbrev pub IsThing : Item → Type 0
+abbrev pub IsThing : DeletionItem → Type 0
 IsThing (Thing path) = ⊤
 IsThing (End folder) = ⊥
 
 -- the folder that is worked is left with all that is left in it
 pub record LeavesFolder (path : Route) (old new : Deletion) : Type 0 where
-  pub path_is : path ≡ worked old.path old.walk.place
+  pub path_is : path ≡ worked_folder old.path old.walk.place
   pub place : Leaves true old.walk.place new.walk.place
   pub rest : KeepsRest old new
 
@@ -138,7 +138,7 @@ pub record LeavesFolder (path : Route) (old new : Deletion) : Type 0 where
 pub record IsTooLong (d : Deletion) : Type 0 where
   pub path : Route
   pub takes : item d ≡ Thing path
-  pub bytes : 4096 < length (spelled path)
+  pub bytes : 4096 < length (spelled_route path)
 
 -- what is taken up is left; where its path is too long, the folder in which it lies
 abbrev pub TakesOff : Route → Deletion → Deletion → Type 0

@@ -83,8 +83,8 @@ pub record Viewing : Type 0 where
   pub last : Option Hit
 
 -- it begins at the top, with lines wrapped, and nothing found
-abbrev pub begun : Subject → ℕ → ℕ → Viewing
-begun subject lines columns = record {
+abbrev pub begun_viewing : Subject → ℕ → ℕ → Viewing
+begun_viewing subject lines columns = record {
   subject = subject;
   state = record { lines = lines; columns = columns; wraps = true; is_hex = false; left = 0; top = 0 };
   last = None;

@@ -1,7 +1,7 @@
 -- Nothing is put any more; what was put stays counted.
 use Rattle.std.proofs.Common.{ap, subst, ◌∙◌}
 use Rattle.mc_desk.specs.Outputs.{CountsAll, Output}
-use Rattle.mc_desk.proofs.terminal.Terminal.cut_short.Goals as goal
+use Rattle.mc_desk.proofs.terminal.SessionTerminal.cut_short.Goals as goal
 
 pub invariant_of-self : goal.invariant_of-self
 invariant_of-self g c = record {

@@ -36,18 +36,18 @@ use Rattle.copy_folders.specs.declared.stage.FolderDid.{FolderDid}
 use Rattle.copy_folders.specs.declared.stage.Stage.TheVariants as folder_stage
 use Rattle.copy_folders.specs.declared.stage.NamesState.{NamesState}
 use Rattle.copy_folders.specs.declared.stage.NamesState.TheVariants as folder_names
-use Rattle.tree_walk.specs.Places.{is_empty, opened}
+use Rattle.tree_walk.specs.Places.{is_empty, opened_folder}
 use Rattle.copy_tree.specs.declared.copy.Stage.TheVariants.{Begin}
 use Rattle.copy_tree.specs.declared.due.Due.TheVariants.{End, Thing}
-use Rattle.copy_tree.specs.declared.item.Item.{Item}
+use Rattle.copy_tree.specs.declared.item.ItemAtWork.{ItemAtWork}
 use Rattle.copy_folders.specs.declared.level.Level.{Level}
-use Rattle.copy_tree.specs.declared.item.Item.TheVariants.{Next, File, Link, Stays}
+use Rattle.copy_tree.specs.declared.item.ItemAtWork.TheVariants.{Next, File, Link, Stays}
 use Rattle.copy_tree.specs.declared.looking.Taken.TheVariants as taken
 use Rattle.copy_tree.specs.declared.progress.Progress.{Progress}
 use Rattle.copy_tree.specs.declared.progress.Progress.TheVariants.{UnderWay, Decided, Anew}
 use Rattle.job_reports.specs.declared.report.StepResult.{StepResult}
 use Rattle.job_reports.specs.declared.report.Transfer.TheVariants.{ByCopy}
-use Rattle.copy_folders.specs.Levels.{IsLeft, closed, dirtied, is_around_dirty, level, made_levels, owes, passed, with_copy}
+use Rattle.copy_folders.specs.Levels.{IsLeft, levels_closed, dirtied_levels, is_around_dirty, level, made_levels, owes, passed_levels, with_copy}
 use Rattle.copy_tree.specs.Parts.{IsPartPlace, IsShortPart}
 use Rattle.copy_tree.specs.Progress.{link_progress, progress}
 use Rattle.copy_tree.specs.Reports.{IsToldAs}
@@ -55,7 +55,7 @@ use Rattle.copy_tree.specs.Standing.{Seen, after_report, due}
 use Rattle.copy_tree.specs.Taking.{AreShort, DueStops, IsInReach, IsShort, IsTaken, LooksStop}
 
 -- a step can be made: a file or a link is at work while its part stands, and no part is left that could not be removed
-abbrev pub IsWorkable : Item → Type 0
+abbrev pub IsWorkable : ItemAtWork → Type 0
 IsWorkable Next = ⊤
 IsWorkable (File f) = (progress f.stage ≡ UnderWay) × (left_at f.stage ≡ None)
 IsWorkable (Link l) = (link_progress l.stage ≡ UnderWay) × (link.is_ready l.stage l.folder ≡ true)
@@ -71,22 +71,22 @@ stays_ready link_stage.Again = true
 stays_ready link_stage.Decided = true
 
 -- The copy of a file or a link goes on while its part stands; what is decided is passed; what is to be begun again is taken up anew.
-abbrev pub settled : Progress → Item → Seen → Seen
-settled UnderWay item c = record c { item = item }
-settled Decided item c = record c { levels = passed false c.levels }
-settled Anew item c = c
+abbrev pub copy_after_progress : Progress → ItemAtWork → Seen → Seen
+copy_after_progress UnderWay item c = record c { item = item }
+copy_after_progress Decided item c = record c { levels = passed_levels false c.levels }
+copy_after_progress Anew item c = c
 
 -- a name in the target of the folder that is worked was changed, if one was, and this was reported
-abbrev pub noted : Did → Bool → Seen → Seen
-noted did changed c = record c { stage = after_report did c.stage; levels = dirtied changed c.levels }
+abbrev pub noted_copy : Did → Bool → Seen → Seen
+noted_copy did changed c = record c { stage = after_report did c.stage; levels = dirtied_levels changed c.levels }
 
 -- where the copy stands after a step of a file's copy
 abbrev pub after_file : Did → Copying → Seen → Seen
-after_file did f c = settled (progress f.stage) (File f) (noted did (file.is_dirty f.folder) c)
+after_file did f c = copy_after_progress (progress f.stage) (File f) (noted_copy did (file.is_dirty f.folder) c)
 
 -- where the copy stands after a step of a link's copy
 abbrev pub after_link : Did → LinkCopying → Seen → Seen
-after_link did l c = settled (link_progress l.stage) (Link l) (noted did (link.is_dirty l.folder) c)
+after_link did l c = copy_after_progress (link_progress l.stage) (Link l) (noted_copy did (link.is_dirty l.folder) c)
 
 -- nothing is at work yet
 abbrev pub idle : Seen → Seen
@@ -131,7 +131,7 @@ pub record TakesFile (unclaimed : Route → Type 0) (replies : Replies) (old new
   pub reach : IsInReach old.levels.left (Thing pair)
   pub is : IfKnown before (λ log. IsTaken (current log) (is_top old) replies pair (taken.File facts))
   pub range : HasRange facts
-  pub works : FileBegins unclaimed facts (file.begun old.job pair.source pair.target) old new did before after
+  pub works : FileBegins unclaimed facts (file.begun_copy old.job pair.source pair.target) old new did before after
 
 -- the copy of the link at these paths, by way of this part
 abbrev pub link_begun : Pair → Route → LinkCopying
@@ -156,7 +156,7 @@ pub record FolderMakes (pair : Pair) (names : List (List ℕ)) (mode : ℕ) (old
   pub says : IsToldAs report did
   pub tells : folder.Tells (folder.copying pair.source pair.target (folder_stage.Make mode) folder_names.Synced) report moved
   pub called : IfKnown before (λ log. FolderCalls (folder.copying pair.source pair.target (folder_stage.Make mode) folder_names.Synced) report log after)
-  pub stands : new ≡ record old { stage = after_report did old.stage; levels = made_levels moved.stage (opened pair.source names) moved old.levels }
+  pub stands : new ≡ record old { stage = after_report did old.stage; levels = made_levels moved.stage (opened_folder pair.source names) moved old.levels }
 
 -- a folder is taken up
 pub record TakesFolder (replies : Replies) (old new : Seen) (did : Did) (before after : Option CallLog) : Type 0 where
@@ -182,7 +182,7 @@ pub record TakesMerged (replies : Replies) (old new : Seen) (did : Did) (before 
   pub in_order : IsAscending names
   pub says : did ≡ common.Merges ByCopy pair names
   pub same : after ≡ before
-  pub stands : new ≡ record old { levels = passed false old.levels }
+  pub stands : new ≡ record old { levels = passed_levels false old.levels }
 
 -- What stands at the target of what is copied itself stays, by an answer that stands, and the copy is done with it.
 pub record TakesKept (replies : Replies) (old new : Seen) (did : Did) (before after : Option CallLog) : Type 0 where
@@ -193,7 +193,7 @@ pub record TakesKept (replies : Replies) (old new : Seen) (did : Did) (before af
   pub is : IfKnown before (λ log. IsTaken (current log) (is_top old) replies pair taken.Kept)
   pub says : did ≡ common.Kept pair.target
   pub same : after ≡ before
-  pub stands : new ≡ record old { levels = passed false old.levels }
+  pub stands : new ≡ record old { levels = passed_levels false old.levels }
 
 -- It is asked whether what is copied itself replaces what stands at its target; the copy stands where it stood.
 pub record TakesAsked (replies : Replies) (old new : Seen) (did : Did) (before after : Option CallLog) : Type 0 where
@@ -225,7 +225,7 @@ pub record Finishes (old new : Seen) (did : Did) : Type 0 where
 
 -- where the copy stands once the children of the folder that is worked are decided
 abbrev pub at_end : Seen → Seen
-at_end c = record c { levels = closed c.levels }
+at_end c = record c { levels = levels_closed c.levels }
 
 -- the folder still owes something: its mode, or its sync
 abbrev pub has_debt : Seen → Bool
@@ -288,7 +288,7 @@ GoesOn unclaimed replies old new did before after =
     SyncsAround old new did before after ⊎ ((is_around_dirty old.levels.around ≡ false) × TakesNext unclaimed replies old new did before after)
 
 -- What a step does, by what is at work.
-abbrev pub WorksOn : Item → (Route → Type 0) → Replies → Seen → Seen → Did → Option CallLog → Option CallLog → Type 0
+abbrev pub WorksOn : ItemAtWork → (Route → Type 0) → Replies → Seen → Seen → Did → Option CallLog → Option CallLog → Type 0
 WorksOn Next unclaimed replies old new did before after = GoesOn unclaimed replies old new did before after
 WorksOn (File f) unclaimed replies old new did before after = FileWorks unclaimed f old new did before after
 WorksOn (Link l) unclaimed replies old new did before after = LinkWorks l old new did before after

@@ -4,7 +4,7 @@ use Rattle.tree_trait.specs.declared.devices.SinkError.TheVariants.{Fault, Memor
 use Rattle.mc_desk.specs.Outputs.{Output, ShowsFrame, output_of}
 use Rattle.screen_draw.specs.Drawings.{HasSizeOf}
 use Rattle.mc_desk.proofs.Terminals.{cut_shows, ended_shows, ended_terminal}
-use Rattle.mc_desk.proofs.terminal.Terminal.draw.Goals as goal
+use Rattle.mc_desk.proofs.terminal.SessionTerminal.draw.Goals as goal
 
 pub invariant_of-self-in-Ok : goal.invariant_of-self-in-Ok
 invariant_of-self-in-Ok g c =
